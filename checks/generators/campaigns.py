@@ -18,14 +18,14 @@ IMPORTS = (
     ("insn.specs.declared.insn.Insn.TheVariants as i", None),
     ("insn.specs.declared.insn.Operand.TheVariants", "Register Immediate"),
     ("combine.specs.Rule", "majority median is_middle"),
-    ("combine.specs.declared.chosen.Rule.TheVariants", "Majority Median"),
+    ("combine.specs.declared.campaign_rule.Rule.TheVariants", "Majority Median"),
     ("label.specs.Labels", "labels"),
     ("label.specs.Oral", "om"),
     ("semantics.specs.Execution", "step"),
-    ("roster.specs.Scenario", "Scenario"),
-    ("contexts.specs.Layout", "context_bytes"),
-    ("letter.specs.Contexts", "context_of"),
-    ("letter.specs.Letters", "messages"),
+    ("round.specs.Scenario", "Scenario"),
+    ("mem.specs.ContextLayout", "context_bytes"),
+    ("round.specs.Contexts", "context_of"),
+    ("round.specs.Letters", "messages"),
     ("world.specs.declared.event.EventError.TheVariants", "NotOpen NoGeneral"),
     ("world.specs.World", "opening run refusal"),
     ("world.specs.declared.event.Event.TheVariants", "Tick Post Close"),
@@ -427,7 +427,7 @@ use Rattle.std.proofs.Common.{◌≡◌, ℕ, List, [], ◌∷◌, ◌++◌, ref
 use Rattle.std.specs.Prelude.{codes}
 use Rattle.std.specs.Fmt.{digits}
 use Rattle.semantics.specs.Execution.{step}
-use Rattle.contexts.specs.Layout.{context_bytes}
+use Rattle.mem.specs.ContextLayout.{context_bytes}
 use Rattle.world.specs.KindLists.{listed, replayed}
 use Rattle.signed.specs.Accepted.{held, accepted}
 use Rattle.signed.specs.Loyal.{loyal_entries}

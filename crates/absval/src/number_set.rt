@@ -7,8 +7,8 @@ ghost use Rattle.absval.specs.NumberSets.{Has, HaveBoth, single, within, any, gr
 ghost use Rattle.absval.specs.Table.{in_a_row};
 
 use crate::pointer;
-use bits::{Bits, operate as bitwise};
-use range::{Range, edges, operate as ranges, unary, width as widths};
+use bits::{Bits, operations as bitwise};
+use range::{Range, edges, operations as ranges, unary_operations, width as widths};
 use std::marker::Model;
 use word::{ByteOrder, Condition, Narrow, Operation, SwapSize, Width};
 
@@ -146,7 +146,7 @@ impl NumberSet {
         ensures exact { result ≡ negations width self }
         ensures holds { (x : ℕ) → Has self x → Has result (negated width x) }
     {
-        let range = unary::negate(width, self.range);
+        let range = unary_operations::negate(width, self.range);
         whatever_bits(width, range)
     }
 
@@ -155,7 +155,7 @@ impl NumberSet {
         ensures exact { result ≡ extensions width part self }
         ensures holds { (x : ℕ) → Has self x → Has result (sign_extended width part x) }
     {
-        let range = unary::sign_extend(width, part, self.range);
+        let range = unary_operations::sign_extend(width, part, self.range);
         whatever_bits(width, range)
     }
 
@@ -164,7 +164,7 @@ impl NumberSet {
         ensures exact { result ≡ swaps order size self }
         ensures holds { (x : ℕ) → Has self x → Has result (swapped order size x) }
     {
-        let range = unary::swap(order, size, self.range);
+        let range = unary_operations::swap(order, size, self.range);
         whatever_bits(Width::W64, range)
     }
 

@@ -5,8 +5,8 @@ use Rattle.std.specs.List.{sum_by}
 use Rattle.std.proofs.lemmas.Bool.Decides.{nat_tests}
 use Rattle.std.proofs.lemmas.List.Sums.{sum_by-cons}
 use Rattle.insn.specs.declared.insn.Insn.{Insn}
-use Rattle.asm.specs.declared.fault.Fault.{Fault}
-use Rattle.asm.specs.declared.fault.Fault.TheVariants.{Count}
+use Rattle.asm.specs.declared.fault.AsmFault.{AsmFault}
+use Rattle.asm.specs.declared.fault.AsmFault.TheVariants.{Count}
 use Rattle.asm.specs.declared.fault.AsmError.{AsmError}
 use Rattle.asm.specs.declared.fault.AsmError.TheVariants.{At}
 use Rattle.asm.specs.Faults.{at_line, ◌>>=◌}
@@ -20,7 +20,7 @@ record FirstFrom (r : Read) (start : ℕ) (lines : List (List ℕ)) (e : AsmErro
   line : List ℕ
   back : List (List ℕ)
   parts : lines ≡ front ++ line ∷ back
-  fault : Fault
+  fault : AsmFault
   number : ℕ
   counted : number ≡ start + length front
   before : Read
@@ -29,7 +29,7 @@ record FirstFrom (r : Read) (start : ℕ) (lines : List (List ℕ)) (e : AsmErro
   is : e ≡ At fault number
 
 -- one line more
-read_step : (r : Read) (start : ℕ) (line : List ℕ) (lines : List (List ℕ)) (e : AsmError) (o : Result Read Fault) → line_read r start line ≡ o
+read_step : (r : Read) (start : ℕ) (line : List ℕ) (lines : List (List ℕ)) (e : AsmError) (o : Result Read AsmFault) → line_read r start line ≡ o
     → ((next : Read) → read_on next (start + 1) lines ≡ Err e → FirstFrom next (start + 1) lines e)
     → (at_line start o >>= λ next. read_on next (start + 1) lines) ≡ Err e → FirstFrom r start (line ∷ lines) e
 read_step r start line lines e (Err f) said ih h = record {
@@ -68,7 +68,7 @@ read_first (line ∷ lines) r start e h = read_step r start line lines e (line_r
 read_same : (r before : Read) (start : ℕ) → read_on r start [] ≡ Ok before → before ≡ r
 read_same r before start h = cc
 
-read_stops_here : (line : List ℕ) (back : List (List ℕ)) (r before : Read) (start number : ℕ) (fault : Fault)
+read_stops_here : (line : List ℕ) (back : List (List ℕ)) (r before : Read) (start number : ℕ) (fault : AsmFault)
     → before ≡ r → number ≡ start → line_read before number line ≡ Err fault → read_on r start (line ∷ back) ≡ Err (At fault number)
 read_stops_here line back r before start number fault same here own =
     let P : Read → Type 0 = λ x. line_read x number line ≡ Err fault in
@@ -77,7 +77,7 @@ read_stops_here line back r before start number fault same here own =
     rw here (rw e refl)
 
 -- a line with a fault, behind lines that have none
-read_stops : (front : List (List ℕ)) (line : List ℕ) (back : List (List ℕ)) (r before : Read) (start number : ℕ) (fault : Fault)
+read_stops : (front : List (List ℕ)) (line : List ℕ) (back : List (List ℕ)) (r before : Read) (start number : ℕ) (fault : AsmFault)
     → read_on r start front ≡ Ok before → number ≡ start + length front → line_read before number line ≡ Err fault
     → read_on r start (front ++ line ∷ back) ≡ Err (At fault number)
 read_stops [] line back r before start number fault faultless counted own =
@@ -95,13 +95,13 @@ record JumpFrom (names : List (List ℕ × ℕ)) (unit : ℕ) (done : List Insn)
   parts : ps ≡ front ++ jump ∷ back
   before : List Insn
   resolved : insns_on names unit done front ≡ Ok before
-  fault : Fault
+  fault : AsmFault
   where_it_is : ℕ
   counted : where_it_is ≡ unit + sum_by placed_units front
   own : insn_of names where_it_is jump.source ≡ Err fault
   is : e ≡ At fault jump.line
 
-jump_step : (names : List (List ℕ × ℕ)) (unit : ℕ) (done : List Insn) (p : Placed) (ps : List Placed) (e : AsmError) (o : Result Insn Fault) → insn_of names unit p.source ≡ o
+jump_step : (names : List (List ℕ × ℕ)) (unit : ℕ) (done : List Insn) (p : Placed) (ps : List Placed) (e : AsmError) (o : Result Insn AsmFault) → insn_of names unit p.source ≡ o
     → ((i : Insn) → insns_on names (unit + placed_units p) (done ++ i ∷ []) ps ≡ Err e → JumpFrom names (unit + placed_units p) (done ++ i ∷ []) ps e)
     → (at_line p.line o >>= λ insn. insns_on names (unit + placed_units p) (done ++ insn ∷ []) ps) ≡ Err e → JumpFrom names unit done (p ∷ ps) e
 jump_step names unit done p ps e (Err f) said ih h = record {
@@ -138,7 +138,7 @@ jump_first [] names unit done e h = absurd cc
 jump_first (p ∷ ps) names unit done e h =
     jump_step names unit done p ps e (insn_of names unit p.source) refl (λ i. jump_first ps names (unit + placed_units p) (done ++ i ∷ []) e) h
 
-jump_stops_here : (names : List (List ℕ × ℕ)) (p : Placed) (back : List Placed) (done : List Insn) (unit place : ℕ) (fault : Fault)
+jump_stops_here : (names : List (List ℕ × ℕ)) (p : Placed) (back : List Placed) (done : List Insn) (unit place : ℕ) (fault : AsmFault)
     → place ≡ unit → insn_of names place p.source ≡ Err fault → insns_on names unit done (p ∷ back) ≡ Err (At fault p.line)
 jump_stops_here names p back done unit place fault here own =
     let P : ℕ → Type 0 = λ k. insn_of names k p.source ≡ Err fault in
@@ -146,7 +146,7 @@ jump_stops_here names p back done unit place fault here own =
     rw e refl
 
 -- a statement with a fault, behind those that have none
-jump_stops : (front : List Placed) (names : List (List ℕ × ℕ)) (p : Placed) (back : List Placed) (done before : List Insn) (unit place : ℕ) (fault : Fault)
+jump_stops : (front : List Placed) (names : List (List ℕ × ℕ)) (p : Placed) (back : List Placed) (done before : List Insn) (unit place : ℕ) (fault : AsmFault)
     → insns_on names unit done front ≡ Ok before → place ≡ unit + sum_by placed_units front → insn_of names place p.source ≡ Err fault
     → insns_on names unit done (front ++ p ∷ back) ≡ Err (At fault p.line)
 jump_stops [] names p back done before unit place fault resolved counted own = jump_stops_here names p back done unit place fault (omega (arith, counted)) own
@@ -156,7 +156,7 @@ jump_stops (q ∷ qs) names p back done before unit place fault resolved counted
     rw next.1 (jump_stops qs names p back (done ++ next.0 ∷ []) before (unit + placed_units q) place fault next.2 c own)
 
 -- the first fault is that of a line, of the count, or of a jump
-by_line : (lines : List (List ℕ)) (fault : Fault) (number : ℕ) → FirstFrom nothing 1 lines (At fault number) → IsFirstLine lines fault number
+by_line : (lines : List (List ℕ)) (fault : AsmFault) (number : ℕ) → FirstFrom nothing 1 lines (At fault number) → IsFirstLine lines fault number
 by_line lines fault number f = record {
   front = f.front;
   line = f.line;
@@ -168,7 +168,7 @@ by_line lines fault number f = record {
   own = (let e : number ≡ f.number = cc (f.is) in let d : fault ≡ f.fault = cc (f.is) in rw (e, d) f.own);
 }
 
-by_jump : (lines : List (List ℕ)) (r : Read) (fault : Fault) (number : ℕ) → read_on nothing 1 lines ≡ Ok r → (0 < units_in r) × (units_in r ≤ 4096)
+by_jump : (lines : List (List ℕ)) (r : Read) (fault : AsmFault) (number : ℕ) → read_on nothing 1 lines ≡ Ok r → (0 < units_in r) × (units_in r ≤ 4096)
     → JumpFrom r.names 0 [] r.sources (At fault number) → IsFirstJump lines fault number
 by_jump lines r fault number said units f = record {
   read = r;
@@ -190,7 +190,7 @@ few_or_many u h = grind (arith, nat_tests)
 some_and_few : (u : ℕ) → nat_lt 0 u && nat_le u 4096 ≡ true → (0 < u) × (u ≤ 4096)
 some_and_few u h = (grind (arith, nat_tests), grind (arith, nat_tests))
 
-by_count : (lines : List (List ℕ)) (r : Read) (fault : Fault) (number : ℕ) (b : Bool) → read_on nothing 1 lines ≡ Ok r → nat_lt 0 (units_in r) && nat_le (units_in r) 4096 ≡ b
+by_count : (lines : List (List ℕ)) (r : Read) (fault : AsmFault) (number : ℕ) (b : Bool) → read_on nothing 1 lines ≡ Ok r → nat_lt 0 (units_in r) && nat_le (units_in r) 4096 ≡ b
     → cond b (insns_on r.names 0 [] r.sources) (Err (At Count (max 1 (length lines)))) ≡ Err (At fault number) → IsMiscounted lines fault number ⊎ IsFirstJump lines fault number
 by_count lines r fault number true said e h = inr (by_jump lines r fault number said (some_and_few (units_in r) e) (jump_first r.sources r.names 0 [] (At fault number) h))
 by_count lines r fault number false said e h = inl (record { read = r; faultless = said; units = few_or_many (units_in r) e; is = (cc, cc) })
@@ -198,7 +198,7 @@ by_count lines r fault number false said e h = inl (record { read = r; faultless
 err_same : {A E : Type 0} (o : Result A E) (x y : E) → o ≡ Err x → o ≡ Err y → x ≡ y
 err_same o x y d e = cc
 
-by_read : (lines : List (List ℕ)) (fault : Fault) (number : ℕ) (o : Result Read AsmError) → read_on nothing 1 lines ≡ o → (o >>= λ r. program_in (length lines) r) ≡ Err (At fault number)
+by_read : (lines : List (List ℕ)) (fault : AsmFault) (number : ℕ) (o : Result Read AsmError) → read_on nothing 1 lines ≡ o → (o >>= λ r. program_in (length lines) r) ≡ Err (At fault number)
     → IsFirstLine lines fault number ⊎ (IsMiscounted lines fault number ⊎ IsFirstJump lines fault number)
 by_read lines fault number (Err e) read h =
     let same : e ≡ At fault number = err_same (Err e) e (At fault number) refl h in
@@ -206,13 +206,13 @@ by_read lines fault number (Err e) read h =
     inl (by_line lines fault number (read_first lines nothing 1 (At fault number) stopped))
 by_read lines fault number (Ok r) read h = inr (by_count lines r fault number (nat_lt 0 (units_in r) && nat_le (units_in r) 4096) read refl h)
 
-pub said_only : (text : List ℕ) (fault : Fault) (number : ℕ) → said text ≡ Err (At fault number)
+pub said_only : (text : List ℕ) (fault : AsmFault) (number : ℕ) → said text ≡ Err (At fault number)
     → IsFirstLine (lines_of text) fault number ⊎ (IsMiscounted (lines_of text) fault number ⊎ IsFirstJump (lines_of text) fault number)
 unfolding said
 said_only text fault number h = by_read (lines_of text) fault number (read_on nothing 1 (lines_of text)) refl h
 
 -- each of them is said
-pub line_said : (text : List ℕ) (fault : Fault) (number : ℕ) → IsFirstLine (lines_of text) fault number → said text ≡ Err (At fault number)
+pub line_said : (text : List ℕ) (fault : AsmFault) (number : ℕ) → IsFirstLine (lines_of text) fault number → said text ≡ Err (At fault number)
 unfolding said
 line_said text fault number w =
     let e : read_on nothing 1 (lines_of text) ≡ Err (At fault number) =
@@ -223,11 +223,11 @@ miscounted : (u : ℕ) → (u ≡ 0) ⊎ (4096 < u) → nat_lt 0 u && nat_le u 4
 miscounted u (inl e) = rw e refl
 miscounted u (inr lt) = let high : nat_le u 4096 ≡ false = grind (arith, nat_tests) in let low : nat_lt 0 u ≡ true = grind (arith, nat_tests) in rw (low, high) refl
 
-pub count_said : (text : List ℕ) (fault : Fault) (number : ℕ) → IsMiscounted (lines_of text) fault number → said text ≡ Err (At fault number)
+pub count_said : (text : List ℕ) (fault : AsmFault) (number : ℕ) → IsMiscounted (lines_of text) fault number → said text ≡ Err (At fault number)
 unfolding said
 count_said text fault number w = rw (w.faultless, miscounted (units_in w.read) w.units, w.is.0, w.is.1) refl
 
-pub jump_said : (text : List ℕ) (fault : Fault) (number : ℕ) → IsFirstJump (lines_of text) fault number → said text ≡ Err (At fault number)
+pub jump_said : (text : List ℕ) (fault : AsmFault) (number : ℕ) → IsFirstJump (lines_of text) fault number → said text ≡ Err (At fault number)
 unfolding said
 jump_said text fault number w =
     let low : nat_lt 0 (units_in w.read) ≡ true = (let lt = w.units.0 in grind (arith, nat_tests)) in

@@ -13,9 +13,9 @@ use Rattle.text.specs.Stop.{feed}
 use Rattle.text.specs.Parts.{pieces}
 use Rattle.text.proofs.PartsLemmas.{pieces_is}
 use Rattle.insn.proofs.SlotLemmas.{units_some}
-use Rattle.asm.specs.declared.kept.Kept.{Kept}
+use Rattle.asm.specs.declared.draft.Kept.{Kept}
 use Rattle.asm.specs.Views.{kept_view}
-use Rattle.asm.specs.declared.reading.Reading.{Reading}
+use Rattle.asm.specs.declared.reader.Reading.{Reading}
 use Rattle.asm.specs.Distance.{defined}
 use Rattle.asm.specs.Statement.{Source, Plain, Jump, LongJump, Branch}
 use Rattle.asm.specs.Program.{Placed, Read, source_units, lines_of, without_return, ended, with_name, placed_units}

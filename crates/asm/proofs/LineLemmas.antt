@@ -5,7 +5,7 @@ use Rattle.std.proofs.lemmas.Str.Pattern.{IsSplitOnceResult, split_parts}
 use Rattle.text.specs.Stop.{feed}
 use Rattle.text.specs.Parts.{closed, lines_of}
 use Rattle.text.proofs.CutLemmas.{lines_of-append, pieces-all}
-use Rattle.partial.proofs.ByteLemmas.{lacks_byte}
+use Rattle.asm.proofs.ByteLemmas.{lacks_byte}
 
 closed_one : (text : List ℕ) → 0 < length text → closed (text ∷ []) ≡ text ∷ []
 closed_one [] some = absurd (omega arith)

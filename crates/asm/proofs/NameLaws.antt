@@ -11,8 +11,8 @@ use Rattle.insn.specs.declared.insn.Insn.TheVariants as insns
 use Rattle.insn.specs.Insn.{units_of}
 use Rattle.insn.specs.Program.{slots_of, joined, instruction_at}
 use Rattle.insn.proofs.SlotLemmas.{slots_of-append, length-slots_of-cons}
-use Rattle.asm.specs.declared.fault.Fault.{Fault}
-use Rattle.asm.specs.declared.fault.Fault.TheVariants as faults
+use Rattle.asm.specs.declared.fault.AsmFault.{AsmFault}
+use Rattle.asm.specs.declared.fault.AsmFault.TheVariants as faults
 use Rattle.asm.specs.declared.fault.AsmError.{AsmError}
 use Rattle.asm.specs.Faults.{◌>>=◌}
 use Rattle.asm.specs.Number.{signed_within}
@@ -178,7 +178,7 @@ words_names n next line words h =
 
 name_own : (r n : Read) (line : List ℕ) (o : Outline) (given : Option (List ℕ)) (name : List ℕ) (unit : ℕ) → outline_of line ≡ Some o → o.name ≡ given → with_name r given ≡ Ok n → defined n.names name ≡ Some unit
     → (defined r.names name ≡ Some unit) ⊎ Own r line name unit
-name_own r n line o None name unit out same h e = let is : r ≡ n = same_ok {E = Fault} r n h in inl (ap (λ (x : Read). defined x.names name) is ∙ e)
+name_own r n line o None name unit out same h e = let is : r ≡ n = same_ok {E = AsmFault} r n h in inl (ap (λ (x : Read). defined x.names name) is ∙ e)
 name_own r n line o (Some own) name unit out same h e =
     let is : record r { names = (own, units_in r) ∷ r.names } ≡ n = free (is_some (defined r.names own)) (record r { names = (own, units_in r) ∷ r.names }) n h in
     let f : cond (bytes_eq own name) (Some (units_in r)) (defined r.names name) ≡ Some unit = ap (λ (x : Read). defined x.names name) is ∙ e in

@@ -15,7 +15,7 @@ use Rattle.asm.specs.declared.mnemonic.Mnemonic.{Mnemonic}
 use Rattle.asm.specs.declared.mnemonic.Mnemonic.TheVariants as words
 use Rattle.asm.specs.Table.{operation_name, condition_name, order_name, width_name, size_name, part_name, part_bits, swap_bits, name_of}
 use Rattle.asm.specs.Printing.{word_of, operands_of, operands_text, insn_text}
-use Rattle.partial.specs.Reading.{is_dotted}
+use Rattle.asm.specs.Reading.{is_dotted}
 
 -- the text begins with a small letter
 pub record Begins (text : List ℕ) : Type 0 where

@@ -11,25 +11,25 @@ use Rattle.hex.specs.Hex.{encode_lower}
 use Rattle.insn.specs.declared.insn.Insn.{Insn}
 use Rattle.insn.specs.Insn.{IsInsn}
 use Rattle.insn.proofs.SlotLemmas.{length-slots_of-cons}
-use Rattle.codec.specs.declared.fault.Fault.{Fault}
-use Rattle.codec.specs.declared.fault.Fault.TheVariants as fault
+use Rattle.codec.specs.declared.fault.CodecFault.{CodecFault}
+use Rattle.codec.specs.declared.fault.CodecFault.TheVariants as fault
 use Rattle.codec.specs.Spelling.{instruction_bytes}
 use Rattle.codec.specs.ErrorText.{code_of}
 use Rattle.codec.proofs.FrontLemmas.{units_few}
 use Rattle.asm.specs.declared.fault.AsmError.{AsmError}
-use Rattle.asm.specs.declared.fault.Fault.{Fault as AsmFault}
+use Rattle.asm.specs.declared.fault.AsmFault.{CodecFault as AsmFault}
 use Rattle.asm.specs.Faults.{at_line, ◌>>=◌}
 use Rattle.asm.specs.Printing.{insn_text, text_of}
 use Rattle.asm.specs.Program.{ended, lines_of, nothing, program_in, program_of, read_on, said}
 use Rattle.asm.proofs.KeepingLemmas.{lines_first}
 use Rattle.asm.proofs.OutlineLemmas.{insn_lacks_feed, without_return-insn}
 use Rattle.asm.proofs.RoundLemmas.{program_of-text}
-use Rattle.partial.specs.Pieces.{Piece, Spelled, Raw, IsFirst, ArePieces}
-use Rattle.partial.specs.Printing.{IsTextOf, kind_of, piece_text, pieces_text}
-use Rattle.partial.specs.Reading.{alone, bytes_on, bytes_said, is_dotted, line_bytes, raw_in}
-use Rattle.partial.proofs.ByteLemmas.{AreBytes, parts_bytes}
-use Rattle.partial.proofs.NameLemmas.{begins_insn, begins_some, undotted}
-use Rattle.partial.proofs.RawLemmas.{raw_lacks_feed, raw_says}
+use Rattle.asm.specs.Pieces.{Piece, Spelled, Raw, IsFirst, ArePieces}
+use Rattle.asm.specs.PieceText.{IsTextOf, kind_of, piece_text, pieces_text}
+use Rattle.asm.specs.Reading.{alone, bytes_on, bytes_said, is_dotted, line_bytes, raw_in}
+use Rattle.asm.proofs.ByteLemmas.{AreBytes, parts_bytes}
+use Rattle.asm.proofs.NameLemmas.{begins_insn, begins_some, undotted}
+use Rattle.asm.proofs.RawLemmas.{raw_lacks_feed, raw_says}
 
 -- ---- an instruction's line
 
@@ -81,7 +81,7 @@ left_lacks false false true large = refl
 left_lacks false false false true = refl
 left_lacks false false false false = refl
 
-kind_lacks : (fault : Fault) (opcode : ℕ) → Lacks feed (32 ∷ (code_of fault ++ kind_of fault opcode))
+kind_lacks : (fault : CodecFault) (opcode : ℕ) → Lacks feed (32 ∷ (code_of fault ++ kind_of fault opcode))
 kind_lacks fault.Length opcode = refl
 kind_lacks fault.Opcode opcode = refl
 kind_lacks fault.Reserved opcode = refl
@@ -94,7 +94,7 @@ kind_lacks fault.Count opcode = refl
 regroup : (a h s c k : List ℕ) → (((a ++ h) ++ s) ++ c) ++ k ≡ a ++ (h ++ (s ++ (c ++ k)))
 regroup a h s c k = simp append_assoc
 
-raw_text : (unit : List ℕ) (fault : Fault) → piece_text (Raw unit fault) ≡ codes ".unit 0x" ++ (encode_lower unit ++ 32 ∷ 59 ∷ 32 ∷ (code_of fault ++ kind_of fault (slice_index unit 0)))
+raw_text : (unit : List ℕ) (fault : CodecFault) → piece_text (Raw unit fault) ≡ codes ".unit 0x" ++ (encode_lower unit ++ 32 ∷ 59 ∷ 32 ∷ (code_of fault ++ kind_of fault (slice_index unit 0)))
 raw_text unit fault = regroup (codes ".unit 0x") (encode_lower unit) (codes " ; ") (code_of fault) (kind_of fault (slice_index unit 0))
 
 abbrev pub piece_bytes : Piece → List ℕ

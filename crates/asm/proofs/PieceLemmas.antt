@@ -3,12 +3,12 @@ use Rattle.std.proofs.Common.{◌≡◌, ◌∙◌, ◌*◌, ◌%◌, ◌<◌, �
 use Rattle.std.specs.Prelude.{codes, Some}
 use Rattle.insn.specs.declared.insn.Insn.{Insn}
 use Rattle.insn.specs.Insn.{IsInsn, units_of}
-use Rattle.codec.specs.declared.fault.Fault.{Fault}
+use Rattle.codec.specs.declared.fault.CodecFault.{CodecFault}
 use Rattle.codec.specs.Spelling.{instruction_bytes}
 use Rattle.codec.specs.Reading.{fault_at}
 use Rattle.std.proofs.lemmas.Grind.{flat_map-append}
-use Rattle.partial.specs.Pieces.{Piece, Spelled, Raw, IsFirst, ArePieces}
-use Rattle.partial.specs.Printing.{IsTextOf, piece_text, pieces_text}
+use Rattle.asm.specs.Pieces.{Piece, Spelled, Raw, IsFirst, ArePieces}
+use Rattle.asm.specs.PieceText.{IsTextOf, piece_text, pieces_text}
 
 -- these pieces stand before what is left, and the text is theirs
 pub record IsReadTo (bytes left text : List ℕ) (before : List Piece) : Type 0 where
@@ -42,7 +42,7 @@ pub spelled_first : (bytes : List ℕ) (insn : Insn) (size : ℕ) → IsInsn ins
 spelled_first bytes insn size is long found =
     (is, sym (take-append-drop size bytes) ∙ ap (λ (t : List ℕ). t ++ drop size bytes) (ap (λ (n : ℕ). take n bytes) long ∙ found))
 
-pub raw_first : (bytes : List ℕ) (fault : Fault) → 8 ≤ length bytes → fault_at bytes ≡ Some fault → IsFirst bytes (Raw (take 8 bytes) fault) (drop 8 bytes)
+pub raw_first : (bytes : List ℕ) (fault : CodecFault) → 8 ≤ length bytes → fault_at bytes ≡ Some fault → IsFirst bytes (Raw (take 8 bytes) fault) (drop 8 bytes)
 raw_first bytes fault long found =
     let eight = length-take 8 bytes in
     let is : length (take 8 bytes) ≡ 8 = omega arith in

@@ -6,7 +6,7 @@ use Rattle.std.proofs.lemmas.List.Folds.{flat_map-map}
 use Rattle.insn.specs.Program.{most_units}
 use Rattle.asm.specs.declared.fault.AsmError.{AsmError}
 use Rattle.asm.specs.declared.fault.AsmError.TheVariants as answers
-use Rattle.asm.specs.declared.reading.Reading.{Reading}
+use Rattle.asm.specs.declared.reader.Reading.{Reading}
 use Rattle.asm.specs.Keeping.{GivesGathered, Keeps}
 use Rattle.asm.specs.Places.{AreWritten, kept_places, own_places}
 use Rattle.asm.specs.Program.{Read, units_in}

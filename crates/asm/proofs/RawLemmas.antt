@@ -8,8 +8,8 @@ use Rattle.text.specs.Stop.{is_stop, semicolon, feed}
 use Rattle.text.specs.Parts.{before}
 use Rattle.text.proofs.BytesLemmas.{all-append}
 use Rattle.text.proofs.CutLemmas.{Lacks, before-append, from-append}
-use Rattle.partial.specs.Reading.{in_bytes, eight_of, unit_in, raw_in, line_bytes}
-use Rattle.partial.proofs.ByteLemmas.{AreBytes, is_bytes, digits_pass}
+use Rattle.asm.specs.Reading.{in_bytes, eight_of, unit_in, raw_in, line_bytes}
+use Rattle.asm.proofs.ByteLemmas.{AreBytes, is_bytes, digits_pass}
 
 -- the digits are no white space, and no semicolon
 digits_lack_blank : (unit : List ℕ) → AreBytes unit → Lacks Blank (encode_lower unit)

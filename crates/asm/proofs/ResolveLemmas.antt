@@ -7,7 +7,7 @@ use Rattle.insn.specs.Insn.{units_of}
 use Rattle.insn.specs.Program.{slots_of}
 use Rattle.insn.proofs.SlotLemmas.{length-slots_of-push}
 use Rattle.asm.specs.declared.fault.AsmError.{AsmError}
-use Rattle.asm.specs.declared.kept.Kept.{Kept}
+use Rattle.asm.specs.declared.draft.Kept.{Kept}
 use Rattle.std.specs.Prelude.{Result, Ok}
 use Rattle.asm.specs.Views.{kept_view}
 use Rattle.asm.specs.Program.{Placed, placed_units, insn_of, insns_on}

@@ -7,13 +7,13 @@ use Rattle.std.proofs.lemmas.Option.{same_Some}
 use Rattle.insn.specs.declared.insn.Insn.{Insn}
 use Rattle.insn.specs.Insn.{IsWell}
 use Rattle.insn.proofs.WellLemmas.{all_push, all_at}
-use Rattle.asm.specs.declared.fault.Fault.{Fault}
-use Rattle.asm.specs.declared.fault.Fault.TheVariants as faults
+use Rattle.asm.specs.declared.fault.AsmFault.{AsmFault}
+use Rattle.asm.specs.declared.fault.AsmFault.TheVariants as faults
 use Rattle.asm.specs.declared.fault.AsmError.{AsmError}
 use Rattle.asm.specs.declared.mnemonic.Mnemonic.{Mnemonic}
 use Rattle.asm.specs.declared.mnemonic.Mnemonic.TheVariants as words
-use Rattle.asm.specs.declared.kept.Kept.{Kept}
-use Rattle.asm.specs.declared.reading.Reading.{Reading}
+use Rattle.asm.specs.declared.draft.Kept.{Kept}
+use Rattle.asm.specs.declared.reader.Reading.{Reading}
 use Rattle.asm.specs.Number.{number_of, signed_within, bits_within}
 use Rattle.asm.specs.Operand.{register_of, raw_of, fitted, place_of, goal_of, is_letter}
 use Rattle.asm.specs.Faults.{at_line, ◌>>=◌}
@@ -28,15 +28,15 @@ use Rattle.asm.specs.Program.{Placed, Read, with_name, with_source, with_words, 
 use Rattle.asm.proofs.TableLaws.{mnemonic_read}
 
 -- what is given is well
-abbrev GivesWell : Result Source Fault → Type 0
+abbrev GivesWell : Result Source AsmFault → Type 0
 GivesWell (Err e) = Unit {0}
 GivesWell (Ok s) = IsWellSource s
 
-after : {A : Type 0} (o : Option A) (e : Fault) (f : A → Result Source Fault) → ((a : A) → GivesWell (f a)) → GivesWell (ok_or o e >>= f)
+after : {A : Type 0} (o : Option A) (e : AsmFault) (f : A → Result Source AsmFault) → ((a : A) → GivesWell (f a)) → GivesWell (ok_or o e >>= f)
 after None e f h = tt
 after (Some a) e f h = h a
 
-either : (b : Bool) (x y : Result Source Fault) → GivesWell x → GivesWell y → GivesWell (cond b x y)
+either : (b : Bool) (x y : Result Source AsmFault) → GivesWell x → GivesWell y → GivesWell (cond b x y)
 either true x y p q = p
 either false x y p q = q
 
@@ -66,7 +66,7 @@ pub had : {A B E : Type 0} (o : Option A) (e : E) (f : A → Result B E) (b : B)
 had None e f b h = absurd cc
 had (Some a) e f b h = (a, refl, h)
 
-pub held : {A B : Type 0} (line : ℕ) (o : Result A Fault) (f : A → Result B AsmError) (b : B) → (at_line line o >>= f) ≡ Ok b → (a : A) × (o ≡ Ok a) × (f a ≡ Ok b)
+pub held : {A B : Type 0} (line : ℕ) (o : Result A AsmFault) (f : A → Result B AsmError) (b : B) → (at_line line o >>= f) ≡ Ok b → (a : A) × (o ≡ Ok a) × (f a ≡ Ok b)
 held line (Err e) f b h = absurd cc
 held line (Ok a) f b h = (a, refl, h)
 

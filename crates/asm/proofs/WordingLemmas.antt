@@ -6,7 +6,7 @@ use Rattle.std.specs.List.{flat_map, list_all}
 use Rattle.std.proofs.lemmas.Bool.{and_parts}
 use Rattle.std.proofs.lemmas.Str.{IsUtf8-from_ascii}
 use Rattle.std.proofs.lemmas.Grind.{common_steps}
-use Rattle.asm.specs.declared.fault.Fault.TheVariants as faults
+use Rattle.asm.specs.declared.fault.AsmFault.TheVariants as faults
 use Rattle.asm.specs.declared.fault.LineError.{LineError}
 use Rattle.asm.specs.declared.fault.LineError.TheVariants as failures
 use Rattle.asm.specs.Line.{Outline, outline_of}

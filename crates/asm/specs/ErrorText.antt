@@ -1,12 +1,12 @@
 -- What is said of a fault.
 use Rattle.std.specs.Prelude.{ℕ, List, ◌++◌, codes}
 use Rattle.std.specs.Fmt.{decimal}
-use Rattle.asm.specs.declared.fault.Fault.{Fault}
-use Rattle.asm.specs.declared.fault.Fault.TheVariants.{Line, Mnemonic, Operand, Label, Twice, Range, Count}
+use Rattle.asm.specs.declared.fault.AsmFault.{AsmFault}
+use Rattle.asm.specs.declared.fault.AsmFault.TheVariants.{Line, Mnemonic, Operand, Label, Twice, Range, Count}
 use Rattle.asm.specs.declared.fault.AsmError.{AsmError}
 use Rattle.asm.specs.declared.fault.AsmError.TheVariants.{At, Memory}
 
-abbrev pub code_of : Fault → List ℕ
+abbrev pub code_of : AsmFault → List ℕ
 code_of Line = codes "A1"
 code_of Mnemonic = codes "A2"
 code_of Operand = codes "A3"

@@ -1,6 +1,6 @@
 -- The first fault of a text and its line (own).
 use Rattle.std.specs.Prelude.{ℕ, Result, Ok, Err}
-use Rattle.asm.specs.declared.fault.Fault.{Fault}
+use Rattle.asm.specs.declared.fault.AsmFault.{AsmFault}
 use Rattle.asm.specs.declared.fault.AsmError.{AsmError}
 use Rattle.asm.specs.declared.fault.AsmError.TheVariants.{At}
 
@@ -11,6 +11,6 @@ abbrev pub ◌>>=◌ : {A B F : Type 0} → Result A F → (A → Result B F) �
 (Err e) >>= f = Err e
 
 -- what the checks of a line give, a fault with the line's number
-abbrev pub at_line : {A : Type 0} → ℕ → Result A Fault → Result A AsmError
+abbrev pub at_line : {A : Type 0} → ℕ → Result A AsmFault → Result A AsmError
 at_line line (Ok x) = Ok x
 at_line line (Err fault) = Err (At fault line)

@@ -10,10 +10,10 @@ use Rattle.asm.specs.declared.fault.LineError.{LineError}
 use Rattle.asm.specs.declared.fault.LineError.TheVariants.{Memory}
 use Rattle.asm.specs.declared.fault.AsmError.{AsmError}
 use Rattle.asm.specs.declared.fault.AsmError.TheVariants as answers
-use Rattle.asm.specs.declared.kept.Kept.{Kept}
-use Rattle.asm.specs.declared.reading.Reading.{Reading}
+use Rattle.asm.specs.declared.draft.Kept.{Kept}
+use Rattle.asm.specs.declared.reader.Reading.{Reading}
 use Rattle.asm.specs.Statement.{IsWellSource}
-use Rattle.asm.specs.declared.fault.Fault.{Fault}
+use Rattle.asm.specs.declared.fault.AsmFault.{AsmFault}
 use Rattle.asm.specs.Distance.{defined}
 use Rattle.asm.specs.Program.{Read, units_in, placed_units, lines_of}
 use Rattle.asm.specs.Views.{Fails, kept_view}
@@ -39,7 +39,7 @@ abbrev pub KeepsRead : {X : Type 0} → Result X LineError → Reading → Read 
 KeepsRead (Ok x) kept r = Keeps kept r
 KeepsRead (Err e) kept r = e ≡ Memory
 
-abbrev pub GivesRead : {X : Type 0} → Result X LineError → Reading → Result Read Fault → Type 0
+abbrev pub GivesRead : {X : Type 0} → Result X LineError → Reading → Result Read AsmFault → Type 0
 GivesRead (Ok x) kept read = (r : Read) × (read ≡ Ok r) × Keeps kept r
 GivesRead (Err e) kept read = Fails e read
 

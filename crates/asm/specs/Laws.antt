@@ -3,8 +3,8 @@ use Rattle.std.specs.Prelude.{ℕ, ℤ, pos, ◌≡◌, ◌+◌, ◌<◌, ◌≤
 use Rattle.std.specs.List.{sum_by}
 use Rattle.insn.specs.declared.insn.Insn.{Insn}
 use Rattle.insn.specs.Program.{most_units}
-use Rattle.asm.specs.declared.fault.Fault.{Fault}
-use Rattle.asm.specs.declared.fault.Fault.TheVariants.{Count}
+use Rattle.asm.specs.declared.fault.AsmFault.{AsmFault}
+use Rattle.asm.specs.declared.fault.AsmFault.TheVariants.{Count}
 use Rattle.asm.specs.declared.fault.AsmError.TheVariants.{At}
 use Rattle.asm.specs.declared.mnemonic.Mnemonic.{Mnemonic}
 use Rattle.asm.specs.Helper.{helpers, helper_of}
@@ -30,7 +30,7 @@ pub record HelpersAreNumbered : Type 0 where
   pub written : (k : ℕ) (word : List ℕ) → slice_get helpers k ≡ Some word → helper_of word ≡ Some (pos (k + 1))
 
 -- the line of this number has a fault of its own, and no line before it has one
-pub record IsFirstLine (lines : List (List ℕ)) (fault : Fault) (number : ℕ) : Type 0 where
+pub record IsFirstLine (lines : List (List ℕ)) (fault : AsmFault) (number : ℕ) : Type 0 where
   pub front : List (List ℕ)
   pub line : List ℕ
   pub back : List (List ℕ)
@@ -41,14 +41,14 @@ pub record IsFirstLine (lines : List (List ℕ)) (fault : Fault) (number : ℕ) 
   pub own : line_read before number line ≡ Err fault
 
 -- no line has a fault of its own, and the units are too few or too many
-pub record IsMiscounted (lines : List (List ℕ)) (fault : Fault) (number : ℕ) : Type 0 where
+pub record IsMiscounted (lines : List (List ℕ)) (fault : AsmFault) (number : ℕ) : Type 0 where
   pub read : Read
   pub faultless : read_on nothing 1 lines ≡ Ok read
   pub units : (units_in read ≡ 0) ⊎ (most_units < units_in read)
   pub is : (fault ≡ Count) × (number ≡ max 1 (length lines))
 
 -- no line has a fault of its own, the units can be counted, and this line's jump leads nowhere, and none before it
-pub record IsFirstJump (lines : List (List ℕ)) (fault : Fault) (number : ℕ) : Type 0 where
+pub record IsFirstJump (lines : List (List ℕ)) (fault : AsmFault) (number : ℕ) : Type 0 where
   pub read : Read
   pub faultless : read_on nothing 1 lines ≡ Ok read
   pub units : (0 < units_in read) × (units_in read ≤ most_units)
@@ -64,12 +64,12 @@ pub record IsFirstJump (lines : List (List ℕ)) (fault : Fault) (number : ℕ) 
 -- a text is refused by its first fault, at its line: a line's own, behind lines that have none, before the count,
 -- before the jumps
 pub record FaultsAreFirst : Type 0 where
-  pub only : (text : List ℕ) (fault : Fault) (number : ℕ) → said text ≡ Err (At fault number)
+  pub only : (text : List ℕ) (fault : AsmFault) (number : ℕ) → said text ≡ Err (At fault number)
       → IsFirstLine (lines_of text) fault number
       ⊎ (IsMiscounted (lines_of text) fault number ⊎ IsFirstJump (lines_of text) fault number)
-  pub line : (text : List ℕ) (fault : Fault) (number : ℕ) → IsFirstLine (lines_of text) fault number →
+  pub line : (text : List ℕ) (fault : AsmFault) (number : ℕ) → IsFirstLine (lines_of text) fault number →
       said text ≡ Err (At fault number)
-  pub count : (text : List ℕ) (fault : Fault) (number : ℕ) → IsMiscounted (lines_of text) fault number →
+  pub count : (text : List ℕ) (fault : AsmFault) (number : ℕ) → IsMiscounted (lines_of text) fault number →
       said text ≡ Err (At fault number)
-  pub jump : (text : List ℕ) (fault : Fault) (number : ℕ) → IsFirstJump (lines_of text) fault number →
+  pub jump : (text : List ℕ) (fault : AsmFault) (number : ℕ) → IsFirstJump (lines_of text) fault number →
       said text ≡ Err (At fault number)

@@ -2,14 +2,14 @@
 use Rattle.std.specs.Prelude.{ℕ, ◌≡◌, ◌==◌, if◌then◌else◌, List, [], ◌++◌, codes, slice_index}
 use Rattle.std.specs.List.{flat_map}
 use Rattle.hex.specs.Hex.{encode_lower}
-use Rattle.codec.specs.declared.fault.Fault.{Fault}
-use Rattle.codec.specs.declared.fault.Fault.TheVariants.{LeftOut}
+use Rattle.codec.specs.declared.fault.CodecFault.{CodecFault}
+use Rattle.codec.specs.declared.fault.CodecFault.TheVariants.{LeftOut}
 use Rattle.codec.specs.ErrorText.{code_of}
 use Rattle.asm.specs.Printing.{insn_text}
-use Rattle.partial.specs.Pieces.{Piece, Spelled, Raw, ArePieces}
+use Rattle.asm.specs.Pieces.{Piece, Spelled, Raw, ArePieces}
 
 -- which instruction is left out, by its opcode: of an atomic one or of a packet's its group (RFC 9669, section 2.4)
-abbrev pub kind_of : Fault → ℕ → List ℕ
+abbrev pub kind_of : CodecFault → ℕ → List ℕ
 kind_of LeftOut opcode =
     if opcode == 0x18 then codes " wide load"
     else if opcode == 0x85 then codes " call"

@@ -2,14 +2,14 @@
 use Rattle.std.specs.Prelude.{ℕ, ◌≡◌, List, [], ◌∷◌, ◌++◌, Some, length}
 use Rattle.insn.specs.declared.insn.Insn.{Insn}
 use Rattle.insn.specs.Insn.{IsInsn}
-use Rattle.codec.specs.declared.fault.Fault.{Fault}
+use Rattle.codec.specs.declared.fault.CodecFault.{CodecFault}
 use Rattle.codec.specs.Spelling.{instruction_bytes}
 use Rattle.codec.specs.Reading.{fault_at}
 
 -- an instruction, or eight bytes with which none begins, by this fault
 pub data Piece : Type 0 where
   Spelled : Insn → Piece
-  Raw : List ℕ → Fault → Piece
+  Raw : List ℕ → CodecFault → Piece
 
 -- the bytes begin with the piece, and this is the rest
 abbrev pub IsFirst : List ℕ → Piece → List ℕ → Type 0

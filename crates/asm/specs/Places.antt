@@ -2,9 +2,9 @@
 use Rattle.std.specs.Prelude.{ℕ, ◌≡◌, ◌≤◌, ◌==◌, ◌&&◌, nat_le, nat_lt, Bool, if◌then◌else◌, List, [], ◌∷◌, ◌++◌, Option, Some, None, Result, Ok, Err, codes, decimal, map}
 use Rattle.std.specs.List.{flat_map, list_all}
 use Rattle.insn.specs.Program.{most_units}
-use Rattle.asm.specs.declared.kept.Kept.{Kept}
+use Rattle.asm.specs.declared.draft.Kept.{Kept}
 use Rattle.asm.specs.declared.fault.AsmError.{AsmError}
-use Rattle.asm.specs.declared.fault.Fault.{Fault}
+use Rattle.asm.specs.declared.fault.AsmFault.{AsmFault}
 use Rattle.asm.specs.Line.{Outline, outline_of}
 use Rattle.asm.specs.Printing.{operands_text}
 use Rattle.asm.specs.Program.{Placed, Read, lines_of, placed_units, source_units, units_in}
@@ -42,7 +42,7 @@ statement_text [] = []
 statement_text (word ∷ operands) = word_text word ++ operands_text (map word_text operands)
 
 -- one for each of its units
-abbrev pub for_units : Result (Option Source) Fault → List ℕ → List (List ℕ)
+abbrev pub for_units : Result (Option Source) AsmFault → List ℕ → List (List ℕ)
 for_units (Ok (Some source)) text = if source_units source == 2 then text ∷ text ∷ [] else text ∷ []
 for_units _ text = []
 

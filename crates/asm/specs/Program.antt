@@ -9,8 +9,8 @@ use Rattle.insn.specs.declared.insn.Insn.{Insn}
 use Rattle.insn.specs.declared.insn.Insn.TheVariants as insns
 use Rattle.insn.specs.Insn.{units_of}
 use Rattle.insn.specs.Program.{most_units}
-use Rattle.asm.specs.declared.fault.Fault.{Fault}
-use Rattle.asm.specs.declared.fault.Fault.TheVariants as faults
+use Rattle.asm.specs.declared.fault.AsmFault.{AsmFault}
+use Rattle.asm.specs.declared.fault.AsmFault.TheVariants as faults
 use Rattle.asm.specs.declared.fault.AsmError.{AsmError}
 use Rattle.asm.specs.declared.fault.AsmError.TheVariants.{At}
 use Rattle.asm.specs.Faults.{at_line, ◌>>=◌}
@@ -58,7 +58,7 @@ abbrev pub units_in : Read → ℕ
 units_in r = sum_by placed_units r.sources
 
 -- a name is defined once (A5), and stands for the unit of what follows
-abbrev pub with_name : Read → Option (List ℕ) → Result Read Fault
+abbrev pub with_name : Read → Option (List ℕ) → Result Read AsmFault
 with_name r None = Ok r
 with_name r (Some name) =
     if is_some (defined r.names name) then Err faults.Twice else Ok (record r { names = (name, units_in r) ∷ r.names })
@@ -67,14 +67,14 @@ abbrev pub with_source : Read → ℕ → Option Source → Read
 with_source r line None = r
 with_source r line (Some source) = record r { sources = r.sources ++ (record { source = source; line = line }) ∷ [] }
 
-unfoldable pub with_words : Read → ℕ → List (List ℕ) → Result Read Fault
+unfoldable pub with_words : Read → ℕ → List (List ℕ) → Result Read AsmFault
 with_words r line words = statement_of words >>= λ statement. Ok (with_source r line statement)
 
-unfoldable pub with_line : Read → ℕ → Outline → Result Read Fault
+unfoldable pub with_line : Read → ℕ → Outline → Result Read AsmFault
 with_line r line o = with_name r o.name >>= λ next. with_words next line o.words
 
 -- what a further line says: its outline (A1), its name, its statement
-unfoldable pub line_read : Read → ℕ → List ℕ → Result Read Fault
+unfoldable pub line_read : Read → ℕ → List ℕ → Result Read AsmFault
 line_read r line text = ok_or (outline_of text) faults.Line >>= λ o. with_line r line o
 
 -- what the lines from this number on say, the first fault of the first line that has one
@@ -83,7 +83,7 @@ read_on r line [] = Ok r
 read_on r line (text ∷ texts) = at_line line (line_read r line text) >>= λ next. read_on next (line + 1) texts
 
 -- an instruction with its distance: the name is defined (A4), and the distance in its range (A6)
-abbrev pub insn_of : List (List ℕ × ℕ) → ℕ → Source → Result Insn Fault
+abbrev pub insn_of : List (List ℕ × ℕ) → ℕ → Source → Result Insn AsmFault
 insn_of names unit (Plain insn) = Ok insn
 insn_of names unit (Jump goal) =
     ok_or (distance_of names unit goal) faults.Label >>= λ n.

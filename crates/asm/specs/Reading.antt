@@ -9,8 +9,8 @@ use Rattle.text.specs.Stop.{semicolon}
 use Rattle.text.specs.Parts.{before, from, lines_of}
 use Rattle.insn.specs.declared.insn.Insn.{Insn}
 use Rattle.codec.specs.Spelling.{program_bytes}
-use Rattle.asm.specs.declared.fault.Fault.{Fault}
-use Rattle.asm.specs.declared.fault.Fault.TheVariants.{Mnemonic, Operand, Count}
+use Rattle.asm.specs.declared.fault.AsmFault.{AsmFault}
+use Rattle.asm.specs.declared.fault.AsmFault.TheVariants.{Mnemonic, Operand, Count}
 use Rattle.asm.specs.declared.fault.AsmError.{AsmError}
 use Rattle.asm.specs.declared.fault.AsmError.TheVariants.{At, Memory}
 use Rattle.asm.specs.Faults.{at_line, ◌>>=◌}
@@ -18,26 +18,26 @@ use Rattle.asm.specs.Line.{is_all_blank}
 use Rattle.asm.specs.Program.{said}
 
 -- what is no number of eight bytes is an operand of another kind
-abbrev pub in_bytes : Result (List ℕ) FromHexError → Result (List ℕ) Fault
+abbrev pub in_bytes : Result (List ℕ) FromHexError → Result (List ℕ) AsmFault
 in_bytes (Ok bytes) = Ok bytes
 in_bytes (Err error) = Err Operand
 
 -- `0x` and sixteen digits: the eight bytes, in the order in which they stand
-abbrev pub eight_of : List ℕ → Result (List ℕ) Fault
+abbrev pub eight_of : List ℕ → Result (List ℕ) AsmFault
 eight_of number =
     if starts_with nat_eq number (codes "0x") then in_bytes (decode_sized (drop 2 number) 8) else Err Operand
 
 -- the same with white space round it
-abbrev pub unit_in : List ℕ → Result (List ℕ) Fault
+abbrev pub unit_in : List ℕ → Result (List ℕ) AsmFault
 unit_in operand = if is_all_blank (from Blank operand) then eight_of (before Blank operand) else Err Operand
 
 -- the word `.unit` and its operand
-abbrev pub raw_in : List ℕ → Result (List ℕ) Fault
+abbrev pub raw_in : List ℕ → Result (List ℕ) AsmFault
 raw_in code =
     if bytes_eq (before Blank code) (codes ".unit") then unit_in (from Solid (from Blank code)) else Err Mnemonic
 
 -- what a line says that is assembled by itself, where names stand for nothing; one without an instruction says no bytes
-abbrev pub alone : Result (List Insn) AsmError → Result (List ℕ) Fault
+abbrev pub alone : Result (List Insn) AsmError → Result (List ℕ) AsmFault
 alone (Ok program) = Ok (program_bytes program)
 alone (Err (At Count line)) = Ok []
 alone (Err (At fault line)) = Err fault
@@ -48,7 +48,7 @@ abbrev pub is_dotted : List ℕ → Bool
 is_dotted line = slice_index (from Solid line) 0 == 46
 
 -- the bytes of a line, without its comment
-abbrev pub line_bytes : List ℕ → Result (List ℕ) Fault
+abbrev pub line_bytes : List ℕ → Result (List ℕ) AsmFault
 line_bytes line = if is_dotted line then raw_in (before semicolon (from Solid line)) else alone (said line)
 
 -- those of the lines from this number on, behind those that are done; the first fault of the first line that has one

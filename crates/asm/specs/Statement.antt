@@ -10,8 +10,8 @@ use Rattle.insn.specs.declared.insn.Insn.TheVariants as insns
 use Rattle.insn.specs.Insn.{IsWell}
 use Rattle.asm.specs.declared.mnemonic.Mnemonic.{Mnemonic}
 use Rattle.asm.specs.declared.mnemonic.Mnemonic.TheVariants as words
-use Rattle.asm.specs.declared.fault.Fault.{Fault}
-use Rattle.asm.specs.declared.fault.Fault.TheVariants as faults
+use Rattle.asm.specs.declared.fault.AsmFault.{AsmFault}
+use Rattle.asm.specs.declared.fault.AsmFault.TheVariants as faults
 use Rattle.asm.specs.Faults.{◌>>=◌}
 use Rattle.asm.specs.Table.{mnemonic_of}
 use Rattle.asm.specs.Helper.{helper_of}
@@ -56,7 +56,7 @@ three_of (a ∷ b ∷ c ∷ []) = Some (a, b, c)
 three_of (a ∷ b ∷ c ∷ d ∷ rest) = None
 
 -- the operands of each mnemonic: their number and kinds (A3), then their ranges (A6)
-abbrev pub source_of : Mnemonic → List (List ℕ) → Result Source Fault
+abbrev pub source_of : Mnemonic → List (List ℕ) → Result Source AsmFault
 source_of (words.Arithmetic width operation) operands =
     ok_or (two_of operands) faults.Operand >>= λ o.
     ok_or (register_of o.0) faults.Operand >>= λ dst.
@@ -131,7 +131,7 @@ source_of words.Call operands =
 source_of words.Exit operands = ok_or (none_of operands) faults.Operand >>= λ o. Ok (Plain insns.Exit)
 
 -- the statement of these words, if there are any: the mnemonic (A2), then its operands
-abbrev pub statement_of : List (List ℕ) → Result (Option Source) Fault
+abbrev pub statement_of : List (List ℕ) → Result (Option Source) AsmFault
 statement_of [] = Ok None
 statement_of (word ∷ operands) =
     ok_or (mnemonic_of word) faults.Mnemonic >>= λ m. source_of m operands >>= λ source. Ok (Some source)

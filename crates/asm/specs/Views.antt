@@ -2,16 +2,16 @@
 use Rattle.std.specs.Prelude.{ℕ, ◌≡◌, List, map, Option, Some, None, Result, Ok, Err}
 use Rattle.std.proofs.Common.{Bor}
 use Rattle.std.specs.Option.{ok_or}
-use Rattle.asm.specs.declared.fault.Fault.{Fault}
-use Rattle.asm.specs.declared.fault.Fault.TheVariants as faults
+use Rattle.asm.specs.declared.fault.AsmFault.{AsmFault}
+use Rattle.asm.specs.declared.fault.AsmFault.TheVariants as faults
 use Rattle.asm.specs.declared.fault.LineError.{LineError}
 use Rattle.asm.specs.declared.fault.LineError.TheVariants as failures
 use Rattle.asm.specs.declared.operand.Aim.{Aim}
 use Rattle.asm.specs.declared.operand.Aim.TheVariants as aims
-use Rattle.asm.specs.declared.kept.Draft.{Draft}
-use Rattle.asm.specs.declared.kept.Draft.TheVariants as drafts
-use Rattle.asm.specs.declared.kept.Statement.{Statement}
-use Rattle.asm.specs.declared.kept.Kept.{Kept}
+use Rattle.asm.specs.declared.draft.DraftInstruction.{DraftInstruction}
+use Rattle.asm.specs.declared.draft.DraftInstruction.TheVariants as drafts
+use Rattle.asm.specs.declared.draft.Statement.{Statement}
+use Rattle.asm.specs.declared.draft.Kept.{Kept}
 use Rattle.asm.specs.Operand.{Goal, Away, Named}
 use Rattle.asm.specs.Statement.{Source, Plain, Jump, LongJump, Branch}
 use Rattle.asm.specs.Line.{Outline}
@@ -27,7 +27,7 @@ GivesResult view (Err e) read = read ≡ Err e
 GivesResult view (Ok x) read = read ≡ Ok (view x)
 
 -- any error but want of memory is the fault of what is read
-abbrev pub Fails : {Y : Type 0} → LineError → Result Y Fault → Type 0
+abbrev pub Fails : {Y : Type 0} → LineError → Result Y AsmFault → Type 0
 Fails failures.Memory read = Unit {0}
 Fails (failures.Fault f) read = read ≡ Err f
 
@@ -37,7 +37,7 @@ aim_view (aims.Away n) name = Away n
 aim_view aims.Named name = Named name
 
 -- a source, its name apart
-abbrev pub draft_view : Draft → List ℕ → Source
+abbrev pub draft_view : DraftInstruction → List ℕ → Source
 draft_view (drafts.Plain insn) name = Plain insn
 draft_view (drafts.Jump aim) name = Jump (aim_view aim name)
 draft_view (drafts.LongJump aim) name = LongJump (aim_view aim name)

@@ -4,8 +4,8 @@ ghost use Rattle.std.specs.Prelude.{◌≡◌, ◌≤◌, Some, IfOk};
 ghost use Rattle.asm.specs.Program.{Read, said, program_of, program_in};
 ghost use Rattle.asm.specs.Keeping.{Keeps, Answers, AreWellKept, units_kept};
 
-use crate::fault::{AsmError, Fault};
-use crate::reading::{MOST_UNITS, Reading, gather};
+use crate::fault::{AsmError, AsmFault};
+use crate::reader::{MOST_UNITS, Reading, gather};
 use crate::resolver::resolve_all;
 use insn::Program;
 use std::alloc::Global;
@@ -18,7 +18,7 @@ fn finish(alloc: Global, reading: &Reading<'_>) -> Result<Program, AsmError>
 {
     if reading.units == 0 || reading.units > MOST_UNITS {
         return Err(AsmError::At(
-            Fault::Count,
+            AsmFault::Count,
             if reading.lines == 0 { 1 } else { reading.lines },
         ));
     }

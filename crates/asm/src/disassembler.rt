@@ -5,8 +5,8 @@ ghost use Rattle.insn.specs.Program.{slots_of};
 ghost use Rattle.asm.specs.Printing.{text_of, unit_lines};
 ghost use Rattle.asm.specs.Program.{program_of};
 
-use crate::printing::put_line;
-use crate::putting::{put, put_unsigned};
+use crate::printer::put_line;
+use crate::text_parts::{put, put_unsigned};
 use insn::{Insn, Program};
 use std::alloc::{AllocError, Global};
 

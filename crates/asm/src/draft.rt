@@ -10,7 +10,7 @@ use word::{Condition, Width};
 
 /// An instruction, a jump's distance left open.
 #[derive(Clone, Copy)]
-pub enum Draft {
+pub enum DraftInstruction {
     Plain(Insn),
     Jump(Aim),
     LongJump(Aim),
@@ -20,7 +20,7 @@ pub enum Draft {
 /// A draft with the name of its goal (empty where it has none).
 #[derive(Clone, Copy)]
 pub struct Statement<'a> {
-    pub draft: Draft,
+    pub draft: DraftInstruction,
     pub name: &'a [u8],
 }
 
@@ -37,7 +37,7 @@ pub fn units(statement: &Statement<'_>) -> u64
     ensures bound { result ≤ 2 }
 {
     match &statement.draft {
-        Draft::Plain(insn) => insn.units() as u64,
+        DraftInstruction::Plain(insn) => insn.units() as u64,
         _ => 1,
     }
 }

@@ -10,7 +10,7 @@ use std::fmt;
 
 /// What is wrong with a line, or with the text as a whole.
 #[derive(Clone, Copy, Debug, PartialEq, Eq, Drop)]
-pub enum Fault {
+pub enum AsmFault {
     /// The line's outline, or a character past ASCII outside a comment.
     Line,
     /// An unknown mnemonic.
@@ -27,7 +27,7 @@ pub enum Fault {
     Count,
 }
 
-impl fmt::Display for Fault {
+impl fmt::Display for AsmFault {
     ghost use Rattle.std.specs.Prelude.{Some};
     ghost use Rattle.asm.specs.ErrorText.{code_of};
 
@@ -35,24 +35,24 @@ impl fmt::Display for Fault {
 
     fn fmt<W: fmt::Write>(&self, f: &mut fmt::Formatter<W>) -> fmt::Result {
         f.write_str(match self {
-            Fault::Line => "A1",
-            Fault::Mnemonic => "A2",
-            Fault::Operand => "A3",
-            Fault::Label => "A4",
-            Fault::Twice => "A5",
-            Fault::Range => "A6",
-            Fault::Count => "A7",
+            AsmFault::Line => "A1",
+            AsmFault::Mnemonic => "A2",
+            AsmFault::Operand => "A3",
+            AsmFault::Label => "A4",
+            AsmFault::Twice => "A5",
+            AsmFault::Range => "A6",
+            AsmFault::Count => "A7",
         })
     }
 }
 
-impl Error for Fault {}
+impl Error for AsmFault {}
 
 /// The first fault with its line, counted from 1, or want of memory.
 #[derive(Clone, Copy, Debug, PartialEq, Eq, Drop)]
 pub enum AsmError {
     /// A fault at a line; for a count it is the number of lines, at least 1.
-    At(Fault, u64),
+    At(AsmFault, u64),
     Memory,
 }
 
@@ -89,7 +89,7 @@ impl Error for AsmError {}
 #[derive(Clone, Copy, Drop)]
 pub enum LineError {
     Memory,
-    Fault(Fault),
+    Fault(AsmFault),
 }
 
 impl LineError {
@@ -121,10 +121,10 @@ impl<T: Drop> From<AllocFailed<T>> for LineError {
     }
 }
 
-impl From<Fault> for LineError {
+impl From<AsmFault> for LineError {
     ghost from_gives = { λ f e. e ≡ At f };
 
-    fn from(f: Fault) -> LineError {
+    fn from(f: AsmFault) -> LineError {
         LineError::Fault(f)
     }
 }

@@ -1,10 +1,34 @@
-//! Bytecode of which not all can be decoded, as text: a unit with which no instruction begins stands there as its
-//! bytes.
+//! Assembly: programs as text.
 #![tactic(auto)]
 
 mod assembler;
 mod disassembler;
-mod lines;
+mod draft;
+mod fault;
+mod helper;
+mod laws;
+mod line;
+mod mnemonic;
+mod number;
+mod operand;
+mod outline;
+pub mod partial;
+mod printer;
+mod reader;
+mod resolver;
+mod statement;
+mod text_parts;
+mod unit_places;
+mod unit_text;
 
 pub use assembler::assemble;
-pub use disassembler::disassemble;
+pub use disassembler::{disassemble, disassemble_units};
+pub use fault::{AsmError, AsmFault};
+pub use laws::{
+    faults_are_first, helpers_are_numbered, jumps_lead_to_names, mnemonics_are_named,
+    registers_are_numbered,
+};
+pub use printer::put_instruction;
+pub use text_parts::{put, put_number, put_unsigned};
+pub use unit_places::places;
+pub use unit_text::statements;

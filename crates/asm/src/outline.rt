@@ -7,7 +7,7 @@ ghost use Rattle.text.specs.Parts.{from, pieces};
 ghost use Rattle.asm.specs.Line.{is_token, is_word, is_all_blank, token_of, tokens_on, line_words, outline_of, outlined, named};
 ghost use Rattle.asm.specs.Views.{GivesOption, GivesWords, GivesOutline};
 
-use crate::fault::{Fault, LineError};
+use crate::fault::{AsmFault, LineError};
 use crate::operand::{is_name, letter};
 use text::{Stop, cut, find, piece};
 
@@ -71,7 +71,7 @@ fn push_operands<'a>(words: &mut Vec<&'a [u8]>, text: &'a [u8]) -> Result<(), Li
     while let Some(text) = rest {
         let (front, after) = piece(Stop::Byte(b','), text);
         let Some(word) = token(front) else {
-            return Err(LineError::Fault(Fault::Line));
+            return Err(LineError::Fault(AsmFault::Line));
         };
         words.push(word)?;
         rest = after;
@@ -90,7 +90,7 @@ fn push_words<'a>(words: &mut Vec<&'a [u8]>, body: &'a [u8]) -> Result<(), LineE
     }
     let (word, rest) = cut(Stop::Blank, body);
     if !word_bytes(word) {
-        return Err(LineError::Fault(Fault::Line));
+        return Err(LineError::Fault(AsmFault::Line));
     }
     words.push(word)?;
     if all_blank(rest) {
@@ -117,7 +117,7 @@ fn read_named<'a>(words: &mut Vec<&'a [u8]>, code: &'a [u8]) -> Result<Option<&'
 {
     let (name, rest) = cut(Stop::Byte(b':'), code);
     if !is_name(name) {
-        return Err(LineError::Fault(Fault::Line));
+        return Err(LineError::Fault(AsmFault::Line));
     }
     match push_words(words, skip_blank(behind_first(rest))) {
         Ok(()) => Ok(Some(name)),

@@ -5,7 +5,7 @@ ghost use Rattle.std.specs.Fmt.{signed_decimal};
 ghost use Rattle.asm.specs.Printing.{register_text, operand_text, signed_text, place_text, word_of, operands_of, operands_text, insn_text, line_text};
 
 use crate::mnemonic::{Mnemonic, name};
-use crate::putting::{put, put_number, put_unsigned};
+use crate::text_parts::{put, put_number, put_unsigned};
 use insn::{Insn, Operand, Reg};
 use std::alloc::AllocError;
 

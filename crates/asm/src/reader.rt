@@ -5,8 +5,8 @@ ghost use Rattle.asm.specs.Program.{Read, line_read, with_words, with_name, with
 ghost use Rattle.asm.specs.Views.{kept_view, source_view, draft_view, name_view};
 ghost use Rattle.asm.specs.Keeping.{KeepsRead, GivesRead, Keeps, GivesGathered, units_kept};
 
-use crate::fault::{AsmError, Fault, LineError};
-use crate::kept::{Draft, Kept, Statement, units};
+use crate::draft::{DraftInstruction, Kept, Statement, units};
+use crate::fault::{AsmError, AsmFault, LineError};
 use crate::line::next_line;
 use crate::outline::read_outline;
 use crate::statement::read_statement;
@@ -36,7 +36,7 @@ fn put_name<'a>(reading: &mut Reading<'a>, name: &'a [u8]) -> Result<(), LineErr
     ensures units { reading.new.units ≡ reading.old.units }
 {
     if reading.names.contains_key(name) {
-        return Err(LineError::Fault(Fault::Twice));
+        return Err(LineError::Fault(AsmFault::Twice));
     }
     reading.names.insert(name, reading.units)?;
     Ok(())
@@ -55,7 +55,7 @@ fn read_name<'a>(reading: &mut Reading<'a>, name: Option<&'a [u8]>) -> Result<()
 
 fn push_kept<'a>(
     sources: &mut Vec<Kept<'a>>,
-    draft: Draft,
+    draft: DraftInstruction,
     name: &'a [u8],
     line: u64,
 ) -> Result<(), LineError>

@@ -10,11 +10,11 @@ ghost use Rattle.asm.specs.Program.{Read, source_units, insn_of, insns_on};
 ghost use Rattle.asm.specs.Views.{GivesResult, aim_view, source_view};
 ghost use Rattle.asm.specs.Keeping.{Keeps, Finds, AnswersBy, AreWellKept, units_kept};
 
-use crate::fault::{AsmError, Fault};
-use crate::kept::{Draft, Statement, units};
+use crate::draft::{DraftInstruction, Statement, units};
+use crate::fault::{AsmError, AsmFault};
 use crate::number::{Number, fit16, fit32};
 use crate::operand::Aim;
-use crate::reading::Reading;
+use crate::reader::Reading;
 use insn::Insn;
 use std::alloc::Global;
 use std::collections::BTreeMap;
@@ -50,7 +50,7 @@ fn resolve(
     names: &BTreeMap<&[u8], u64>,
     unit: u64,
     statement: &Statement<'_>,
-) -> Result<Insn, Fault>
+) -> Result<Insn, AsmFault>
     requires { unit < 4096 }
     ensures said { (ds : List (List ℕ × ℕ)) → Finds names.now ds →
         GivesResult (λ i. i) result (insn_of ds unit (source_view statement.now)) }
@@ -58,31 +58,31 @@ fn resolve(
     ensures well { IsWellSource (source_view statement.now) → IfOk result (λ i. IsWell i) }
 {
     match &statement.draft {
-        Draft::Plain(insn) => Ok(*insn),
-        Draft::Jump(aim) => {
+        DraftInstruction::Plain(insn) => Ok(*insn),
+        DraftInstruction::Jump(aim) => {
             let Some(n) = distance(names, unit, aim, statement.name) else {
-                return Err(Fault::Label);
+                return Err(AsmFault::Label);
             };
             let Some(distance) = fit16(n) else {
-                return Err(Fault::Range);
+                return Err(AsmFault::Range);
             };
             Ok(Insn::Jump { distance })
         }
-        Draft::LongJump(aim) => {
+        DraftInstruction::LongJump(aim) => {
             let Some(n) = distance(names, unit, aim, statement.name) else {
-                return Err(Fault::Label);
+                return Err(AsmFault::Label);
             };
             let Some(distance) = fit32(n) else {
-                return Err(Fault::Range);
+                return Err(AsmFault::Range);
             };
             Ok(Insn::LongJump { distance })
         }
-        Draft::Branch(width, condition, dst, operand, aim) => {
+        DraftInstruction::Branch(width, condition, dst, operand, aim) => {
             let Some(n) = distance(names, unit, aim, statement.name) else {
-                return Err(Fault::Label);
+                return Err(AsmFault::Label);
             };
             let Some(distance) = fit16(n) else {
-                return Err(Fault::Range);
+                return Err(AsmFault::Range);
             };
             Ok(Insn::Branch {
                 width: *width,

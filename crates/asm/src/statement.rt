@@ -5,9 +5,9 @@ ghost use Rattle.asm.specs.declared.mnemonic.Mnemonic.TheVariants as words;
 ghost use Rattle.asm.specs.Statement.{Plain, source_of, none_of, one_of, two_of, three_of, statement_of};
 ghost use Rattle.asm.specs.Views.{GivesOption, GivesResult, source_view, statement_view};
 
-use crate::fault::Fault;
+use crate::draft::{DraftInstruction, Statement};
+use crate::fault::AsmFault;
 use crate::helper::helper_named;
-use crate::kept::{Draft, Statement};
 use crate::mnemonic::{Mnemonic, read_mnemonic};
 use crate::number::{fit16, fit32, fit64, read_number};
 use crate::operand::{fit, letter, place, read_raw, register, target};
@@ -66,7 +66,7 @@ fn plain<'a>(insn: Insn) -> Statement<'a>
     ensures { source_view result ≡ Plain insn }
 {
     Statement {
-        draft: Draft::Plain(insn),
+        draft: DraftInstruction::Plain(insn),
         name: &[],
     }
 }
@@ -76,21 +76,21 @@ fn arithmetic<'a>(
     width: Width,
     operation: Operation,
     operands: &[&'a [u8]],
-) -> Result<Statement<'a>, Fault>
+) -> Result<Statement<'a>, AsmFault>
     ensures { GivesResult source_view result
         (source_of (words.Arithmetic width operation) (map (λ r. r.now) operands.now)) }
 {
     let Some((a, b)) = two_operands(operands) else {
-        return Err(Fault::Operand);
+        return Err(AsmFault::Operand);
     };
     let Some(dst) = register(a) else {
-        return Err(Fault::Operand);
+        return Err(AsmFault::Operand);
     };
     let Some(raw) = read_raw(b) else {
-        return Err(Fault::Operand);
+        return Err(AsmFault::Operand);
     };
     let Some(operand) = fit(raw) else {
-        return Err(Fault::Range);
+        return Err(AsmFault::Range);
     };
     Ok(plain(Insn::Arithmetic {
         width,
@@ -101,14 +101,14 @@ fn arithmetic<'a>(
 }
 
 /// `rD`
-fn negate<'a>(width: Width, operands: &[&'a [u8]]) -> Result<Statement<'a>, Fault>
+fn negate<'a>(width: Width, operands: &[&'a [u8]]) -> Result<Statement<'a>, AsmFault>
     ensures { GivesResult source_view result (source_of (words.Negate width) (map (λ r. r.now) operands.now)) }
 {
     let Some(a) = one_operand(operands) else {
-        return Err(Fault::Operand);
+        return Err(AsmFault::Operand);
     };
     let Some(dst) = register(a) else {
-        return Err(Fault::Operand);
+        return Err(AsmFault::Operand);
     };
     Ok(plain(Insn::Negate { width, dst }))
 }
@@ -118,17 +118,17 @@ fn sign_extend<'a>(
     width: Width,
     part: Narrow,
     operands: &[&'a [u8]],
-) -> Result<Statement<'a>, Fault>
+) -> Result<Statement<'a>, AsmFault>
     ensures { GivesResult source_view result (source_of (words.SignExtend width part) (map (λ r. r.now) operands.now)) }
 {
     let Some((first, second)) = two_operands(operands) else {
-        return Err(Fault::Operand);
+        return Err(AsmFault::Operand);
     };
     let Some(dst) = register(first) else {
-        return Err(Fault::Operand);
+        return Err(AsmFault::Operand);
     };
     let Some(src) = register(second) else {
-        return Err(Fault::Operand);
+        return Err(AsmFault::Operand);
     };
     Ok(plain(Insn::SignExtend {
         width,
@@ -139,65 +139,69 @@ fn sign_extend<'a>(
 }
 
 /// `rD`
-fn swap<'a>(order: ByteOrder, size: SwapSize, operands: &[&'a [u8]]) -> Result<Statement<'a>, Fault>
+fn swap<'a>(
+    order: ByteOrder,
+    size: SwapSize,
+    operands: &[&'a [u8]],
+) -> Result<Statement<'a>, AsmFault>
     ensures { GivesResult source_view result (source_of (words.Swap order size) (map (λ r. r.now) operands.now)) }
 {
     let Some(a) = one_operand(operands) else {
-        return Err(Fault::Operand);
+        return Err(AsmFault::Operand);
     };
     let Some(dst) = register(a) else {
-        return Err(Fault::Operand);
+        return Err(AsmFault::Operand);
     };
     Ok(plain(Insn::Swap { order, size, dst }))
 }
 
 /// `rD, number`
-fn load_immediate<'a>(operands: &[&'a [u8]]) -> Result<Statement<'a>, Fault>
+fn load_immediate<'a>(operands: &[&'a [u8]]) -> Result<Statement<'a>, AsmFault>
     ensures { GivesResult source_view result (source_of words.LoadImmediate (map (λ r. r.now) operands.now)) }
 {
     let Some((a, b)) = two_operands(operands) else {
-        return Err(Fault::Operand);
+        return Err(AsmFault::Operand);
     };
     let Some(dst) = register(a) else {
-        return Err(Fault::Operand);
+        return Err(AsmFault::Operand);
     };
     let Some(n) = read_number(b) else {
-        return Err(Fault::Operand);
+        return Err(AsmFault::Operand);
     };
     let Some(number) = fit64(n) else {
-        return Err(Fault::Range);
+        return Err(AsmFault::Range);
     };
     Ok(plain(Insn::LoadImmediate { dst, number }))
 }
 
 /// A target.
-fn jump<'a>(operands: &[&'a [u8]]) -> Result<Statement<'a>, Fault>
+fn jump<'a>(operands: &[&'a [u8]]) -> Result<Statement<'a>, AsmFault>
     ensures { GivesResult source_view result (source_of words.Jump (map (λ r. r.now) operands.now)) }
 {
     let Some(a) = one_operand(operands) else {
-        return Err(Fault::Operand);
+        return Err(AsmFault::Operand);
     };
     let Some((aim, name)) = target(a) else {
-        return Err(Fault::Operand);
+        return Err(AsmFault::Operand);
     };
     Ok(Statement {
-        draft: Draft::Jump(aim),
+        draft: DraftInstruction::Jump(aim),
         name,
     })
 }
 
 /// A target.
-fn long_jump<'a>(operands: &[&'a [u8]]) -> Result<Statement<'a>, Fault>
+fn long_jump<'a>(operands: &[&'a [u8]]) -> Result<Statement<'a>, AsmFault>
     ensures { GivesResult source_view result (source_of words.LongJump (map (λ r. r.now) operands.now)) }
 {
     let Some(a) = one_operand(operands) else {
-        return Err(Fault::Operand);
+        return Err(AsmFault::Operand);
     };
     let Some((aim, name)) = target(a) else {
-        return Err(Fault::Operand);
+        return Err(AsmFault::Operand);
     };
     Ok(Statement {
-        draft: Draft::LongJump(aim),
+        draft: DraftInstruction::LongJump(aim),
         name,
     })
 }
@@ -207,46 +211,46 @@ fn branch<'a>(
     width: Width,
     condition: Condition,
     operands: &[&'a [u8]],
-) -> Result<Statement<'a>, Fault>
+) -> Result<Statement<'a>, AsmFault>
     ensures { GivesResult source_view result
         (source_of (words.Branch width condition) (map (λ r. r.now) operands.now)) }
 {
     let Some((a, b, c)) = three_operands(operands) else {
-        return Err(Fault::Operand);
+        return Err(AsmFault::Operand);
     };
     let Some(dst) = register(a) else {
-        return Err(Fault::Operand);
+        return Err(AsmFault::Operand);
     };
     let Some(raw) = read_raw(b) else {
-        return Err(Fault::Operand);
+        return Err(AsmFault::Operand);
     };
     let Some((aim, name)) = target(c) else {
-        return Err(Fault::Operand);
+        return Err(AsmFault::Operand);
     };
     let Some(operand) = fit(raw) else {
-        return Err(Fault::Range);
+        return Err(AsmFault::Range);
     };
     Ok(Statement {
-        draft: Draft::Branch(width, condition, dst, operand, aim),
+        draft: DraftInstruction::Branch(width, condition, dst, operand, aim),
         name,
     })
 }
 
 /// `rD, [rS+k]`
-fn load<'a>(size: Size, operands: &[&'a [u8]]) -> Result<Statement<'a>, Fault>
+fn load<'a>(size: Size, operands: &[&'a [u8]]) -> Result<Statement<'a>, AsmFault>
     ensures { GivesResult source_view result (source_of (words.Load size) (map (λ r. r.now) operands.now)) }
 {
     let Some((a, b)) = two_operands(operands) else {
-        return Err(Fault::Operand);
+        return Err(AsmFault::Operand);
     };
     let Some(dst) = register(a) else {
-        return Err(Fault::Operand);
+        return Err(AsmFault::Operand);
     };
     let Some((base, n)) = place(b) else {
-        return Err(Fault::Operand);
+        return Err(AsmFault::Operand);
     };
     let Some(offset) = fit16(n) else {
-        return Err(Fault::Range);
+        return Err(AsmFault::Range);
     };
     Ok(plain(Insn::Load {
         size,
@@ -257,20 +261,20 @@ fn load<'a>(size: Size, operands: &[&'a [u8]]) -> Result<Statement<'a>, Fault>
 }
 
 /// `rD, [rS+k]`
-fn load_signed<'a>(part: Narrow, operands: &[&'a [u8]]) -> Result<Statement<'a>, Fault>
+fn load_signed<'a>(part: Narrow, operands: &[&'a [u8]]) -> Result<Statement<'a>, AsmFault>
     ensures { GivesResult source_view result (source_of (words.LoadSigned part) (map (λ r. r.now) operands.now)) }
 {
     let Some((a, b)) = two_operands(operands) else {
-        return Err(Fault::Operand);
+        return Err(AsmFault::Operand);
     };
     let Some(dst) = register(a) else {
-        return Err(Fault::Operand);
+        return Err(AsmFault::Operand);
     };
     let Some((base, n)) = place(b) else {
-        return Err(Fault::Operand);
+        return Err(AsmFault::Operand);
     };
     let Some(offset) = fit16(n) else {
-        return Err(Fault::Range);
+        return Err(AsmFault::Range);
     };
     Ok(plain(Insn::LoadSigned {
         part,
@@ -281,20 +285,20 @@ fn load_signed<'a>(part: Narrow, operands: &[&'a [u8]]) -> Result<Statement<'a>,
 }
 
 /// `[rD+k], rS`
-fn store_register<'a>(size: Size, operands: &[&'a [u8]]) -> Result<Statement<'a>, Fault>
+fn store_register<'a>(size: Size, operands: &[&'a [u8]]) -> Result<Statement<'a>, AsmFault>
     ensures { GivesResult source_view result (source_of (words.StoreRegister size) (map (λ r. r.now) operands.now)) }
 {
     let Some((a, b)) = two_operands(operands) else {
-        return Err(Fault::Operand);
+        return Err(AsmFault::Operand);
     };
     let Some((base, n)) = place(a) else {
-        return Err(Fault::Operand);
+        return Err(AsmFault::Operand);
     };
     let Some(src) = register(b) else {
-        return Err(Fault::Operand);
+        return Err(AsmFault::Operand);
     };
     let Some(offset) = fit16(n) else {
-        return Err(Fault::Range);
+        return Err(AsmFault::Range);
     };
     Ok(plain(Insn::Store {
         size,
@@ -305,23 +309,23 @@ fn store_register<'a>(size: Size, operands: &[&'a [u8]]) -> Result<Statement<'a>
 }
 
 /// `[rD+k], imm`
-fn store_number<'a>(size: Size, operands: &[&'a [u8]]) -> Result<Statement<'a>, Fault>
+fn store_number<'a>(size: Size, operands: &[&'a [u8]]) -> Result<Statement<'a>, AsmFault>
     ensures { GivesResult source_view result (source_of (words.StoreNumber size) (map (λ r. r.now) operands.now)) }
 {
     let Some((a, b)) = two_operands(operands) else {
-        return Err(Fault::Operand);
+        return Err(AsmFault::Operand);
     };
     let Some((base, n)) = place(a) else {
-        return Err(Fault::Operand);
+        return Err(AsmFault::Operand);
     };
     let Some(imm) = read_number(b) else {
-        return Err(Fault::Operand);
+        return Err(AsmFault::Operand);
     };
     let Some(offset) = fit16(n) else {
-        return Err(Fault::Range);
+        return Err(AsmFault::Range);
     };
     let Some(number) = fit32(imm) else {
-        return Err(Fault::Range);
+        return Err(AsmFault::Range);
     };
     Ok(plain(Insn::Store {
         size,
@@ -332,39 +336,39 @@ fn store_number<'a>(size: Size, operands: &[&'a [u8]]) -> Result<Statement<'a>, 
 }
 
 /// A number, or a helper's name.
-fn call<'a>(operands: &[&'a [u8]]) -> Result<Statement<'a>, Fault>
+fn call<'a>(operands: &[&'a [u8]]) -> Result<Statement<'a>, AsmFault>
     ensures { GivesResult source_view result (source_of words.Call (map (λ r. r.now) operands.now)) }
 {
     let Some(a) = one_operand(operands) else {
-        return Err(Fault::Operand);
+        return Err(AsmFault::Operand);
     };
     if a.len() >= 1 && letter(a[0]) {
         let Some(helper) = helper_named(a) else {
-            return Err(Fault::Operand);
+            return Err(AsmFault::Operand);
         };
         return Ok(plain(Insn::Call { helper }));
     }
     let Some(n) = read_number(a) else {
-        return Err(Fault::Operand);
+        return Err(AsmFault::Operand);
     };
     let Some(helper) = fit32(n) else {
-        return Err(Fault::Range);
+        return Err(AsmFault::Range);
     };
     Ok(plain(Insn::Call { helper }))
 }
 
 /// None.
-fn exit<'a>(operands: &[&'a [u8]]) -> Result<Statement<'a>, Fault>
+fn exit<'a>(operands: &[&'a [u8]]) -> Result<Statement<'a>, AsmFault>
     ensures { GivesResult source_view result (source_of words.Exit (map (λ r. r.now) operands.now)) }
 {
     match no_operand(operands) {
         Some(()) => Ok(plain(Insn::Exit)),
-        None => Err(Fault::Operand),
+        None => Err(AsmFault::Operand),
     }
 }
 
 /// The instruction of a mnemonic and its operands.
-fn read_source<'a>(mnemonic: Mnemonic, operands: &[&'a [u8]]) -> Result<Statement<'a>, Fault>
+fn read_source<'a>(mnemonic: Mnemonic, operands: &[&'a [u8]]) -> Result<Statement<'a>, AsmFault>
     ensures { GivesResult source_view result (source_of mnemonic (map (λ r. r.now) operands.now)) }
 {
     match mnemonic {
@@ -386,14 +390,14 @@ fn read_source<'a>(mnemonic: Mnemonic, operands: &[&'a [u8]]) -> Result<Statemen
 }
 
 /// The statement of these words, if there are any.
-pub fn read_statement<'a>(words: &[&'a [u8]]) -> Result<Option<Statement<'a>>, Fault>
+pub fn read_statement<'a>(words: &[&'a [u8]]) -> Result<Option<Statement<'a>>, AsmFault>
     ensures { GivesResult statement_view result (statement_of (map (λ r. r.now) words.now)) }
 {
     match words {
         [] => Ok(None),
         [word, operands @ ..] => {
             let Some(mnemonic) = read_mnemonic(word) else {
-                return Err(Fault::Mnemonic);
+                return Err(AsmFault::Mnemonic);
             };
             match read_source(mnemonic, operands) {
                 Ok(statement) => Ok(Some(statement)),

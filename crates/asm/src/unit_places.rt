@@ -5,8 +5,8 @@ ghost use Rattle.asm.specs.Places.{AreWritten, kept_places, line_text, own_place
 ghost use Rattle.asm.specs.Program.{lines_of, nothing, read_on};
 ghost use Rattle.asm.specs.Views.{kept_view};
 
-use crate::kept::{Kept, units};
-use crate::reading::{Reading, gather};
+use crate::draft::{Kept, units};
+use crate::reader::{Reading, gather};
 use std::alloc::{AllocError, Global};
 
 /// `line N`.

@@ -6,11 +6,11 @@ ghost use Rattle.asm.specs.Printing.{more_text, operands_text};
 ghost use Rattle.asm.specs.Statement.{statement_of};
 ghost use Rattle.asm.specs.Views.{source_view};
 
-use crate::kept::{Statement, units};
+use crate::draft::{Statement, units};
 use crate::line::next_line;
 use crate::outline::read_outline;
-use crate::putting::put;
 use crate::statement::read_statement;
+use crate::text_parts::put;
 use std::alloc::{AllocError, Global};
 
 /// Whether a byte is a visible character, or a space.

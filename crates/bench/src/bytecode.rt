@@ -1,4 +1,4 @@
-use crate::shape::Shape;
+use crate::shape::MeasuredProgram;
 use anyhow::Result;
 use asm::assemble;
 use codec::encode;
@@ -8,14 +8,14 @@ use std::alloc::{AllocError, Global};
 pub const UNITS: usize = 4096;
 
 /// The bytecode of the shape's program of 4,096 units.
-pub fn bytecode(alloc: Global, shape: &Shape) -> Result<Vec<u8>> {
+pub fn bytecode(alloc: Global, shape: &MeasuredProgram) -> Result<Vec<u8>> {
     let text = assembly(alloc, shape)?;
     let program = assemble(alloc, text.as_str())?;
     Ok(encode(alloc, &program)?)
 }
 
 /// Its assembly: 4,095 lines of the shape, and the exit.
-fn assembly(alloc: Global, shape: &Shape) -> Result<String, AllocError> {
+fn assembly(alloc: Global, shape: &MeasuredProgram) -> Result<String, AllocError> {
     let mut text = String::new(alloc);
     for unit in 0..UNITS - 1 {
         text.push_str(shape.line(unit))?;

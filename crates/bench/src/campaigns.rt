@@ -1,12 +1,12 @@
 //! Times campaigns: from a scenario to its chronicle, from text to text, and audits; of signed messages the dearest
 //! close, too.
 
-use crate::chronicles::{Messages, audited, freely, scenario_of, told_freely};
-use crate::task::{Task, report_task};
+use crate::chronicles::{MessageKind, audited, freely, scenario_of, told_freely};
+use crate::task::{Workload, report_task};
 use crate::texts::{COLLUDING, idle, signing};
 use crate::timing::nanoseconds;
 use anyhow::{Result, bail};
-use roster::Scenario;
+use round::Scenario;
 use signed::{SignedWorld, play_signed};
 use std::alloc::Global;
 use std::rt::Clock;
@@ -20,13 +20,13 @@ use world::{Event, EventError, play};
 pub fn play_once<C: Clock>(
     alloc: Global,
     clock: &C,
-    messages: Messages,
+    messages: MessageKind,
     scenario: &Scenario,
 ) -> Result<u64> {
     let copy = scenario.copy(alloc)?;
     match messages {
-        Messages::Oral => play_oral(alloc, clock, copy),
-        Messages::Signed => sign_once(alloc, clock, copy),
+        MessageKind::Oral => play_oral(alloc, clock, copy),
+        MessageKind::Signed => sign_once(alloc, clock, copy),
     }
 }
 
@@ -55,7 +55,7 @@ fn sign_once<C: Clock>(alloc: Global, clock: &C, scenario: Scenario) -> Result<u
 }
 
 /// The text of the chronicle of a scenario's text.
-fn chronicle_of(alloc: Global, messages: Messages, text: &str) -> Result<Vec<u8>> {
+fn chronicle_of(alloc: Global, messages: MessageKind, text: &str) -> Result<Vec<u8>> {
     told_freely(alloc, messages, scenario_of(alloc, messages, text)?)
 }
 
@@ -63,7 +63,7 @@ fn chronicle_of(alloc: Global, messages: Messages, text: &str) -> Result<Vec<u8>
 pub fn tell_once<C: Clock>(
     alloc: Global,
     clock: &C,
-    messages: Messages,
+    messages: MessageKind,
     text: &str,
 ) -> Result<u64> {
     let start = Instant::now(clock)?;
@@ -79,7 +79,7 @@ pub fn tell_once<C: Clock>(
 pub fn audit_once<C: Clock>(
     alloc: Global,
     clock: &C,
-    messages: Messages,
+    messages: MessageKind,
     scenario: &Scenario,
     text: &str,
 ) -> Result<u64> {
@@ -188,9 +188,13 @@ fn report_oral<R: Print + Eprint + Clock + Threads + Wait + Sync + AllocGlobal>(
     text: &str,
     names: &Names,
 ) -> Result<()> {
-    let scenario = scenario_of(rt.alloc(), Messages::Oral, text)?;
-    report_task(rt, names.play, &Task::Play(Messages::Oral, &scenario))?;
-    report_texts(rt, Messages::Oral, scenario, text, names)
+    let scenario = scenario_of(rt.alloc(), MessageKind::Oral, text)?;
+    report_task(
+        rt,
+        names.play,
+        &Workload::Play(MessageKind::Oral, &scenario),
+    )?;
+    report_texts(rt, MessageKind::Oral, scenario, text, names)
 }
 
 /// Measures the campaign of signed messages.
@@ -198,23 +202,27 @@ fn report_signed<R: Print + Eprint + Clock + Threads + Wait + Sync + AllocGlobal
     rt: &R,
     text: &str,
 ) -> Result<()> {
-    let scenario = scenario_of(rt.alloc(), Messages::Signed, text)?;
-    report_task(rt, SIGNED.play, &Task::Play(Messages::Signed, &scenario))?;
+    let scenario = scenario_of(rt.alloc(), MessageKind::Signed, text)?;
+    report_task(
+        rt,
+        SIGNED.play,
+        &Workload::Play(MessageKind::Signed, &scenario),
+    )?;
     let what = "dearest close, signed, four traitors of thirteen";
-    report_task(rt, what, &Task::Close(&scenario))?;
-    report_texts(rt, Messages::Signed, scenario, text, &SIGNED)
+    report_task(rt, what, &Workload::Close(&scenario))?;
+    report_texts(rt, MessageKind::Signed, scenario, text, &SIGNED)
 }
 
 /// Measures a campaign from text to text, and its audit.
 fn report_texts<R: Print + Eprint + Clock + Threads + Wait + Sync + AllocGlobal>(
     rt: &R,
-    messages: Messages,
+    messages: MessageKind,
     scenario: Scenario,
     text: &str,
     names: &Names,
 ) -> Result<()> {
-    report_task(rt, names.tell, &Task::Tell(messages, text))?;
+    report_task(rt, names.tell, &Workload::Tell(messages, text))?;
     let chronicle = chronicle_of(rt.alloc(), messages, text)?;
     let told = str::from_utf8(chronicle.as_slice())?;
-    report_task(rt, names.audit, &Task::Audit(messages, &scenario, told))
+    report_task(rt, names.audit, &Workload::Audit(messages, &scenario, told))
 }

@@ -1,7 +1,7 @@
 //! Campaigns of oral and of signed messages: their scenarios, their chronicles, and the texts of these.
 
 use anyhow::{Result, bail};
-use roster::Scenario;
+use round::Scenario;
 use scenario::{Campaign, read, read_any};
 use signed::{SignedChronicle, play_signed};
 use std::alloc::{AllocError, Global};
@@ -10,16 +10,16 @@ use world::{Chronicle, Schedule, Verdict, play};
 
 /// Of which kind a campaign's messages are.
 #[derive(Clone, Copy)]
-pub enum Messages {
+pub enum MessageKind {
     Oral,
     Signed,
 }
 
 /// The scenario that a text tells.
-pub fn scenario_of(alloc: Global, messages: Messages, text: &str) -> Result<Scenario> {
+pub fn scenario_of(alloc: Global, messages: MessageKind, text: &str) -> Result<Scenario> {
     match messages {
-        Messages::Oral => oral_scenario(alloc, text),
-        Messages::Signed => signed_scenario(alloc, text),
+        MessageKind::Oral => oral_scenario(alloc, text),
+        MessageKind::Signed => signed_scenario(alloc, text),
     }
 }
 
@@ -74,30 +74,30 @@ pub fn signed_text(alloc: Global, chronicle: &SignedChronicle) -> Result<Vec<u8>
 /// The text of a scenario's chronicle by a schedule.
 pub fn told(
     alloc: Global,
-    messages: Messages,
+    messages: MessageKind,
     scenario: Scenario,
     schedule: &Schedule,
 ) -> Result<Vec<u8>> {
     match messages {
-        Messages::Oral => text(alloc, &play(alloc, scenario, schedule)?),
-        Messages::Signed => signed_text(alloc, &play_signed(alloc, scenario, schedule)?),
+        MessageKind::Oral => text(alloc, &play(alloc, scenario, schedule)?),
+        MessageKind::Signed => signed_text(alloc, &play_signed(alloc, scenario, schedule)?),
     }
 }
 
 /// The text of a scenario's chronicle, in which the generals act one after another.
-pub fn told_freely(alloc: Global, messages: Messages, scenario: Scenario) -> Result<Vec<u8>> {
+pub fn told_freely(alloc: Global, messages: MessageKind, scenario: Scenario) -> Result<Vec<u8>> {
     told(alloc, messages, scenario, &freely(alloc))
 }
 
 /// The audit of a text.
 pub fn audited(
     alloc: Global,
-    messages: Messages,
+    messages: MessageKind,
     scenario: &Scenario,
     text: &str,
 ) -> Result<Verdict, TraceError> {
     match messages {
-        Messages::Oral => check(alloc, scenario, text),
-        Messages::Signed => check_signed(alloc, scenario, text),
+        MessageKind::Oral => check(alloc, scenario, text),
+        MessageKind::Signed => check_signed(alloc, scenario, text),
     }
 }

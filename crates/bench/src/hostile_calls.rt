@@ -4,27 +4,27 @@
 //! memory between the two lines is asked by the call alone, so that something outside can refuse it there. Then the
 //! same call is made again, and what both answered is compared.
 
-mod auditing;
+mod audit_calls;
+mod board_calls;
 mod bytecode;
 mod call;
-mod calls;
 mod campaign;
+mod campaign_calls;
 mod changes;
-mod coding;
-mod deciding;
+mod decision_calls;
 mod marks;
 mod outcome;
-mod playing;
-mod reading;
-mod serving;
-mod stored;
+mod program_calls;
+mod reader_calls;
+mod stored_programs;
+mod world_calls;
 mod worlds;
+mod write_failures;
 mod writer;
-mod writing;
 
 use anyhow::{Result, bail};
 use call::{CALLS, named};
-use campaign::{CAMPAIGNS, Campaign};
+use campaign::{CAMPAIGNS, SampleCampaign};
 use std::rt::Files;
 use std::sync::Wait;
 use std::thread::Threads;
@@ -39,7 +39,7 @@ pub fn answer<R: Print + Files + Threads + Wait + Sync + AllocGlobal>(
         [call, campaign] => one(rt, call.as_str(), campaign.as_str()),
         files => {
             every(rt)?;
-            stored::report(rt, files)?;
+            stored_programs::report(rt, files)?;
             damaged(rt)
         }
     }
@@ -48,9 +48,9 @@ pub fn answer<R: Print + Files + Threads + Wait + Sync + AllocGlobal>(
 /// Gives the layers programs and schedules by chance, damaged chronicles, and writers that fail.
 fn damaged<R: Print + AllocGlobal>(rt: &R) -> Result<()> {
     bytecode::report(rt)?;
-    auditing::report(rt)?;
-    reading::report(rt)?;
-    writing::report(rt)
+    audit_calls::report(rt)?;
+    reader_calls::report(rt)?;
+    write_failures::report(rt)
 }
 
 /// Makes the call of this name on the campaign of this name.
@@ -59,8 +59,8 @@ fn one<R: Print + Threads + Wait + Sync + AllocGlobal>(
     name: &str,
     campaign: &str,
 ) -> Result<()> {
-    match (named(name), Campaign::named(campaign)) {
-        (Some(call), Some(campaign)) => calls::report(rt, name, call, campaign),
+    match (named(name), SampleCampaign::named(campaign)) {
+        (Some(call), Some(campaign)) => campaign_calls::report(rt, name, call, campaign),
         _ => bail!("there is no such call, or no such campaign"),
     }
 }
@@ -69,7 +69,7 @@ fn one<R: Print + Threads + Wait + Sync + AllocGlobal>(
 fn every<R: Print + Threads + Wait + Sync + AllocGlobal>(rt: &R) -> Result<()> {
     for &(name, call) in CALLS {
         for campaign in CAMPAIGNS {
-            calls::report(rt, name, call, *campaign)?;
+            campaign_calls::report(rt, name, call, *campaign)?;
         }
     }
     Ok(())

@@ -10,11 +10,11 @@ mod bytecode;
 mod campaigns;
 mod chronicles;
 mod figure;
-mod hostile;
+mod hostile_calls;
 mod median;
 mod musters;
 mod objects;
-mod plain;
+mod plain_measure;
 mod report;
 mod rounds;
 mod shape;
@@ -46,12 +46,12 @@ fn answer<R: Print + Eprint + Clock + Files + Threads + Wait + Sync + AllocGloba
 ) -> Result<()> {
     match task {
         "times" => times(rt),
-        "hostile" => hostile::answer(rt, words),
+        "hostile" => hostile_calls::answer(rt, words),
         "objects" => objects::answer(rt, words),
         "all" => match words {
             [_, objects @ ..] => {
                 times(rt)?;
-                hostile::answer(rt, &words[..1])?;
+                hostile_calls::answer(rt, &words[..1])?;
                 objects::answer(rt, objects)
             }
             [] => bail!("all takes a file of programs, an object and names"),

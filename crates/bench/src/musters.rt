@@ -1,11 +1,11 @@
 //! Times campaigns whose generals act in threads, beside as many threads that do nothing.
 
-use crate::chronicles::{Messages, scenario_of};
-use crate::task::{Task, report_task};
+use crate::chronicles::{MessageKind, scenario_of};
+use crate::task::{Workload, report_task};
 use crate::texts::{COLLUDING, idle};
 use crate::timing::nanoseconds;
 use anyhow::{Result, bail};
-use roster::Scenario;
+use round::Scenario;
 use std::rt::Clock;
 use std::sync::Wait;
 use std::thread;
@@ -66,7 +66,7 @@ pub fn report_musters<R: Print + Eprint + Clock + Threads + Wait + Sync + AllocG
     let what = "muster, 13 generals, four idle traitors: 65 letters";
     report_muster(rt, text.as_str(), what)?;
     let what = "threads alone, 13 generals, four idle traitors: 65 letters";
-    report_task(rt, what, &Task::Threads(13, 5))?;
+    report_task(rt, what, &Workload::Threads(13, 5))?;
     report_musters_of_seven(rt)
 }
 
@@ -77,7 +77,7 @@ fn report_musters_of_seven<R: Print + Eprint + Clock + Threads + Wait + Sync + A
     let what = "muster, 7 generals, two colluders: 21 letters";
     report_muster(rt, COLLUDING, what)?;
     let what = "threads alone, 7 generals, two colluders: 21 letters";
-    report_task(rt, what, &Task::Threads(7, 3))
+    report_task(rt, what, &Workload::Threads(7, 3))
 }
 
 /// Measures the muster of the campaign that a text tells.
@@ -86,6 +86,6 @@ fn report_muster<R: Print + Eprint + Clock + Threads + Wait + Sync + AllocGlobal
     text: &str,
     what: &str,
 ) -> Result<()> {
-    let scenario = scenario_of(rt.alloc(), Messages::Oral, text)?;
-    report_task(rt, what, &Task::Muster(&scenario))
+    let scenario = scenario_of(rt.alloc(), MessageKind::Oral, text)?;
+    report_task(rt, what, &Workload::Muster(&scenario))
 }

@@ -58,14 +58,14 @@ fn tell<R: Print + AllocGlobal>(
     object: &[u8],
     entry: Option<&[u8]>,
 ) -> Result<()> {
-    match elf::entry(object, entry) {
+    match object::entry(object, entry) {
         Ok(code) => {
             let code = hex::encode(rt.alloc(), code)?;
             println!(rt; "{name}: {code}")?;
         }
         Err(fault) => println!(rt; "{name}: refused {fault}")?,
     }
-    let places = debug_lines::entry_places(rt.alloc(), object, entry)?;
+    let places = object::entry_places(rt.alloc(), object, entry)?;
     for (unit, place) in places.iter().enumerate() {
         if !place.is_empty() {
             println!(rt; " {unit} {place}")?;

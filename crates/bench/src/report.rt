@@ -1,9 +1,9 @@
 use crate::bytecode::UNITS;
 use crate::figure::Figure;
 use crate::median::median;
-use crate::shape::{SHAPES, Shape};
+use crate::shape::{MeasuredProgram, SHAPES};
 use crate::timing::TIMES;
-use crate::work::{ACTIVATIONS, Material, Work, time_once};
+use crate::work::{ACTIVATIONS, Material, TimedWork, time_once};
 use anyhow::Result;
 use std::alloc::Global;
 use std::rt::Clock;
@@ -19,17 +19,22 @@ pub fn report<R: Print + Eprint + Clock + AllocGlobal>(rt: &R) -> Result<()> {
 }
 
 /// What is timed of a shape besides the plain loop.
-fn works(shape: &Shape) -> &'static [Work] {
+fn works(shape: &MeasuredProgram) -> &'static [TimedWork] {
     if shape.is_started {
         &[
-            Work::Plain,
-            Work::Decode,
-            Work::Verify,
-            Work::Start,
-            Work::Run,
+            TimedWork::Plain,
+            TimedWork::Decode,
+            TimedWork::Verify,
+            TimedWork::Start,
+            TimedWork::Run,
         ]
     } else {
-        &[Work::Plain, Work::Decode, Work::Verify, Work::Run]
+        &[
+            TimedWork::Plain,
+            TimedWork::Decode,
+            TimedWork::Verify,
+            TimedWork::Run,
+        ]
     }
 }
 
@@ -37,7 +42,7 @@ fn works(shape: &Shape) -> &'static [Work] {
 fn time_of<C: Clock>(
     alloc: Global,
     clock: &C,
-    work: Work,
+    work: TimedWork,
     material: &Material,
     sum: &mut u64,
 ) -> Result<u64> {
@@ -50,11 +55,11 @@ fn time_of<C: Clock>(
 
 fn report_shape<R: Print + Eprint + Clock + AllocGlobal>(
     rt: &R,
-    shape: &Shape,
+    shape: &MeasuredProgram,
     sum: &mut u64,
 ) -> Result<()> {
     let material = Material::of(rt.alloc(), shape)?;
-    let plain = time_of(rt.alloc(), rt, Work::Plain, &material, sum)?;
+    let plain = time_of(rt.alloc(), rt, TimedWork::Plain, &material, sum)?;
     for work in works(shape) {
         let time = time_of(rt.alloc(), rt, *work, &material, sum)?;
         report_figure(rt, shape.name, *work, figure(*work, time, plain))?;
@@ -63,7 +68,7 @@ fn report_shape<R: Print + Eprint + Clock + AllocGlobal>(
 }
 
 /// How long a piece of work of this median time took, where the plain loop took this.
-fn figure(work: Work, time: u64, plain: u64) -> Figure {
+fn figure(work: TimedWork, time: u64, plain: u64) -> Figure {
     Figure {
         count: count(work),
         time,
@@ -72,7 +77,12 @@ fn figure(work: Work, time: u64, plain: u64) -> Figure {
 }
 
 /// Prints what was measured on standard output, the figures on standard error.
-fn report_figure<R: Print + Eprint>(rt: &R, shape: &str, work: Work, figure: Figure) -> Result<()> {
+fn report_figure<R: Print + Eprint>(
+    rt: &R,
+    shape: &str,
+    work: TimedWork,
+    figure: Figure,
+) -> Result<()> {
     let (count, things) = (figure.count, things(work));
     println!(rt; "{work}, {shape}: {count} {things}")?;
     eprintln!(rt; "{work}, {shape}: {figure}")?;
@@ -80,21 +90,21 @@ fn report_figure<R: Print + Eprint>(rt: &R, shape: &str, work: Work, figure: Fig
 }
 
 /// How many things are done at once.
-fn count(work: Work) -> u64 {
+fn count(work: TimedWork) -> u64 {
     let units = UNITS as u64;
     let activations = ACTIVATIONS as u64;
     match work {
-        Work::Plain | Work::Decode | Work::Verify => units,
-        Work::Start => activations,
-        Work::Run => activations * units,
+        TimedWork::Plain | TimedWork::Decode | TimedWork::Verify => units,
+        TimedWork::Start => activations,
+        TimedWork::Run => activations * units,
     }
 }
 
 /// What these are.
-fn things(work: Work) -> &'static str {
+fn things(work: TimedWork) -> &'static str {
     match work {
-        Work::Plain | Work::Decode | Work::Verify => "units",
-        Work::Start => "activations",
-        Work::Run => "steps",
+        TimedWork::Plain | TimedWork::Decode | TimedWork::Verify => "units",
+        TimedWork::Start => "activations",
+        TimedWork::Run => "steps",
     }
 }

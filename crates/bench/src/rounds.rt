@@ -1,16 +1,14 @@
 //! Times the contexts of a round, and the delivery of its letters.
 ghost use Rattle.std.specs.Prelude.{◌≡◌, ◌≤◌, suc, List, IfOk, length};
-ghost use Rattle.letter.specs.Letters.{Letter as LetterSeen};
-ghost use Rattle.letter.specs.Origin.{AreLettersOf, AreRoundsOf};
-ghost use Rattle.delivery.specs.Told.{WasTold};
+ghost use Rattle.round.specs.Letters.{Letter as LetterSeen};
+ghost use Rattle.round.specs.Origin.{AreLettersOf, AreRoundsOf};
+ghost use Rattle.round.specs.Told.{WasTold};
 
-use crate::chronicles::{Messages, freely, played, scenario_of};
+use crate::chronicles::{MessageKind, freely, played, scenario_of};
 use crate::median::median;
 use crate::timing::{TIMES, nanoseconds, report_time};
 use anyhow::{Result, bail};
-use delivery::Told;
-use letter::{Letter, Round, are_letters_of, are_rounds_of};
-use roster::Scenario;
+use round::{Letter, Received, Round, Scenario, are_letters_of, are_rounds_of};
 use std::alloc::{AllocError, Global};
 use std::rt::Clock;
 use std::time::Instant;
@@ -21,7 +19,7 @@ const THIRTEEN: &str = "generals = 13\nbound = 4\ncommander = 0\norder = 1\n";
 
 /// Their chronicle.
 fn thirteen(alloc: Global) -> Result<Chronicle> {
-    let scenario = scenario_of(alloc, Messages::Oral, THIRTEEN)?;
+    let scenario = scenario_of(alloc, MessageKind::Oral, THIRTEEN)?;
     Ok(played(alloc, &scenario, &freely(alloc))?)
 }
 
@@ -43,12 +41,12 @@ pub fn report_rounds<R: Print + Eprint + Clock + AllocGlobal>(rt: &R) -> Result<
 }
 
 /// What the letters of these rounds have told.
-fn told_by(alloc: Global, scenario: &Scenario, rounds: &[Round]) -> Result<Told, AllocError>
+fn told_by(alloc: Global, scenario: &Scenario, rounds: &[Round]) -> Result<Received, AllocError>
     requires few { length rounds.now ≤ scenario.now.bound }
     requires letters { AreRoundsOf scenario.now rounds.now }
     ensures { IfOk result (WasTold scenario.now rounds.now) }
 {
-    let mut told = Told::new(alloc, scenario)?;
+    let mut told = Received::new(alloc, scenario)?;
     for round in rounds {
         told.deliver(scenario, round.letters());
     }
@@ -58,7 +56,7 @@ fn told_by(alloc: Global, scenario: &Scenario, rounds: &[Round]) -> Result<Told,
 fn report_context<R: Print + Eprint + Clock + AllocGlobal>(
     rt: &R,
     scenario: &Scenario,
-    told: &Told,
+    told: &Received,
 ) -> Result<()>
     requires told { (before : List (List LetterSeen)) × WasTold scenario.now before told.now }
     requires left { told.now.rounds ≤ scenario.now.bound }
@@ -69,7 +67,12 @@ fn report_context<R: Print + Eprint + Clock + AllocGlobal>(
 }
 
 /// The median time of a general's context, in nanoseconds.
-fn context_time<C: Clock>(alloc: Global, clock: &C, scenario: &Scenario, told: &Told) -> Result<u64>
+fn context_time<C: Clock>(
+    alloc: Global,
+    clock: &C,
+    scenario: &Scenario,
+    told: &Received,
+) -> Result<u64>
     requires told { (before : List (List LetterSeen)) × WasTold scenario.now before told.now }
     requires left { told.now.rounds ≤ scenario.now.bound }
 {
@@ -81,7 +84,12 @@ fn context_time<C: Clock>(alloc: Global, clock: &C, scenario: &Scenario, told: &
 }
 
 /// The time of the context of the last general, in nanoseconds.
-fn context_once<C: Clock>(alloc: Global, clock: &C, scenario: &Scenario, told: &Told) -> Result<u64>
+fn context_once<C: Clock>(
+    alloc: Global,
+    clock: &C,
+    scenario: &Scenario,
+    told: &Received,
+) -> Result<u64>
     requires told { (before : List (List LetterSeen)) × WasTold scenario.now before told.now }
     requires left { told.now.rounds ≤ scenario.now.bound }
 {
@@ -94,7 +102,7 @@ fn context_once<C: Clock>(alloc: Global, clock: &C, scenario: &Scenario, told: &
 fn report_delivery<R: Print + Eprint + Clock + AllocGlobal>(
     rt: &R,
     scenario: &Scenario,
-    told: &mut Told,
+    told: &mut Received,
     letters: &[Letter],
 ) -> Result<()>
     requires told { (before : List (List LetterSeen)) × WasTold scenario.now before told.old }
@@ -113,7 +121,7 @@ fn delivery_time<C: Clock>(
     alloc: Global,
     clock: &C,
     scenario: &Scenario,
-    told: &mut Told,
+    told: &mut Received,
     letters: &[Letter],
 ) -> Result<u64>
     requires told { (before : List (List LetterSeen)) × WasTold scenario.now before told.old }
@@ -134,7 +142,7 @@ fn delivery_time<C: Clock>(
 fn deliver_once<C: Clock>(
     clock: &C,
     scenario: &Scenario,
-    told: &mut Told,
+    told: &mut Received,
     letters: &[Letter],
 ) -> Result<u64>
     requires told { (before : List (List LetterSeen)) × WasTold scenario.now before told.old }

@@ -3,7 +3,7 @@
 /// What a program of 4,096 units does throughout: its first lines, and then others in turn, each at the units that its
 /// place stands for.
 #[derive(Clone, Copy)]
-pub struct Shape {
+pub struct MeasuredProgram {
     /// What is printed of it.
     pub name: &'static str,
     /// Whether starts of activations are measured by it, too.
@@ -14,7 +14,7 @@ pub struct Shape {
     far: Option<&'static str>,
 }
 
-impl Shape {
+impl MeasuredProgram {
     /// The assembly of the instruction at the unit.
     pub fn line(&self, unit: usize) -> &'static str {
         match self.first.get(unit) {
@@ -41,22 +41,22 @@ fn of_turn(lines: &[&'static str], unit: usize) -> &'static str {
 }
 
 /// All shapes, in the order in which they are measured.
-pub const SHAPES: &[Shape] = &[
-    Shape {
+pub const SHAPES: &[MeasuredProgram] = &[
+    MeasuredProgram {
         name: "moves",
         is_started: true,
         first: &[],
         in_turn: &["mov r0, 7"],
         far: None,
     },
-    Shape {
+    MeasuredProgram {
         name: "additions",
         is_started: false,
         first: &["mov r0, 0"],
         in_turn: &["add r0, 1"],
         far: None,
     },
-    Shape {
+    MeasuredProgram {
         name: "mixed arithmetic",
         is_started: false,
         first: &["mov r0, 1", "mov r2, 3"],
@@ -72,14 +72,14 @@ pub const SHAPES: &[Shape] = &[
         ],
         far: None,
     },
-    Shape {
+    MeasuredProgram {
         name: "stores to the stack",
         is_started: false,
         first: &["mov r0, 7"],
         in_turn: STORES,
         far: None,
     },
-    Shape {
+    MeasuredProgram {
         name: "loads from the stack",
         is_started: false,
         first: &[
@@ -97,7 +97,7 @@ pub const SHAPES: &[Shape] = &[
         ],
         far: None,
     },
-    Shape {
+    MeasuredProgram {
         name: "loads from the context",
         is_started: false,
         first: &[],
@@ -109,35 +109,35 @@ pub const SHAPES: &[Shape] = &[
         ],
         far: None,
     },
-    Shape {
+    MeasuredProgram {
         name: "loads of a pointer",
         is_started: false,
         first: &["mov r0, 0", "stxd [r10-8], r1"],
         in_turn: &["ldd r2, [r10-8]"],
         far: None,
     },
-    Shape {
+    MeasuredProgram {
         name: "calls of board_get",
         is_started: false,
         first: &["mov r0, 0"],
         in_turn: &["call board_get", "mov r1, 5"],
         far: None,
     },
-    Shape {
+    MeasuredProgram {
         name: "calls of send",
         is_started: false,
         first: &["mov r0, 0"],
         in_turn: &["call send", "mov r1, 0", "mov r2, 1", "mov r3, 7"],
         far: None,
     },
-    Shape {
+    MeasuredProgram {
         name: "conditional jumps",
         is_started: false,
         first: JUMPS,
         in_turn: &["jeq r2, 5, +0"],
         far: None,
     },
-    Shape {
+    MeasuredProgram {
         name: "far conditional jumps",
         is_started: false,
         first: JUMPS,

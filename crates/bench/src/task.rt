@@ -1,13 +1,13 @@
 //! Pieces of work on labels, trees and campaigns, and how long each takes.
 
-use crate::chronicles::Messages;
+use crate::chronicles::MessageKind;
 use crate::median::median;
 use crate::timing::{TIMES, report_time};
 use crate::{campaigns, musters, trees};
 use anyhow::Result;
 use combine::Rule;
 use label::Label;
-use roster::Scenario;
+use round::Scenario;
 use std::rt::Clock;
 use std::sync::Wait;
 use std::thread::Threads;
@@ -15,7 +15,7 @@ use tree::Tree;
 
 /// A piece of work.
 #[derive(Clone, Copy)]
-pub enum Task<'a> {
+pub enum Workload<'a> {
     /// All labels are ranked.
     Ranks(&'a [Label]),
     /// One tree is resolved, each time the next one.
@@ -25,11 +25,11 @@ pub enum Task<'a> {
     /// All trees are resolved at once.
     Halves(&'a [Tree]),
     /// From a scenario to its chronicle.
-    Play(Messages, &'a Scenario),
+    Play(MessageKind, &'a Scenario),
     /// From a scenario's text to its chronicle's.
-    Tell(Messages, &'a str),
+    Tell(MessageKind, &'a str),
     /// From a scenario and its chronicle's text to the verdict.
-    Audit(Messages, &'a Scenario, &'a str),
+    Audit(MessageKind, &'a Scenario, &'a str),
     /// The dearest close of a campaign of signed messages.
     Close(&'a Scenario),
     /// From a scenario to its chronicle, each general in a thread of his own through all rounds.
@@ -42,31 +42,31 @@ pub enum Task<'a> {
 /// is done.
 fn time_once<R: Clock + Threads + Wait + Sync + AllocGlobal>(
     rt: &R,
-    task: &Task<'_>,
+    task: &Workload<'_>,
     nth: usize,
     sum: &mut u64,
 ) -> Result<u64> {
     let alloc = rt.alloc();
     match *task {
-        Task::Ranks(labels) => trees::rank_all(rt, labels, sum),
-        Task::Tree(all, rule) => trees::resolve_one(rt, all, &rule, nth, sum),
-        Task::Turns(all) => trees::resolve_in_turn(rt, all, sum),
-        Task::Halves(all) => trees::resolve_at_once(rt, all),
-        Task::Play(messages, scenario) => campaigns::play_once(alloc, rt, messages, scenario),
-        Task::Tell(messages, text) => campaigns::tell_once(alloc, rt, messages, text),
-        Task::Audit(messages, scenario, text) => {
+        Workload::Ranks(labels) => trees::rank_all(rt, labels, sum),
+        Workload::Tree(all, rule) => trees::resolve_one(rt, all, &rule, nth, sum),
+        Workload::Turns(all) => trees::resolve_in_turn(rt, all, sum),
+        Workload::Halves(all) => trees::resolve_at_once(rt, all),
+        Workload::Play(messages, scenario) => campaigns::play_once(alloc, rt, messages, scenario),
+        Workload::Tell(messages, text) => campaigns::tell_once(alloc, rt, messages, text),
+        Workload::Audit(messages, scenario, text) => {
             campaigns::audit_once(alloc, rt, messages, scenario, text)
         }
-        Task::Close(scenario) => campaigns::close_once(alloc, rt, scenario),
-        Task::Muster(scenario) => musters::muster_once(rt, scenario),
-        Task::Threads(generals, rounds) => musters::start_once(rt, generals, rounds, sum),
+        Workload::Close(scenario) => campaigns::close_once(alloc, rt, scenario),
+        Workload::Muster(scenario) => musters::muster_once(rt, scenario),
+        Workload::Threads(generals, rounds) => musters::start_once(rt, generals, rounds, sum),
     }
 }
 
 /// The median time of the task, in nanoseconds.
 fn median_time<R: Clock + Threads + Wait + Sync + AllocGlobal>(
     rt: &R,
-    task: &Task<'_>,
+    task: &Workload<'_>,
     sum: &mut u64,
 ) -> Result<u64> {
     let mut times = Vec::with_capacity(rt.alloc(), TIMES)?;
@@ -80,7 +80,7 @@ fn median_time<R: Clock + Threads + Wait + Sync + AllocGlobal>(
 pub fn report_task<R: Print + Eprint + Clock + Threads + Wait + Sync + AllocGlobal>(
     rt: &R,
     what: &str,
-    task: &Task<'_>,
+    task: &Workload<'_>,
 ) -> Result<()> {
     let mut sum = 0;
     let time = median_time(rt, task, &mut sum)?;

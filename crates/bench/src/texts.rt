@@ -1,7 +1,7 @@
 //! The texts of the campaigns that are timed.
 
-use fixtures::{campaign, counting};
 use std::alloc::{AllocError, Global};
+use world_tests::{campaign, counting};
 
 /// How many instructions a long program has before its exit.
 const MOVES: usize = 4095;

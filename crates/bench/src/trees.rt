@@ -1,6 +1,6 @@
 //! Times ranks of labels, and the resolution of one tree and of twelve.
 
-use crate::task::{Task, report_task};
+use crate::task::{Workload, report_task};
 use crate::timing::nanoseconds;
 use anyhow::{Result, bail};
 use combine::Rule;
@@ -106,7 +106,7 @@ pub fn report_trees<R: Print + Eprint + Clock + Threads + Wait + Sync + AllocGlo
     rt: &R,
 ) -> Result<()> {
     let labels = labels(rt.alloc())?;
-    let ranks = Task::Ranks(labels.as_slice());
+    let ranks = Workload::Ranks(labels.as_slice());
     report_task(rt, "rank, labels of five generals: 7920 labels", &ranks)?;
     let trees = trees(rt.alloc())?;
     report_resolution(rt, trees.as_slice())
@@ -118,9 +118,13 @@ fn report_resolution<R: Print + Eprint + Clock + Threads + Wait + Sync + AllocGl
     trees: &[Tree],
 ) -> Result<()> {
     let what = "resolve, one tree, Majority: 9032 values";
-    report_task(rt, what, &Task::Tree(trees, Rule::Majority))?;
+    report_task(rt, what, &Workload::Tree(trees, Rule::Majority))?;
     let what = "resolve, one tree, Median: 9032 values";
-    report_task(rt, what, &Task::Tree(trees, Rule::Median))?;
-    report_task(rt, "resolve, tree by tree: 12 trees", &Task::Turns(trees))?;
-    report_task(rt, "resolve_all: 12 trees", &Task::Halves(trees))
+    report_task(rt, what, &Workload::Tree(trees, Rule::Median))?;
+    report_task(
+        rt,
+        "resolve, tree by tree: 12 trees",
+        &Workload::Turns(trees),
+    )?;
+    report_task(rt, "resolve_all: 12 trees", &Workload::Halves(trees))
 }

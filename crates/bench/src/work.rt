@@ -3,15 +3,15 @@ ghost use Rattle.insn.specs.declared.insn.Insn.{Insn};
 ghost use Rattle.machine.specs.Advance.{IsOfRun, IsAskOfRun};
 
 use crate::bytecode::{UNITS, bytecode};
-use crate::plain::{mixed, units_of};
-use crate::shape::Shape;
+use crate::plain_measure::{mixed, units_of};
+use crate::shape::MeasuredProgram;
 use crate::timing::nanoseconds;
 use anyhow::{Result, bail};
 use board::Board;
 use codec::decode;
-use machine::{Activation, Stop};
+use machine::{Machine, StopReason};
 use mem::Context;
-use outbox::{Outbox, Shape as RelayShape};
+use outbox::{MeasuredProgram as RelayShape, Outbox};
 use semantics::Request;
 use std::alloc::Global;
 use std::fmt;
@@ -32,7 +32,7 @@ const SHAPE: RelayShape = RelayShape {
 
 /// What is timed.
 #[derive(Clone, Copy)]
-pub enum Work {
+pub enum TimedWork {
     /// The plain measure: a loop over the program's units.
     Plain,
     Decode,
@@ -43,14 +43,14 @@ pub enum Work {
     Run,
 }
 
-impl fmt::Display for Work {
+impl fmt::Display for TimedWork {
     fn fmt<W: fmt::Write>(&self, f: &mut fmt::Formatter<W>) -> fmt::Result {
         f.write_str(match self {
-            Work::Plain => "plain loop",
-            Work::Decode => "decode",
-            Work::Verify => "verify",
-            Work::Start => "start",
-            Work::Run => "run",
+            TimedWork::Plain => "plain loop",
+            TimedWork::Decode => "decode",
+            TimedWork::Verify => "verify",
+            TimedWork::Start => "start",
+            TimedWork::Run => "run",
         })
     }
 }
@@ -66,7 +66,7 @@ pub struct Material {
 
 impl Material {
     /// That of a program of this shape.
-    pub fn of(alloc: Global, shape: &Shape) -> Result<Material> {
+    pub fn of(alloc: Global, shape: &MeasuredProgram) -> Result<Material> {
         let bytecode = bytecode(alloc, shape)?;
         let units = units_of(alloc, bytecode.as_slice())?;
         let verified = accepted(alloc, bytecode.as_slice())?;
@@ -92,17 +92,17 @@ fn accepted(alloc: Global, bytecode: &[u8]) -> Result<Verified> {
 pub fn time_once<C: Clock>(
     alloc: Global,
     clock: &C,
-    work: Work,
+    work: TimedWork,
     material: &Material,
     sum: &mut u64,
 ) -> Result<u64> {
     let bytecode = material.bytecode.as_slice();
     match work {
-        Work::Plain => time_plain(clock, material.units.as_slice(), sum),
-        Work::Decode => time_decode(alloc, clock, bytecode, sum),
-        Work::Verify => time_verify(alloc, clock, bytecode, sum),
-        Work::Start => time_activations(alloc, clock, material, 0, sum),
-        Work::Run => time_activations(alloc, clock, material, u32::MAX, sum),
+        TimedWork::Plain => time_plain(clock, material.units.as_slice(), sum),
+        TimedWork::Decode => time_decode(alloc, clock, bytecode, sum),
+        TimedWork::Verify => time_verify(alloc, clock, bytecode, sum),
+        TimedWork::Start => time_activations(alloc, clock, material, 0, sum),
+        TimedWork::Run => time_activations(alloc, clock, material, u32::MAX, sum),
     }
 }
 
@@ -166,7 +166,7 @@ fn time_activation<C: Clock>(
     let mut board = Board::new(alloc, [0; 64]);
     let outbox = Outbox::new(alloc, SHAPE)?;
     let start = Instant::now(clock)?;
-    let activation = Activation::start(verified, context, outbox);
+    let activation = Machine::start(verified, context, outbox);
     let steps = served(verified, context, activation, &mut board, limit);
     let time = nanoseconds(clock, start);
     *sum = sum.wrapping_add(steps?);
@@ -178,7 +178,7 @@ fn time_activation<C: Clock>(
 fn served(
     verified: &Verified,
     context: &Context,
-    mut activation: Activation,
+    mut activation: Machine,
     board: &mut Board,
     limit: u32,
 ) -> Result<u64>
@@ -186,15 +186,15 @@ fn served(
 {
     for _ in 0..UNITS {
         match activation.run(verified, context, limit) {
-            Stop::Asked(request) => answer(&mut activation, board, &request)?,
-            Stop::Exited(_) | Stop::Limit => return Ok(u64::from(activation.steps())),
+            StopReason::Asked(request) => answer(&mut activation, board, &request)?,
+            StopReason::Exited(_) | StopReason::Limit => return Ok(u64::from(activation.steps())),
         }
     }
     bail!("more requests than units")
 }
 
 /// The board answers an activation's request.
-fn answer(activation: &mut Activation, board: &mut Board, request: &Request) -> Result<()>
+fn answer(activation: &mut Machine, board: &mut Board, request: &Request) -> Result<()>
     ensures of_run { OnOk result ((program : List Insn) (context : List ℕ) →
         IsAskOfRun program context request.now activation.old →
         IsOfRun program context activation.new) }

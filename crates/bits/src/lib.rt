@@ -2,6 +2,6 @@
 #![tactic(auto)]
 
 pub mod bits;
-pub mod operate;
+pub mod operations;
 
 pub use bits::Bits;

@@ -4,7 +4,7 @@ use Rattle.std.specs.Prelude.{slice_index_or}
 use Rattle.std.specs.List.{list_all}
 use Rattle.std.proofs.lemmas.Bool.{and_parts}
 use Rattle.semantics.specs.declared.request.Request.{Request}
-use Rattle.asking.specs.Wording.{Row, asked, no_row, row_asked, rows}
+use Rattle.board.specs.Wording.{Row, asked, no_row, row_asked, rows}
 
 one_has : (p : Row → Bool) (rs : List Row) (n : ℕ) (r : Row) → list_all p rs ≡ true → p r ≡ true → p (slice_index_or rs n r) ≡ true
 one_has p [] n r all last = last

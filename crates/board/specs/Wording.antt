@@ -2,7 +2,7 @@
 use Rattle.std.specs.Prelude.{ℕ, Bool, true, false, if◌then◌else◌, List, [], ◌∷◌, ◌++◌, codes, drop, flat_map, map, slice_index_or}
 use Rattle.semantics.specs.declared.request.Request.{Request}
 use Rattle.semantics.specs.declared.request.Request.TheVariants.{Get, Swap, Add, Cas, Copy}
-use Rattle.asking.specs.declared.wording.Wording.{Wording}
+use Rattle.board.specs.declared.wording.Wording.{Wording}
 
 -- how requests of a kind are told: the word, the shape of an access's line, each of its words with a name, a sentence
 -- in pieces, and whether as many words answer as the last number tells, or one word does

@@ -2,7 +2,7 @@ ghost use Rattle.std.specs.Prelude.{◌≡◌, ◌↔◌, IfOk, IsTrue};
 ghost use Rattle.semantics.specs.Replies.{words_in};
 ghost use Rattle.board.specs.Requests.{IsReplyTo};
 
-use crate::same::same_reply;
+use crate::equality::same_reply;
 use semantics::{Copied, Reply, Request};
 use std::alloc::{AllocError, Global};
 use std::marker::Model;

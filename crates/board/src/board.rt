@@ -5,7 +5,7 @@ ghost use Rattle.board.specs.Board.{reply, next, IsLegal, words_after};
 ghost use Rattle.board.specs.Requests.{IsReplyTo};
 
 use crate::access::Access;
-use crate::recalling::recall_board;
+use crate::kept_facts::recall_board;
 use crate::words;
 use semantics::{Reply, Request};
 use std::alloc::{AllocError, Global};

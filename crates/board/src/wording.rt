@@ -1,7 +1,7 @@
 //! The table of requests, and what one tells by it.
 ghost use Rattle.std.specs.Prelude.{◌≡◌, ◌+◌, ◌≤◌, map, take};
 ghost use Rattle.semantics.specs.Call.{words_of};
-ghost use Rattle.asking.specs.Wording.{numbers_asked, row_asked, row_of, rows, span_asked};
+ghost use Rattle.board.specs.Wording.{numbers_asked, row_asked, row_of, rows, span_asked};
 
 use semantics::Request;
 

@@ -2,7 +2,7 @@
 use Rattle.std.proofs.Common.{ℕ, ◌+◌, ◌<◌, ◌≡◌, List, [], ◌∷◌, ◌++◌, get_or, length, take, refl, ap, ◌∙◌}
 use Rattle.std.proofs.lemmas.List.{take_more}
 use Rattle.std.specs.Prelude.{◌==◌}
-use Rattle.tables.specs.Written.{ends_in}
+use Rattle.book.specs.Written.{ends_in}
 
 pub ends_push : (w : List ℕ) (x g : ℕ) → ends_in (w ++ x ∷ []) g ≡ (x == g)
 ends_push [] x g = refl

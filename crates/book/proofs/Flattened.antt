@@ -1,13 +1,13 @@
 -- The text of a table, place by place.
 use Rattle.std.proofs.Common.{ℕ, zero, suc, ◌+◌, ◌<◌, ◌≡◌, true, List, [], ◌∷◌, ◌++◌, refl, sym, ap, ◌∙◌, append-nil}
 use Rattle.std.specs.List.{flat_map, range_with_len, AllByRecursion}
-use Rattle.combine.specs.declared.chosen.Rule.{Rule}
+use Rattle.combine.specs.declared.campaign_rule.Rule.{Rule}
 use Rattle.label.specs.Labels.{others}
 use Rattle.label.specs.Oral.{Messages}
 use Rattle.book.specs.Explained.{dotted}
 use Rattle.book.proofs.FormLemmas.{flat_flat, flat_same}
 use Rattle.book.proofs.Places.{Place, places, places_from, is_place_of, are_places}
-use Rattle.tables.specs.Written.{Marking, first_line, line_of, lines_from, mark_of, telling, table_text, written}
+use Rattle.book.specs.Written.{Marking, first_line, line_of, lines_from, mark_of, telling, table_text, written}
 
 -- the line of a place
 abbrev pub placed : Marking → Place → List ℕ

@@ -7,7 +7,7 @@ use Rattle.std.proofs.lemmas.Bool.Decides.{nat_tests}
 use Rattle.std.proofs.lemmas.Grind.{flat_map-append}
 use Rattle.std.proofs.lemmas.List.Folds.{list_any-append}
 use Rattle.std.proofs.lemmas.Slice.Eq.{bytes_eq-Decides}
-use Rattle.combine.specs.declared.chosen.Rule.TheVariants.{Majority}
+use Rattle.combine.specs.declared.campaign_rule.Rule.TheVariants.{Majority}
 use Rattle.label.specs.Labels.{on, others, is_distinct}
 use Rattle.label.specs.Space.{begins_with}
 use Rattle.text.specs.declared.stop.Stop.{Stop}

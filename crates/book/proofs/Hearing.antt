@@ -11,8 +11,8 @@ use Rattle.label.specs.Oral.{Messages, BeginsWith, order_of}
 use Rattle.label.proofs.Listing.{proved_labels_are_exact}
 use Rattle.tree.specs.LieutenantTree.{LieutenantTree, IsCampaign, IsFilled, IsPlace, level_of, level_told}
 use Rattle.tree.proofs.Levels.{levels-long, levels-at}
-use Rattle.tables.specs.Hearing.{beside, value_of, heard}
-use Rattle.tables.specs.Laws.{AreOrders}
+use Rattle.book.specs.Hearing.{beside, value_of, heard}
+use Rattle.book.specs.WrittenLaws.{AreOrders}
 
 abbrev no_level : List (Option ℕ)
 no_level = []

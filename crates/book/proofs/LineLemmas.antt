@@ -9,7 +9,7 @@ use Rattle.label.proofs.Bounds.{others_here}
 use Rattle.book.specs.Decisions.{decision_of, decisions_of, lieutenants}
 use Rattle.book.specs.Table.{MessageTable}
 use Rattle.book.proofs.Steps.{others-more_yes, entries_few}
-use Rattle.tables.specs.Lines.{decision_line, decision_lines}
+use Rattle.book.specs.Lines.{decision_line, decision_lines}
 
 -- all lieutenants
 pub lines_all : (table : MessageTable) (lines : List ℕ) (j : ℕ) → table.generals ≤ j → j ≤ table.generals

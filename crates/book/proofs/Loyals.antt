@@ -6,13 +6,13 @@ use Rattle.std.proofs.lemmas.List.{length-map}
 use Rattle.std.proofs.lemmas.List.Sums.{sum_by-cons}
 use Rattle.combine.specs.Rule.{combined_by, IsMajorityRule}
 use Rattle.combine.specs.Laws.{chosen_is_rule}
-use Rattle.combine.specs.declared.chosen.Rule.TheVariants.{Majority}
+use Rattle.combine.specs.declared.campaign_rule.Rule.TheVariants.{Majority}
 use Rattle.label.specs.Labels.{on, others}
 use Rattle.label.specs.Oral.{Messages, om}
 use Rattle.label.proofs.Counting.{map_agree, on-push}
 use Rattle.label.proofs.Counts.{among}
-use Rattle.tables.specs.Laws.{LoyalTablesDecide}
-use Rattle.tables.proofs.Reread.{proved_tables_are_read, apart_first}
+use Rattle.book.specs.WrittenLaws.{LoyalTablesDecide}
+use Rattle.book.proofs.Reread.{proved_tables_are_read, apart_first}
 
 -- all of them count
 all_alike : (v : ℕ) (xs : List ℕ) → count_by (λ x. x == v) (map (λ _. v) xs) ≡ length xs

@@ -6,8 +6,8 @@ use Rattle.text.specs.Number.{decimal_of}
 use Rattle.combine.specs.Names.{default_rule}
 use Rattle.book.specs.Forms.{form_text}
 use Rattle.book.specs.Grammar.{is_within}
-use Rattle.tables.specs.Answers.{IsFormOf}
-use Rattle.tables.specs.Numbers.{numbers_in}
+use Rattle.book.specs.Answers.{IsFormOf}
+use Rattle.book.specs.Numbers.{numbers_in}
 
 -- few generals, a small bound, and a commander who is one of them
 within_few : (n m c : ℕ) → is_within n m c ≡ true → (n ≤ 13) × (m ≤ 4) × (c < n)

@@ -8,8 +8,8 @@ use Rattle.text.specs.Parts.{pieces}
 use Rattle.text.specs.Number.{decimal_of}
 use Rattle.label.specs.Labels.{on}
 use Rattle.book.specs.declared.message.Message.{Message}
-use Rattle.book.specs.declared.fault.Fault.{Fault}
-use Rattle.book.specs.declared.fault.Fault.TheVariants.{Line, Place, Twice}
+use Rattle.book.specs.declared.fault.TableFault.{TableFault}
+use Rattle.book.specs.declared.fault.TableFault.TheVariants.{Line, Place, Twice}
 use Rattle.book.specs.Table.{MessageTable, is_about}
 use Rattle.book.specs.Grammar.{is_place, checked, message_of, numbers_of, order_in, tell_parts}
 use Rattle.book.specs.Reading.{begun_label, label_or, label_read, numbers_or, placed_label, shape_of}
@@ -67,11 +67,11 @@ read_is t label w e = parts (numbers_of (pieces dot label)) refl e
         let same : v ≡ w = begun_label-whole t v w begun in
         record { numbers = n ∙ ap Some same; begun = sym (ap (begun_label t) same) ∙ begun }
 
-same_fault : {x y : Fault} → ◌≡◌ {A = Result (List ℕ) Fault} (Err x) (Err y) → x ≡ y
+same_fault : {x y : TableFault} → ◌≡◌ {A = Result (List ℕ) TableFault} (Err x) (Err y) → x ≡ y
 same_fault h = cc
 
 -- where none is read, the line has the same fault
-no_label : (t : MessageTable) (label : List ℕ) (p v : ℕ) (fault : Fault) → t.commander < t.generals → label_read t label ≡ Err fault
+no_label : (t : MessageTable) (label : List ℕ) (p v : ℕ) (fault : TableFault) → t.commander < t.generals → label_read t label ≡ Err fault
     → Err fault ≡ checked t (said_by (numbers_of (pieces dot label)) p v)
 unfolding label_read placed_label
 no_label t label p v fault inside h = parts (numbers_of (pieces dot label)) h
@@ -94,7 +94,7 @@ no_label t label p v fault inside h = parts (numbers_of (pieces dot label)) h
     parts None h = ap Err (sym (same_fault h))
     parts (Some w) h = one w (begun_label t w) refl h
 
-pub no_label_there : (t : MessageTable) (line label : List ℕ) (p v : ℕ) (fault : Fault) → t.commander < t.generals → shape_of line ≡ Some (label, p, v)
+pub no_label_there : (t : MessageTable) (line label : List ℕ) (p v : ℕ) (fault : TableFault) → t.commander < t.generals → shape_of line ≡ Some (label, p, v)
     → label_read t label ≡ Err fault → Err fault ≡ checked t (message_of line)
 no_label_there t line label p v fault inside s h = rw (message_by_shape line, s) (no_label t label p v fault inside h)
 

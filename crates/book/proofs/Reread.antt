@@ -6,7 +6,7 @@ use Rattle.std.proofs.lemmas.Bool.{cases_Bool, cond-true, cond-false, and_parts,
 use Rattle.std.proofs.lemmas.List.Folds.{list_any-append}
 use Rattle.std.proofs.lemmas.Slice.Eq.{bytes_eq-Decides}
 use Rattle.combine.specs.Rule.{combined_by}
-use Rattle.combine.specs.declared.chosen.Rule.{Rule}
+use Rattle.combine.specs.declared.campaign_rule.Rule.{Rule}
 use Rattle.label.specs.Labels.{on, is_distinct}
 use Rattle.label.specs.Oral.{Messages, IsLabel, AllBelow, BeginsWith, order_of, om}
 use Rattle.label.specs.Space.{begins_with}
@@ -21,11 +21,11 @@ use Rattle.book.specs.Explained.{dotted}
 use Rattle.book.specs.Grammar.{is_place, is_within, message_of, checked, with_message, lines_told, table_told}
 use Rattle.book.proofs.FormLemmas.{AreFew, begun_some, few_all, lines_read, message_read, tell}
 use Rattle.book.proofs.Places.{Place, places, is_in, AllDiffer, fits, is_place_of, are_places, places_differ, all_found}
-use Rattle.tables.specs.Collected.{collected, message, messages_at, told_more}
-use Rattle.tables.specs.Written.{first_line, line_of, mark_of, table_text, telling}
-use Rattle.tables.specs.Laws.{AreOrders, TablesAreRead}
-use Rattle.tables.proofs.Telling.{tell_of, tell_lacks, head, head_read, head_lacks}
-use Rattle.tables.proofs.Flattened.{placed, written_is}
+use Rattle.book.specs.Collected.{collected, message, messages_at, told_more}
+use Rattle.book.specs.Written.{first_line, line_of, mark_of, table_text, telling}
+use Rattle.book.specs.WrittenLaws.{AreOrders, TablesAreRead}
+use Rattle.book.proofs.Telling.{tell_of, tell_lacks, head, head_read, head_lacks}
+use Rattle.book.proofs.Flattened.{placed, written_is}
 
 added : (P : Message → Type 0) (z : Place) (o : Option ℕ) (ms : List Message) → ((v : ℕ) → o ≡ Some v → P (message z v)) → AllByRecursion P ms → AllByRecursion P (told_more z o ms)
 added P z None ms here a = a

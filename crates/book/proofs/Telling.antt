@@ -2,7 +2,7 @@
 use Rattle.std.proofs.Common.{ℕ, ◌^◌, ◌<◌, ◌≡◌, Bool, true, false, not, List, [], ◌∷◌, ◌++◌, refl, sym, ap, ◌∙◌, arith, append_assoc, append-nil, Option, Some}
 use Rattle.std.specs.Prelude.{codes, if◌then◌else◌}
 use Rattle.std.specs.Fmt.{decimal}
-use Rattle.combine.specs.declared.chosen.Rule.{Rule}
+use Rattle.combine.specs.declared.campaign_rule.Rule.{Rule}
 use Rattle.combine.specs.Names.{is_default}
 use Rattle.combine.specs.Rule.{rule_name}
 use Rattle.combine.proofs.RuleLaws.{names_law}
@@ -18,7 +18,7 @@ use Rattle.book.specs.Explained.{dotted}
 use Rattle.book.specs.Grammar.{head_of, head_parts, rule_parts}
 use Rattle.book.proofs.RuleNames.{name_lacks_feed, name_lacks_space}
 use Rattle.book.proofs.FormLemmas.{AreFew, digits_lack, dotted_lack, no_feed, no_space, tell}
-use Rattle.tables.specs.Written.{rule_words}
+use Rattle.book.specs.Written.{rule_words}
 
 -- a message's line, without its LF
 abbrev pub tell_of : Message → List ℕ

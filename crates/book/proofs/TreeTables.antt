@@ -8,14 +8,14 @@ use Rattle.label.specs.Oral.{Messages, IsLabel}
 use Rattle.label.proofs.Counting.{others-on}
 use Rattle.label.proofs.Listing.{proved_labels_are_exact}
 use Rattle.tree.specs.LieutenantTree.{LieutenantTree, IsCampaign, levels_from}
-use Rattle.combine.specs.declared.chosen.Rule.{Rule}
+use Rattle.combine.specs.declared.campaign_rule.Rule.{Rule}
 use Rattle.book.specs.Places.{places}
 use Rattle.book.specs.Table.{AreNumbersWithin, told}
 use Rattle.book.specs.Trees.{AreTableTrees, tree_of}
-use Rattle.tables.specs.Collected.{collected, messages_at}
-use Rattle.tables.specs.Hearing.{heard, value_of}
-use Rattle.tables.proofs.Hearing.{value_told}
-use Rattle.tables.proofs.Reread.{collected_tells, place_from}
+use Rattle.book.specs.Collected.{collected, messages_at}
+use Rattle.book.specs.Hearing.{heard, value_of}
+use Rattle.book.proofs.Hearing.{value_told}
+use Rattle.book.proofs.Reread.{collected_tells, place_from}
 
 -- maps that agree at each place of a list
 map_at : {A B : Type 0} (f g : A → B) (xs : List A) → ((i : ℕ) (x : A) → slice_get xs i ≡ Some x → f x ≡ g x) → map f xs ≡ map g xs

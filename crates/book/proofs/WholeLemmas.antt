@@ -4,7 +4,7 @@ use Rattle.std.specs.Prelude.{Result, Ok, Err, nat_lt, nat_le, bytes_eq, if◌th
 use Rattle.std.specs.List.{list_all, list_any, AllByRecursion}
 use Rattle.std.proofs.lemmas.Bool.{and_parts, not-true, leb-true, ltb-true, or_from, or_parts}
 use Rattle.std.proofs.lemmas.Bool.Decides.{nat_tests}
-use Rattle.combine.specs.declared.chosen.Rule.{Rule}
+use Rattle.combine.specs.declared.campaign_rule.Rule.{Rule}
 use Rattle.text.specs.Options.{◌>>=◌}
 use Rattle.text.specs.Stop.{space, dot}
 use Rattle.text.specs.Parts.{pieces, lines_of}
@@ -13,8 +13,8 @@ use Rattle.label.specs.Labels.{on, is_distinct}
 use Rattle.label.specs.Space.{begins_with}
 use Rattle.label.proofs.Counts.{begins, below}
 use Rattle.book.specs.declared.message.Message.{Message}
-use Rattle.book.specs.declared.fault.Fault.{Fault}
-use Rattle.book.specs.declared.fault.Fault.TheVariants.{Range, Place, Twice}
+use Rattle.book.specs.declared.fault.TableFault.{TableFault}
+use Rattle.book.specs.declared.fault.TableFault.TheVariants.{Range, Place, Twice}
 use Rattle.book.specs.declared.fault.TableError.{TableError}
 use Rattle.book.specs.declared.fault.TableError.TheVariants.{At}
 use Rattle.book.specs.Table.{MessageTable, AreNumbersWithin, is_about}
@@ -27,7 +27,7 @@ no_fault (Ok x) f u e = (x, refl, e)
 no_fault (Err x) f u e = cc
 
 -- a line without a fault
-pub line_ok : {A : Type 0} (number : ℕ) (r : Result A Fault) (x : A) → at_line number r ≡ Ok x → r ≡ Ok x
+pub line_ok : {A : Type 0} (number : ℕ) (r : Result A TableFault) (x : A) → at_line number r ≡ Ok x → r ≡ Ok x
 line_ok number (Ok y) x e = let same : y ≡ x = cc in ap Ok same
 line_ok number (Err fault) x e = cc
 

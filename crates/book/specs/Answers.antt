@@ -1,14 +1,14 @@
 -- What is printed of a message table, and of the numbers of one.
 use Rattle.std.specs.Prelude.{ℕ, ◌≡◌, true, List, Option, Some, Ok}
-use Rattle.combine.specs.declared.chosen.Rule.{Rule}
+use Rattle.combine.specs.declared.campaign_rule.Rule.{Rule}
 use Rattle.book.specs.Decisions.{decisions_of, TableAgrees}
 use Rattle.book.specs.Explained.{explained, explained_one}
 use Rattle.book.specs.Forms.{form_text}
 use Rattle.book.specs.Grammar.{is_within, table_told}
 use Rattle.book.specs.Table.{MessageTable}
-use Rattle.tables.specs.Lines.{decision_lines}
-use Rattle.tables.specs.Numbers.{numbers_in}
-use Rattle.tables.specs.Written.{loyal, written}
+use Rattle.book.specs.Lines.{decision_lines}
+use Rattle.book.specs.Numbers.{numbers_in}
+use Rattle.book.specs.Written.{loyal, written}
 
 -- the text tells a table, and this is how its decisions come about, where these generals are named as traitors
 abbrev pub ExplainsTable : List ℕ → List ℕ → List ℕ → Type 0

@@ -1,6 +1,6 @@
 -- The table of what is told at the places of a campaign, in the order in which it is written.
 use Rattle.std.specs.Prelude.{ℕ, List, [], ◌∷◌, Option, None, Some}
-use Rattle.combine.specs.declared.chosen.Rule.{Rule}
+use Rattle.combine.specs.declared.campaign_rule.Rule.{Rule}
 use Rattle.label.specs.Oral.{Messages}
 use Rattle.book.specs.declared.message.Message.{Message}
 use Rattle.book.specs.Places.{Place, places}

@@ -1,7 +1,7 @@
 -- The text of a message table: a line of the campaign's numbers and its rule, then a line for each message.
 use Rattle.std.specs.Prelude.{ℕ, suc, ◌+◌, ◌^◌, ◌&&◌, not, nat_lt, nat_le, Bool, if◌then◌else◌, List, [], ◌∷◌, ◌++◌, length, bytes_eq, codes, Option, Some, None, Result, Ok, Err}
 use Rattle.std.specs.List.{list_all, list_any}
-use Rattle.combine.specs.declared.chosen.Rule.{Rule}
+use Rattle.combine.specs.declared.campaign_rule.Rule.{Rule}
 use Rattle.combine.specs.Names.{default_rule, rule_named}
 use Rattle.text.specs.Options.{◌>>=◌}
 use Rattle.text.specs.Stop.{space, dot}
@@ -10,8 +10,8 @@ use Rattle.text.specs.Number.{decimal_of}
 use Rattle.label.specs.Labels.{on, is_distinct}
 use Rattle.label.specs.Space.{begins_with}
 use Rattle.book.specs.declared.message.Message.{Message}
-use Rattle.book.specs.declared.fault.Fault.{Fault}
-use Rattle.book.specs.declared.fault.Fault.TheVariants.{Line, Range, Place, Twice}
+use Rattle.book.specs.declared.fault.TableFault.{TableFault}
+use Rattle.book.specs.declared.fault.TableFault.TheVariants.{Line, Range, Place, Twice}
 use Rattle.book.specs.declared.fault.TableError.{TableError}
 use Rattle.book.specs.declared.fault.TableError.TheVariants.{At}
 use Rattle.book.specs.Table.{MessageTable, is_about}
@@ -75,13 +75,13 @@ is_place t w p =
     && nat_le (length w) (t.bound + 1) && nat_lt p t.generals && not (on w p)
 
 -- a further line: its message, or the first of its faults in this order: its shape, no such place, a place told before
-abbrev pub checked : MessageTable → Option Message → Result Message Fault
+abbrev pub checked : MessageTable → Option Message → Result Message TableFault
 checked t None = Err Line
 checked t (Some said) = if is_place t said.label said.receiver
     then (if list_any (is_about said.label said.receiver) t.messages then Err Twice else Ok said) else Err Place
 
 -- what the checks of a line give, a fault with the line's number
-abbrev pub at_line : {A : Type 0} → ℕ → Result A Fault → Result A TableError
+abbrev pub at_line : {A : Type 0} → ℕ → Result A TableFault → Result A TableError
 at_line number (Ok x) = Ok x
 at_line number (Err fault) = Err (At fault number)
 

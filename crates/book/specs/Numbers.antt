@@ -1,6 +1,6 @@
 -- The numbers of a campaign, as words.
 use Rattle.std.specs.Prelude.{ℕ, ◌≡◌, true, List, Option, Some}
-use Rattle.combine.specs.declared.chosen.Rule.{Rule}
+use Rattle.combine.specs.declared.campaign_rule.Rule.{Rule}
 use Rattle.combine.specs.Names.{default_rule}
 use Rattle.book.specs.Grammar.{is_within}
 use Rattle.text.specs.Number.{decimal_of}

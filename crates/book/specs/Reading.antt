@@ -5,8 +5,8 @@ use Rattle.text.specs.Stop.{space, dot}
 use Rattle.text.specs.Parts.{pieces}
 use Rattle.text.specs.Number.{decimal_of}
 use Rattle.label.specs.Labels.{on}
-use Rattle.book.specs.declared.fault.Fault.{Fault}
-use Rattle.book.specs.declared.fault.Fault.TheVariants.{Line, Place}
+use Rattle.book.specs.declared.fault.TableFault.{TableFault}
+use Rattle.book.specs.declared.fault.TableFault.TheVariants.{Line, Place}
 use Rattle.book.specs.Table.{MessageTable}
 use Rattle.book.specs.Grammar.{numbers_of, tell_parts, order_in}
 
@@ -26,17 +26,17 @@ unfoldable pub placed_label : MessageTable → List ℕ → ℕ → Option (List
 placed_label t w p = if nat_lt p t.generals then (begun_label t w >>= λ v. if on v p then None else Some v) else None
 
 -- a label that was looked for, or that there is no such place
-abbrev pub label_or : Option (List ℕ) → Result (List ℕ) Fault
+abbrev pub label_or : Option (List ℕ) → Result (List ℕ) TableFault
 label_or None = Err Place
 label_or (Some w) = Ok w
 
 -- the same of a part that may have something else than numbers, and then the line has no shape
-abbrev pub numbers_or : (List ℕ → Option (List ℕ)) → Option (List ℕ) → Result (List ℕ) Fault
+abbrev pub numbers_or : (List ℕ → Option (List ℕ)) → Option (List ℕ) → Result (List ℕ) TableFault
 numbers_or label None = Err Line
 numbers_or label (Some ns) = label_or (label ns)
 
 -- the label of a part that was read
-unfoldable pub label_read : MessageTable → List ℕ → Result (List ℕ) Fault
+unfoldable pub label_read : MessageTable → List ℕ → Result (List ℕ) TableFault
 label_read t part = numbers_or (begun_label t) (numbers_of (pieces dot part))
 
 -- a line's label, not read yet, with its receiver and order

@@ -1,6 +1,6 @@
 -- A message table as a value, and the messages that it tells.
 use Rattle.std.specs.Prelude.{ℕ, ◌+◌, ◌<◌, ◌≤◌, ◌==◌, ◌&&◌, Bool, List, option_map, find, bytes_eq as same_label}
-use Rattle.combine.specs.declared.chosen.Rule.{Rule}
+use Rattle.combine.specs.declared.campaign_rule.Rule.{Rule}
 use Rattle.label.specs.Oral.{Messages}
 use Rattle.book.specs.declared.message.Message.{Message}
 

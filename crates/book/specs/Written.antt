@@ -2,14 +2,14 @@
 use Rattle.std.specs.Prelude.{ℕ, zero, suc, ◌+◌, ◌==◌, Bool, false, if◌then◌else◌, List, [], ◌∷◌, ◌++◌, codes, Option, None, Some}
 use Rattle.std.specs.Fmt.{decimal}
 use Rattle.std.specs.List.{flat_map, range_with_len}
-use Rattle.combine.specs.declared.chosen.Rule.{Rule}
+use Rattle.combine.specs.declared.campaign_rule.Rule.{Rule}
 use Rattle.combine.specs.Names.{is_default}
 use Rattle.combine.specs.Rule.{rule_name}
 use Rattle.label.specs.Labels.{others}
 use Rattle.label.specs.Oral.{Messages}
 use Rattle.book.specs.Explained.{dotted}
-use Rattle.tables.specs.declared.mark.Mark.{Mark}
-use Rattle.tables.specs.declared.mark.Mark.TheVariants.{Order, Open, Silence}
+use Rattle.book.specs.declared.mark.TableMark.{TableMark}
+use Rattle.book.specs.declared.mark.TableMark.TheVariants.{Order, Open, Silence}
 
 -- what stands behind the numbers of the first line: a rule, but for the one that is so where none is named
 abbrev pub rule_words : Rule → List ℕ
@@ -21,7 +21,7 @@ first_line n m c rule = codes "generals " ++ decimal n ++ codes " bound " ++ dec
     ++ decimal c ++ rule_words rule ++ codes "\n"
 
 -- the line of a label, as it is written, and a receiver: an order, a question mark, or no line where nothing was told
-abbrev pub line_of : List ℕ → ℕ → Mark → List ℕ
+abbrev pub line_of : List ℕ → ℕ → TableMark → List ℕ
 line_of label p (Order order) =
     codes "tell " ++ label ++ codes " " ++ decimal p ++ codes " " ++ decimal order ++ codes "\n"
 line_of label p Open = codes "tell " ++ label ++ codes " " ++ decimal p ++ codes " ?\n"
@@ -29,7 +29,7 @@ line_of label p Silence = []
 
 -- what stands at each place, by its label and its receiver
 abbrev pub Marking : Type 0
-Marking = List ℕ → ℕ → Mark
+Marking = List ℕ → ℕ → TableMark
 
 -- the lines of the labels that have k generals more than w, for all who are off each
 unfoldable pub lines_from : Marking → ℕ → ℕ → List ℕ → List ℕ
@@ -42,7 +42,7 @@ written mark n m c rule =
     first_line n m c rule ++ flat_map (λ k. lines_from mark n k (c ∷ [])) (range_with_len 0 (m + 1))
 
 -- an order that was told, or that none was
-abbrev pub mark_of : Option ℕ → Mark
+abbrev pub mark_of : Option ℕ → TableMark
 mark_of None = Silence
 mark_of (Some order) = Order order
 

@@ -1,13 +1,13 @@
 -- What holds of tables that are written. Each statement is the contract of a function of this crate.
 use Rattle.std.specs.Prelude.{ℕ, ◌^◌, ◌<◌, ◌≡◌, ◌≢◌, true, List, [], ◌∷◌, None, Some, Ok}
-use Rattle.combine.specs.declared.chosen.Rule.{Rule}
-use Rattle.combine.specs.declared.chosen.Rule.TheVariants.{Majority}
+use Rattle.combine.specs.declared.campaign_rule.Rule.{Rule}
+use Rattle.combine.specs.declared.campaign_rule.Rule.TheVariants.{Majority}
 use Rattle.combine.specs.Rule.{combined_by}
 use Rattle.label.specs.Oral.{Messages, om}
 use Rattle.book.specs.Decisions.{decision_of}
 use Rattle.book.specs.Grammar.{is_place, is_within, table_told}
 use Rattle.book.specs.Table.{MessageTable, told}
-use Rattle.tables.specs.Written.{loyal, table_text, written}
+use Rattle.book.specs.Written.{loyal, table_text, written}
 
 -- the orders have 32 bits
 abbrev pub AreOrders : Messages → Type 0

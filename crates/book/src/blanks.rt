@@ -1,12 +1,12 @@
 //! Message tables to fill in.
 ghost use Rattle.std.specs.Prelude.{◌≡◌, ◌≢◌, ◌≤◌, ◌+◌, ◌++◌, true, false, length, IfOk, IfErr, OnOk, string_bytes};
-ghost use Rattle.book.specs.declared.fault.Fault.TheVariants.{Range};
+ghost use Rattle.book.specs.declared.fault.TableFault.TheVariants.{Range};
 ghost use Rattle.book.specs.declared.fault.TableError.TheVariants.{At, Memory};
 ghost use Rattle.book.specs.Forms.{blank, form_text, place_line, place_lines};
 ghost use Rattle.book.specs.Grammar.{is_within};
 
-use crate::fault::{Fault, TableError};
-use crate::listing::dotted;
+use crate::fault::{TableError, TableFault};
+use crate::lists::dotted;
 use crate::reader::is_within;
 use label::Label;
 use std::alloc::{AllocError, Global};
@@ -28,7 +28,7 @@ pub fn form(alloc: Global, generals: u64, bound: u64, commander: u64) -> Result<
         u128::from(bound),
         u128::from(commander),
     ) {
-        return Err(TableError::At(Fault::Range, 1));
+        return Err(TableError::At(TableFault::Range, 1));
     }
     let mut text = format!(in alloc; "generals {generals} bound {bound} commander {commander}\n")?;
     let label = Label::of(commander as u8);

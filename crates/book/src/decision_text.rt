@@ -2,10 +2,14 @@ ghost use Rattle.std.specs.Prelude.{◌≡◌, ◌≢◌, ◌<◌, ◌++◌, IfO
 ghost use Rattle.book.specs.Decisions.{decisions_of, TableAgrees};
 ghost use Rattle.book.specs.Grammar.{table_told};
 ghost use Rattle.book.specs.declared.fault.TableError.TheVariants.{Memory};
-ghost use Rattle.tables.specs.Answers.{DecidesTable, ExplainsTable};
-ghost use Rattle.tables.specs.Lines.{decision_line, decision_lines};
+ghost use Rattle.book.specs.Answers.{DecidesTable, ExplainsTable};
+ghost use Rattle.book.specs.Lines.{decision_line, decision_lines};
 
-use book::{Table, TableError, decisions, explain, read_table};
+use crate::explanation::explain;
+use crate::fault::TableError;
+use crate::reader::read_table;
+use crate::recursion::decisions;
+use crate::table::Table;
 use std::alloc::{AllocError, Global};
 
 /// What the lieutenants of the message table decide.

@@ -5,9 +5,9 @@ ghost use Rattle.book.specs.Explained.{alike_line, bound_line, condition_lines, 
 ghost use Rattle.book.specs.Explained.{few_part, few_words, is_lieutenant, lieutenant_lines, mark, obedience_line, part_of, yes_no};
 
 use crate::conditions::{Conditions, Obedience};
-use crate::heard::Heard;
-use crate::judging::{is_named, judge};
-use crate::listing::push_lists;
+use crate::judgement::{is_named, judge};
+use crate::lists::push_lists;
+use crate::message_source::Heard;
 use label::Label;
 use std::alloc::{AllocError, Global};
 

@@ -7,7 +7,7 @@ use std::fmt;
 
 /// What is wrong with a line of a message table.
 #[derive(Clone, Copy, Debug, PartialEq, Eq, Drop)]
-pub enum Fault {
+pub enum TableFault {
     /// No shape, or an order above 2^32 - 1.
     Line,
     /// Numbers of the first line out of their limits.
@@ -18,7 +18,7 @@ pub enum Fault {
     Twice,
 }
 
-impl fmt::Display for Fault {
+impl fmt::Display for TableFault {
     ghost use Rattle.std.specs.Prelude.{Some};
     ghost use Rattle.book.specs.ErrorText.{code_of};
 
@@ -26,21 +26,21 @@ impl fmt::Display for Fault {
 
     fn fmt<W: fmt::Write>(&self, f: &mut fmt::Formatter<W>) -> fmt::Result {
         f.write_str(match self {
-            Fault::Line => "B1",
-            Fault::Range => "B2",
-            Fault::Place => "B3",
-            Fault::Twice => "B4",
+            TableFault::Line => "B1",
+            TableFault::Range => "B2",
+            TableFault::Place => "B3",
+            TableFault::Twice => "B4",
         })
     }
 }
 
-impl Error for Fault {}
+impl Error for TableFault {}
 
 /// Why a text tells no message table: the first fault with its line, or want of memory.
 #[derive(Clone, Copy, Debug, PartialEq, Eq, Drop)]
 pub enum TableError {
     /// A fault at a line, counted from 1.
-    At(Fault, u64),
+    At(TableFault, u64),
     /// No memory for a further line.
     Memory,
 }

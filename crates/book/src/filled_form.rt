@@ -3,12 +3,12 @@ ghost use Rattle.combine.specs.Names.{default_rule};
 ghost use Rattle.book.specs.Grammar.{opened};
 ghost use Rattle.book.specs.Table.{AreNumbersWithin};
 ghost use Rattle.book.specs.declared.fault.TableError.TheVariants.{Memory};
-ghost use Rattle.tables.specs.Answers.{IsFilled};
-ghost use Rattle.tables.specs.Numbers.{HasGenerals, numbers_in};
+ghost use Rattle.book.specs.Answers.{IsFilled};
+ghost use Rattle.book.specs.Numbers.{HasGenerals, numbers_in};
 
-use crate::loyal::LoyalMarks;
-use crate::writing::write;
-use book::{Fault, TableError};
+use crate::fault::{TableError, TableFault};
+use crate::loyal_marks::LoyalMarks;
+use crate::writer::write;
 use combine::Rule;
 use std::alloc::Global;
 use text::decimal;
@@ -65,10 +65,10 @@ fn numbers(generals: &str, bound: &str, commander: &str) -> Result<(u8, u8, u8),
         decimal(bound.as_bytes()),
         decimal(commander.as_bytes()),
     ) else {
-        return Err(TableError::At(Fault::Line, 1));
+        return Err(TableError::At(TableFault::Line, 1));
     };
     if generals > 13 || bound > 4 || bound + 2 > generals || commander >= generals {
-        return Err(TableError::At(Fault::Range, 1));
+        return Err(TableError::At(TableFault::Range, 1));
     }
     Ok((generals as u8, bound as u8, commander as u8))
 }

@@ -5,7 +5,7 @@ ghost use Rattle.label.specs.Labels.{on, generals};
 ghost use Rattle.book.specs.Conditions.{are_alike, is_told, judged, loyal_decisions, named_in, obedience_in, obedience_to, same_order, sent};
 
 use crate::conditions::{Conditions, Obedience};
-use crate::heard::Heard;
+use crate::message_source::Heard;
 use crate::recursion::decision;
 use arrayvec::ArrayVec;
 use label::Label;

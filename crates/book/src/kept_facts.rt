@@ -1,8 +1,8 @@
 //! What is known of the trees of what lieutenants were told: each function does nothing,
 //! and recalls what their types keep.
 ghost use Rattle.std.specs.Prelude.{◌≡◌, ◌<◌, ◌^◌, ℕ, All, Some, slice_get};
-ghost use Rattle.tables.specs.Hearing.{heard};
-ghost use Rattle.tables.specs.Laws.{AreOrders};
+ghost use Rattle.book.specs.Hearing.{heard};
+ghost use Rattle.book.specs.WrittenLaws.{AreOrders};
 ghost use Rattle.tree.specs.LieutenantTree.{level_of};
 
 use tree::Tree;

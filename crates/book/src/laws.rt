@@ -1,5 +1,5 @@
 //! Laws of tables that are written: each function does nothing, and its contract is the law.
-ghost use Rattle.tables.specs.Laws.{LoyalTablesDecide, TablesAreRead};
+ghost use Rattle.book.specs.WrittenLaws.{LoyalTablesDecide, TablesAreRead};
 
 /// A table that tells messages is read again: it tells the same, and decides by them.
 pub fn tables_are_read()

@@ -1,22 +1,48 @@
+//! Oral messages by the book: the recursion over a table of messages, and the agreement theorem.
 //! What is printed of a message table: its decisions, how they come about, the table to fill in, and tables that are
 //! filled in.
 #![tactic(auto)]
 
-mod deciding;
-mod filling;
-mod forming;
+mod blanks;
+mod conditions;
+mod decision_text;
+mod explanation;
+mod fault;
+mod filled_form;
+mod judgement;
+mod kept_facts;
 mod laws;
-mod loyal;
+mod lists;
+mod loyal_marks;
 mod mark;
-mod recalling;
+mod message;
+mod message_label;
+mod message_source;
+mod parts;
+mod reader;
+mod recursion;
+mod table;
+mod table_form;
+mod theorem;
 mod tree_table;
 mod trees;
-mod writing;
+mod writer;
 
-pub use deciding::{decided, explained};
-pub use filling::{filled, generals_in};
-pub use forming::formed;
+pub use blanks::form;
+pub use conditions::{Conditions, Obedience};
+pub use decision_text::{decided, explained};
+pub use explanation::{explain, explain_one};
+pub use fault::{TableError, TableFault};
+pub use filled_form::{filled, generals_in};
+pub use judgement::judge;
+pub use kept_facts::recall_orders;
 pub use laws::{loyal_tables_decide, tables_are_read};
-pub use recalling::recall_orders;
+pub use message::Message;
+pub use message_source::Heard;
+pub use reader::read_table;
+pub use recursion::{decision, decisions};
+pub use table::Table;
+pub use table_form::formed;
+pub use theorem::{agreement, conditions_mean, forms_are_read, lists_mean, told_tables_are_whole};
 pub use tree_table::TreeTable;
 pub use trees::table_of;

@@ -4,7 +4,7 @@ ghost use Rattle.std.specs.Fmt.{decimal};
 ghost use Rattle.book.specs.Grammar.{is_place};
 ghost use Rattle.book.specs.Explained.{dotted, held, list_lines, list_words, part_words};
 
-use crate::heard::Heard;
+use crate::message_source::Heard;
 use arrayvec::ArrayVec;
 use label::Label;
 use std::alloc::{AllocError, Global};

@@ -1,8 +1,8 @@
 //! What loyal generals tell, where all are loyal but one.
 ghost use Rattle.std.specs.Prelude.{◌≡◌};
-ghost use Rattle.tables.specs.Written.{ends_in};
+ghost use Rattle.book.specs.Written.{ends_in};
 
-use crate::mark::{Mark, Marks};
+use crate::mark::{Marks, TableMark};
 use label::Label;
 
 /// All tell this order, and what the liar tells is open.
@@ -13,14 +13,14 @@ pub(crate) struct LoyalMarks {
 }
 
 impl Marks for LoyalMarks {
-    ghost use Rattle.tables.specs.Written.{loyal};
+    ghost use Rattle.book.specs.Written.{loyal};
 
     ghost marking = { λ l. loyal l.order l.liar };
 
-    fn mark(&self, label: &Label, _receiver: u8) -> Mark {
+    fn mark(&self, label: &Label, _receiver: u8) -> TableMark {
         match self.liar {
-            Some(liar) if ends_in(label.generals(), liar) => Mark::Open,
-            _ => Mark::Order(self.order),
+            Some(liar) if ends_in(label.generals(), liar) => TableMark::Open,
+            _ => TableMark::Order(self.order),
         }
     }
 }

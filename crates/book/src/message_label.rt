@@ -8,7 +8,7 @@ ghost use Rattle.book.specs.Table.{AreNumbersWithin};
 ghost use Rattle.book.specs.Grammar.{numbers_of};
 ghost use Rattle.book.specs.Reading.{numbers_or, prolonged_label, label_read};
 
-use crate::fault::Fault;
+use crate::fault::TableFault;
 use crate::parts::{DOT, are_numbers};
 use crate::table::Table;
 use label::Label;
@@ -21,14 +21,14 @@ use text::{decimal, piece};
 ///
 /// `Line` where one is no number, else `Place` where they are no label of the campaign.
 #[tactic(auto, unfolding(crate::specs::Reading::label_read, crate::specs::Reading::begun_label))]
-pub fn label_in(table: &Table, part: &[u8]) -> Result<Label, Fault>
+pub fn label_in(table: &Table, part: &[u8]) -> Result<Label, TableFault>
     ensures label { result ≡ label_read table.now part.now }
     ensures within { AreNumbersWithin table.now.generals table.now.bound table.now.commander }
 {
     let (first, rest) = piece(DOT, part);
     let commander = table.commander();
     let Some(first) = decimal(first) else {
-        return Err(Fault::Line);
+        return Err(TableFault::Line);
     };
     if first == (commander as u128) {
         prolonged(table, Label::of(commander), rest)
@@ -39,7 +39,7 @@ pub fn label_in(table: &Table, part: &[u8]) -> Result<Label, Fault>
 
 /// The label with the generals that are left behind it, where each is a general and new to it.
 #[tactic(auto, unfolding(crate::specs::Reading::prolonged_label))]
-fn prolonged(table: &Table, label: Label, rest: Option<&[u8]>) -> Result<Label, Fault>
+fn prolonged(table: &Table, label: Label, rest: Option<&[u8]>) -> Result<Label, TableFault>
     requires { length label ≤ table.now.bound + 1 }
     ensures { result ≡ numbers_or (prolonged_label table.now.generals table.now.bound label)
         (numbers_of (left dot rest.entry)) }
@@ -49,7 +49,7 @@ fn prolonged(table: &Table, label: Label, rest: Option<&[u8]>) -> Result<Label, 
     };
     let (next, behind) = piece(DOT, rest);
     let Some(next) = decimal(next) else {
-        return Err(Fault::Line);
+        return Err(TableFault::Line);
     };
     if is_next(table, &label, next) {
         prolonged(table, label.with(next as u8), behind)
@@ -59,13 +59,13 @@ fn prolonged(table: &Table, label: Label, rest: Option<&[u8]>) -> Result<Label, 
 }
 
 /// The fault of a line whose label ends here: there is no such place, where what is left are numbers.
-fn no_label(rest: Option<&[u8]>) -> Fault
+fn no_label(rest: Option<&[u8]>) -> TableFault
     ensures { Err result ≡ numbers_or (λ ns. None) (numbers_of (left dot rest.entry)) }
 {
     if are_numbers(rest) {
-        Fault::Place
+        TableFault::Place
     } else {
-        Fault::Line
+        TableFault::Line
     }
 }
 

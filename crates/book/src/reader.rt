@@ -2,10 +2,10 @@ ghost use Rattle.std.specs.Prelude.{◌≡◌, ◌≢◌, ◌≤◌, ◌++◌, �
 ghost use Rattle.book.specs.declared.fault.TableError.TheVariants.{Memory};
 ghost use Rattle.book.specs.Grammar.{opened, head_of, checked, at_line, message_of, is_within, table_told};
 
-use crate::fault::{Fault, TableError};
+use crate::fault::{TableError, TableFault};
 use crate::message::Message;
+use crate::message_label::{can_hear, label_in};
 use crate::parts::{head, shape};
-use crate::placing::{can_hear, label_in};
 use crate::table::Table;
 use std::alloc::Global;
 use text::line;
@@ -21,7 +21,7 @@ pub fn read_table(alloc: Global, text: &str) -> Result<Table, TableError>
     ensures fault { IfErr result (λ e. e ≢ Memory → table_told text.now ≡ Err e) }
 {
     let Some((first, behind)) = line(text.as_bytes()) else {
-        return Err(TableError::At(Fault::Line, 1));
+        return Err(TableError::At(TableFault::Line, 1));
     };
     let mut table = read_head(alloc, first)?;
     let mut rest = behind;
@@ -41,12 +41,12 @@ fn read_head(alloc: Global, line: &[u8]) -> Result<Table, TableError>
     ensures fault { IfErr result (λ e. e ≢ Memory → opened (head_of line.now) ≡ Err e) }
 {
     let Some((generals, bound, commander, rule)) = head(line) else {
-        return Err(TableError::At(Fault::Line, 1));
+        return Err(TableError::At(TableFault::Line, 1));
     };
     if is_within(generals, bound, commander) {
         Ok(Table::open(alloc, generals as u8, bound as u8, commander as u8, rule)?)
     } else {
-        Err(TableError::At(Fault::Range, 1))
+        Err(TableError::At(TableFault::Range, 1))
     }
 }
 
@@ -68,18 +68,18 @@ fn message_at(table: &Table, number: u64, line: &[u8]) -> Result<Message, TableE
 }
 
 /// The message of a further line, the first fault of the line otherwise.
-fn read_message(table: &Table, line: &[u8]) -> Result<Message, Fault>
+fn read_message(table: &Table, line: &[u8]) -> Result<Message, TableFault>
     ensures { result ≡ checked table.now (message_of line.now) }
 {
     let Some((label, receiver, order)) = shape(line) else {
-        return Err(Fault::Line);
+        return Err(TableFault::Line);
     };
     let label = label_in(table, label)?;
     if !can_hear(table, &label, receiver) {
-        return Err(Fault::Place);
+        return Err(TableFault::Place);
     }
     if table.told(&label, receiver as u8).is_some() {
-        return Err(Fault::Twice);
+        return Err(TableFault::Twice);
     }
     Ok(Message {
         label,

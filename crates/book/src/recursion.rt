@@ -1,7 +1,7 @@
 ghost use Rattle.std.specs.Prelude.{◌≡◌, ◌≢◌, ◌<◌};
 ghost use Rattle.book.specs.Decisions.{decision_of, decisions_of, TableAgrees};
 
-use crate::heard::Heard;
+use crate::message_source::Heard;
 use crate::table::Table;
 use crate::theorem::agreement;
 use arrayvec::ArrayVec;

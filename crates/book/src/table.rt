@@ -5,8 +5,8 @@ ghost use Rattle.book.specs.Table.{AreNumbersWithin, is_about, told};
 ghost use Rattle.book.specs.Grammar.{is_place, with_message};
 ghost use Rattle.book.specs.Trees.{tree_of};
 
-use crate::heard::Heard;
 use crate::message::Message;
+use crate::message_source::Heard;
 use combine::Rule;
 use label::Label;
 use std::alloc::{AllocError, Global};

@@ -1,10 +1,11 @@
 ghost use Rattle.std.specs.Prelude.{◌≡◌, ◌≢◌, IfOk, IfErr, Err, min, string_bytes};
 ghost use Rattle.book.specs.Grammar.{opened};
 ghost use Rattle.book.specs.declared.fault.TableError.TheVariants.{Memory};
-ghost use Rattle.tables.specs.Answers.{IsFormOf};
-ghost use Rattle.tables.specs.Numbers.{numbers_in};
+ghost use Rattle.book.specs.Answers.{IsFormOf};
+ghost use Rattle.book.specs.Numbers.{numbers_in};
 
-use book::{Fault, TableError, form};
+use crate::blanks::form;
+use crate::fault::{TableError, TableFault};
 use std::alloc::Global;
 use text::decimal;
 
@@ -25,13 +26,13 @@ pub fn formed(
         opened (numbers_in generals.now bound.now commander.now) ≡ Err e) }
 {
     let Some(generals) = decimal(generals.as_bytes()) else {
-        return Err(TableError::At(Fault::Line, 1));
+        return Err(TableError::At(TableFault::Line, 1));
     };
     let Some(bound) = decimal(bound.as_bytes()) else {
-        return Err(TableError::At(Fault::Line, 1));
+        return Err(TableError::At(TableFault::Line, 1));
     };
     let Some(commander) = decimal(commander.as_bytes()) else {
-        return Err(TableError::At(Fault::Line, 1));
+        return Err(TableError::At(TableFault::Line, 1));
     };
     Ok(form(
         alloc,

@@ -6,11 +6,11 @@ ghost use Rattle.label.specs.Oral.{Messages};
 ghost use Rattle.book.specs.Grammar.{table_told};
 ghost use Rattle.book.specs.Table.{AreNumbersWithin};
 ghost use Rattle.book.specs.Trees.{tree_of};
-ghost use Rattle.tables.specs.Hearing.{heard};
-ghost use Rattle.tables.specs.Written.{table_text};
+ghost use Rattle.book.specs.Hearing.{heard};
+ghost use Rattle.book.specs.Written.{table_text};
 
-use crate::recalling::recall_orders;
-use book::Heard;
+use crate::kept_facts::recall_orders;
+use crate::message_source::Heard;
 use combine::Rule;
 use label::Label;
 use std::marker::Model;
@@ -30,8 +30,8 @@ pub struct TreeTable<'a> {
 impl<'a> Model for TreeTable<'a> {
     ghost use Rattle.book.specs.Table.{MessageTable};
     ghost use Rattle.book.specs.Trees.{AreTableTrees};
-    ghost use Rattle.tables.specs.Collected.{collected};
-    ghost use Rattle.tables.specs.Hearing.{heard};
+    ghost use Rattle.book.specs.Collected.{collected};
+    ghost use Rattle.book.specs.Hearing.{heard};
 
     ghost Value = { MessageTable };
 

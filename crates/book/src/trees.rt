@@ -2,13 +2,13 @@
 ghost use Rattle.std.specs.Prelude.{◌≡◌, IfOk, Ok, Some, string_bytes};
 ghost use Rattle.book.specs.Grammar.{table_told};
 ghost use Rattle.book.specs.Table.{AreNumbersWithin, MessageTable};
-ghost use Rattle.tables.specs.Hearing.{heard, value_of};
-ghost use Rattle.tables.specs.Laws.{IsTableOf};
-ghost use Rattle.tables.specs.Written.{table_text};
+ghost use Rattle.book.specs.Hearing.{heard, value_of};
+ghost use Rattle.book.specs.WrittenLaws.{IsTableOf};
+ghost use Rattle.book.specs.Written.{table_text};
 
-use crate::mark::{Mark, Marks};
-use crate::recalling::recall_orders;
-use crate::writing::write;
+use crate::kept_facts::recall_orders;
+use crate::mark::{Marks, TableMark};
+use crate::writer::write;
 use combine::Rule;
 use label::Label;
 use std::alloc::{AllocError, Global};
@@ -52,15 +52,15 @@ struct TreeMarks<'a> {
 }
 
 impl<'a> Marks for TreeMarks<'a> {
-    ghost use Rattle.tables.specs.Hearing.{heard};
-    ghost use Rattle.tables.specs.Written.{telling};
+    ghost use Rattle.book.specs.Hearing.{heard};
+    ghost use Rattle.book.specs.Written.{telling};
 
     ghost marking = { λ t. telling (heard t.trees.now) };
 
-    fn mark(&self, label: &Label, receiver: u8) -> Mark {
+    fn mark(&self, label: &Label, receiver: u8) -> TableMark {
         match heard(self.trees, label, receiver) {
-            Some(order) => Mark::Order(order),
-            None => Mark::Silence,
+            Some(order) => TableMark::Order(order),
+            None => TableMark::Silence,
         }
     }
 }

@@ -2,9 +2,9 @@
 ghost use Rattle.std.specs.Prelude.{◌≡◌, ◌≤◌, ◌+◌, ◌++◌, ◌∷◌, [], length, IfOk, OnOk, string_bytes};
 ghost use Rattle.book.specs.Explained.{dotted};
 ghost use Rattle.book.specs.Table.{AreNumbersWithin};
-ghost use Rattle.tables.specs.Written.{first_line, line_of, lines_from, rule_words, written};
+ghost use Rattle.book.specs.Written.{first_line, line_of, lines_from, rule_words, written};
 
-use crate::mark::{Mark, Marks};
+use crate::mark::{Marks, TableMark};
 use combine::Rule;
 use label::Label;
 use std::alloc::{AllocError, Global};
@@ -149,17 +149,17 @@ fn push_line(
     text: &mut String,
     label: &str,
     receiver: u8,
-    mark: Mark,
+    mark: TableMark,
 ) -> Result<(), AllocError>
     ensures { OnOk result (string_bytes text.new ≡ string_bytes text.old ++ line_of label.now receiver mark) }
 {
     match mark {
-        Mark::Silence => Ok(()),
-        Mark::Open => {
+        TableMark::Silence => Ok(()),
+        TableMark::Open => {
             let line = format!(in alloc; "tell {label} {receiver} ?\n")?;
             text.push_str(line.as_str())
         }
-        Mark::Order(order) => {
+        TableMark::Order(order) => {
             let line = format!(in alloc; "tell {label} {receiver} {order}\n")?;
             text.push_str(line.as_str())
         }

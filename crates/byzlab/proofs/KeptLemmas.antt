@@ -5,9 +5,9 @@ use Rattle.std.specs.Global.{Global}
 use Rattle.std.proofs.lemmas.List.{drop_all}
 use Rattle.std.specs.Result.{IsErrAnd}
 use Rattle.streams.specs.Filling.{file_of}
-use Rattle.streams.specs.declared.filling.Filled.{Filled}
-use Rattle.byzlab.specs.declared.keeping.Unkept.{Unkept}
-use Rattle.byzlab.specs.declared.keeping.Unkept.TheVariants.{Memory, Unwritten}
+use Rattle.streams.specs.declared.filled_file.Filled.{Filled}
+use Rattle.byzlab.specs.declared.kept_files.Unkept.{Unkept}
+use Rattle.byzlab.specs.declared.kept_files.Unkept.TheVariants.{Memory, Unwritten}
 use Rattle.byzlab.specs.Kept.{IsKeptIn, Tells, kept_files, scenario_name, schedule_files, schedule_name}
 
 -- these files are written, and behind them come the schedules that are left

@@ -2,10 +2,10 @@
 use Rattle.std.proofs.Common.{ℕ, ◌≡◌, List, subst}
 use Rattle.std.specs.Prelude.{◌≢◌, Option, Result, Ok, Err, IfOk, IfSome, IsUtf8, Some, String, string_bytes}
 use Rattle.std.specs.Global.{Global}
-use Rattle.command_line.specs.declared.tasks.Task.{Task}
-use Rattle.neighbours.specs.Seen.{Sees}
-use Rattle.neighbours.specs.Story.{with_story}
-use Rattle.own_lines.specs.Refused.{IsTold}
+use Rattle.cli_words.specs.declared.tasks.Task.{Task}
+use Rattle.cli_tasks.specs.Seen.{Sees}
+use Rattle.cli_tasks.specs.Story.{with_story}
+use Rattle.cli_report.specs.Refused.{IsTold}
 use Rattle.byzlab.specs.declared.input.Opened.{Opened}
 use Rattle.byzlab.specs.Files.{IsSeen, IsTextOf}
 use Rattle.byzlab.specs.Rejected.{TellsRefused}

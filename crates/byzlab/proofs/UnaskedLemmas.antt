@@ -3,14 +3,14 @@ use Rattle.std.proofs.Common.{ℕ, suc, ◌≡◌, ◌≤◌, ◌<◌, List, ari
 use Rattle.std.specs.Prelude.{Option, None, Some, IfSome, IsSome, Vec, max, slice_index_or}
 use Rattle.std.specs.Borrow.{Bor}
 use Rattle.std.specs.Global.{Global}
-use Rattle.command_line.specs.Tasks.{IfRefused}
-use Rattle.command_line.specs.Usage.{Text}
-use Rattle.command_line.specs.declared.errors.TaskError.{TaskError}
-use Rattle.command_line.specs.declared.errors.TaskError.TheVariants as task
+use Rattle.cli_words.specs.Tasks.{IfRefused}
+use Rattle.cli_words.specs.Usage.{Text}
+use Rattle.cli_words.specs.declared.errors.TaskError.{TaskError}
+use Rattle.cli_words.specs.declared.errors.TaskError.TheVariants as task
 use Rattle.byzlab.specs.Failures.{IsUnasked, error_of}
 use Rattle.byzlab.specs.Turns.{AreEndingsOf, IsErrorOf, IsToldAt}
 use Rattle.byzlab.specs.declared.endings.Endings.{Endings}
-use Rattle.byzlab.specs.declared.unasked.Unasked.{Unasked}
+use Rattle.byzlab.specs.declared.no_request.Unasked.{Unasked}
 
 pub asked_nothing : (error : TaskError) (status : ℕ) (P : Type 0) → IsUnasked error status → IfRefused error P → P
 asked_nothing (task.Words refusal) status P u p = p

@@ -6,18 +6,18 @@ use Rattle.clap.specs.declared.error.kind.ErrorKind.{ErrorKind}
 use Rattle.clap.specs.declared.error.kind.ErrorKind.TheVariants.{DisplayHelp, DisplayVersion}
 use Rattle.std.specs.Borrow.{Bor}
 use Rattle.std.specs.Fmt.{◌++?◌}
-use Rattle.faults.specs.Reasons.{reason_text}
-use Rattle.faults.specs.declared.failure.Failure.{Failure}
-use Rattle.faults.specs.declared.failure.Failure.TheVariants.{Read}
-use Rattle.command_line.specs.Asked.{asked, words_of}
-use Rattle.command_line.specs.declared.errors.TaskError.{TaskError}
-use Rattle.command_line.specs.declared.errors.TaskError.TheVariants as task
-use Rattle.command_line.specs.declared.tasks.Request.{Request}
-use Rattle.desk.specs.Printing.{is_shaped}
+use Rattle.cli_tasks.specs.Reasons.{reason_text}
+use Rattle.cli_tasks.specs.declared.failure.TaskFailure.{TaskFailure}
+use Rattle.cli_tasks.specs.declared.failure.TaskFailure.TheVariants.{Read}
+use Rattle.cli_words.specs.Asked.{asked, words_of}
+use Rattle.cli_words.specs.declared.errors.TaskError.{TaskError}
+use Rattle.cli_words.specs.declared.errors.TaskError.TheVariants as task
+use Rattle.cli_words.specs.declared.tasks.TaskRequest.{TaskRequest}
+use Rattle.cli_answers.specs.Printing.{is_shaped}
 use Rattle.byzlab.specs.declared.ending.Ending.{Ending}
-use Rattle.byzlab.specs.declared.unasked.Why.{Why}
-use Rattle.byzlab.specs.declared.unasked.Why.TheVariants as why
-use Rattle.byzlab.specs.declared.told.Said.{Said}
+use Rattle.byzlab.specs.declared.no_request.Why.{Why}
+use Rattle.byzlab.specs.declared.no_request.Why.TheVariants as why
+use Rattle.byzlab.specs.declared.told_line.ReportOutcome.{ReportOutcome}
 use Rattle.std.specs.declared.io.ErrorKind.{ErrorKind as IoKind}
 use Rattle.std.specs.declared.io.ErrorKind.TheVariants.{OutOfMemory, InvalidData}
 
@@ -63,12 +63,12 @@ status_said true = 3
 
 -- unless JSON or one line is asked for, no memory is wanted for the line, and nothing is written to the output; nor
 -- where memory is wanted
-abbrev pub IsSaidOf : Request → Said → Type 0
+abbrev pub IsSaidOf : TaskRequest → ReportOutcome → Type 0
 IsSaidOf request said = (is_shaped request ≡ false → (said.is_lacking ≡ false) × (said.is_unwritten ≡ false))
     × (said.is_lacking ≡ true → said.is_unwritten ≡ false)
 
 -- a request ends behind such a line
-abbrev pub IsTurnedDown : Request → Ending → Type 0
+abbrev pub IsTurnedDown : TaskRequest → Ending → Type 0
 IsTurnedDown request ending = ((ending.status ≡ 1) ⊎ (ending.status ≡ 3))
     × (is_shaped request ≡ false → (ending.status ≡ 1) × (ending.is_unwritten ≡ false))
 
@@ -84,6 +84,6 @@ IsWhy status true (Some kind) why =
 IsWhy status _ _ why = why ≡ None
 
 -- it is told that the file of this name is not read
-abbrev pub IsUnreadable : Option (List ℕ) → Failure → Type 0
+abbrev pub IsUnreadable : Option (List ℕ) → TaskFailure → Type 0
 IsUnreadable (Some name) (Read own) = own.now ≡ name
 IsUnreadable _ _ = ⊥

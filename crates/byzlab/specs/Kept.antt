@@ -4,18 +4,18 @@ use Rattle.std.specs.declared.io.ErrorKind.{ErrorKind}
 use Rattle.std.specs.declared.io.ErrorKind.TheVariants.{OutOfMemory}
 use Rattle.std.specs.Global.{Global}
 use Rattle.streams.specs.Filling.{IsFilledBy, file_of}
-use Rattle.streams.specs.declared.filling.Filled.{Filled}
-use Rattle.command_line.specs.declared.tasks.Task.{Task}
-use Rattle.command_line.specs.declared.tasks.Task.TheVariants.{Explore}
-use Rattle.command_line.specs.Tasks.{schedule_target_of, seed_of}
-use Rattle.chance.specs.Seeded.{seeded}
-use Rattle.explore.specs.Text.{schedule_text}
-use Rattle.campaign_tasks.specs.Exploring.{KeepsOrders}
-use Rattle.inputs.specs.Refusals.{RefusesScenario, RefusesText}
-use Rattle.inputs.specs.declared.refusal.Refusal.{Refusal}
-use Rattle.inputs.specs.declared.refusal.Refusal.TheVariants as refusal
-use Rattle.byzlab.specs.declared.keeping.Unkept.{Unkept}
-use Rattle.byzlab.specs.declared.keeping.Unkept.TheVariants.{Memory, Unwritten}
+use Rattle.streams.specs.declared.filled_file.Filled.{Filled}
+use Rattle.cli_words.specs.declared.tasks.Task.{Task}
+use Rattle.cli_words.specs.declared.tasks.Task.TheVariants.{Explore}
+use Rattle.cli_words.specs.Tasks.{schedule_target_of, seed_of}
+use Rattle.campaign_schedules.specs.Seeded.{seeded}
+use Rattle.campaign_orders.specs.Text.{schedule_text}
+use Rattle.cli_tasks.specs.Exploring.{KeepsOrders}
+use Rattle.cli_tasks.specs.Refusals.{RefusesScenario, RefusesText}
+use Rattle.cli_tasks.specs.declared.refusal.InputRefusal.{InputRefusal}
+use Rattle.cli_tasks.specs.declared.refusal.InputRefusal.TheVariants as refusal
+use Rattle.byzlab.specs.declared.kept_files.Unkept.{Unkept}
+use Rattle.byzlab.specs.declared.kept_files.Unkept.TheVariants.{Memory, Unwritten}
 
 -- the schedule of the task's seed was written, for the file that the task names
 abbrev pub IsScheduleKept : {O : Type 0} → Task → Filled O → Type 0
@@ -78,4 +78,4 @@ IsExplorationKept task scenario text kept = (most : Option ℕ) × (folder : Lis
 
 -- the scenario is refused, and not for want of memory
 abbrev pub IsUnexplored : List ℕ → Type 0
-IsUnexplored scenario = (why : Refusal) × (why ≢ refusal.Memory) × RefusesText RefusesScenario scenario why
+IsUnexplored scenario = (why : InputRefusal) × (why ≢ refusal.Memory) × RefusesText RefusesScenario scenario why

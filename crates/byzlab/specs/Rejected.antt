@@ -1,20 +1,20 @@
 -- What is told of a file that is not written, and of a scenario that is not taken (own).
 use Rattle.std.specs.Prelude.{ℕ, ◌≡◌, ◌≢◌, List, Option, None, Some, IfSome, IsUtf8, String, if◌then◌else◌, string_bytes, ⊤}
 use Rattle.std.specs.Global.{Global}
-use Rattle.command_line.specs.declared.tasks.Task.{Task}
-use Rattle.faults.specs.Whys.{is_explained}
-use Rattle.neighbours.specs.Seen.{Sees}
-use Rattle.neighbours.specs.declared.naming.Untaken.{Untaken}
-use Rattle.neighbours.specs.declared.naming.Untaken.TheVariants as untaken
-use Rattle.own_lines.specs.Refused.{IsTold}
+use Rattle.cli_words.specs.declared.tasks.Task.{Task}
+use Rattle.cli_tasks.specs.Whys.{is_explained}
+use Rattle.cli_tasks.specs.Seen.{Sees}
+use Rattle.cli_tasks.specs.declared.named_files.FileProblem.{FileProblem}
+use Rattle.cli_tasks.specs.declared.named_files.FileProblem.TheVariants as untaken
+use Rattle.cli_report.specs.Refused.{IsTold}
 use Rattle.byzlab.specs.Failures.{IsUnreadable}
 use Rattle.byzlab.specs.declared.failures.Explained.{Explained}
 use Rattle.byzlab.specs.declared.failures.Unwritten.{Unwritten as Line}
-use Rattle.byzlab.specs.declared.keeping.Unkept.{Unkept}
-use Rattle.byzlab.specs.declared.keeping.Unkept.TheVariants as unkept
-use Rattle.byzlab.specs.declared.telling.Rejected.{Rejected}
-use Rattle.byzlab.specs.declared.telling.Rejected.TheVariants as rejected
-use Rattle.byzlab.specs.declared.told.Said.{Said}
+use Rattle.byzlab.specs.declared.kept_files.Unkept.{Unkept}
+use Rattle.byzlab.specs.declared.kept_files.Unkept.TheVariants as unkept
+use Rattle.byzlab.specs.declared.rejection.Rejected.{Rejected}
+use Rattle.byzlab.specs.declared.rejection.Rejected.TheVariants as rejected
+use Rattle.byzlab.specs.declared.told_line.ReportOutcome.{ReportOutcome}
 
 -- it is told that the file of this name was not written and, where the task explains what it refuses, why
 abbrev pub TellsUnkept : Task → Unkept → Explained Line → Type 0
@@ -23,13 +23,13 @@ TellsUnkept task (unkept.Unwritten name kind) line =
 TellsUnkept task unkept.Memory line = ⊥
 
 -- the lines of a file that is not taken are told and, where the task explains what it refuses, why a read of it failed
-abbrev pub TellsUntaken : Task → Untaken → Explained (String Global) → Type 0
+abbrev pub TellsUntaken : Task → FileProblem → Explained (String Global) → Type 0
 TellsUntaken task (untaken.Told lines kind) line =
     (line.lines ≡ lines) × (line.kind ≡ (if is_explained task then kind else None))
 TellsUntaken task untaken.Memory line = ⊥
 
 -- how the line was told
-abbrev pub said_of : Rejected → Said
+abbrev pub said_of : Rejected → ReportOutcome
 said_of (rejected.Unread told) = told.said
 said_of (rejected.Untaken told) = told.said
 said_of (rejected.Refused told) = told.said

@@ -3,15 +3,15 @@ use Rattle.std.specs.Prelude.{ℕ, suc, ◌≡◌, ◌≤◌, ◌<◌, ◌⊎◌
 use Rattle.std.specs.Borrow.{Bor}
 use Rattle.std.specs.Global.{Global}
 use Rattle.clap.specs.Words.{IsAmong, fault_of, kind_of}
-use Rattle.command_line.specs.Asked.{spelt, words_of}
-use Rattle.command_line.specs.Lab.{lab_app}
-use Rattle.command_line.specs.Several.{requests_of}
-use Rattle.command_line.specs.Tasks.{IfMisuse, IfWords, IsMisused}
-use Rattle.command_line.specs.Usage.{Text}
-use Rattle.command_line.specs.declared.errors.TaskError.{TaskError}
+use Rattle.cli_words.specs.Asked.{spelt, words_of}
+use Rattle.cli_words.specs.Lab.{lab_app}
+use Rattle.cli_words.specs.Several.{requests_of}
+use Rattle.cli_words.specs.Tasks.{IfMisuse, IfWords, IsMisused}
+use Rattle.cli_words.specs.Usage.{Text}
+use Rattle.cli_words.specs.declared.errors.TaskError.{TaskError}
 use Rattle.byzlab.specs.Failures.{AsksNothing, IsUnasked, error_of}
 use Rattle.byzlab.specs.declared.endings.Endings.{Endings}
-use Rattle.byzlab.specs.declared.unasked.Unasked.{Unasked}
+use Rattle.byzlab.specs.declared.no_request.Unasked.{Unasked}
 
 -- the words ask for nothing, and have such an error
 pub record IsErrorOf (words : List (Bor Text)) (error : TaskError) : Type 0 where

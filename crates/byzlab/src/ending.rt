@@ -2,25 +2,25 @@
 //! kept and printed, of a line that was told.
 ghost use Rattle.std.specs.Prelude.{◌≡◌, ◌≢◌, ◌⊎◌, ℕ, List, IfErr, IfOk, IsOk, IsSomeAnd, None, Ok, OnErr, OnOk, codes, false, is_some, true};
 ghost use Rattle.std.specs.Io.KnownBytes.{Appends};
-ghost use Rattle.command_line.specs.Tasks.{folder_of, schedule_target_of, seed_of, target_of};
+ghost use Rattle.cli_words.specs.Tasks.{folder_of, schedule_target_of, seed_of, target_of};
 ghost use Rattle.streams.specs.Writing.{AppendsFront};
-ghost use Rattle.lab.specs.Serving.{IsFault, Tells, files};
-ghost use Rattle.desk.specs.Printing.{is_shaped};
-ghost use Rattle.desk.specs.Serving.{IsAnswerUnwritten, IsPrevented, IsRefusalShown, IsShown};
+ghost use Rattle.cli_tasks.specs.Serving.{IsFault, Tells, files};
+ghost use Rattle.cli_answers.specs.Printing.{is_shaped};
+ghost use Rattle.cli_answers.specs.Serving.{IsAnswerUnwritten, IsPrevented, IsRefusalShown, IsShown};
 ghost use Rattle.byzlab.specs.Failures.{IsSaidOf, IsStatus, IsTurnedDown};
 ghost use Rattle.byzlab.specs.Files.{IsServedFor, IsTargetOf, IsTextOf};
 ghost use Rattle.byzlab.specs.Kept.{IsExplorationKept, IsScheduleKept, IsUnexplored};
 
 use crate::input::Input;
-use crate::keeping::Unkept;
-use crate::stopped::Stopped;
+use crate::kept_files::Unkept;
+use crate::rejection::{TurnedDown, tell_unkept, turn_down};
+use crate::stop::Stopped;
 use crate::target::Target;
-use crate::telling::{TurnedDown, tell_unkept, turn_down};
-use crate::told::Said;
-use crate::watched::Watched;
-use command_line::Request;
-use desk::serve;
-use lab::Failure;
+use crate::told_line::ReportOutcome;
+use crate::watched_stream::Watched;
+use cli_answers::serve;
+use cli_tasks::TaskFailure;
+use cli_words::TaskRequest;
 use std::alloc::{AllocError, Global};
 use std::fs::File;
 use std::io::Write;
@@ -30,7 +30,7 @@ use std::thread::Threads;
 use streams::{Filled, Output, Source};
 
 /// That it was told of an output that it failed.
-type NotPrinted = TurnedDown<Failure<'static>>;
+type NotPrinted = TurnedDown<TaskFailure<'static>>;
 
 /// How a request came out.
 #[derive(Drop)]
@@ -57,7 +57,7 @@ impl Ending {
     }
 
     /// Of a request of which it was said that it is not done.
-    pub fn refused(said: Said) -> Ending
+    pub fn refused(said: ReportOutcome) -> Ending
         ensures status { result.status ≡ status_said said.is_lacking }
         ensures either { IsStatus result.status }
         ensures unwritten { result.is_unwritten ≡ said.is_unwritten }
@@ -111,7 +111,7 @@ impl Ending {
 /// served, proofs see: it takes no bytes.
 #[derive(Drop)]
 pub struct Served<'a, R, W: Write + Drop> {
-    request: &'a Request,
+    request: &'a TaskRequest,
     first: Snapshot<R>,
     second: Snapshot<Option<R>>,
     target: Snapshot<Watched<W>>,
@@ -119,12 +119,12 @@ pub struct Served<'a, R, W: Write + Drop> {
 }
 
 impl<'a, R: Source, W: Write + Drop> Served<'a, R, W> {
-    /// Does what is asked for on these files, as `desk::serve` does: prints the answer, or what is at fault. The output
+    /// Does what is asked for on these files, as `cli_answers::serve` does: prints the answer, or what is at fault. The output
     /// shows nothing of a write that failed.
     pub fn of<T, F>(
         threads: &T,
         alloc: Global,
-        request: &'a Request,
+        request: &'a TaskRequest,
         first: R,
         second: Option<R>,
         out: &mut Watched<W>,
@@ -240,7 +240,7 @@ impl<'a> Served<'a, Input<'a>, Target<'a>> {
 /// With where it was printed, proofs see: that takes no bytes.
 #[derive(Drop)]
 pub struct Printed<'a, O> {
-    request: &'a Request,
+    request: &'a TaskRequest,
     target: Snapshot<O>,
     ending: Ending,
 }
@@ -249,7 +249,7 @@ impl<'a, O: Output> Printed<'a, O> {
     /// Prints this text of the exploration of this scenario where its files are kept, and else says that they are not.
     pub fn of(
         rt: &HostRuntime,
-        request: &'a Request,
+        request: &'a TaskRequest,
         scenario: &[u8],
         kept: Result<Vec<Filled<'_, File>>, Unkept>,
         text: &str,
@@ -301,7 +301,7 @@ impl<'a> Printed<'a, Target<'a>> {
 /// The output failed, and that was told.
 fn put_text<O: Output>(
     rt: &HostRuntime,
-    request: &Request,
+    request: &TaskRequest,
     text: &str,
     out: &mut O,
 ) -> Result<(), NotPrinted>
@@ -312,6 +312,6 @@ fn put_text<O: Output>(
 {
     match out.put(text.as_bytes()) {
         Ok(()) => Ok(()),
-        Err(_) => Err(turn_down(rt, request, Failure::Write)),
+        Err(_) => Err(turn_down(rt, request, TaskFailure::Write)),
     }
 }

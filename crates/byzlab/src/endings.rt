@@ -3,7 +3,7 @@ ghost use Rattle.std.specs.Prelude.{◌≡◌, ◌+◌, ◌<◌, ◌^◌, None, 
 ghost use Rattle.byzlab.specs.Turns.{first_unwritten};
 
 use crate::ending::Ending;
-use crate::unasked::Unasked;
+use crate::no_request::Unasked;
 
 /// How requests came out that were done one behind another. Only what is here makes it: of none, of one more ending, of
 /// words behind them that ask for nothing.

@@ -2,12 +2,12 @@
 
 ghost use Rattle.std.specs.Prelude.{◌≡◌, ◌↔◌, IfOk, IsErr, None, Some, if◌then◌else◌, option_map};
 ghost use Rattle.std.specs.IoError.{error_kind};
-ghost use Rattle.faults.specs.Whys.{is_explained};
-ghost use Rattle.faults.specs.declared.failure.Failure.TheVariants.{Read as unreadable};
+ghost use Rattle.cli_tasks.specs.Whys.{is_explained};
+ghost use Rattle.cli_tasks.specs.declared.failure.TaskFailure.TheVariants.{Read as unreadable};
 ghost use Rattle.byzlab.specs.Failures.{IsWhy};
 
-use command_line::Task;
-use lab::{Failure, FileName, is_explained, reason};
+use cli_tasks::{FileName, TaskFailure, is_explained, reason};
+use cli_words::Task;
 use std::alloc::AllocError;
 use std::fmt::{self, Display};
 use std::io::{self, ErrorKind};
@@ -35,7 +35,7 @@ impl<D: Display + Drop> Display for Explained<D> {
 
 impl<D: Display + Drop> Explained<D> {
     ghost use Rattle.std.specs.Prelude.{◌≡◌, None, if◌then◌else◌};
-    ghost use Rattle.faults.specs.Whys.{is_explained};
+    ghost use Rattle.cli_tasks.specs.Whys.{is_explained};
 
     /// The lines and, where the task explains what it refuses, the sentence for an error of this kind, if there is one.
     pub fn by(task: &Task, lines: D, kind: Option<ErrorKind>) -> Explained<D>
@@ -74,7 +74,7 @@ pub fn unread<'a>(
     task: &Task,
     name: &'a str,
     error: io::Error,
-) -> Result<Explained<Failure<'a>>, AllocError>
+) -> Result<Explained<TaskFailure<'a>>, AllocError>
     ensures line { IfOk result (λ told. told.lines ≡ unreadable name.entry) }
     ensures why { IfOk result (λ told. told.kind ≡ (if is_explained task.now then Some (error_kind error) else None)) }
     ensures memory { IsErr result ↔ (error_kind error ≡ ErrorKind.OutOfMemory) }
@@ -83,7 +83,7 @@ pub fn unread<'a>(
     if kind == ErrorKind::OutOfMemory {
         return Err(AllocError);
     }
-    Ok(Explained::by(task, Failure::Read(name), Some(kind)))
+    Ok(Explained::by(task, TaskFailure::Read(name), Some(kind)))
 }
 
 /// Why the output of a task failed that ended with this status, where that is to be told.

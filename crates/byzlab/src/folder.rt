@@ -2,7 +2,7 @@
 ghost use Rattle.std.specs.Prelude.{IfOk, option_map, string_bytes};
 ghost use Rattle.byzlab.specs.Beside.{IsFolderOf, IsPathOf};
 
-use neighbours::Folder;
+use cli_tasks::Folder;
 use std::alloc::{AllocError, Global};
 use std::fs::File;
 use std::io::{self, Read};

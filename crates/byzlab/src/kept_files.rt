@@ -18,7 +18,7 @@ pub enum Unkept {
 }
 
 impl From<AllocError> for Unkept {
-    ghost use Rattle.byzlab.specs.declared.keeping.Unkept.TheVariants.{Memory};
+    ghost use Rattle.byzlab.specs.declared.kept_files.Unkept.TheVariants.{Memory};
     ghost use Rattle.std.specs.Prelude.{◌≡◌};
 
     ghost from_gives = { λ _ unkept. unkept ≡ Memory };

@@ -7,43 +7,44 @@ mod endings;
 mod failures;
 mod folder;
 mod input;
-mod keeping;
-mod noted;
+mod kept_files;
+mod no_request;
+mod noted_line;
 mod progress;
-mod stopped;
+mod rejection;
+mod stop;
 mod target;
-mod telling;
-mod told;
-mod unasked;
-mod watched;
+mod told_line;
+mod watched_stream;
 
 ghost use Rattle.std.specs.Prelude.{◌≡◌, ◌≢◌, ◌≤◌, ◌⊎◌, ◌↔◌, Any, Ok, IfOk, IfErr, IfNone, IfSome, IsErr, IsOk, IsSome, IsUtf8, List, None, Some, false, length, option_map, string_bytes, true};
 ghost use Rattle.std.specs.Result.{result_ok};
-ghost use Rattle.command_line.specs.Asked.{words_of};
-ghost use Rattle.command_line.specs.Tasks.{file_of, folder_of, schedule_target_of, second_of, seed_of, target_of};
-ghost use Rattle.command_line.specs.Usage.{Text};
-ghost use Rattle.neighbours.specs.Seen.{reads_scenario};
-ghost use Rattle.neighbours.specs.Story.{with_story};
-ghost use Rattle.faults.specs.declared.failure.Failure.TheVariants.{Read as unreadable};
-ghost use Rattle.own_lines.specs.Refused.{IsTold};
+ghost use Rattle.cli_words.specs.Asked.{words_of};
+ghost use Rattle.cli_words.specs.Tasks.{file_of, folder_of, schedule_target_of, second_of, seed_of, target_of};
+ghost use Rattle.cli_words.specs.Usage.{Text};
+ghost use Rattle.cli_tasks.specs.Seen.{reads_scenario};
+ghost use Rattle.cli_tasks.specs.Story.{with_story};
+ghost use Rattle.cli_tasks.specs.declared.failure.TaskFailure.TheVariants.{Read as unreadable};
+ghost use Rattle.cli_report.specs.Refused.{IsTold};
 ghost use Rattle.byzlab.specs.Files.{IsInputIf, IsOpened, IsSecondIf, IsSeededIf, IsSeen, IsServedFor, IsTargetOf, IsTextOf};
 ghost use Rattle.byzlab.specs.Kept.{IsUnexplored, KeepsIn};
 ghost use Rattle.byzlab.specs.Failures.{AsksNothing, IsStatus, IsUnreadable, failure_of};
 ghost use Rattle.byzlab.specs.Rejected.{IsRejected};
 ghost use Rattle.byzlab.specs.Turns.{AreDone, AreEndingsOf};
 
-use chance::seeded;
-use command_line::{Request, Task, each};
+use campaign_schedules::seeded;
+use cli_report::refused;
+use cli_tasks::{Folder, InputRefusal, reads_scenario, with_files, with_schedules, with_story};
+use cli_words::{Task, TaskRequest, each};
 use ending::{Ending, Printed, Served};
 use endings::Endings;
 use failures::why_unwritten;
 use folder::FolderOf;
 use input::{Input, Opened};
-use keeping::{keep, write_whole};
-use lab::{Refusal, with_schedules};
-use neighbours::{Folder, reads_scenario, with_files, with_story};
-use own_lines::refused;
-use progress::Progress;
+use kept_files::{keep, write_whole};
+use no_request::Unasked;
+use progress::ProgressLine;
+use rejection::{Rejected, TurnedDown, Unread, given_or_told, tell_neighbour, turn_down};
 use std::alloc::AllocError;
 use std::env;
 use std::fs::File;
@@ -51,11 +52,9 @@ use std::io::{self, Cursor, ErrorKind, Read, Stdin};
 use std::process::ExitCode;
 use std::sync::Wait;
 use std::thread::Threads;
-use stopped::lacking;
+use stop::lacking;
 use target::{Target, target_of};
-use telling::{Rejected, TurnedDown, Unread, given_or_told, tell_neighbour, turn_down};
-use unasked::Unasked;
-use watched::Watched;
+use watched_stream::Watched;
 
 fn main(rt: HostRuntime) -> ExitCode {
     let status = match called(&rt, &rt) {
@@ -105,10 +104,10 @@ fn in_turn<T: Threads + Wait + Sync>(
     ensures unasked { IfOk result
         (λ endings. endings.worst ≡ 2 → Any (λ words. AsksNothing words.items) requests.now) }
 {
-    let progress = Progress::of(rt, requests.len());
+    let progress = ProgressLine::of(rt, requests.len());
     let mut endings = Endings::none();
     for words in requests {
-        let request = match command_line::request(rt.alloc(), words.as_slice()) {
+        let request = match cli_words::request(rt.alloc(), words.as_slice()) {
             Ok(request) => request,
             Err(error) => return Ok(endings.with_unasked(Unasked::told(rt, error)?)),
         };
@@ -126,7 +125,7 @@ fn in_turn<T: Threads + Wait + Sync>(
 fn ended<'a, T: Threads + Wait + Sync>(
     rt: &'a HostRuntime,
     threads: &T,
-    request: &'a Request,
+    request: &'a TaskRequest,
 ) -> Ending
     ensures status { IsStatus result.status }
 {
@@ -148,7 +147,7 @@ fn settled(rt: &HostRuntime, outcome: Result<Ending, AllocError>) -> Ending
 fn answered<'a, T: Threads + Wait + Sync>(
     rt: &'a HostRuntime,
     threads: &T,
-    request: &'a Request,
+    request: &'a TaskRequest,
 ) -> Result<Ending, AllocError>
     ensures status { IfOk result (λ ending. IsStatus ending.status) }
 {
@@ -187,7 +186,7 @@ fn answered<'a, T: Threads + Wait + Sync>(
 /// none where the scenario is refused.
 fn explored(
     rt: &HostRuntime,
-    request: &Request,
+    request: &TaskRequest,
     scenario: &[u8],
     most: Option<u64>,
     folder: &str,
@@ -208,13 +207,13 @@ fn explored(
 }
 
 /// None where a scenario is refused, unless that is want of memory.
-fn unexplored(refusal: Refusal) -> Result<Option<Ending>, AllocError>
+fn unexplored(refusal: InputRefusal) -> Result<Option<Ending>, AllocError>
     ensures none { IfOk result (λ ending. ending ≡ None) }
     ensures memory { IsErr result ↔ (refusal ≡ Refusal.Memory) }
     ensures refused { IfOk result (λ _. refusal ≢ Refusal.Memory) }
 {
     match refusal {
-        Refusal::Memory => Err(AllocError),
+        InputRefusal::Memory => Err(AllocError),
         _ => Ok(None),
     }
 }
@@ -224,7 +223,7 @@ fn unexplored(refusal: Refusal) -> Result<Option<Ending>, AllocError>
 fn served<'a, T: Threads + Wait + Sync>(
     rt: &'a HostRuntime,
     threads: &T,
-    request: &'a Request,
+    request: &'a TaskRequest,
     first: Input<'a>,
     second: Option<Input<'a>>,
 ) -> Served<'a, Input<'a>, Target<'a>>
@@ -254,7 +253,7 @@ fn served<'a, T: Threads + Wait + Sync>(
 /// Writes the schedule of the seed behind a campaign that was played by it, where it is to be written.
 fn schedule_written<'a>(
     rt: &HostRuntime,
-    request: &Request,
+    request: &TaskRequest,
     done: Served<'a, Input<'a>, Target<'a>>,
 ) -> Result<Ending, AllocError>
     requires request { done.request.now ≡ request.now }
@@ -278,7 +277,7 @@ fn schedule_written<'a>(
 /// The task's files; or, where one of them does not open, the line that was told of it.
 fn files<'a>(
     rt: &HostRuntime,
-    request: &'a Request,
+    request: &'a TaskRequest,
 ) -> Result<Result<(Input<'a>, Option<Input<'a>>), Unread<'a>>, AllocError>
     ensures first { IfOk result (λ files. IfOk files (λ f. IsInputIf (file_of request.now.task) (Some f.0))) }
     ensures second { IfOk result
@@ -316,7 +315,7 @@ fn random<'a>(rt: &HostRuntime, task: &Task) -> Result<Option<Input<'a>>, AllocE
 /// not taken.
 fn completed<'a>(
     rt: &HostRuntime,
-    request: &'a Request,
+    request: &'a TaskRequest,
     first: Input<'a>,
 ) -> Result<Result<Input<'a>, Rejected<'a>>, AllocError>
     ensures other { reads_scenario request.now.task ≡ false → result ≡ Ok (Ok first.entry) }
@@ -338,7 +337,7 @@ fn completed<'a>(
 /// it or one of them is not taken.
 fn seen<'a, R: Read + Drop, D: Folder>(
     rt: &HostRuntime,
-    request: &Request,
+    request: &TaskRequest,
     name: &'a str,
     file: R,
     folder: &D,
@@ -369,7 +368,7 @@ fn seen<'a, R: Read + Drop, D: Folder>(
 /// some, and is refused, and an explanation is asked for, that this was told at its own lines and those of the files.
 fn made<'a>(
     rt: &HostRuntime,
-    request: &Request,
+    request: &TaskRequest,
     own: &[u8],
     bytes: Vec<u8>,
 ) -> Result<Result<Input<'a>, TurnedDown<String>>, AllocError>
@@ -394,7 +393,7 @@ fn made<'a>(
 /// All bytes of the file of this name; or, where it cannot be read, the line that was told of it.
 fn read<'a, R: Read + Drop>(
     rt: &HostRuntime,
-    request: &Request,
+    request: &TaskRequest,
     name: &'a str,
     file: R,
 ) -> Result<Result<Vec<u8>, Unread<'a>>, AllocError>
@@ -414,7 +413,7 @@ fn read<'a, R: Read + Drop>(
 /// told of it.
 fn opened<'a>(
     rt: &HostRuntime,
-    request: &Request,
+    request: &TaskRequest,
     name: Option<&'a str>,
 ) -> Result<Result<Input<'a>, Unread<'a>>, AllocError>
     ensures input { IfOk result (λ input. IsInputIf (option_map (λ n. n.now) name.entry) (result_ok input)) }

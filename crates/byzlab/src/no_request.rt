@@ -1,10 +1,10 @@
 ghost use Rattle.std.specs.Prelude.{◌≡◌, IfOk};
 ghost use Rattle.byzlab.specs.Failures.{IsUnasked, IsUnaskedBy, error_of};
 
-use crate::noted::Noted;
-use crate::telling::note;
+use crate::noted_line::Noted;
+use crate::rejection::note;
 use clap::Error;
-use command_line::TaskError;
+use cli_words::TaskError;
 use std::io::{self, ErrorKind, Stderr};
 
 /// Words that ask for nothing, of which it was said why, or behind which help was printed: `Unasked::told` alone makes

@@ -1,6 +1,6 @@
 //! Lines that are told on standard error alone.
 ghost use Rattle.std.specs.Prelude.{◌≡◌, IfSome};
-ghost use Rattle.lab.specs.Serving.{Tells};
+ghost use Rattle.cli_tasks.specs.Serving.{Tells};
 
 use std::fmt::Display;
 use std::marker::PhantomData;

@@ -10,16 +10,16 @@ const BLANK: &str = "                                                  ";
 /// How far a call with several files is, told on standard error where that is a terminal, from the first second on: on
 /// a line over which the next one is written.
 #[derive(Drop)]
-pub struct Progress<'a> {
+pub struct ProgressLine<'a> {
     rt: &'a HostRuntime,
     /// When the call began; none where nothing is to be told.
     start: Option<Instant>,
     all: usize,
 }
 
-impl<'a> Progress<'a> {
+impl<'a> ProgressLine<'a> {
     /// Of so many files.
-    pub fn of(rt: &'a HostRuntime, all: usize) -> Progress<'a>
+    pub fn of(rt: &'a HostRuntime, all: usize) -> ProgressLine<'a>
         ensures all { result.all ≡ all }
         ensures alone { all ≤ 1 → result.start ≡ None }
     {
@@ -29,7 +29,7 @@ impl<'a> Progress<'a> {
         } else {
             None
         };
-        Progress { rt, start, all }
+        ProgressLine { rt, start, all }
     }
 
     /// Takes what was told away, so that a shorter line may stand in its place.

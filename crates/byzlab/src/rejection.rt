@@ -1,28 +1,27 @@
 //! The line that says why a task is not done.
 ghost use Rattle.std.specs.Prelude.{◌≡◌, ◌↔◌, IfErr, IfOk, IsErr, None, Ok, Some, if◌then◌else◌};
 ghost use Rattle.std.specs.IoError.{error_kind};
-ghost use Rattle.faults.specs.Whys.{is_explained};
-ghost use Rattle.faults.specs.declared.failure.Failure.TheVariants.{Read as unreadable};
+ghost use Rattle.cli_tasks.specs.Whys.{is_explained};
+ghost use Rattle.cli_tasks.specs.declared.failure.TaskFailure.TheVariants.{Read as unreadable};
 ghost use Rattle.byzlab.specs.Failures.{IsSaidOf};
 ghost use Rattle.byzlab.specs.Rejected.{TellsUnkept, TellsUntaken, said_of};
 
 use crate::failures::{Explained, Unwritten, unread};
-use crate::keeping::Unkept;
-use crate::noted::{Noted, noted_on};
-use crate::told::{Said, Told, told_on};
-use crate::watched::Watched;
-use command_line::Request;
-use lab::Failure;
-use neighbours::Untaken;
+use crate::kept_files::Unkept;
+use crate::noted_line::{Noted, noted_on};
+use crate::told_line::{ReportOutcome, ReportedLine, told_on};
+use crate::watched_stream::Watched;
+use cli_tasks::{FileProblem, TaskFailure};
+use cli_words::TaskRequest;
 use std::alloc::AllocError;
 use std::fmt::Display;
 use std::io::{self, ErrorKind, Stderr, Stdout};
 
 /// That such a line was told.
-pub type TurnedDown<D> = Told<D, Stdout, Stderr>;
+pub type TurnedDown<D> = ReportedLine<D, Stdout, Stderr>;
 
 /// That it was told of a file that it is not read.
-pub type Unread<'a> = TurnedDown<Explained<Failure<'a>>>;
+pub type Unread<'a> = TurnedDown<Explained<TaskFailure<'a>>>;
 
 /// That it was told of a file that it was not written.
 pub type NotKept = TurnedDown<Explained<Unwritten>>;
@@ -40,7 +39,7 @@ pub enum Rejected<'a> {
 
 impl Rejected<'_> {
     /// How the line was told.
-    pub fn said(self) -> Said
+    pub fn said(self) -> ReportOutcome
         ensures { result ≡ said_of self.entry }
     {
         match self {
@@ -59,7 +58,11 @@ pub fn note<D: Display + Drop>(rt: &HostRuntime, line: D) -> Noted<D, Stderr>
 }
 
 /// Says that the task is not done, by this line.
-pub fn turn_down<D: Display + Drop>(rt: &HostRuntime, request: &Request, line: D) -> TurnedDown<D>
+pub fn turn_down<D: Display + Drop>(
+    rt: &HostRuntime,
+    request: &TaskRequest,
+    line: D,
+) -> TurnedDown<D>
     ensures line { result.line ≡ line }
     ensures said { IsSaidOf request.now result.said }
 {
@@ -74,7 +77,7 @@ pub fn turn_down<D: Display + Drop>(rt: &HostRuntime, request: &Request, line: D
 /// `AllocError` where that is want of memory.
 pub fn tell_unread<'a>(
     rt: &HostRuntime,
-    request: &Request,
+    request: &TaskRequest,
     name: &'a str,
     error: io::Error,
 ) -> Result<Unread<'a>, AllocError>
@@ -95,7 +98,7 @@ pub fn tell_unread<'a>(
 /// `AllocError` where it failed for want of memory.
 pub fn given_or_told<'a, T>(
     rt: &HostRuntime,
-    request: &Request,
+    request: &TaskRequest,
     name: &'a str,
     outcome: io::Result<T>,
 ) -> Result<Result<T, Unread<'a>>, AllocError>
@@ -116,7 +119,7 @@ pub fn given_or_told<'a, T>(
 /// Tells these lines of a file and, where there is a kind of error and the task explains what it refuses, this kind.
 pub fn tell_explained<D: Display + Drop>(
     rt: &HostRuntime,
-    request: &Request,
+    request: &TaskRequest,
     lines: D,
     kind: Option<ErrorKind>,
 ) -> TurnedDown<Explained<D>>
@@ -134,16 +137,16 @@ pub fn tell_explained<D: Display + Drop>(
 /// `AllocError` where that is want of memory.
 pub fn tell_neighbour(
     rt: &HostRuntime,
-    request: &Request,
-    untaken: Untaken,
+    request: &TaskRequest,
+    untaken: FileProblem,
 ) -> Result<TurnedDown<Explained<String>>, AllocError>
     ensures line { IfOk result (λ told. TellsUntaken request.now.task untaken told.line) }
     ensures said { IfOk result (λ told. IsSaidOf request.now told.said) }
     ensures memory { IsErr result ↔ (untaken ≡ Untaken.Memory) }
 {
     match untaken {
-        Untaken::Told { lines, kind } => Ok(tell_explained(rt, request, lines, kind)),
-        Untaken::Memory => Err(AllocError),
+        FileProblem::Told { lines, kind } => Ok(tell_explained(rt, request, lines, kind)),
+        FileProblem::Memory => Err(AllocError),
     }
 }
 
@@ -154,7 +157,7 @@ pub fn tell_neighbour(
 /// `AllocError` where that is want of memory.
 pub fn tell_unkept(
     rt: &HostRuntime,
-    request: &Request,
+    request: &TaskRequest,
     unkept: Unkept,
 ) -> Result<NotKept, AllocError>
     ensures line { IfOk result (λ told. TellsUnkept request.now.task unkept told.line) }

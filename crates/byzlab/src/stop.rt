@@ -2,8 +2,8 @@
 ghost use Rattle.std.specs.Prelude.{◌≡◌};
 ghost use Rattle.byzlab.specs.Failures.{failure_of};
 
-use crate::noted::Noted;
-use crate::telling::note;
+use crate::noted_line::Noted;
+use crate::rejection::note;
 use std::io::{ErrorKind, Stderr};
 
 /// That it was said why nothing more is done: `lacking` alone says it.

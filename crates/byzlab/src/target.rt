@@ -42,7 +42,7 @@ impl Unmade for Named<'_> {
 
 /// Where a task's answer goes, where standard output is an `S`.
 #[derive(Drop)]
-pub enum Place<S: Write + Drop, U: Unmade> {
+pub enum Destination<S: Write + Drop, U: Unmade> {
     /// Standard output.
     Standard(S),
     /// A file that is made by the first write or flush: where there is no answer, none is.
@@ -52,19 +52,19 @@ pub enum Place<S: Write + Drop, U: Unmade> {
 }
 
 /// Where a task's answer goes.
-pub type Target<'a> = Place<Stdout, Named<'a>>;
+pub type Target<'a> = Destination<Stdout, Named<'a>>;
 
 /// The file of this name; where there is none, or a hyphen, standard output.
 pub fn target_of<'a>(rt: &'a HostRuntime, name: Option<&'a str>) -> Target<'a>
     ensures { IsTargetOf (option_map (λ n. n.now) name.entry) result }
 {
     match name {
-        None | Some("-") => Place::Standard(rt.stdout()),
-        Some(name) => Place::Unmade(Named { rt, name }),
+        None | Some("-") => Destination::Standard(rt.stdout()),
+        Some(name) => Destination::Unmade(Named { rt, name }),
     }
 }
 
-impl<S: Write + Drop, U: Unmade> Place<S, U> {
+impl<S: Write + Drop, U: Unmade> Destination<S, U> {
     /// Makes the file, if it is one that is not made yet.
     ///
     /// # Errors
@@ -76,15 +76,15 @@ impl<S: Write + Drop, U: Unmade> Place<S, U> {
         ensures contents { contents_of S.contents U.contents U.Made.contents self.new
             ≡ contents_of S.contents U.contents U.Made.contents self.old }
     {
-        if let Place::Unmade(file) = self {
+        if let Destination::Unmade(file) = self {
             let made = file.make()?;
-            *self = Place::File(made);
+            *self = Destination::File(made);
         }
         Ok(())
     }
 }
 
-impl<S: Write + Drop, U: Unmade> Write for Place<S, U> {
+impl<S: Write + Drop, U: Unmade> Write for Destination<S, U> {
     ghost contents = { contents_of S.contents U.contents U.Made.contents };
 
     fn write(&mut self, buf: &[u8]) -> io::Result<usize>
@@ -96,9 +96,9 @@ impl<S: Write + Drop, U: Unmade> Write for Place<S, U> {
     {
         self.make()?;
         match self {
-            Place::Standard(stdout) => stdout.write(buf),
-            Place::File(file) => file.write(buf),
-            Place::Unmade(_) => Ok(0),
+            Destination::Standard(stdout) => stdout.write(buf),
+            Destination::File(file) => file.write(buf),
+            Destination::Unmade(_) => Ok(0),
         }
     }
 
@@ -110,9 +110,9 @@ impl<S: Write + Drop, U: Unmade> Write for Place<S, U> {
     {
         self.make()?;
         match self {
-            Place::Standard(stdout) => stdout.flush(),
-            Place::File(file) => file.flush(),
-            Place::Unmade(_) => Ok(()),
+            Destination::Standard(stdout) => stdout.flush(),
+            Destination::File(file) => file.flush(),
+            Destination::Unmade(_) => Ok(()),
         }
     }
 }

@@ -1,12 +1,12 @@
 ghost use Rattle.std.specs.Prelude.{◌≡◌, ◌⊎◌, IfSome, codes, false, is_some, true};
-ghost use Rattle.lab.specs.Serving.{Tells};
-ghost use Rattle.desk.specs.Printing.{is_shaped};
-ghost use Rattle.desk.specs.Serving.{IsRefusalShown};
+ghost use Rattle.cli_tasks.specs.Serving.{Tells};
+ghost use Rattle.cli_answers.specs.Printing.{is_shaped};
+ghost use Rattle.cli_answers.specs.Serving.{IsRefusalShown};
 ghost use Rattle.byzlab.specs.Failures.{status_said};
 
-use crate::watched::Watched;
-use command_line::Request;
-use desk::turned_down;
+use crate::watched_stream::Watched;
+use cli_answers::turned_down;
+use cli_words::TaskRequest;
 use std::alloc::Global;
 use std::fmt::Display;
 use std::io::Write;
@@ -16,31 +16,31 @@ use streams::Output;
 /// That such a line was told, which says that a task is not done, where standard output is a `W` and standard error an
 /// `F`: `told_on` alone tells it.
 #[derive(Drop)]
-pub struct Told<D: Display + Drop, W, F> {
+pub struct ReportedLine<D: Display + Drop, W, F> {
     line: D,
-    said: Said,
+    said: ReportOutcome,
     output: PhantomData<W>,
     fault: PhantomData<F>,
 }
 
 /// How a line was told, whichever it is.
 #[derive(Drop)]
-pub struct Said {
+pub struct ReportOutcome {
     /// Memory was refused for its form: that was told in its place.
     is_lacking: bool,
     /// The output failed on it, so that no further answer can be written.
     is_unwritten: bool,
 }
 
-/// Says that the task is not done, by this line, as `desk::turned_down` does. The output shows nothing of a write that
+/// Says that the task is not done, by this line, as `cli_answers::turned_down` does. The output shows nothing of a write that
 /// failed.
 pub fn told_on<D, W, F>(
     alloc: Global,
-    request: &Request,
+    request: &TaskRequest,
     line: D,
     out: &mut Watched<W>,
     fault: &mut F,
-) -> Told<D, W, F>
+) -> ReportedLine<D, W, F>
 where
     D: Display + Drop,
     W: Write + Drop,
@@ -61,9 +61,9 @@ where
     ensures unwritten { result.said.is_unwritten ≡ is_some out.new.fault }
 {
     let status = turned_down(alloc, request, &line, out, fault);
-    Told {
+    ReportedLine {
         line,
-        said: Said {
+        said: ReportOutcome {
             is_lacking: status == 3,
             is_unwritten: out.fault().is_some(),
         },
@@ -72,16 +72,16 @@ where
     }
 }
 
-impl<D: Display + Drop, W, F> Told<D, W, F> {
+impl<D: Display + Drop, W, F> ReportedLine<D, W, F> {
     /// How the line was told.
-    pub fn said(self) -> Said
+    pub fn said(self) -> ReportOutcome
         ensures { result ≡ self.said }
     {
         self.said
     }
 }
 
-impl Said {
+impl ReportOutcome {
     /// The exit status: 1, or 3 where memory was refused for the line.
     pub fn status(&self) -> u8
         ensures status { result ≡ status_said self.now.is_lacking }

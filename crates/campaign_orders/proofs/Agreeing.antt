@@ -2,8 +2,8 @@
 use Rattle.std.proofs.Common.{◌≡◌, List, ℕ, All, refl, sym, subst, ◌∙◌}
 use Rattle.std.proofs.lemmas.List.Elements.{All-weaker}
 use Rattle.label.specs.Lieutenants.{AgreeInList}
-use Rattle.letter.specs.Letters.{messages}
-use Rattle.roster.specs.Scenario.{Scenario, IsScenario, is_traitor}
+use Rattle.round.specs.Letters.{messages}
+use Rattle.round.specs.Scenario.{Scenario, IsScenario, is_traitor}
 use Rattle.world.specs.Chronicle.{decisions}
 use Rattle.world.specs.Kind.{World, opening, run}
 use Rattle.world.specs.KindLists.{replayed}
@@ -13,11 +13,11 @@ use Rattle.world.proofs.Campaigns.{oral_campaigns}
 use Rattle.world.proofs.Listed.{replayed_finished}
 use Rattle.world.proofs.Punctual.{run_scenario}
 use Rattle.world.proofs.Verdicts.{proved_decisions_agree}
-use Rattle.explore.specs.declared.exploration.Reach.{Reach}
-use Rattle.explore.specs.declared.exploration.Reach.TheVariants.{Whole, Beyond, InPart}
-use Rattle.explore.specs.Outcomes.{oral_outcome}
-use Rattle.explore.specs.Exploring.{Finding, IsReal, IsFinding, IsLowerFinding, IsCappedFinding}
-use Rattle.explore.specs.Agreeing.{FindingsAgree}
+use Rattle.campaign_orders.specs.declared.exploration.Reach.{Reach}
+use Rattle.campaign_orders.specs.declared.exploration.Reach.TheVariants.{Whole, Beyond, InPart}
+use Rattle.campaign_orders.specs.Outcomes.{oral_outcome}
+use Rattle.campaign_orders.specs.Exploring.{Finding, IsReal, IsFinding, IsLowerFinding, IsCappedFinding}
+use Rattle.campaign_orders.specs.Agreeing.{FindingsAgree}
 
 real_agrees : (s : Scenario) → IsScenario s → (f : Finding) → IsReal oral_kind oral_outcome s f → AgreeUnderBound s f.decisions
 real_agrees s is f h bound =

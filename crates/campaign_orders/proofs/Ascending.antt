@@ -6,13 +6,13 @@ use Rattle.std.specs.Ordering.{nat_cmp, ordering_then, ordering_reverse, is_gt}
 use Rattle.std.proofs.lemmas.Bool.{lt-ltb}
 use Rattle.std.proofs.lemmas.Cmp.{tied_itself, nat_cmp_total, nat_list_cmp_total}
 use Rattle.world.specs.Kind.{Kind, World}
-use Rattle.explore.specs.Orders.{past, behind}
-use Rattle.explore.specs.Least.{names_cmp, order_cmp}
-use Rattle.explore.specs.Listing.{Has, askers, branch, or_end, round_orders, orders_from}
-use Rattle.explore.proofs.Having.{has-append_of}
-use Rattle.explore.proofs.Listed.{begun_empty, begun_has, branch_empty, branch_has}
-use Rattle.explore.proofs.Rising.{IsRising, askers_rising}
-use Rattle.explore.proofs.Lesser.{order_total}
+use Rattle.campaign_orders.specs.Orders.{past, behind}
+use Rattle.campaign_orders.specs.Least.{names_cmp, order_cmp}
+use Rattle.campaign_orders.specs.Listing.{Has, askers, branch, or_end, round_orders, orders_from}
+use Rattle.campaign_orders.proofs.Having.{has-append_of}
+use Rattle.campaign_orders.proofs.Listed.{begun_empty, begun_has, branch_empty, branch_has}
+use Rattle.campaign_orders.proofs.Rising.{IsRising, askers_rising}
+use Rattle.campaign_orders.proofs.Lesser.{order_total}
 
 abbrev pub AreAscending : {A : Type 0} → (A → A → Ordering) → List A → Type 0
 AreAscending R [] = Unit {0}

@@ -3,14 +3,14 @@ use Rattle.std.proofs.Common.{◌≡◌, ℕ, zero, suc, [], ◌∷◌, ◌++◌
 use Rattle.std.specs.Prelude.{slice_get, replicate}
 use Rattle.board.specs.Board.{Access, reply}
 use Rattle.world.specs.declared.event.Event.TheVariants.{Tick}
-use Rattle.letter.specs.Activation.{Activation, Turn, Goes, Asks, Ended, turn}
-use Rattle.world.specs.declared.part.Part.{Part}
-use Rattle.world.specs.declared.part.Part.TheVariants.{Acting, Silent, Posted}
+use Rattle.round.specs.Activation.{Activation, Turn, Goes, Asks, Ended, turn}
+use Rattle.world.specs.declared.part.Progress.{Progress}
+use Rattle.world.specs.declared.part.Progress.TheVariants.{Acting, Silent, Posted}
 use Rattle.world.specs.Kind.{Kind, World, served, run}
 use Rattle.world.specs.KindLists.{ticks_named, until_access, further_turns}
 use Rattle.world.proofs.Listing.{set-here}
 use Rattle.world.proofs.Replays.{tick_is}
-use Rattle.explore.specs.Orders.{asks_or, asks_within, will_ask}
+use Rattle.campaign_orders.specs.Orders.{asks_or, asks_within, will_ask}
 
 -- one more access, of this general in the open round
 pub record OneMore (w v : World) (g : ℕ) : Type 0 where
@@ -40,7 +40,7 @@ module _ (K : Kind) where
   one_more zero w g a at will = absurd (let f : false ≡ true = will in cc)
   one_more (suc fuel) w g a at will = one_by fuel w g a at (λ v b at' will'. one_more fuel v g b at' will') (turn a) refl will
 
-  pub past_by : (w : World) (g : ℕ) (o : Option Part) → slice_get w.parts g ≡ o → will_ask o ≡ true → OneMore w (run K w (ticks_named g o)) g
+  pub past_by : (w : World) (g : ℕ) (o : Option Progress) → slice_get w.parts g ≡ o → will_ask o ≡ true → OneMore w (run K w (ticks_named g o)) g
   past_by w g None at will = absurd (let f : false ≡ true = will in cc)
   past_by w g (Some (Acting a)) at will = one_more (length a.program) w g a at will
   past_by w g (Some Silent) at will = absurd (let f : false ≡ true = will in cc)

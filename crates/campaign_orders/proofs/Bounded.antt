@@ -5,10 +5,10 @@ use Rattle.std.specs.Prelude.{slice_get, slice_index_or, ◌==◌, filter, sum_b
 use Rattle.std.proofs.lemmas.List.Sums.{sum_by-le, sum_by-cons}
 use Rattle.insn.specs.declared.insn.Insn.{Insn}
 use Rattle.board.specs.Board.{Access}
-use Rattle.roster.specs.Scenario.{Scenario, IsScenario, program_of}
-use Rattle.letter.specs.Letters.{Letter}
-use Rattle.letter.specs.Activation.{Activation, started, Turn, Goes, Asks, Ended, turn}
-use Rattle.letter.specs.Runs.{Onward, Runs}
+use Rattle.round.specs.Scenario.{Scenario, IsScenario, program_of}
+use Rattle.round.specs.Letters.{Letter}
+use Rattle.round.specs.Activation.{Activation, started, Turn, Goes, Asks, Ended, turn}
+use Rattle.round.specs.Runs.{Onward, Runs}
 use Rattle.world.specs.declared.event.Event.{Event}
 use Rattle.world.specs.Kind.{Kind, opening, run}
 use Rattle.world.specs.Campaigns.{AreCampaigns}
@@ -20,9 +20,9 @@ use Rattle.world.proofs.Following.{AreOf}
 use Rattle.world.proofs.Cutting.{AreFrom, cut, entries_of, accounted_from, filter_here, names_skip}
 use Rattle.world.proofs.Accounting.{accounted_count}
 use Rattle.world.proofs.Replaying.{runs_are_accounted}
-use Rattle.explore.specs.Orders.{order_of, IsOrder}
-use Rattle.explore.specs.Listing.{AreShort, instructions, most_in_round, OrdersAreWhole}
-use Rattle.explore.proofs.Listed.{orders_are_listed}
+use Rattle.campaign_orders.specs.Orders.{order_of, IsOrder}
+use Rattle.campaign_orders.specs.Listing.{AreShort, instructions, most_in_round, OrdersAreWhole}
+use Rattle.campaign_orders.proofs.Listed.{orders_are_listed}
 
 -- a run has no more accesses than steps
 few_by : (k : ℕ) (x : List Access) (end : Activation) → ((a : Activation) (t : List Access) → Runs k a t end → length t ≤ k) → (o : Turn) (t : List Access) → Onward (Runs k) o t end → length t ≤ suc k

@@ -2,18 +2,18 @@
 use Rattle.std.proofs.Common.{◌≡◌, ℕ, zero, suc, ◌+◌, List, [], ◌∷◌, ◌++◌, length, map, refl, sym, ap, ◌∙◌, arith}
 use Rattle.std.specs.Prelude.{sum_by, cond, bytes_eq, slice_get}
 use Rattle.std.proofs.lemmas.List.Sums.{sum_by-cons, sum_by-append}
-use Rattle.roster.specs.Scenario.{Scenario}
+use Rattle.round.specs.Scenario.{Scenario}
 use Rattle.world.specs.Kind.{World, opening, run}
 use Rattle.world.specs.KindLists.{names_events, wound_up, ticks_named, replayed_rounds}
 use Rattle.world.specs.World.{oral_kind}
 use Rattle.world.proofs.Moves.{run-append}
 use Rattle.world.proofs.Punctual.{run_scenario}
-use Rattle.explore.specs.Orders.{past, behind}
-use Rattle.explore.specs.Listing.{askers, branch, or_end, round_orders, orders_from, orders, most_in_round}
-use Rattle.explore.specs.Exploring.{ways_to}
-use Rattle.explore.specs.Layers.{IsCommon, or_sum, stepped, over_round, over_rounds}
-use Rattle.explore.specs.Outcomes.{oral_outcome}
-use Rattle.explore.proofs.Merging.{behind_alike, round_lists}
+use Rattle.campaign_orders.specs.Orders.{past, behind}
+use Rattle.campaign_orders.specs.Listing.{askers, branch, or_end, round_orders, orders_from, orders, most_in_round}
+use Rattle.campaign_orders.specs.Exploring.{ways_to}
+use Rattle.campaign_orders.specs.Layers.{IsCommon, or_sum, stepped, over_round, over_rounds}
+use Rattle.campaign_orders.specs.Outcomes.{oral_outcome}
+use Rattle.campaign_orders.proofs.Merging.{behind_alike, round_lists}
 
 -- sums that agree at each
 sum_by_each : {A : Type 0} (f g : A → ℕ) → ((x : A) → f x ≡ g x) → (xs : List A) → sum_by f xs ≡ sum_by g xs

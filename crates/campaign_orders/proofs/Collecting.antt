@@ -9,16 +9,16 @@ use Rattle.std.proofs.lemmas.List.{take_more, take_all, map-append, get_or_appen
 use Rattle.std.proofs.lemmas.List.Sums.{sum_by_push, sum_by-set, sum_by_more, get_or-le-sum_by}
 use Rattle.std.proofs.lemmas.List.Elements.{All-weaker, All-nil, All-push, All-set}
 use Rattle.world.specs.Kind.{World}
-use Rattle.explore.specs.Exploring.{Finding, outcomes_of}
-use Rattle.explore.specs.Gathering.{IsCountedOn, IsFirstOf, IsFound, IsOfState, IsShown, tallied, AreGathered}
-use Rattle.explore.specs.Layers.{State, kept, AsKept, weighed}
-use Rattle.explore.specs.Least.{lesser, order_cmp}
-use Rattle.explore.specs.Listing.{Has, AreDifferent}
-use Rattle.explore.specs.Outcomes.{oral_outcome}
-use Rattle.explore.specs.Places.{IsNowhere, IsPlaceOf}
-use Rattle.explore.proofs.Having.{different-append, has-append_of, has-append_to}
-use Rattle.explore.proofs.Lesser.{order_total, least_self, least_then, lesser_first, lesser_second}
-use Rattle.explore.proofs.Weighing.{as_more, kept_times, swapped}
+use Rattle.campaign_orders.specs.Exploring.{Finding, outcomes_of}
+use Rattle.campaign_orders.specs.Gathering.{IsCountedOn, IsFirstOf, IsFound, IsOfState, IsShown, tallied, AreGathered}
+use Rattle.campaign_orders.specs.Layers.{State, kept, AsKept, weighed}
+use Rattle.campaign_orders.specs.Least.{lesser, order_cmp}
+use Rattle.campaign_orders.specs.Listing.{Has, AreDifferent}
+use Rattle.campaign_orders.specs.Outcomes.{oral_outcome}
+use Rattle.campaign_orders.specs.Places.{IsNowhere, IsPlaceOf}
+use Rattle.campaign_orders.proofs.Having.{different-append, has-append_of, has-append_to}
+use Rattle.campaign_orders.proofs.Lesser.{order_total, least_self, least_then, lesser_first, lesser_second}
+use Rattle.campaign_orders.proofs.Weighing.{as_more, kept_times, swapped}
 
 -- so many ways more, and the lesser example
 abbrev counted_on : Finding → State → Finding

@@ -1,8 +1,8 @@
 -- Letters and rounds that tell alike, one by one.
 use Rattle.std.proofs.Common.{◌≡◌, ℕ, zero, suc, ◌+◌, ◌<◌, ◌≤◌, List, [], ◌∷◌, length, take, get_or, sym, ap, subst, ◌∙◌, arith}
 use Rattle.std.proofs.lemmas.List.{take_all}
-use Rattle.letter.specs.Letters.{Letter}
-use Rattle.explore.specs.Merging.{TellAlike, RoundsAlike}
+use Rattle.round.specs.Letters.{Letter}
+use Rattle.campaign_orders.specs.Merging.{TellAlike, RoundsAlike}
 
 tell_next : (i : ℕ) (a b : List Letter) (l m : Letter) → i < length a → i < length b → l ≡ get_or a i l → m ≡ get_or b i m → TellAlike (take i a) (take i b) → l.general ≡ m.general → l.outbox ≡ m.outbox →
     TellAlike (take (suc i) a) (take (suc i) b)

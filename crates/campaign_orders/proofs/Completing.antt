@@ -4,13 +4,13 @@ use Rattle.std.specs.Prelude.{slice_get, replicate}
 use Rattle.std.proofs.lemmas.List.{map-append}
 use Rattle.insn.specs.declared.insn.Insn.{Insn}
 use Rattle.board.specs.Board.{Access, reply}
-use Rattle.roster.specs.Scenario.{Scenario, program_of}
-use Rattle.letter.specs.Letters.{Letter}
-use Rattle.letter.specs.Activation.{Turn, Goes, Asks, Ended, turn}
+use Rattle.round.specs.Scenario.{Scenario, program_of}
+use Rattle.round.specs.Letters.{Letter}
+use Rattle.round.specs.Activation.{Turn, Goes, Asks, Ended, turn}
 use Rattle.world.specs.declared.event.Event.{Event}
 use Rattle.world.specs.declared.event.Event.TheVariants.{Tick, Close}
-use Rattle.world.specs.declared.part.Part.{Part}
-use Rattle.world.specs.declared.part.Part.TheVariants.{Acting, Silent, Posted}
+use Rattle.world.specs.declared.part.Progress.{Progress}
+use Rattle.world.specs.declared.part.Progress.TheVariants.{Acting, Silent, Posted}
 use Rattle.world.specs.Kind.{Kind, World, each, round_open, served, ticked, posting, closing, happen, run}
 use Rattle.world.specs.KindLists.{ticks_named, names_events, wound_up, post_of, ticks_of, replayed_rounds, names_in, first_line, later_lines}
 use Rattle.world.specs.Campaigns.{IsCampaign}
@@ -18,11 +18,11 @@ use Rattle.world.proofs.Moves.{moves_same, run-append}
 use Rattle.world.proofs.Lasting.{IsOnTime, named_moves, names_moves, RoundDone, round_done}
 use Rattle.world.proofs.Following.{AreOf}
 use Rattle.world.proofs.Cutting.{AreFrom, filter_here, names_skip, of_from, from-append, from_later}
-use Rattle.explore.specs.Orders.{behind}
-use Rattle.explore.specs.Listing.{Has}
-use Rattle.explore.specs.Walks.{IsWalk, AreWalks, IsAscending, Continues, IsCompletion}
-use Rattle.explore.proofs.Having.{has-append_of, ascending-append, ascending_one}
-use Rattle.explore.proofs.Asking.{past_by}
+use Rattle.campaign_orders.specs.Orders.{behind}
+use Rattle.campaign_orders.specs.Listing.{Has}
+use Rattle.campaign_orders.specs.Walks.{IsWalk, AreWalks, IsAscending, Continues, IsCompletion}
+use Rattle.campaign_orders.proofs.Having.{has-append_of, ascending-append, ascending_one}
+use Rattle.campaign_orders.proofs.Asking.{past_by}
 
 abbrev pub generals_of : List Access → List ℕ
 generals_of piece = map (λ a. a.general) piece
@@ -67,7 +67,7 @@ served_more w g (Asks q f) =
     (record { piece = made ∷ []; ledger = refl; in_round = (refl, tt); closed = refl }, λ y h. ⊎_elim (λ e. sym e) (λ k. absurd k) h)
 served_more w g Ended = (no_more w w refl refl, λ y h. absurd h)
 
-ticked_more : (w : World) (g : ℕ) (o : Option Part) → MoreOf w (ticked w g o) g
+ticked_more : (w : World) (g : ℕ) (o : Option Progress) → MoreOf w (ticked w g o) g
 ticked_more w g None = (no_more w w refl refl, λ y h. absurd h)
 ticked_more w g (Some (Acting a)) = served_more w g (turn a)
 ticked_more w g (Some Silent) = (no_more w w refl refl, λ y h. absurd h)
@@ -77,7 +77,7 @@ ticked_more w g (Some Posted) = (no_more w w refl refl, λ y h. absurd h)
 abbrev Quietly : World → World → Type 0
 Quietly w v = (v.ledger ≡ w.ledger) × (v.closed ≡ w.closed)
 
-posting_quietly : (w : World) (g : ℕ) (o : Option Part) → Quietly w (posting w g o)
+posting_quietly : (w : World) (g : ℕ) (o : Option Progress) → Quietly w (posting w g o)
 posting_quietly w g None = (refl, refl)
 posting_quietly w g (Some (Acting a)) = (refl, refl)
 posting_quietly w g (Some Silent) = (refl, refl)

@@ -5,8 +5,8 @@ use Rattle.std.specs.Ordering.{is_gt}
 use Rattle.std.proofs.Math.Nat.{mul-zero, mul-one}
 use Rattle.std.proofs.lemmas.Slice.Eq.{bytes_eq-Decides}
 use Rattle.std.proofs.lemmas.List.Sums.{sum_by-cons, count_by-le-length}
-use Rattle.letter.specs.Letters.{messages}
-use Rattle.roster.specs.Scenario.{Scenario, IsScenario}
+use Rattle.round.specs.Letters.{messages}
+use Rattle.round.specs.Scenario.{Scenario, IsScenario}
 use Rattle.world.specs.Chronicle.{decisions}
 use Rattle.world.specs.declared.event.Event.{Event}
 use Rattle.world.specs.declared.event.Event.TheVariants.{Tick}
@@ -15,22 +15,22 @@ use Rattle.world.specs.KindLists.{IsComplete, replayed_rounds, names_events, wou
 use Rattle.world.specs.World.{oral_kind}
 use Rattle.world.proofs.Campaigns.{oral_campaigns}
 use Rattle.world.proofs.Moves.{move_same, run-append}
-use Rattle.explore.specs.Ahead.{RunsOn}
-use Rattle.explore.specs.declared.exploration.Reach.TheVariants.{Whole, Beyond, InPart}
-use Rattle.explore.specs.Exploring.{Finding, outcomes_of, counted_in, ways_to, IsReal, IsCappedFinding, first_to, IsExplored, IsExploredBeyond, IsExploration}
-use Rattle.explore.specs.Gathering.{IsOfState, tallied, AreGathered}
-use Rattle.explore.specs.Layers.{State, kept, AsKept, IsFreshOf, AreRounds, behind_all, IsCommon, IsSteady, over_rounds, AreLayers}
-use Rattle.explore.specs.Least.{names_cmp, order_cmp}
-use Rattle.explore.specs.Listing.{Has, AreDifferent, orders, most_in_round}
-use Rattle.explore.specs.Orders.{IsFrom, IsOrder, behind, order_of}
-use Rattle.explore.specs.Outcomes.{oral_outcome, outcome_of, outcome_in}
-use Rattle.explore.proofs.Ascending.{find_least, orders_ascending}
-use Rattle.explore.proofs.Bounded.{orders_are_whole}
-use Rattle.explore.proofs.Branching.{ways_over, orders_over}
-use Rattle.explore.proofs.Deciding.{again, orders_decide}
-use Rattle.explore.proofs.Lesser.{order_total, least_then, then_first}
-use Rattle.explore.proofs.Listed.{orders_are_listed}
-use Rattle.explore.proofs.Merging.{messages_alike}
+use Rattle.campaign_orders.specs.Ahead.{RunsOn}
+use Rattle.campaign_orders.specs.declared.exploration.Reach.TheVariants.{Whole, Beyond, InPart}
+use Rattle.campaign_orders.specs.Exploring.{Finding, outcomes_of, counted_in, ways_to, IsReal, IsCappedFinding, first_to, IsExplored, IsExploredBeyond, IsExploration}
+use Rattle.campaign_orders.specs.Gathering.{IsOfState, tallied, AreGathered}
+use Rattle.campaign_orders.specs.Layers.{State, kept, AsKept, IsFreshOf, AreRounds, behind_all, IsCommon, IsSteady, over_rounds, AreLayers}
+use Rattle.campaign_orders.specs.Least.{names_cmp, order_cmp}
+use Rattle.campaign_orders.specs.Listing.{Has, AreDifferent, orders, most_in_round}
+use Rattle.campaign_orders.specs.Orders.{IsFrom, IsOrder, behind, order_of}
+use Rattle.campaign_orders.specs.Outcomes.{oral_outcome, outcome_of, outcome_in}
+use Rattle.campaign_orders.proofs.Ascending.{find_least, orders_ascending}
+use Rattle.campaign_orders.proofs.Bounded.{orders_are_whole}
+use Rattle.campaign_orders.proofs.Branching.{ways_over, orders_over}
+use Rattle.campaign_orders.proofs.Deciding.{again, orders_decide}
+use Rattle.campaign_orders.proofs.Lesser.{order_total, least_then, then_first}
+use Rattle.campaign_orders.proofs.Listed.{orders_are_listed}
+use Rattle.campaign_orders.proofs.Merging.{messages_alike}
 
 -- decisions are common to alike worlds
 pub decisions_common : (b : List ℕ → ℕ) → IsCommon (λ w. b (oral_outcome w))

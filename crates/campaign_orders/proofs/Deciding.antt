@@ -1,15 +1,15 @@
 -- The laws of orders.
 use Rattle.std.proofs.Common.{◌≡◌, ℕ, suc, List, sym, ap, subst, ◌∙◌}
 use Rattle.world.specs.declared.event.Event.{Event}
-use Rattle.roster.specs.Scenario.{Scenario, IsScenario}
+use Rattle.round.specs.Scenario.{Scenario, IsScenario}
 use Rattle.world.specs.Kind.{Kind, World, opening, run}
 use Rattle.world.specs.KindLists.{IsComplete, replayed, names_in}
 use Rattle.world.specs.Campaigns.{AreCampaigns}
 use Rattle.world.proofs.Replaying.{runs_are_replays}
 use Rattle.world.proofs.Lasting.{replayed_complete}
-use Rattle.explore.specs.Orders.{order_of, IsOrder, IsFrom, OrdersDecide}
-use Rattle.explore.proofs.Walking.{order_walks}
-use Rattle.explore.proofs.Leading.{leads}
+use Rattle.campaign_orders.specs.Orders.{order_of, IsOrder, IsFrom, OrdersDecide}
+use Rattle.campaign_orders.proofs.Walking.{order_walks}
+use Rattle.campaign_orders.proofs.Leading.{leads}
 
 module _ (K : Kind) (good : AreCampaigns K) where
   -- a complete run is the replay of its order

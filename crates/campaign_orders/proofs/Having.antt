@@ -1,7 +1,7 @@
 -- What stands in a list.
 use Rattle.std.proofs.Common.{◌≡◌, ℕ, ◌≤◌, List, [], ◌∷◌, ◌++◌, refl, ◌⊎◌, inl, inr, ⊎_elim, arith}
-use Rattle.explore.specs.Listing.{Has, AreDifferent}
-use Rattle.explore.specs.Walks.{IsAscending}
+use Rattle.campaign_orders.specs.Listing.{Has, AreDifferent}
+use Rattle.campaign_orders.specs.Walks.{IsAscending}
 
 pub has-append_to : {A : Type 0} → (a b : List A) (x : A) → Has a x ⊎ Has b x → Has (a ++ b) x
 has-append_to [] b x h = ⊎_elim (λ f. absurd f) (λ k. k) h

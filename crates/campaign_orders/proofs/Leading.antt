@@ -1,14 +1,14 @@
 -- Whoever chooses who makes the next access, one after another, comes to the order of a complete run.
 use Rattle.std.proofs.Common.{◌≡◌, ℕ, zero, suc, List, [], ◌∷◌, ◌++◌, true, false, refl, sym, ap, subst, ◌∙◌, append-nil, arith}
-use Rattle.roster.specs.Scenario.{Scenario, IsScenario}
+use Rattle.round.specs.Scenario.{Scenario, IsScenario}
 use Rattle.world.specs.Kind.{Kind, World, opening}
 use Rattle.world.specs.KindLists.{replayed, names_in}
 use Rattle.world.specs.Campaigns.{IsCampaign, AreCampaigns}
 use Rattle.world.proofs.Lasting.{opening_due, replayed_complete}
-use Rattle.explore.specs.Orders.{past, behind, IsRoundFrom, IsFrom, order_of, IsOrder}
-use Rattle.explore.proofs.Walking.{order_walks}
-use Rattle.explore.specs.Walks.{IsWalk, AreWalks, IsCompletion}
-use Rattle.explore.proofs.Completing.{completes}
+use Rattle.campaign_orders.specs.Orders.{past, behind, IsRoundFrom, IsFrom, order_of, IsOrder}
+use Rattle.campaign_orders.proofs.Walking.{order_walks}
+use Rattle.campaign_orders.specs.Walks.{IsWalk, AreWalks, IsCompletion}
+use Rattle.campaign_orders.proofs.Completing.{completes}
 
 module _ (K : Kind) where
   pub round_walks : (names : List ℕ) (w : World) → IsRoundFrom K w names → IsWalk K w names

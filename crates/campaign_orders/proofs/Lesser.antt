@@ -6,7 +6,7 @@ use Rattle.std.specs.Ordering.{nat_cmp, ordering_then, ordering_reverse, is_lt, 
 use Rattle.std.proofs.lemmas.Cmp.{upto, tied_itself, nat_cmp_total, nat_list_cmp_total, lists_total, on_total, then_total}
 use Rattle.std.specs.Global.{Global}
 use Rattle.world.specs.Playing.{lists_in}
-use Rattle.explore.specs.Least.{names_cmp, order_cmp, lesser, Beginning, beginning_cmp}
+use Rattle.campaign_orders.specs.Least.{names_cmp, order_cmp, lesser, Beginning, beginning_cmp}
 
 pub order_total : IsTotalOrder order_cmp
 order_total = lists_total nat_list_cmp_total

@@ -3,13 +3,13 @@ use Rattle.std.proofs.Common.{◌≡◌, ℕ, zero, suc, ◌+◌, ◌<◌, ◌�
 use Rattle.std.specs.Prelude.{slice_get, filter}
 use Rattle.std.specs.List.{range_with_len}
 use Rattle.std.proofs.lemmas.Option.{slice_get_within}
-use Rattle.world.specs.declared.part.Part.{Part}
+use Rattle.world.specs.declared.part.Progress.{Progress}
 use Rattle.world.specs.Kind.{Kind, World, opening}
 use Rattle.world.specs.Campaigns.{AreCampaigns}
-use Rattle.explore.specs.Orders.{IsFrom, IsRoundFrom, will_ask, past, behind}
-use Rattle.explore.specs.Listing.{askers, branch, or_end, round_orders, orders_from, Has, AreDifferent, AreShort, OrdersAreListed}
-use Rattle.explore.proofs.Having.{has-append_to, has-append_of, different-append}
-use Rattle.explore.proofs.Deciding.{orders_decide}
+use Rattle.campaign_orders.specs.Orders.{IsFrom, IsRoundFrom, will_ask, past, behind}
+use Rattle.campaign_orders.specs.Listing.{askers, branch, or_end, round_orders, orders_from, Has, AreDifferent, AreShort, OrdersAreListed}
+use Rattle.campaign_orders.proofs.Having.{has-append_to, has-append_of, different-append}
+use Rattle.campaign_orders.proofs.Deciding.{orders_decide}
 
 -- what begins with a choice
 has_begun : {A : Type 0} → (g : A) (rows : List (List A)) (rest : List A) → Has rows rest → Has (map (λ r. g ∷ r) rows) (g ∷ rest)
@@ -105,7 +105,7 @@ numbers_different p a (suc n) = by (p a) (numbers_different p (a + 1) n) (λ h. 
     by false d none = d
 
 -- who asks is among the askers
-asker_is : (w : World) (g : ℕ) (o : Option Part) → slice_get w.parts g ≡ o → will_ask o ≡ true → g < length w.parts
+asker_is : (w : World) (g : ℕ) (o : Option Progress) → slice_get w.parts g ≡ o → will_ask o ≡ true → g < length w.parts
 asker_is w g None e y = absurd (let f : false ≡ true = y in cc)
 asker_is w g (Some part) e y = slice_get_within w.parts g part e
 

@@ -7,24 +7,24 @@ use Rattle.label.specs.Oral.{heard}
 use Rattle.semantics.specs.Relay.{oral}
 use Rattle.board.specs.Board.{reply, next}
 use Rattle.outbox.specs.Contents.{Contents}
-use Rattle.roster.specs.Scenario.{Scenario, program_of, shape_of}
-use Rattle.letter.specs.Letters.{Letter, messages, letter_of, told_by, tells, telling}
-use Rattle.letter.specs.Contexts.{context_of, context_bytes, context_numbers}
-use Rattle.letter.specs.Activation.{started, Turn, Goes, Asks, Ended, turn}
+use Rattle.round.specs.Scenario.{Scenario, program_of, shape_of}
+use Rattle.round.specs.Letters.{Letter, messages, letter_of, told_by, tells, telling}
+use Rattle.round.specs.Contexts.{context_of, context_bytes, context_numbers}
+use Rattle.round.specs.Activation.{started, Turn, Goes, Asks, Ended, turn}
 use Rattle.world.specs.declared.event.Event.{Event}
 use Rattle.world.specs.declared.event.Event.TheVariants.{Tick, Post, Close}
-use Rattle.world.specs.declared.part.Part.{Part}
-use Rattle.world.specs.declared.part.Part.TheVariants.{Acting, Silent, Posted}
+use Rattle.world.specs.declared.part.Progress.{Progress}
+use Rattle.world.specs.declared.part.Progress.TheVariants.{Acting, Silent, Posted}
 use Rattle.world.specs.Kind.{World, each, round_open, served, ticked, posting}
 use Rattle.world.specs.World.{oral_kind, begins, letters_at, round_letters, closing, happen, run}
 use Rattle.world.specs.KindLists.{ticks_named, wound_up, first_line, later_lines}
 use Rattle.world.specs.Lists.{names_events, replayed_rounds}
 use Rattle.world.specs.Chronicle.{decisions}
 use Rattle.label.specs.Labels.{generals}
-use Rattle.explore.specs.Orders.{will_ask, past, behind, IsRoundFrom, IsFrom}
-use Rattle.explore.specs.Listing.{round_orders, orders_from, or_end, branch}
-use Rattle.explore.specs.Outcomes.{oral_outcome}
-use Rattle.explore.specs.Merging.{TellAlike, RoundsAlike, AreAlike, AlikeWorldsGoOnAlike, AlikeWorldsHaveOneList}
+use Rattle.campaign_orders.specs.Orders.{will_ask, past, behind, IsRoundFrom, IsFrom}
+use Rattle.campaign_orders.specs.Listing.{round_orders, orders_from, or_end, branch}
+use Rattle.campaign_orders.specs.Outcomes.{oral_outcome}
+use Rattle.campaign_orders.specs.Merging.{TellAlike, RoundsAlike, AreAlike, AlikeWorldsGoOnAlike, AlikeWorldsHaveOneList}
 
 tell-append : (a b c d : List Letter) → TellAlike a b → TellAlike c d → TellAlike (a ++ c) (b ++ d)
 tell-append [] [] c d h k = k
@@ -87,7 +87,7 @@ begins_alike s a b g (Some program) h =
     λ i. Acting (started s.patience program (c i) (oral (shape_of s g (suc (n i)))))
 
 -- the letters that a close makes
-letter_alike : (w v : World) (g : ℕ) (o : Option Part) → AreAlike w v → TellAlike (letters_at w g o) (letters_at v g o)
+letter_alike : (w v : World) (g : ℕ) (o : Option Progress) → AreAlike w v → TellAlike (letters_at w g o) (letters_at v g o)
 letter_alike w v g None h = tt
 letter_alike w v g (Some (Acting a)) h =
     let n : length w.closed ≡ length v.closed = rounds_long w.closed v.closed h.closed in
@@ -101,7 +101,7 @@ letter_alike w v g (Some Posted) h =
 letters_alike : (w v : World) (n : ℕ) → AreAlike w v → TellAlike (each n (λ g. letters_at w g (slice_get w.parts g))) (each n (λ g. letters_at v g (slice_get v.parts g)))
 letters_alike w v zero h = tt
 letters_alike w v (suc n) h =
-    let A : List Part → Type 0 = λ ps. TellAlike (letters_at w n (slice_get w.parts n)) (letters_at v n (slice_get ps n)) in
+    let A : List Progress → Type 0 = λ ps. TellAlike (letters_at w n (slice_get w.parts n)) (letters_at v n (slice_get ps n)) in
     tell-append (each n (λ g. letters_at w g (slice_get w.parts g))) (each n (λ g. letters_at v g (slice_get v.parts g))) (letters_at w n (slice_get w.parts n)) (letters_at v n (slice_get v.parts n))
     (letters_alike w v n h) (subst A h.parts (letter_alike w v n (slice_get w.parts n) h))
 
@@ -125,13 +125,13 @@ served_alike w v g (Asks q f) h =
     record { scenario = h.scenario; words = ap (λ ws. next ws q) h.words; parts = (λ i. slice_set (h.parts i) g (Acting (f (reply (h.words i) q)))); closed = h.closed }
 served_alike w v g Ended h = h
 
-ticked_alike : (w v : World) (g : ℕ) (o : Option Part) → AreAlike w v → AreAlike (ticked w g o) (ticked v g o)
+ticked_alike : (w v : World) (g : ℕ) (o : Option Progress) → AreAlike w v → AreAlike (ticked w g o) (ticked v g o)
 ticked_alike w v g None h = h
 ticked_alike w v g (Some (Acting a)) h = served_alike w v g (turn a) h
 ticked_alike w v g (Some Silent) h = h
 ticked_alike w v g (Some Posted) h = h
 
-posting_alike : (w v : World) (g : ℕ) (o : Option Part) → AreAlike w v → AreAlike (posting w g o) (posting v g o)
+posting_alike : (w v : World) (g : ℕ) (o : Option Progress) → AreAlike w v → AreAlike (posting w g o) (posting v g o)
 posting_alike w v g None h = h
 posting_alike w v g (Some (Acting a)) h = h
 posting_alike w v g (Some Silent) h = record { scenario = h.scenario; words = h.words; parts = ap (λ ps. slice_set ps g Posted) h.parts; closed = h.closed }
@@ -142,8 +142,8 @@ closed_alike w v true h = close_alike w v h
 closed_alike w v false h = h
 
 happen_alike : (w v : World) (e : Event) → AreAlike w v → AreAlike (happen w e) (happen v e)
-happen_alike w v (Tick g) h = (let A : Option Part → Type 0 = λ o. AreAlike (ticked w g (slice_get w.parts g)) (ticked v g o) in subst A (ap (λ ps. slice_get ps g) h.parts) (ticked_alike w v g (slice_get w.parts g) h))
-happen_alike w v (Post g) h = (let A : Option Part → Type 0 = λ o. AreAlike (posting w g (slice_get w.parts g)) (posting v g o) in subst A (ap (λ ps. slice_get ps g) h.parts) (posting_alike w v g (slice_get w.parts g) h))
+happen_alike w v (Tick g) h = (let A : Option Progress → Type 0 = λ o. AreAlike (ticked w g (slice_get w.parts g)) (ticked v g o) in subst A (ap (λ ps. slice_get ps g) h.parts) (ticked_alike w v g (slice_get w.parts g) h))
+happen_alike w v (Post g) h = (let A : Option Progress → Type 0 = λ o. AreAlike (posting w g (slice_get w.parts g)) (posting v g o) in subst A (ap (λ ps. slice_get ps g) h.parts) (posting_alike w v g (slice_get w.parts g) h))
 happen_alike w v Close h =
     let n : length w.closed ≡ length v.closed = rounds_long w.closed v.closed h.closed in
     let e : round_open w.scenario w.closed ≡ round_open v.scenario v.closed = (λ i. nat_lt (n i) (suc (h.scenario i).bound)) in
@@ -155,7 +155,7 @@ run_alike [] w v h = h
 run_alike (e ∷ events) w v h = run_alike events (happen w e) (happen v e) (happen_alike w v e h)
 
 ticks_alike : (w v : World) (g : ℕ) → AreAlike w v → ticks_named g (slice_get w.parts g) ≡ ticks_named g (slice_get v.parts g)
-ticks_alike w v g h = ap (λ (ps : List Part). ticks_named g (slice_get ps g)) h.parts
+ticks_alike w v g h = ap (λ (ps : List Progress). ticks_named g (slice_get ps g)) h.parts
 
 pub past_alike : (w v : World) (g : ℕ) → AreAlike w v → AreAlike (past oral_kind w g) (past oral_kind v g)
 past_alike w v g h =
@@ -163,8 +163,8 @@ past_alike w v g h =
     subst A (ticks_alike w v g h) (run_alike (ticks_named g (slice_get w.parts g)) w v h)
 
 pub round_alike : (names : List ℕ) (w v : World) → AreAlike w v → IsRoundFrom oral_kind w names → IsRoundFrom oral_kind v names
-round_alike [] w v h r = λ g. ap (λ (ps : List Part). will_ask (slice_get ps g)) (sym h.parts) ∙ r g
-round_alike (g ∷ names) w v h r = (ap (λ (ps : List Part). will_ask (slice_get ps g)) (sym h.parts) ∙ r.0, round_alike names (past oral_kind w g) (past oral_kind v g) (past_alike w v g h) r.1)
+round_alike [] w v h r = λ g. ap (λ (ps : List Progress). will_ask (slice_get ps g)) (sym h.parts) ∙ r g
+round_alike (g ∷ names) w v h r = (ap (λ (ps : List Progress). will_ask (slice_get ps g)) (sym h.parts) ∙ r.0, round_alike names (past oral_kind w g) (past oral_kind v g) (past_alike w v g h) r.1)
 
 names_alike : (names : List ℕ) (w v : World) → AreAlike w v → names_events w names ≡ names_events v names
 names_alike [] w v h = refl
@@ -202,7 +202,7 @@ pub proved_alike : AlikeWorldsGoOnAlike
 proved_alike = record { runs = run_alike; rounds = round_alike; orders = from_alike; outcomes = outcome_alike }
 
 pub round_lists : (k : ℕ) (w v : World) → AreAlike w v → round_orders oral_kind k w ≡ round_orders oral_kind k v
-round_lists zero w v h = ap (λ (ps : List Part). or_end (filter (λ g. will_ask (slice_get ps g)) (generals (length ps))) (λ g. [])) h.parts
+round_lists zero w v h = ap (λ (ps : List Progress). or_end (filter (λ g. will_ask (slice_get ps g)) (generals (length ps))) (λ g. [])) h.parts
 round_lists (suc k) w v h =
     λ i. or_end (filter (λ g. will_ask (slice_get (h.parts i) g)) (generals (length (h.parts i)))) (λ g. round_lists k (past oral_kind w g) (past oral_kind v g) (past_alike w v g h) i)
 

@@ -4,10 +4,10 @@ use Rattle.std.specs.Prelude.{slice_get, ◌==◌}
 use Rattle.std.proofs.lemmas.Bool.Decides.{eqb_tells}
 use Rattle.world.specs.declared.event.Event.{Event}
 use Rattle.world.specs.declared.event.Event.TheVariants.{Tick, Post, Close}
-use Rattle.letter.specs.Activation.{Activation, Turn, Goes, Asks, Ended, turn}
-use Rattle.roster.specs.Scenario.{Scenario}
-use Rattle.letter.proofs.Going.{ended_over}
-use Rattle.world.specs.declared.part.Part.TheVariants.{Acting}
+use Rattle.round.specs.Activation.{Activation, Turn, Goes, Asks, Ended, turn}
+use Rattle.round.specs.Scenario.{Scenario}
+use Rattle.round.proofs.Going.{ended_over}
+use Rattle.world.specs.declared.part.Progress.TheVariants.{Acting}
 use Rattle.world.specs.Kind.{World, happen, posting, run}
 use Rattle.world.specs.KindLists.{IsMove, AreMoves, wound_up}
 use Rattle.world.specs.Playing.{IsStill}
@@ -18,8 +18,8 @@ use Rattle.world.proofs.Listing.{set-here}
 use Rattle.world.proofs.Moves.{run-append}
 use Rattle.world.proofs.Punctual.{run_scenario}
 use Rattle.world.proofs.Ticking.{still_tick}
-use Rattle.explore.specs.Orders.{asks_or, asks_within, will_ask, behind}
-use Rattle.explore.proofs.RunningOn.{GoesOn, goes_is, never, tick_on, post_on, tick_at, post_at, within}
+use Rattle.campaign_orders.specs.Orders.{asks_or, asks_within, will_ask, behind}
+use Rattle.campaign_orders.proofs.RunningOn.{GoesOn, goes_is, never, tick_on, post_on, tick_at, post_at, within}
 
 -- he makes no access any more
 record IsMute (x : ℕ) (w : World) : Type 0 where

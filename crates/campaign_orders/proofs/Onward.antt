@@ -1,15 +1,15 @@
 -- What one step of a layer makes of what its states stand for.
 use Rattle.std.proofs.Common.{◌≡◌, ℕ, suc, ◌≤◌, List, [], ◌∷◌, ◌++◌, length, true, refl, sym, ◌∙◌, arith}
 use Rattle.std.specs.Prelude.{slice_get}
-use Rattle.roster.specs.Scenario.{Scenario, IsScenario}
+use Rattle.round.specs.Scenario.{Scenario, IsScenario}
 use Rattle.world.specs.Kind.{World, opening}
 use Rattle.world.specs.World.{oral_kind}
-use Rattle.explore.specs.Orders.{will_ask, behind, IsRoundFrom}
-use Rattle.explore.specs.Listing.{askers, AreShort}
-use Rattle.explore.specs.Layers.{State, AreStatesOf, AreFreshOf, AreRounds, behind_all, reached, StandsFor, AreMade, IsStep}
-use Rattle.explore.proofs.Reaching.{nobody_asks as way_is_out}
-use Rattle.explore.proofs.Standing.{its_asks, its_end, its_state, round_ends, stands_closed, stands_past}
-use Rattle.explore.proofs.Succeeding.{nobody_asks}
+use Rattle.campaign_orders.specs.Orders.{will_ask, behind, IsRoundFrom}
+use Rattle.campaign_orders.specs.Listing.{askers, AreShort}
+use Rattle.campaign_orders.specs.Layers.{State, AreStatesOf, AreFreshOf, AreRounds, behind_all, reached, StandsFor, AreMade, IsStep}
+use Rattle.campaign_orders.proofs.Reaching.{nobody_asks as way_is_out}
+use Rattle.campaign_orders.proofs.Standing.{its_asks, its_end, its_state, round_ends, stands_closed, stands_past}
+use Rattle.campaign_orders.proofs.Succeeding.{nobody_asks}
 
 module _ (s : Scenario) (good : IsScenario s) (k : ℕ) (layer next done done_new : List State) (all : AreStatesOf s k layer) (x : IsStep s layer next done done_new) (rows : List (List ℕ)) (names : List ℕ) (made : AreMade (length names) layer) (z : StandsFor s layer rows names) where
   pub step_goes : (g : ℕ) → will_ask (slice_get (reached (opening oral_kind s) rows names).parts g) ≡ true → StandsFor s next rows (names ++ g ∷ [])

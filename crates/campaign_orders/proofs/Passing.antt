@@ -8,10 +8,10 @@ use Rattle.std.proofs.Math.Seq.{drop-cons, take-suc-set}
 use Rattle.board.specs.Board.{Access}
 use Rattle.world.specs.Playing.{lists_in}
 use Rattle.world.specs.KindLists.{names_in}
-use Rattle.explore.specs.Exploring.{Finding}
-use Rattle.explore.specs.Entering.{entered}
-use Rattle.explore.specs.Places.{AreElsewhere, IsNowhere}
-use Rattle.explore.specs.Succession.{least_above, turned_at, next_names, turned_in, next_order}
+use Rattle.campaign_orders.specs.Exploring.{Finding}
+use Rattle.campaign_orders.specs.Entering.{entered}
+use Rattle.campaign_orders.specs.Places.{AreElsewhere, IsNowhere}
+use Rattle.campaign_orders.specs.Succession.{least_above, turned_at, next_names, turned_in, next_order}
 
 -- one round more
 pub names_more : (round k : ℕ) (ledger : List Access) → names_in round ledger (suc k) ≡ names_in round ledger k ++ map (λ a. a.general) (filter (λ a. a.round == (round + k)) ledger) ∷ []

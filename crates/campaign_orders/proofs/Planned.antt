@@ -2,7 +2,7 @@
 use Rattle.std.proofs.Common.{◌≡◌, ℕ, zero, suc, ◌+◌, ◌<◌, List, [], ◌∷◌, ◌++◌, length, drop, get_or, true, false, refl, sym, ap, subst, ◌∙◌, Some, append_assoc, append-nil, arith, drop-cons, Vec, Result, Ok, Err}
 use Rattle.std.specs.Prelude.{slice_get, IfOk}
 use Rattle.std.specs.Global.{Global}
-use Rattle.roster.specs.Scenario.{Scenario, IsScenario}
+use Rattle.round.specs.Scenario.{Scenario, IsScenario}
 use Rattle.world.specs.declared.event.Event.{Event}
 use Rattle.world.specs.declared.schedule.Repeat.{Repeat}
 use Rattle.world.specs.Campaigns.{AreCampaigns}
@@ -12,15 +12,15 @@ use Rattle.world.specs.Schedules.{lines_by}
 use Rattle.world.specs.Playing.{lists_in}
 use Rattle.world.proofs.Moves.{moves_same, run-append}
 use Rattle.world.proofs.Lasting.{names_moves}
-use Rattle.explore.specs.declared.scheduled.Scheduled.{Scheduled}
-use Rattle.explore.specs.declared.scheduled.Scheduled.TheVariants.{By, Never}
-use Rattle.explore.specs.Orders.{will_ask, past, behind, order_of}
-use Rattle.explore.specs.Walks.{IsWalk, AreWalks, IsStuckAt, IsStuckIn, IsCompletion}
-use Rattle.explore.specs.Schedules.{entries_from, schedule_from}
-use Rattle.explore.specs.Planning.{IsStepTo, IsScheduleOf, IsPlan, BringsBack}
-use Rattle.explore.proofs.Leading.{replay_completes}
-use Rattle.explore.proofs.ScheduleLaws.{walks_played, orders_walk}
-use Rattle.explore.proofs.Deciding.{again}
+use Rattle.campaign_orders.specs.declared.schedule_outcome.Scheduled.{Scheduled}
+use Rattle.campaign_orders.specs.declared.schedule_outcome.Scheduled.TheVariants.{By, Never}
+use Rattle.campaign_orders.specs.Orders.{will_ask, past, behind, order_of}
+use Rattle.campaign_orders.specs.Walks.{IsWalk, AreWalks, IsStuckAt, IsStuckIn, IsCompletion}
+use Rattle.campaign_orders.specs.Schedules.{entries_from, schedule_from}
+use Rattle.campaign_orders.specs.Planning.{IsStepTo, IsScheduleOf, IsPlan, BringsBack}
+use Rattle.campaign_orders.proofs.Leading.{replay_completes}
+use Rattle.campaign_orders.proofs.ScheduleLaws.{walks_played, orders_walk}
+use Rattle.campaign_orders.proofs.Deciding.{again}
 
 -- the first of those from a place on
 pub names_at : (names : List ℕ) (i : ℕ) → i < length names → drop i names ≡ get_or names i 0 ∷ drop (i + 1) names

@@ -7,9 +7,9 @@ use Rattle.std.proofs.lemmas.List.{take_more, take_all, map-append}
 use Rattle.std.proofs.lemmas.Bool.{ltb-true, ltb-false, cases_Bool}
 use Rattle.std.proofs.lemmas.List.Elements.{filter-append}
 use Rattle.label.specs.Labels.{generals}
-use Rattle.roster.specs.Scenario.{Scenario, IsScenario}
-use Rattle.world.specs.declared.part.Part.{Part}
-use Rattle.world.specs.declared.part.Part.TheVariants.{Silent}
+use Rattle.round.specs.Scenario.{Scenario, IsScenario}
+use Rattle.world.specs.declared.part.Progress.{Progress}
+use Rattle.world.specs.declared.part.Progress.TheVariants.{Silent}
 use Rattle.world.specs.declared.event.Event.{Event}
 use Rattle.world.specs.declared.event.Event.TheVariants.{Tick}
 use Rattle.world.specs.Kind.{World, happen, opening, run}
@@ -20,14 +20,14 @@ use Rattle.world.specs.World.{oral_kind}
 use Rattle.world.proofs.Lasting.{IsOnTime}
 use Rattle.world.proofs.Moves.{run-append}
 use Rattle.world.proofs.Punctual.{run_scenario}
-use Rattle.explore.specs.Orders.{will_ask, past, behind, IsRoundFrom}
-use Rattle.explore.specs.Listing.{askers}
-use Rattle.explore.specs.Walks.{IsWalk}
-use Rattle.explore.specs.Ahead.{RunsOn, IsRunOn}
-use Rattle.explore.specs.Layers.{State, behind_all, reached, AreRounds, IsStateOf, IsFreshOf, IsPastOf, or_sum}
-use Rattle.explore.proofs.Bounded.{get_of}
-use Rattle.explore.proofs.Listed.{nobody}
-use Rattle.explore.proofs.Steady.{reached_time, run_more, runs_asks, runs_behind, runs_past, runs_scenario, runs_time}
+use Rattle.campaign_orders.specs.Orders.{will_ask, past, behind, IsRoundFrom}
+use Rattle.campaign_orders.specs.Listing.{askers}
+use Rattle.campaign_orders.specs.Walks.{IsWalk}
+use Rattle.campaign_orders.specs.Ahead.{RunsOn, IsRunOn}
+use Rattle.campaign_orders.specs.Layers.{State, behind_all, reached, AreRounds, IsStateOf, IsFreshOf, IsPastOf, or_sum}
+use Rattle.campaign_orders.proofs.Bounded.{get_of}
+use Rattle.campaign_orders.proofs.Listed.{nobody}
+use Rattle.campaign_orders.proofs.Steady.{reached_time, run_more, runs_asks, runs_behind, runs_past, runs_scenario, runs_time}
 
 -- a round more
 pub behind_more : (w : World) (rows : List (List ℕ)) (row : List ℕ) → behind_all w (rows ++ row ∷ []) ≡ behind oral_kind (behind_all w rows) row
@@ -177,7 +177,7 @@ module _ (s : Scenario) (k : ℕ) (t : State) (is : IsStateOf s k t) where
         }
 
     -- how many parts it has
-    few_from : (ps : List Part) (n : ℕ) → ((g : ℕ) (part : Part) → slice_get ps g ≡ Some part → g < n) → length ps ≤ n
+    few_from : (ps : List Progress) (n : ℕ) → ((g : ℕ) (part : Progress) → slice_get ps g ≡ Some part → g < n) → length ps ≤ n
     few_from ps n h =
         ⊎_elim (λ (e : nat_lt n (length ps) ≡ true). (let lt = ltb-true n (length ps) e in let l = h n (slice_index_or ps n Silent) (get_of ps n Silent lt) in omega arith)) (λ (e : nat_lt n (length ps) ≡ false). ltb-false n (length ps) e)
         (cases_Bool (nat_lt n (length ps)))

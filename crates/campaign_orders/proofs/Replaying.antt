@@ -4,7 +4,7 @@ use Rattle.std.specs.Prelude.{OnOk, IfOk}
 use Rattle.std.specs.Global.{Global}
 use Rattle.std.proofs.lemmas.List.Elements.{All-weaker}
 use Rattle.board.specs.Board.{Access}
-use Rattle.roster.specs.Scenario.{Scenario, IsScenario}
+use Rattle.round.specs.Scenario.{Scenario, IsScenario}
 use Rattle.world.specs.Chronicle.{Chronicle, chronicle_of}
 use Rattle.world.specs.Kind.{World}
 use Rattle.world.specs.KindLists.{replayed, names_in}
@@ -14,17 +14,17 @@ use Rattle.world.specs.World.{oral_kind}
 use Rattle.world.proofs.Campaigns.{oral_campaigns}
 use Rattle.world.proofs.Lasting.{replayed_complete}
 use Rattle.world.proofs.Replaying.{runs_are_replays}
-use Rattle.explore.specs.declared.exploration.Reach.{Reach}
-use Rattle.explore.specs.declared.exploration.Reach.TheVariants.{Whole, Beyond, InPart}
-use Rattle.explore.specs.Entering.{entered}
-use Rattle.explore.specs.Exploring.{Finding, Exploration, counted_in, IsFinding, IsLowerFinding, IsCappedFinding, IsExploredInPart, IsExplored, IsExploration}
-use Rattle.explore.specs.Orders.{IsOrder, order_of}
-use Rattle.explore.specs.Outcomes.{oral_outcome, outcome_in}
-use Rattle.explore.specs.Succession.{next_order}
-use Rattle.explore.specs.Walks.{AreWalks}
-use Rattle.explore.proofs.Tallying.{Order}
-use Rattle.explore.proofs.Visiting.{IsVisited, AreFirst, visit_first, visit_next, visit_last, visit_counts, visit_limit, last_first, limit_first}
-use Rattle.explore.proofs.ScheduleLaws.{orders_walk}
+use Rattle.campaign_orders.specs.declared.exploration.Reach.{Reach}
+use Rattle.campaign_orders.specs.declared.exploration.Reach.TheVariants.{Whole, Beyond, InPart}
+use Rattle.campaign_orders.specs.Entering.{entered}
+use Rattle.campaign_orders.specs.Exploring.{Finding, Exploration, counted_in, IsFinding, IsLowerFinding, IsCappedFinding, IsExploredInPart, IsExplored, IsExploration}
+use Rattle.campaign_orders.specs.Orders.{IsOrder, order_of}
+use Rattle.campaign_orders.specs.Outcomes.{oral_outcome, outcome_in}
+use Rattle.campaign_orders.specs.Succession.{next_order}
+use Rattle.campaign_orders.specs.Walks.{AreWalks}
+use Rattle.campaign_orders.proofs.Tallying.{Order}
+use Rattle.campaign_orders.proofs.Visiting.{IsVisited, AreFirst, visit_first, visit_next, visit_last, visit_counts, visit_limit, last_first, limit_first}
+use Rattle.campaign_orders.proofs.ScheduleLaws.{orders_walk}
 
 pub on_ok : {A E : Type 0} (r : Result A E) (P : Type 0) → P → OnOk r P
 on_ok (Ok x) P p = p

@@ -4,10 +4,10 @@ use Rattle.std.specs.Prelude.{slice_get, filter, nat_lt}
 use Rattle.std.specs.List.{range_with_len}
 use Rattle.std.proofs.lemmas.Bool.{lt-ltb, le-ltb, ltb-true, ltb-false, cases_lt}
 use Rattle.world.specs.Kind.{World}
-use Rattle.explore.specs.Orders.{will_ask}
-use Rattle.explore.specs.Listing.{Has, askers}
-use Rattle.explore.specs.Succession.{lesser, least_above}
-use Rattle.explore.proofs.Listed.{passes_of}
+use Rattle.campaign_orders.specs.Orders.{will_ask}
+use Rattle.campaign_orders.specs.Listing.{Has, askers}
+use Rattle.campaign_orders.specs.Succession.{lesser, least_above}
+use Rattle.campaign_orders.proofs.Listed.{passes_of}
 
 -- what is least above
 pub least_none : (g : ℕ) (names : List ℕ) → least_above g names ≡ None → (k : ℕ) → Has names k → k ≤ g

@@ -4,11 +4,11 @@ use Rattle.std.specs.Prelude.{slice_get, slice_set, replicate, ◌==◌}
 use Rattle.std.proofs.lemmas.Bool.Decides.{eqb_tells}
 use Rattle.board.specs.Board.{reply}
 use Rattle.world.specs.declared.event.Event.TheVariants.{Tick, Post}
-use Rattle.letter.specs.Activation.{Activation, Turn, Goes, Asks, Ended, turn}
-use Rattle.roster.specs.Scenario.{Scenario}
-use Rattle.letter.proofs.Going.{over_ended, ended_over}
-use Rattle.world.specs.declared.part.Part.{Part}
-use Rattle.world.specs.declared.part.Part.TheVariants.{Acting, Silent, Posted}
+use Rattle.round.specs.Activation.{Activation, Turn, Goes, Asks, Ended, turn}
+use Rattle.round.specs.Scenario.{Scenario}
+use Rattle.round.proofs.Going.{over_ended, ended_over}
+use Rattle.world.specs.declared.part.Progress.{Progress}
+use Rattle.world.specs.declared.part.Progress.TheVariants.{Acting, Silent, Posted}
 use Rattle.world.specs.Kind.{World, happen, posting, run, served, ticked}
 use Rattle.world.specs.KindLists.{further_turns, until_access, ticks_named}
 use Rattle.world.specs.Playing.{IsStill}
@@ -19,9 +19,9 @@ use Rattle.world.proofs.Lasting.{IsOnTime}
 use Rattle.world.proofs.Listing.{set-here, set-other}
 use Rattle.world.proofs.Replays.{tick_is}
 use Rattle.world.proofs.Ticking.{still_tick}
-use Rattle.explore.specs.Ahead.{AsksNothing, IsQuiet}
-use Rattle.explore.specs.Orders.{asks_or, asks_within, will_ask, past}
-use Rattle.explore.proofs.Walking.{within_zero}
+use Rattle.campaign_orders.specs.Ahead.{AsksNothing, IsQuiet}
+use Rattle.campaign_orders.specs.Orders.{asks_or, asks_within, will_ask, past}
+use Rattle.campaign_orders.proofs.Walking.{within_zero}
 
 -- whoever is over after so many turns, asks within these or never, and has as many turns up to it
 asks_stable_by : (k : ℕ) → ((b : Activation) → Within k b → asks_within (suc k) b ≡ asks_within k b) → (o : Turn) → WithinAfter k o → asks_or (asks_within (suc k)) o ≡ asks_or (asks_within k) o
@@ -78,7 +78,7 @@ quiet_turn w x a at (Goes b) e q = inr (record { a = a; b = b; at = at; turns = 
 quiet_turn w x a at (Asks r f) e q = absurd q
 quiet_turn w x a at Ended e q = inl (ended_over a e)
 
-quiet_part : (w : World) (x : ℕ) (o : Option Part) → slice_get w.parts x ≡ o → IsQuiet o → IsStill o ⊎ GoesOn w x
+quiet_part : (w : World) (x : ℕ) (o : Option Progress) → slice_get w.parts x ≡ o → IsQuiet o → IsStill o ⊎ GoesOn w x
 quiet_part w x None at q = inl tt
 quiet_part w x (Some (Acting a)) at q = quiet_turn w x a at (turn a) refl q
 quiet_part w x (Some Silent) at q = inl tt
@@ -95,44 +95,44 @@ pub goes_is : (w : World) (x : ℕ) (m : GoesOn w x) → happen oral_kind w (Tic
 goes_is w x m = tick_is oral_kind w x m.a (Goes m.b) m.at m.turns
 
 -- what others do comes to the same before it and behind it
-set_swap : (xs : List Part) (i j : ℕ) (u v : Part) → j ≢ i → slice_set (slice_set xs i u) j v ≡ slice_set (slice_set xs j v) i u
+set_swap : (xs : List Progress) (i j : ℕ) (u v : Progress) → j ≢ i → slice_set (slice_set xs i u) j v ≡ slice_set (slice_set xs j v) i u
 set_swap [] i j u v ne = refl
 set_swap (y ∷ ys) zero zero u v ne = absurd (ne refl)
 set_swap (y ∷ ys) zero (suc j) u v ne = refl
 set_swap (y ∷ ys) (suc i) zero u v ne = refl
-set_swap (y ∷ ys) (suc i) (suc j) u v ne = ap (λ (l : List Part). y ∷ l) (set_swap ys i j u v (λ e. ne (ap suc e)))
+set_swap (y ∷ ys) (suc i) (suc j) u v ne = ap (λ (l : List Progress). y ∷ l) (set_swap ys i j u v (λ e. ne (ap suc e)))
 
 module _ (x g : ℕ) (ne : g ≢ x) where
   served_on : (w : World) (b : Activation) (o : Turn) → served (on w x b) g o ≡ on (served w g o) x b
-  served_on w b (Goes c) = ap (λ (ps : List Part). record w { parts = ps }) (set_swap w.parts x g (Acting b) (Acting c) ne)
+  served_on w b (Goes c) = ap (λ (ps : List Progress). record w { parts = ps }) (set_swap w.parts x g (Acting b) (Acting c) ne)
   served_on w b (Asks q f) =
       let v = served w g (Asks q f) in
-      ap (λ (ps : List Part). record v { parts = ps }) (set_swap w.parts x g (Acting b) (Acting (f (reply w.words q))) ne)
+      ap (λ (ps : List Progress). record v { parts = ps }) (set_swap w.parts x g (Acting b) (Acting (f (reply w.words q))) ne)
   served_on w b Ended = refl
 
-  ticked_on : (w : World) (b : Activation) (o : Option Part) → ticked (on w x b) g o ≡ on (ticked w g o) x b
+  ticked_on : (w : World) (b : Activation) (o : Option Progress) → ticked (on w x b) g o ≡ on (ticked w g o) x b
   ticked_on w b None = refl
   ticked_on w b (Some (Acting a)) = served_on w b (turn a)
   ticked_on w b (Some Silent) = refl
   ticked_on w b (Some Posted) = refl
 
   pub tick_on : (w : World) (b : Activation) → happen oral_kind (on w x b) (Tick g) ≡ on (happen oral_kind w (Tick g)) x b
-  tick_on w b = ap (λ (o : Option Part). ticked (on w x b) g o) (set-other w.parts x g (Acting b) ne) ∙ ticked_on w b (slice_get w.parts g)
+  tick_on w b = ap (λ (o : Option Progress). ticked (on w x b) g o) (set-other w.parts x g (Acting b) ne) ∙ ticked_on w b (slice_get w.parts g)
 
-  posting_on : (w : World) (b : Activation) (o : Option Part) → posting (on w x b) g o ≡ on (posting w g o) x b
+  posting_on : (w : World) (b : Activation) (o : Option Progress) → posting (on w x b) g o ≡ on (posting w g o) x b
   posting_on w b None = refl
   posting_on w b (Some (Acting a)) = refl
-  posting_on w b (Some Silent) = ap (λ (ps : List Part). record w { parts = ps }) (set_swap w.parts x g (Acting b) Posted ne)
+  posting_on w b (Some Silent) = ap (λ (ps : List Progress). record w { parts = ps }) (set_swap w.parts x g (Acting b) Posted ne)
   posting_on w b (Some Posted) = refl
 
   pub post_on : (w : World) (b : Activation) → happen oral_kind (on w x b) (Post g) ≡ on (happen oral_kind w (Post g)) x b
-  post_on w b = ap (λ (o : Option Part). posting (on w x b) g o) (set-other w.parts x g (Acting b) ne) ∙ posting_on w b (slice_get w.parts g)
+  post_on w b = ap (λ (o : Option Progress). posting (on w x b) g o) (set-other w.parts x g (Acting b) ne) ∙ posting_on w b (slice_get w.parts g)
 
   ticks_on : (n : ℕ) (w : World) (b : Activation) → run oral_kind (on w x b) (replicate n (Tick g)) ≡ on (run oral_kind w (replicate n (Tick g))) x b
   ticks_on zero w b = refl
   ticks_on (suc n) w b = ap (λ (v : World). run oral_kind v (replicate n (Tick g))) (tick_on w b) ∙ ticks_on n (happen oral_kind w (Tick g)) b
 
-  named_on : (w : World) (b : Activation) (o : Option Part) → run oral_kind (on w x b) (ticks_named g o) ≡ on (run oral_kind w (ticks_named g o)) x b
+  named_on : (w : World) (b : Activation) (o : Option Progress) → run oral_kind (on w x b) (ticks_named g o) ≡ on (run oral_kind w (ticks_named g o)) x b
   named_on w b None = refl
   named_on w b (Some (Acting a)) = ticks_on (until_access (length a.program) a) w b
   named_on w b (Some Silent) = refl
@@ -147,7 +147,7 @@ module _ (x g : ℕ) (ne : g ≢ x) where
   served_at w (Asks q f) = set-other w.parts g x (Acting (f (reply w.words q))) other
   served_at w Ended = refl
 
-  ticked_at : (w : World) (o : Option Part) → slice_get (ticked w g o).parts x ≡ slice_get w.parts x
+  ticked_at : (w : World) (o : Option Progress) → slice_get (ticked w g o).parts x ≡ slice_get w.parts x
   ticked_at w None = refl
   ticked_at w (Some (Acting a)) = served_at w (turn a)
   ticked_at w (Some Silent) = refl
@@ -156,7 +156,7 @@ module _ (x g : ℕ) (ne : g ≢ x) where
   pub tick_at : (w : World) → slice_get (happen oral_kind w (Tick g)).parts x ≡ slice_get w.parts x
   tick_at w = ticked_at w (slice_get w.parts g)
 
-  posting_at : (w : World) (o : Option Part) → slice_get (posting w g o).parts x ≡ slice_get w.parts x
+  posting_at : (w : World) (o : Option Progress) → slice_get (posting w g o).parts x ≡ slice_get w.parts x
   posting_at w None = refl
   posting_at w (Some (Acting a)) = refl
   posting_at w (Some Silent) = set-other w.parts g x Posted other
@@ -169,7 +169,7 @@ module _ (x g : ℕ) (ne : g ≢ x) where
   ticks_at zero w = refl
   ticks_at (suc n) w = ticks_at n (happen oral_kind w (Tick g)) ∙ tick_at w
 
-  pub named_at : (w : World) (o : Option Part) → slice_get (run oral_kind w (ticks_named g o)).parts x ≡ slice_get w.parts x
+  pub named_at : (w : World) (o : Option Progress) → slice_get (run oral_kind w (ticks_named g o)).parts x ≡ slice_get w.parts x
   named_at w None = refl
   named_at w (Some (Acting a)) = ticks_at (until_access (length a.program) a) w
   named_at w (Some Silent) = refl
@@ -181,7 +181,7 @@ module _ (x g : ℕ) (ne : g ≢ x) where
 
   pub past_other : (w : World) (m : GoesOn w x) → past oral_kind (on w x m.b) g ≡ happen oral_kind (past oral_kind w g) (Tick x)
   past_other w m =
-      ap (λ (o : Option Part). run oral_kind (on w x m.b) (ticks_named g o)) (set-other w.parts x g (Acting m.b) ne)
+      ap (λ (o : Option Progress). run oral_kind (on w x m.b) (ticks_named g o)) (set-other w.parts x g (Acting m.b) ne)
       ∙ (named_on w m.b (slice_get w.parts g) ∙ sym (goes_is (past oral_kind w g) x (past_goes w m)))
 
 -- his own next access is the same
@@ -209,11 +209,11 @@ module _ (s : Scenario) (w : World) (x : ℕ) (t : IsOnTime oral_kind s w) (m : 
   own_past =
       let n = until_access (length m.a.program) m.b in
       let count : until_access (length m.a.program) m.a ≡ suc n = on_until (length m.a.program) m.a m.b within m.turns in
-      ap (λ (o : Option Part). run oral_kind (on w x m.b) (ticks_named x o)) now_at
+      ap (λ (o : Option Progress). run oral_kind (on w x m.b) (ticks_named x o)) now_at
       ∙ (ap (λ (k : ℕ). run oral_kind (on w x m.b) (replicate (until_access k m.b) (Tick x))) same_length
       ∙ (ap (λ (v : World). run oral_kind v (replicate n (Tick x))) (sym (goes_is w x m))
       ∙ (ap (λ (k : ℕ). run oral_kind w (replicate k (Tick x))) (sym count)
-      ∙ ap (λ (o : Option Part). run oral_kind w (ticks_named x o)) (sym m.at))))
+      ∙ ap (λ (o : Option Progress). run oral_kind w (ticks_named x o)) (sym m.at))))
 
   pub other_asks : (g : ℕ) → g ≢ x → will_ask (slice_get (on w x m.b).parts g) ≡ will_ask (slice_get w.parts g)
   other_asks g ne = ap will_ask (set-other w.parts x g (Acting m.b) ne)

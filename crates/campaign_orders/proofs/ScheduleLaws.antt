@@ -3,22 +3,22 @@ use Rattle.std.proofs.Common.{◌≡◌, ℕ, zero, suc, ◌+◌, ◌<◌, List,
 use Rattle.std.specs.Prelude.{slice_get, filter, nat_lt, replicate}
 use Rattle.std.proofs.lemmas.Bool.{lt-ltb}
 use Rattle.insn.specs.declared.insn.Insn.{Insn}
-use Rattle.roster.specs.Scenario.{Scenario, IsScenario, program_of}
+use Rattle.round.specs.Scenario.{Scenario, IsScenario, program_of}
 use Rattle.world.specs.declared.event.Event.{Event}
 use Rattle.world.specs.declared.event.Event.TheVariants.{Tick}
-use Rattle.world.specs.declared.part.Part.{Part}
-use Rattle.world.specs.declared.part.Part.TheVariants.{Acting, Silent, Posted}
+use Rattle.world.specs.declared.part.Progress.{Progress}
+use Rattle.world.specs.declared.part.Progress.TheVariants.{Acting, Silent, Posted}
 use Rattle.world.specs.Kind.{Kind, World, opening, run}
 use Rattle.world.specs.Campaigns.{IsCampaign, AreCampaigns}
 use Rattle.world.specs.KindLists.{ticks_named, names_events, wound_up, event_of, listed_rounds, listed, replayed_rounds, replayed, until_access}
 use Rattle.world.specs.Schedules.{entries_of, lines_by}
 use Rattle.world.proofs.Kept.{Fits}
 use Rattle.world.proofs.Lasting.{IsOnTime, moves_due, named_moves, names_moves, opening_due, round_done}
-use Rattle.explore.specs.Orders.{will_ask, past, behind, order_of, IsOrder}
-use Rattle.explore.specs.Schedules.{entries_from, schedule_from, OrdersAreSchedules}
-use Rattle.explore.specs.Walks.{IsWalk, AreWalks}
-use Rattle.explore.proofs.Deciding.{to_steps, again}
-use Rattle.explore.proofs.Leading.{from_walks, replay_completes}
+use Rattle.campaign_orders.specs.Orders.{will_ask, past, behind, order_of, IsOrder}
+use Rattle.campaign_orders.specs.Schedules.{entries_from, schedule_from, OrdersAreSchedules}
+use Rattle.campaign_orders.specs.Walks.{IsWalk, AreWalks}
+use Rattle.campaign_orders.proofs.Deciding.{to_steps, again}
+use Rattle.campaign_orders.proofs.Leading.{from_walks, replay_completes}
 
 entries : Scenario → List ℕ → List Event
 entries s line = map (λ g. event_of g (program_of s g)) (filter (λ g. nat_lt g s.generals) line)
@@ -34,7 +34,7 @@ ticks_again : (n g : ℕ) → replicate (length (replicate n (Tick g))) (Tick g)
 ticks_again zero g = refl
 ticks_again (suc n) g = ap (λ es. Tick g ∷ es) (ticks_again n g)
 
-named_again : (g : ℕ) (o : Option Part) → replicate (length (ticks_named g o)) (Tick g) ≡ ticks_named g o
+named_again : (g : ℕ) (o : Option Progress) → replicate (length (ticks_named g o)) (Tick g) ≡ ticks_named g o
 named_again g None = refl
 named_again g (Some (Acting a)) = ticks_again (until_access (length a.program) a) g
 named_again g (Some Silent) = refl
@@ -42,7 +42,7 @@ named_again g (Some Posted) = refl
 
 module _ (K : Kind) where
   -- who asks is a general with a program
-  asker_has : (s : Scenario) (w : World) → IsOnTime K s w → (g : ℕ) (o : Option Part) → slice_get w.parts g ≡ o → will_ask o ≡ true → (g < s.generals) × (program : List Insn) × (program_of s g ≡ Some program)
+  asker_has : (s : Scenario) (w : World) → IsOnTime K s w → (g : ℕ) (o : Option Progress) → slice_get w.parts g ≡ o → will_ask o ≡ true → (g < s.generals) × (program : List Insn) × (program_of s g ≡ Some program)
   asker_has s w d g None e y = absurd (let f : false ≡ true = y in cc)
   asker_has s w d g (Some (Acting a)) e y =
       let k = d.kept.parts g (Acting a) e in

@@ -18,13 +18,13 @@ use Rattle.semantics.specs.Call.{resumed}
 use Rattle.semantics.specs.Execution.{step}
 use Rattle.semantics.specs.State.{State, Outcome, Next, Ask, Exit, Trap, value_at}
 use Rattle.semantics.proofs.Walk.{changed_walk, step_walk, unset_walk}
-use Rattle.letter.specs.Activation.{Activation, Turn, Goes, Asks, Ended, has_ended, turn, turned}
-use Rattle.roster.specs.Scenario.{Scenario, program_of}
-use Rattle.letter.proofs.Going.{over_ended, turn_within}
+use Rattle.round.specs.Activation.{Activation, Turn, Goes, Asks, Ended, has_ended, turn, turned}
+use Rattle.round.specs.Scenario.{Scenario, program_of}
+use Rattle.round.proofs.Going.{over_ended, turn_within}
 use Rattle.world.specs.declared.event.Event.{Event}
 use Rattle.world.specs.declared.event.Event.TheVariants.{Tick}
-use Rattle.world.specs.declared.part.Part.{Part}
-use Rattle.world.specs.declared.part.Part.TheVariants.{Acting, Silent, Posted}
+use Rattle.world.specs.declared.part.Progress.{Progress}
+use Rattle.world.specs.declared.part.Progress.TheVariants.{Acting, Silent, Posted}
 use Rattle.world.specs.declared.schedule.Repeat.{Repeat}
 use Rattle.world.specs.Campaigns.{IsCampaign}
 use Rattle.world.specs.Kind.{Kind, World, opening, run, served}
@@ -35,13 +35,13 @@ use Rattle.world.proofs.Listing.{set-here}
 use Rattle.world.proofs.Moves.{moves_board, run-append}
 use Rattle.world.proofs.Replays.{tick_is}
 use Rattle.world.proofs.Untrapped.{held}
-use Rattle.explore.specs.Ahead.{AsksNothing}
-use Rattle.explore.specs.Orders.{asks_or, asks_within, behind, past, will_ask}
-use Rattle.explore.specs.Schedules.{entries_from, schedule_from}
-use Rattle.explore.specs.Text.{entry_text, line_text, schedule_text}
-use Rattle.explore.specs.Walks.{AreWalks, IsWalk}
-use Rattle.explore.proofs.Succeeding.{past_stays}
-use Rattle.explore.proofs.Walking.{within_zero}
+use Rattle.campaign_orders.specs.Ahead.{AsksNothing}
+use Rattle.campaign_orders.specs.Orders.{asks_or, asks_within, behind, past, will_ask}
+use Rattle.campaign_orders.specs.Schedules.{entries_from, schedule_from}
+use Rattle.campaign_orders.specs.Text.{entry_text, line_text, schedule_text}
+use Rattle.campaign_orders.specs.Walks.{AreWalks, IsWalk}
+use Rattle.campaign_orders.proofs.Succeeding.{past_stays}
+use Rattle.campaign_orders.proofs.Walking.{within_zero}
 
 -- ---- behind an answer r1 is unset, and so the next turn asks nothing
 
@@ -279,7 +279,7 @@ module _ (K : Kind) where
       })
       l.1
 
-  paid : (ps : List ℕ) (w : World) (g : ℕ) (o : Option Part) → HaveLeft ps w → slice_get w.parts g ≡ o → will_ask o ≡ true → Paid ps w (run K w (ticks_named g o)) (record { general = g; times = length (ticks_named g o) })
+  paid : (ps : List ℕ) (w : World) (g : ℕ) (o : Option Progress) → HaveLeft ps w → slice_get w.parts g ≡ o → will_ask o ≡ true → Paid ps w (run K w (ticks_named g o)) (record { general = g; times = length (ticks_named g o) })
   paid ps w g None have at will = absurd (let f : false ≡ true = will in cc)
   paid ps w g (Some (Acting a)) have at will = paid_acting ps w g a have at will
   paid ps w g (Some Silent) have at will = absurd (let f : false ≡ true = will in cc)

@@ -6,8 +6,8 @@ use Rattle.std.proofs.Math.Nat.{mul-add, mul-zero, one-mul}
 use Rattle.std.proofs.lemmas.List.{get_or_append_left, get_or_push, reverse-append, reverse-reverse}
 use Rattle.std.proofs.lemmas.List.Sums.{sum_by_push, sum_by-cons}
 use Rattle.std.proofs.lemmas.List.Elements.{All-weaker, All-nil, All-push}
-use Rattle.roster.specs.Scenario.{Scenario, IsScenario}
-use Rattle.world.specs.declared.part.Part.{Part}
+use Rattle.round.specs.Scenario.{Scenario, IsScenario}
+use Rattle.world.specs.declared.part.Progress.{Progress}
 use Rattle.world.specs.Kind.{World, opening}
 use Rattle.world.specs.KindHeld.{IsReached}
 use Rattle.world.specs.KindLists.{ticks_named}
@@ -15,22 +15,22 @@ use Rattle.world.specs.Playing.{program_length}
 use Rattle.world.specs.World.{oral_kind}
 use Rattle.world.proofs.Lasting.{IsOnTime}
 use Rattle.world.proofs.Punctual.{run_scenario}
-use Rattle.explore.specs.Orders.{will_ask, past, behind, IsRoundFrom}
-use Rattle.explore.specs.Listing.{Has, AreShort, askers, most_in_round}
-use Rattle.explore.specs.Walks.{IsWalk}
-use Rattle.explore.specs.Ahead.{IsRunOn}
-use Rattle.explore.specs.Layers.{State, kept, AsKept, IsStateOf, AreStatesOf, IsFreshOf, AreFreshOf, IsEntered, IsPastOf, IsAsked, IsCommon, IsSteady, weighed, weighed_both, stepped, over_round, over_rounds, or_sum, IsExpanded, IsStep, IsRoundOn, AreLayers, AreRounds, StandsFor, StandsOn, AreMade, beginning_of, behind_all, reached}
-use Rattle.explore.proofs.Branching.{last_step, next_step, round_common, rounds_common}
-use Rattle.explore.proofs.Having.{has-append_of}
-use Rattle.explore.proofs.Leading.{round_walks}
-use Rattle.explore.proofs.Lesser.{beginning_total, least_self}
-use Rattle.explore.proofs.Listed.{passes_of, to_asker}
-use Rattle.explore.proofs.Onward.{nothing, rounds_front, rounds_last, short_front, short_last, step_closes, step_goes}
-use Rattle.explore.proofs.Reaching.{past_state, closed_state, ends_alike, scenario_is, few_parts, reached_behind, runs_reached, way_reached, way_scenario, way_time, askers_below, asks_more, asks_no_more, all_askers, or_some}
-use Rattle.explore.proofs.Steady.{round_steady, zero_steady, runs_asks, runs_past, runs_scenario, runs_time}
-use Rattle.explore.proofs.Standing.{ending, entered_made, entered_stands, stands_own, walk_front, walk_last}
-use Rattle.explore.proofs.Stepping.{idle_asks}
-use Rattle.explore.proofs.Weighing.{as_more, entered_weighs, entered_states, entered_fresh}
+use Rattle.campaign_orders.specs.Orders.{will_ask, past, behind, IsRoundFrom}
+use Rattle.campaign_orders.specs.Listing.{Has, AreShort, askers, most_in_round}
+use Rattle.campaign_orders.specs.Walks.{IsWalk}
+use Rattle.campaign_orders.specs.Ahead.{IsRunOn}
+use Rattle.campaign_orders.specs.Layers.{State, kept, AsKept, IsStateOf, AreStatesOf, IsFreshOf, AreFreshOf, IsEntered, IsPastOf, IsAsked, IsCommon, IsSteady, weighed, weighed_both, stepped, over_round, over_rounds, or_sum, IsExpanded, IsStep, IsRoundOn, AreLayers, AreRounds, StandsFor, StandsOn, AreMade, beginning_of, behind_all, reached}
+use Rattle.campaign_orders.proofs.Branching.{last_step, next_step, round_common, rounds_common}
+use Rattle.campaign_orders.proofs.Having.{has-append_of}
+use Rattle.campaign_orders.proofs.Leading.{round_walks}
+use Rattle.campaign_orders.proofs.Lesser.{beginning_total, least_self}
+use Rattle.campaign_orders.proofs.Listed.{passes_of, to_asker}
+use Rattle.campaign_orders.proofs.Onward.{nothing, rounds_front, rounds_last, short_front, short_last, step_closes, step_goes}
+use Rattle.campaign_orders.proofs.Reaching.{past_state, closed_state, ends_alike, scenario_is, few_parts, reached_behind, runs_reached, way_reached, way_scenario, way_time, askers_below, asks_more, asks_no_more, all_askers, or_some}
+use Rattle.campaign_orders.proofs.Steady.{round_steady, zero_steady, runs_asks, runs_past, runs_scenario, runs_time}
+use Rattle.campaign_orders.proofs.Standing.{ending, entered_made, entered_stands, stands_own, walk_front, walk_last}
+use Rattle.campaign_orders.proofs.Stepping.{idle_asks}
+use Rattle.campaign_orders.proofs.Weighing.{as_more, entered_weighs, entered_states, entered_fresh}
 
 -- all of one scenario
 pub states_scenario : (s : Scenario) (k : ℕ) (states : List State) → AreStatesOf s k states → All (λ (u : State). u.world.scenario ≡ s) states
@@ -169,13 +169,13 @@ spread_all s t last n old new asked h less idle =
     (spread_rest s t (n - (last + 1)) (last + 1) old new asked h (λ g a b. idle_asks (slice_get t.world.parts g) (idle g (omega arith) (omega arith))))
 
 -- the last who acts is asked of the state itself, and then all are
-pub spread_last : (s : Scenario) (t u : State) (last n all : ℕ) (parts : List Part) (old mid new : List State) (asked own : Bool) → IsBase s t t.world → n ≡ last → all ≡ s.generals → last < all
+pub spread_last : (s : Scenario) (t u : State) (last n all : ℕ) (parts : List Progress) (old mid new : List State) (asked own : Bool) → IsBase s t t.world → n ≡ last → all ≡ s.generals → last < all
     → u ≡ t → parts ≡ t.world.parts → IsSpread s t n old mid asked → IsAsked u.world u last mid own new
     → ((g : ℕ) → last < g → g < all → program_length (slice_get parts g) ≡ None) → IsSpread s t s.generals old new (asked || own)
 spread_last s t u last n all parts old mid new asked own base there whole inside same acting h asks idle =
     let one = spread_more s t t.world base last old mid new asked own (subst (λ (m : ℕ). IsSpread s t m old mid asked) there h) (subst (λ (v : State). IsAsked v.world v last mid own new) same asks) in
     spread_all s t last s.generals old new (asked || own) one (omega (arith, whole, inside))
-    (λ g a b. subst (λ (l : List Part). program_length (slice_get l g) ≡ None) acting (idle g a (omega (arith, whole, b))))
+    (λ g a b. subst (λ (l : List Progress). program_length (slice_get l g) ≡ None) acting (idle g a (omega (arith, whole, b))))
 
 -- the state as the next round begins, by its parts
 pub shut_is : (o : World) (t u shut : State) → u ≡ t

@@ -3,23 +3,23 @@ use Rattle.std.proofs.Common.{◌≡◌, ℕ, zero, suc, ◌+◌, ◌<◌, List,
 use Rattle.std.specs.Prelude.{slice_get}
 use Rattle.std.specs.Ordering.{is_lt, is_gt}
 use Rattle.std.proofs.lemmas.List.Elements.{All-push, All-set}
-use Rattle.roster.specs.Scenario.{Scenario, IsScenario}
-use Rattle.world.specs.declared.part.Part.{Part}
+use Rattle.round.specs.Scenario.{Scenario, IsScenario}
+use Rattle.world.specs.declared.part.Progress.{Progress}
 use Rattle.world.specs.Kind.{World, opening, run}
 use Rattle.world.specs.KindLists.{names_events, ticks_named, wound_up}
 use Rattle.world.specs.World.{oral_kind}
 use Rattle.world.proofs.Punctual.{run_scenario}
-use Rattle.explore.specs.Orders.{will_ask, past, behind, IsRoundFrom}
-use Rattle.explore.specs.Walks.{IsWalk}
-use Rattle.explore.specs.Least.{beginning_cmp}
-use Rattle.explore.specs.Listing.{Has, askers}
-use Rattle.explore.specs.Layers.{State, kept, IsStateOf, AreStatesOf, IsEntered, IsCommon, IsSteady, over_round, or_sum, reached, behind_all, beginning_of, begins_cmp, earlier, joined, StandsFor, StandsOn, AreMade}
-use Rattle.explore.proofs.Branching.{last_step, round_common}
-use Rattle.explore.proofs.Having.{has-append_to}
-use Rattle.explore.proofs.Lesser.{beginning_total, least_self, least_less, least_other, least_then, begins_more, begins_closed}
-use Rattle.explore.proofs.Merging.{past_alike}
-use Rattle.explore.proofs.Reaching.{behind_events, behind_more, events_first, names_more, reached_behind, scenario_is, way_reached, way_scenario}
-use Rattle.explore.proofs.Steady.{reached_time, round_steady, runs_asks, runs_past}
+use Rattle.campaign_orders.specs.Orders.{will_ask, past, behind, IsRoundFrom}
+use Rattle.campaign_orders.specs.Walks.{IsWalk}
+use Rattle.campaign_orders.specs.Least.{beginning_cmp}
+use Rattle.campaign_orders.specs.Listing.{Has, askers}
+use Rattle.campaign_orders.specs.Layers.{State, kept, IsStateOf, AreStatesOf, IsEntered, IsCommon, IsSteady, over_round, or_sum, reached, behind_all, beginning_of, begins_cmp, earlier, joined, StandsFor, StandsOn, AreMade}
+use Rattle.campaign_orders.proofs.Branching.{last_step, round_common}
+use Rattle.campaign_orders.proofs.Having.{has-append_to}
+use Rattle.campaign_orders.proofs.Lesser.{beginning_total, least_self, least_less, least_other, least_then, begins_more, begins_closed}
+use Rattle.campaign_orders.proofs.Merging.{past_alike}
+use Rattle.campaign_orders.proofs.Reaching.{behind_events, behind_more, events_first, names_more, reached_behind, scenario_is, way_reached, way_scenario}
+use Rattle.campaign_orders.proofs.Steady.{reached_time, round_steady, runs_asks, runs_past}
 
 -- ---- what stands in a list
 
@@ -88,7 +88,7 @@ abbrev asks : ℕ → World → ℕ
 asks g w = bit (will_ask (slice_get w.parts g))
 
 asks_common : (g : ℕ) → IsCommon (asks g)
-asks_common g w v a = ap (λ (ps : List Part). bit (will_ask (slice_get ps g))) a.parts
+asks_common g w v a = ap (λ (ps : List Progress). bit (will_ask (slice_get ps g))) a.parts
 
 asks_steady : (g : ℕ) → IsSteady (asks g)
 asks_steady g w v is r on = ap bit (runs_asks w.scenario on.0 w v (reached_time w is r) on.1 g)

@@ -2,31 +2,31 @@
 use Rattle.std.proofs.Common.{◌≡◌, ℕ, ◌<◌, List, [], ◌∷◌, ◌++◌, length, get_or, false, inr, sym, ap, subst, ◌∙◌, None, Some, Result, Ok, Err}
 use Rattle.std.specs.Prelude.{slice_get, OnOk}
 use Rattle.std.proofs.lemmas.List.{get_or_default}
-use Rattle.world.specs.declared.part.Part.{Part}
-use Rattle.roster.specs.Scenario.{Scenario, IsScenario}
+use Rattle.world.specs.declared.part.Progress.{Progress}
+use Rattle.round.specs.Scenario.{Scenario, IsScenario}
 use Rattle.world.specs.Kind.{World, opening, run}
 use Rattle.world.specs.KindLists.{wound_up}
 use Rattle.world.specs.Playing.{program_length}
 use Rattle.world.specs.World.{oral_kind}
-use Rattle.explore.specs.Ahead.{IsRunOn}
-use Rattle.explore.specs.Layers.{State, IsAhead, IsEntered, IsPastOf, IsAlikeAt, reached}
-use Rattle.explore.specs.Merging.{AreAlike}
-use Rattle.explore.specs.Orders.{will_ask, past, behind}
-use Rattle.explore.specs.Planning.{IsStepTo}
-use Rattle.explore.proofs.Reaching.{way_time}
-use Rattle.explore.proofs.Steady.{runs_asks}
-use Rattle.explore.proofs.Stepping.{idle_asks}
+use Rattle.campaign_orders.specs.Ahead.{IsRunOn}
+use Rattle.campaign_orders.specs.Layers.{State, IsAhead, IsEntered, IsPastOf, IsAlikeAt, reached}
+use Rattle.campaign_orders.specs.Merging.{AreAlike}
+use Rattle.campaign_orders.specs.Orders.{will_ask, past, behind}
+use Rattle.campaign_orders.specs.Planning.{IsStepTo}
+use Rattle.campaign_orders.proofs.Reaching.{way_time}
+use Rattle.campaign_orders.proofs.Steady.{runs_asks}
+use Rattle.campaign_orders.proofs.Stepping.{idle_asks}
 
 -- played again by its way
 pub again_is : (o : World) (t v : State) (w : World) (rows : List (List ℕ)) (names : List ℕ) → v ≡ t → rows ≡ v.rows → names ≡ v.names → w ≡ reached o rows names → w ≡ reached o t.rows t.names
 again_is o t v w rows names seen a b made = made ∙ (λ i. reached o ((a ∙ ap (λ (u : State). u.rows) seen) i) ((b ∙ ap (λ (u : State). u.names) seen) i))
 
 -- nobody acts there, and so he makes none, also where nothing is run on
-pub past_idle : (s : Scenario) → IsScenario s → (t : State) (g : ℕ) (parts : List Part) → IsRunOn (reached (opening oral_kind s) t.rows t.names) t.world → parts ≡ t.world.parts → None ≡ program_length (slice_get parts g)
+pub past_idle : (s : Scenario) → IsScenario s → (t : State) (g : ℕ) (parts : List Progress) → IsRunOn (reached (opening oral_kind s) t.rows t.names) t.world → parts ≡ t.world.parts → None ≡ program_length (slice_get parts g)
     → IsPastOf (reached (opening oral_kind s) t.rows t.names) t g None
 past_idle s good t g parts on same none =
     let w = reached (opening oral_kind s) t.rows t.names in
-    let idle : will_ask (slice_get t.world.parts g) ≡ false = ap (λ (l : List Part). will_ask (slice_get l g)) (sym same) ∙ idle_asks (slice_get parts g) (sym none) in
+    let idle : will_ask (slice_get t.world.parts g) ≡ false = ap (λ (l : List Progress). will_ask (slice_get l g)) (sym same) ∙ idle_asks (slice_get parts g) (sym none) in
     sym (runs_asks s on.0 w t.world (way_time s good t.rows t.names) on.1 g) ∙ idle
 
 -- he has no access left

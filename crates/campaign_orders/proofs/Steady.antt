@@ -3,12 +3,12 @@ use Rattle.std.proofs.Common.{◌≡◌, ◌≢◌, ℕ, zero, suc, List, [], �
 use Rattle.std.specs.Prelude.{slice_get, replicate, filter, sum_by, ◌==◌}
 use Rattle.std.proofs.lemmas.Bool.Decides.{eqb_tells}
 use Rattle.label.specs.Labels.{generals}
-use Rattle.letter.specs.Activation.{Activation, Turn, Goes, Asks, Ended, turn}
-use Rattle.letter.specs.Runs.{Onward, Runs}
-use Rattle.roster.specs.Scenario.{Scenario, IsScenario}
+use Rattle.round.specs.Activation.{Activation, Turn, Goes, Asks, Ended, turn}
+use Rattle.round.specs.Runs.{Onward, Runs}
+use Rattle.round.specs.Scenario.{Scenario, IsScenario}
 use Rattle.world.specs.declared.event.Event.TheVariants.{Tick}
-use Rattle.world.specs.declared.part.Part.{Part}
-use Rattle.world.specs.declared.part.Part.TheVariants.{Acting, Silent, Posted}
+use Rattle.world.specs.declared.part.Progress.{Progress}
+use Rattle.world.specs.declared.part.Progress.TheVariants.{Acting, Silent, Posted}
 use Rattle.world.specs.Kind.{World, happen, run}
 use Rattle.world.specs.KindHeld.{AheadTo, IsReached}
 use Rattle.world.specs.KindLists.{ticks_named}
@@ -19,17 +19,17 @@ use Rattle.world.proofs.Listing.{set-here}
 use Rattle.world.proofs.Moves.{move_same}
 use Rattle.world.proofs.Replays.{tick_is}
 use Rattle.world.proofs.Untrapped.{held}
-use Rattle.explore.specs.Ahead.{AsksNothing, IsQuiet, RunsOn, IsRunOn}
-use Rattle.explore.specs.Layers.{IsSteady, or_sum, stepped, over_round}
-use Rattle.explore.specs.Listing.{askers}
-use Rattle.explore.specs.Orders.{will_ask, past, behind}
-use Rattle.explore.proofs.Branching.{last_step, next_step}
-use Rattle.explore.proofs.Listed.{nobody}
-use Rattle.explore.proofs.Muting.{goes_behind}
-use Rattle.explore.proofs.RunningOn.{GoesOn, quiet_is, goes_is, goes_asks, own_past, past_goes, past_other}
+use Rattle.campaign_orders.specs.Ahead.{AsksNothing, IsQuiet, RunsOn, IsRunOn}
+use Rattle.campaign_orders.specs.Layers.{IsSteady, or_sum, stepped, over_round}
+use Rattle.campaign_orders.specs.Listing.{askers}
+use Rattle.campaign_orders.specs.Orders.{will_ask, past, behind}
+use Rattle.campaign_orders.proofs.Branching.{last_step, next_step}
+use Rattle.campaign_orders.proofs.Listed.{nobody}
+use Rattle.campaign_orders.proofs.Muting.{goes_behind}
+use Rattle.campaign_orders.proofs.RunningOn.{GoesOn, quiet_is, goes_is, goes_asks, own_past, past_goes, past_other}
 
 goes_quiet : (w : World) (x : ℕ) → GoesOn w x → IsQuiet (slice_get w.parts x)
-goes_quiet w x m = subst (λ (o : Option Part). IsQuiet o) (sym m.at) (subst (λ (o : Turn). AsksNothing o) (sym m.turns) tt)
+goes_quiet w x m = subst (λ (o : Option Progress). IsQuiet o) (sym m.at) (subst (λ (o : Turn). AsksNothing o) (sym m.turns) tt)
 
 -- the world behind an access, where a turn is taken before: the same, or that turn is still to be taken
 abbrev SoonPast : World → ℕ → ℕ → Type 0
@@ -157,9 +157,9 @@ module _ (g : ℕ) where
   ahead_runs zero w a b at way = refl
   ahead_runs (suc n) w a b at way =
       let both = ahead_by n w a b at (λ v c e r. ahead_runs n v c b e r) (turn a) refl way in
-      (subst (λ (o : Option Part). IsQuiet o) (sym at) both.0, both.1)
+      (subst (λ (o : Option Progress). IsQuiet o) (sym at) both.0, both.1)
 
-  ahead_on : (limit taken : ℕ) (w v : World) (o : Option Part) → slice_get w.parts g ≡ o → AheadTo limit taken w.parts g o v.parts → v ≡ run oral_kind w (replicate taken (Tick g)) → IsRunOn w v
+  ahead_on : (limit taken : ℕ) (w v : World) (o : Option Progress) → slice_get w.parts g ≡ o → AheadTo limit taken w.parts g o v.parts → v ≡ run oral_kind w (replicate taken (Tick g)) → IsRunOn w v
   ahead_on limit taken w v None at far is = ([], sym (is ∙ ap (λ (n : ℕ). run oral_kind w (replicate n (Tick g))) far.0))
   ahead_on limit taken w v (Some (Acting a)) at far is = (replicate taken g, subst (λ (u : World). RunsOn w (replicate taken g) u) (sym is) (ahead_runs taken w a far.0 at far.1))
   ahead_on limit taken w v (Some Silent) at far is = ([], sym (is ∙ ap (λ (n : ℕ). run oral_kind w (replicate n (Tick g))) far.0))

@@ -3,20 +3,20 @@ use Rattle.std.proofs.Common.{◌≡◌, ◌≢◌, ℕ, zero, suc, ◌<◌, ◌
 use Rattle.std.specs.Prelude.{slice_get, replicate, ◌==◌}
 use Rattle.std.proofs.lemmas.Bool.Decides.{eqb_tells}
 use Rattle.board.specs.Board.{reply}
-use Rattle.letter.specs.Activation.{Turn, Goes, Asks, Ended, turn}
+use Rattle.round.specs.Activation.{Turn, Goes, Asks, Ended, turn}
 use Rattle.world.specs.declared.event.Event.TheVariants.{Tick}
-use Rattle.world.specs.declared.part.Part.{Part}
-use Rattle.world.specs.declared.part.Part.TheVariants.{Acting, Silent, Posted}
+use Rattle.world.specs.declared.part.Progress.{Progress}
+use Rattle.world.specs.declared.part.Progress.TheVariants.{Acting, Silent, Posted}
 use Rattle.world.specs.Kind.{Kind, World, served, ticked, happen, run}
 use Rattle.world.specs.KindLists.{ticks_named, until_access}
 use Rattle.world.proofs.Listing.{set-other}
-use Rattle.explore.specs.Orders.{will_ask, past, behind, IsRoundFrom, IsFrom}
-use Rattle.explore.specs.Listing.{askers, branch, or_end, round_orders, orders_from, Has, AreShort}
-use Rattle.explore.specs.Succession.{least_above, turned_at, next_names, turned_in, next_order}
-use Rattle.explore.specs.Walks.{IsWalk, AreWalks, IsAscending, IsCompletion}
-use Rattle.explore.proofs.Listed.{to_asker, of_asker}
-use Rattle.explore.proofs.Rising.{least_none, least_some, beyond, none_over, first_over, next_over, askers_rising}
-use Rattle.explore.proofs.Leading.{round_walks, same_round}
+use Rattle.campaign_orders.specs.Orders.{will_ask, past, behind, IsRoundFrom, IsFrom}
+use Rattle.campaign_orders.specs.Listing.{askers, branch, or_end, round_orders, orders_from, Has, AreShort}
+use Rattle.campaign_orders.specs.Succession.{least_above, turned_at, next_names, turned_in, next_order}
+use Rattle.campaign_orders.specs.Walks.{IsWalk, AreWalks, IsAscending, IsCompletion}
+use Rattle.campaign_orders.proofs.Listed.{to_asker, of_asker}
+use Rattle.campaign_orders.proofs.Rising.{least_none, least_some, beyond, none_over, first_over, next_over, askers_rising}
+use Rattle.campaign_orders.proofs.Leading.{round_walks, same_round}
 
 -- another's tick leaves a part as it is
 served_stays : (w : World) (g h : ℕ) (o : Turn) → h ≢ g → slice_get (served w g o).parts h ≡ slice_get w.parts h
@@ -24,7 +24,7 @@ served_stays w g h (Goes a) ne = set-other w.parts g h (Acting a) ne
 served_stays w g h (Asks q f) ne = set-other w.parts g h (Acting (f (reply w.words q))) ne
 served_stays w g h Ended ne = refl
 
-ticked_stays : (w : World) (g h : ℕ) (o : Option Part) → h ≢ g → slice_get (ticked w g o).parts h ≡ slice_get w.parts h
+ticked_stays : (w : World) (g h : ℕ) (o : Option Progress) → h ≢ g → slice_get (ticked w g o).parts h ≡ slice_get w.parts h
 ticked_stays w g h None ne = refl
 ticked_stays w g h (Some (Acting a)) ne = served_stays w g h (turn a) ne
 ticked_stays w g h (Some Silent) ne = refl
@@ -35,7 +35,7 @@ module _ (K : Kind) where
   ticks_stay zero w g h ne = refl
   ticks_stay (suc n) w g h ne = ticks_stay n (happen K w (Tick g)) g h ne ∙ ticked_stays w g h (slice_get w.parts g) ne
 
-  pub past_stays : (w : World) (g h : ℕ) (o : Option Part) → h ≢ g → slice_get (run K w (ticks_named g o)).parts h ≡ slice_get w.parts h
+  pub past_stays : (w : World) (g h : ℕ) (o : Option Progress) → h ≢ g → slice_get (run K w (ticks_named g o)).parts h ≡ slice_get w.parts h
   past_stays w g h None ne = refl
   past_stays w g h (Some (Acting a)) ne = ticks_stay (until_access (length a.program) a) w g h ne
   past_stays w g h (Some Silent) ne = refl

@@ -4,13 +4,13 @@ use Rattle.std.specs.Prelude.{bytes_eq, sum_by}
 use Rattle.std.specs.List.{AllByRecursion}
 use Rattle.std.proofs.lemmas.Slice.Eq.{bytes_eq-Decides}
 use Rattle.std.proofs.lemmas.List.Sums.{sum_by_push, sum_by-cons}
-use Rattle.roster.specs.Scenario.{Scenario}
+use Rattle.round.specs.Scenario.{Scenario}
 use Rattle.world.specs.Kind.{Kind}
-use Rattle.explore.specs.Listing.{Has, AreDifferent}
-use Rattle.explore.specs.Outcomes.{Outcome, outcome_of}
-use Rattle.explore.specs.Exploring.{Finding, outcomes_of, counted_in, ways_among, first_to}
-use Rattle.explore.specs.Entering.{entered}
-use Rattle.explore.proofs.Having.{has-append_to, has-append_of}
+use Rattle.campaign_orders.specs.Listing.{Has, AreDifferent}
+use Rattle.campaign_orders.specs.Outcomes.{Outcome, outcome_of}
+use Rattle.campaign_orders.specs.Exploring.{Finding, outcomes_of, counted_in, ways_among, first_to}
+use Rattle.campaign_orders.specs.Entering.{entered}
+use Rattle.campaign_orders.proofs.Having.{has-append_to, has-append_of}
 
 abbrev pub Order : Type 0
 Order = List (List ℕ)

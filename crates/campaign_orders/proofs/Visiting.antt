@@ -3,24 +3,24 @@ use Rattle.std.proofs.Common.{◌≡◌, ℕ, suc, ◌+◌, ◌≤◌, List, [],
 use Rattle.std.specs.Prelude.{cond, bytes_eq}
 use Rattle.std.proofs.lemmas.List.Sums.{sum_by-append}
 use Rattle.std.proofs.lemmas.List.Elements.{All-from_recursion, All-weaker}
-use Rattle.roster.specs.Scenario.{Scenario, IsScenario}
+use Rattle.round.specs.Scenario.{Scenario, IsScenario}
 use Rattle.world.specs.Kind.{Kind, opening, run}
 use Rattle.world.specs.KindLists.{IsComplete, replayed}
 use Rattle.world.specs.Campaigns.{AreCampaigns}
 use Rattle.world.proofs.Lasting.{replayed_complete}
-use Rattle.explore.specs.Orders.{order_of, IsFrom}
-use Rattle.explore.specs.Listing.{Has, AreShort, most_in_round, orders}
-use Rattle.explore.specs.Outcomes.{Outcome, outcome_of}
-use Rattle.explore.specs.Exploring.{Finding, outcomes_of, counted_in, ways_among, IsReal, IsFinding, IsLowerFinding, IsExplored, IsExploredInPart, first_to}
-use Rattle.explore.specs.Entering.{entered}
-use Rattle.explore.specs.Succession.{next_order}
-use Rattle.explore.proofs.Having.{has-append_to}
-use Rattle.explore.proofs.Walking.{order_walks}
-use Rattle.explore.proofs.Leading.{replay_completes}
-use Rattle.explore.proofs.Deciding.{again}
-use Rattle.explore.proofs.Bounded.{order_short, orders_are_whole}
-use Rattle.explore.proofs.Succeeding.{rest_from, from_first, from_last, from_next, walks_next}
-use Rattle.explore.proofs.Tallying.{Order, IsCounted, IsTally, no_tally, tally_more, first_stays}
+use Rattle.campaign_orders.specs.Orders.{order_of, IsFrom}
+use Rattle.campaign_orders.specs.Listing.{Has, AreShort, most_in_round, orders}
+use Rattle.campaign_orders.specs.Outcomes.{Outcome, outcome_of}
+use Rattle.campaign_orders.specs.Exploring.{Finding, outcomes_of, counted_in, ways_among, IsReal, IsFinding, IsLowerFinding, IsExplored, IsExploredInPart, first_to}
+use Rattle.campaign_orders.specs.Entering.{entered}
+use Rattle.campaign_orders.specs.Succession.{next_order}
+use Rattle.campaign_orders.proofs.Having.{has-append_to}
+use Rattle.campaign_orders.proofs.Walking.{order_walks}
+use Rattle.campaign_orders.proofs.Leading.{replay_completes}
+use Rattle.campaign_orders.proofs.Deciding.{again}
+use Rattle.campaign_orders.proofs.Bounded.{order_short, orders_are_whole}
+use Rattle.campaign_orders.proofs.Succeeding.{rest_from, from_first, from_last, from_next, walks_next}
+use Rattle.campaign_orders.proofs.Tallying.{Order, IsCounted, IsTally, no_tally, tally_more, first_stays}
 
 module _ (K : Kind) where
   -- the order of the replay of these names, and what is behind it

@@ -5,17 +5,17 @@ use Rattle.std.proofs.lemmas.Bool.{lt-ltb}
 use Rattle.std.proofs.lemmas.Bool.Decides.{eqb_tells}
 use Rattle.board.specs.Board.{IsBoard, Access, words_after, IsLegal}
 use Rattle.world.specs.declared.event.Event.{Event}
-use Rattle.roster.specs.Scenario.{Scenario, IsScenario}
-use Rattle.letter.specs.Letters.{Letter}
-use Rattle.letter.specs.Activation.{Activation, Turn, Goes, Asks, Ended, turn, has_ended}
-use Rattle.letter.specs.Runs.{Onward, Runs}
-use Rattle.world.specs.declared.part.Part.{Part}
-use Rattle.world.specs.declared.part.Part.TheVariants.{Acting, Silent, Posted}
+use Rattle.round.specs.Scenario.{Scenario, IsScenario}
+use Rattle.round.specs.Letters.{Letter}
+use Rattle.round.specs.Activation.{Activation, Turn, Goes, Asks, Ended, turn, has_ended}
+use Rattle.round.specs.Runs.{Onward, Runs}
+use Rattle.world.specs.declared.part.Progress.{Progress}
+use Rattle.world.specs.declared.part.Progress.TheVariants.{Acting, Silent, Posted}
 use Rattle.world.specs.Kind.{Kind, World, begun, opening, round_open, accesses_of, run}
 use Rattle.world.specs.KindAccounted.{IsAccountedRound, AreAccounted}
 use Rattle.world.specs.KindLists.{IsComplete, ticks_named, names_events, names_in}
 use Rattle.world.proofs.Moves.{moves_same, moves_board, moves_keep, AllParts}
-use Rattle.letter.proofs.Going.{over_ended, going_zero, IsGoing}
+use Rattle.round.proofs.Going.{over_ended, going_zero, IsGoing}
 use Rattle.world.proofs.Due.{Due, due_lasts}
 use Rattle.world.proofs.Complete.{Within, WithinAfter, turn_left, due_within}
 use Rattle.world.proofs.Lasting.{IsOnTime, named_moves, names_moves, opening_due, round_done}
@@ -26,7 +26,7 @@ use Rattle.world.proofs.Again.{Tells, ways_begin, acts_begin, round_again}
 use Rattle.world.proofs.Accounting.{accounted_count}
 use Rattle.world.proofs.Replaying.{runs_are_accounted}
 use Rattle.world.specs.Campaigns.{IsCampaign, AreCampaigns}
-use Rattle.explore.specs.Orders.{asks_or, asks_within, will_ask, IsRoundFrom, IsFrom, order_of}
+use Rattle.campaign_orders.specs.Orders.{asks_or, asks_within, will_ask, IsRoundFrom, IsFrom, order_of}
 
 -- who makes an access asks
 asks_zero : (k : ℕ) (a : Activation) (x : Access) (t : List Access) (end : Activation) → has_ended a ≡ true → Runs k a (x ∷ t) end → ⊥
@@ -65,18 +65,18 @@ silent (suc fuel) (suc k) a end over way = silent_by fuel k end (λ b r. silent 
 
 module _ (K : Kind) where
   module _ (E : ℕ → Activation → Type 0) where
-    all_silent : (w : World) → AllParts (Ways K E []) w.parts → (g : ℕ) (o : Option Part) → slice_get w.parts g ≡ o → will_ask o ≡ false
+    all_silent : (w : World) → AllParts (Ways K E []) w.parts → (g : ℕ) (o : Option Progress) → slice_get w.parts g ≡ o → will_ask o ≡ false
     all_silent w ways g None e = refl
     all_silent w ways g (Some (Acting a)) e = (let way = ways g (Acting a) e in silent (length a.program) way.k a way.end way.over way.runs)
     all_silent w ways g (Some Silent) e = refl
     all_silent w ways g (Some Posted) e = refl
 
-    way_else : (x : Access) (piece : List Access) (h : ℕ) (part : Part) → x.general ≢ h → Ways K E (x ∷ piece) h part → Ways K E piece h part
+    way_else : (x : Access) (piece : List Access) (h : ℕ) (part : Progress) → x.general ≢ h → Ways K E (x ∷ piece) h part → Ways K E piece h part
     way_else x piece h (Acting a) ne w = record { k = w.k; end = w.end; runs = (let A : List Access → Type 0 = λ t. Runs w.k a t w.end in subst A (of_next h x piece ne) w.runs); over = w.over; is = w.is }
     way_else x piece h Silent ne w = tt
     way_else x piece h Posted ne w = tt
 
-    act_later : (parts later : List Part) (g : ℕ) (now : Activation) (piece : List Access) → slice_get later g ≡ Some (Acting now) → ((h : ℕ) → h ≢ g → slice_get later h ≡ slice_get parts h) → Act parts piece → Act later piece
+    act_later : (parts later : List Progress) (g : ℕ) (now : Activation) (piece : List Access) → slice_get later g ≡ Some (Acting now) → ((h : ℕ) → h ≢ g → slice_get later h ≡ slice_get parts h) → Act parts piece → Act later piece
     act_later parts later g now [] at others acts = tt
     act_later parts later g now (x ∷ piece) at others acts = (
       ⊎_elim (λ (q : (x.general == g ≡ true) × (x.general ≡ g)). (now, ap (slice_get later) q.1 ∙ at))
@@ -99,7 +99,7 @@ module _ (K : Kind) where
         let ticks = ticks_named g (slice_get w.parts g) in
         let left = due_within s g a.program a d.program d in
         let c : Comes w (run K w ticks) g x (accesses_of g piece) way.end =
-        (let A : Option Part → Type 0 = λ o. Comes w (run K w (ticks_named g o)) g x (accesses_of g piece) way.end in
+        (let A : Option Progress → Type 0 = λ o. Comes w (run K w (ticks_named g o)) g x (accesses_of g piece) way.end in
         subst A (sym at) (reach K (length a.program) way.k w g a x (accesses_of g piece) way.end at board refl in_round.0 legal.0 left runs)) in
         let v = run K w ticks in
         let moves = named_moves g (slice_get w.parts g) in
@@ -108,8 +108,8 @@ module _ (K : Kind) where
         (λ (q : (h == g ≡ true) × (h ≡ g)).
         let now : Some (Acting c.now) ≡ Some part = sym c.at ∙ (ap (slice_get v.parts) (sym q.1) ∙ e) in
         let part_is : Acting c.now ≡ part = cc in
-        let A : ℕ → Part → Type 0 = λ j p. Ways K E piece j p in
-        subst (λ (j : ℕ). A j part) (sym q.1) (subst (λ (p : Part). A g p) part_is (record { k = c.k; end = way.end; runs = c.way; over = way.over; is = way.is })))
+        let A : ℕ → Progress → Type 0 = λ j p. Ways K E piece j p in
+        subst (λ (j : ℕ). A j part) (sym q.1) (subst (λ (p : Progress). A g p) part_is (record { k = c.k; end = way.end; runs = c.way; over = way.over; is = way.is })))
         (λ (q : (h == g ≡ false) × (h ≢ g)). way_else x piece h part (λ s'. q.1 (sym s')) (ways h part (sym (c.others h q.1) ∙ e)))
         (eqb_tells h g)) in (
           ap will_ask at ∙ asks (length a.program) way.k a x (accesses_of g piece) way.end left runs,

@@ -5,12 +5,12 @@ use Rattle.std.proofs.Math.Nat.{add-mul, mul-suc, mul-zero}
 use Rattle.std.proofs.lemmas.Bool.{ltb-true, ltb-false, cases_Bool}
 use Rattle.std.proofs.lemmas.List.Sums.{sum_by_push, sum_by-set, get_or-le-sum_by}
 use Rattle.std.proofs.lemmas.List.Elements.{All-push, All-set}
-use Rattle.roster.specs.Scenario.{Scenario}
+use Rattle.round.specs.Scenario.{Scenario}
 use Rattle.world.specs.Kind.{World, opening}
 use Rattle.world.specs.World.{oral_kind}
-use Rattle.explore.specs.Merging.{AreAlike}
-use Rattle.explore.specs.Layers.{State, kept, AsKept, IsStateOf, AreStatesOf, IsFreshOf, AreFreshOf, IsAlikeAt, IsJoined, IsEntered, IsCommon, weighed, behind_all, joined}
-use Rattle.explore.proofs.Standing.{earlier_case, joined_world, joined_state}
+use Rattle.campaign_orders.specs.Merging.{AreAlike}
+use Rattle.campaign_orders.specs.Layers.{State, kept, AsKept, IsStateOf, AreStatesOf, IsFreshOf, AreFreshOf, IsAlikeAt, IsJoined, IsEntered, IsCommon, weighed, behind_all, joined}
+use Rattle.campaign_orders.proofs.Standing.{earlier_case, joined_world, joined_state}
 
 -- the same more on both sides
 pub as_more : (m a b c : ℕ) → min a m ≡ min b m → min (a + c) m ≡ min (b + c) m

@@ -5,8 +5,8 @@ use Rattle.std.proofs.lemmas.Bool.{lt-ltb}
 use Rattle.std.proofs.Math.Seq.{drop-append_seam}
 use Rattle.std.proofs.lemmas.List.{append_cancel_left}
 use Rattle.board.specs.Board.{Access, words_after, IsLegal}
-use Rattle.roster.specs.Scenario.{Scenario, program_of}
-use Rattle.letter.specs.Letters.{Letter}
+use Rattle.round.specs.Scenario.{Scenario, program_of}
+use Rattle.round.specs.Letters.{Letter}
 use Rattle.world.specs.declared.event.Event.{Event}
 use Rattle.world.specs.declared.event.Event.TheVariants.{Close}
 use Rattle.world.specs.Campaigns.{IsCampaign}
@@ -22,12 +22,12 @@ use Rattle.world.proofs.Made.{Accounts, Added, AreMade, added_first, move_added,
 use Rattle.world.proofs.Moves.{move_same, moves_same, run-append, then_same}
 use Rattle.world.proofs.Punctual.{all_posted}
 use Rattle.world.proofs.Ways.{midst_first, moves_midst}
-use Rattle.explore.specs.Listing.{Has}
-use Rattle.explore.specs.Orders.{behind, past, IsRoundFrom}
-use Rattle.explore.specs.Walks.{Continues, IsAscending, IsWalk}
-use Rattle.explore.proofs.Completing.{generals_of, round_adds}
-use Rattle.explore.proofs.Succeeding.{asker_comes}
-use Rattle.explore.proofs.Walking.{round_walk}
+use Rattle.campaign_orders.specs.Listing.{Has}
+use Rattle.campaign_orders.specs.Orders.{behind, past, IsRoundFrom}
+use Rattle.campaign_orders.specs.Walks.{Continues, IsAscending, IsWalk}
+use Rattle.campaign_orders.proofs.Completing.{generals_of, round_adds}
+use Rattle.campaign_orders.proofs.Succeeding.{asker_comes}
+use Rattle.campaign_orders.proofs.Walking.{round_walk}
 
 module _ (K : Kind) where
   -- who comes behind some by number is one list

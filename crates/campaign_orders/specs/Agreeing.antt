@@ -1,10 +1,10 @@
 -- That what is found agrees (TOPLAS 1982, Theorem 1).
 use Rattle.std.specs.Prelude.{ℕ, All}
-use Rattle.roster.specs.Scenario.{Scenario, IsScenario}
+use Rattle.round.specs.Scenario.{Scenario, IsScenario}
 use Rattle.world.specs.Promises.{AgreeUnderBound}
 use Rattle.world.specs.World.{oral_kind}
-use Rattle.explore.specs.Outcomes.{oral_outcome}
-use Rattle.explore.specs.Exploring.{Finding, Exploration, IsExploration}
+use Rattle.campaign_orders.specs.Outcomes.{oral_outcome}
+use Rattle.campaign_orders.specs.Exploring.{Finding, Exploration, IsExploration}
 
 -- of an oral campaign whose bound holds, in each outcome the loyal lieutenants decide alike, and the order of a loyal
 -- commander

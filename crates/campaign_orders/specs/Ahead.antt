@@ -1,9 +1,9 @@
 -- Activations that are run on before their time: turns that ask nothing, whenever they are taken (own).
 use Rattle.std.specs.Prelude.{ℕ, ◌≡◌, List, [], ◌∷◌, slice_get, Option, Some}
-use Rattle.letter.specs.Activation.{Turn, Asks, turn}
+use Rattle.round.specs.Activation.{Turn, Asks, turn}
 use Rattle.world.specs.declared.event.Event.TheVariants.{Tick}
-use Rattle.world.specs.declared.part.Part.{Part}
-use Rattle.world.specs.declared.part.Part.TheVariants.{Acting}
+use Rattle.world.specs.declared.part.Progress.{Progress}
+use Rattle.world.specs.declared.part.Progress.TheVariants.{Acting}
 use Rattle.world.specs.Kind.{World, happen}
 use Rattle.world.specs.World.{oral_kind}
 
@@ -12,7 +12,7 @@ AsksNothing (Asks request answered) = ⊥
 AsksNothing _ = Unit {0}
 
 -- the next turn there asks nothing
-abbrev pub IsQuiet : Option Part → Type 0
+abbrev pub IsQuiet : Option Progress → Type 0
 IsQuiet (Some (Acting a)) = AsksNothing (turn a)
 IsQuiet _ = Unit {0}
 

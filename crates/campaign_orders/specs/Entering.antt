@@ -1,6 +1,6 @@
 -- What one order more makes of findings (own).
 use Rattle.std.specs.Prelude.{ℕ, ◌+◌, cond, List, [], ◌∷◌, bytes_eq}
-use Rattle.explore.specs.Exploring.{Finding}
+use Rattle.campaign_orders.specs.Exploring.{Finding}
 
 -- its decisions are counted where they were found, else they are a finding of their own, behind all
 abbrev pub entered : List Finding → List ℕ → List (List ℕ) → List Finding

@@ -1,14 +1,14 @@
 -- What an exploration of a campaign's orders answers (own).
 use Rattle.std.specs.Prelude.{ℕ, ◌≡◌, ◌≢◌, ◌<◌, ◌≤◌, ◌-◌, ◌^◌, min, List, All, length, map, take, find, sum_by, count_by, bytes_eq, Option, Some}
-use Rattle.roster.specs.Scenario.{Scenario}
+use Rattle.round.specs.Scenario.{Scenario}
 use Rattle.world.specs.declared.event.Event.{Event}
 use Rattle.world.specs.Kind.{Kind}
 use Rattle.world.specs.KindLists.{IsComplete}
-use Rattle.explore.specs.declared.exploration.Reach.{Reach}
-use Rattle.explore.specs.declared.exploration.Reach.TheVariants.{Whole, Beyond, InPart}
-use Rattle.explore.specs.Orders.{IsOrder}
-use Rattle.explore.specs.Listing.{orders, Has, AreDifferent}
-use Rattle.explore.specs.Outcomes.{Outcome, outcome_in, outcome_of}
+use Rattle.campaign_orders.specs.declared.exploration.Reach.{Reach}
+use Rattle.campaign_orders.specs.declared.exploration.Reach.TheVariants.{Whole, Beyond, InPart}
+use Rattle.campaign_orders.specs.Orders.{IsOrder}
+use Rattle.campaign_orders.specs.Listing.{orders, Has, AreDifferent}
+use Rattle.campaign_orders.specs.Outcomes.{Outcome, outcome_in, outcome_of}
 
 -- in how many of these orders a campaign comes to these decisions
 abbrev pub ways_among : Kind → Outcome → Scenario → List (List (List ℕ)) → List ℕ → ℕ

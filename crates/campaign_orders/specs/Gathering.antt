@@ -1,12 +1,12 @@
 -- The findings of the states in which a campaign can end (own).
 use Rattle.std.specs.Prelude.{ℕ, ◌≡◌, ◌<◌, ◌+◌, ◌*◌, ◌^◌, ◌++◌, false, List, [], ◌∷◌, All, length, sum_by, slice_index_or, slice_set, ◌⊎◌}
 use Rattle.std.specs.Ordering.{is_gt}
-use Rattle.explore.specs.Exploring.{Finding, outcomes_of}
-use Rattle.explore.specs.Layers.{State, AsKept, kept, weighed}
-use Rattle.explore.specs.Least.{lesser, order_cmp}
-use Rattle.explore.specs.Listing.{AreDifferent, Has}
-use Rattle.explore.specs.Outcomes.{oral_outcome}
-use Rattle.explore.specs.Places.{IsPlaceOf, IsNowhere}
+use Rattle.campaign_orders.specs.Exploring.{Finding, outcomes_of}
+use Rattle.campaign_orders.specs.Layers.{State, AsKept, kept, weighed}
+use Rattle.campaign_orders.specs.Least.{lesser, order_cmp}
+use Rattle.campaign_orders.specs.Listing.{AreDifferent, Has}
+use Rattle.campaign_orders.specs.Outcomes.{oral_outcome}
+use Rattle.campaign_orders.specs.Places.{IsPlaceOf, IsNowhere}
 
 -- so many ways more to decisions that were found, and the lesser order is the example
 pub record IsCountedOn (findings : List Finding) (t : State) (new : List Finding) : Type 0 where

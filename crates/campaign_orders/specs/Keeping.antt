@@ -1,13 +1,13 @@
 -- An exploration with a schedule for each outcome (own).
 use Rattle.std.specs.Prelude.{ℕ, ◌≡◌, ◌≤◌, List, All, length, map}
-use Rattle.roster.specs.Scenario.{Scenario}
+use Rattle.round.specs.Scenario.{Scenario}
 use Rattle.world.specs.Kind.{Kind, opening}
 use Rattle.world.specs.Promises.{AgreeUnderBound}
 use Rattle.world.specs.World.{oral_kind}
-use Rattle.explore.specs.Exploring.{Exploration, Finding, IsExploration}
-use Rattle.explore.specs.Outcomes.{oral_outcome}
-use Rattle.explore.specs.Schedules.{schedule_from}
-use Rattle.explore.specs.Text.{exploration_text, schedule_text}
+use Rattle.campaign_orders.specs.Exploring.{Exploration, Finding, IsExploration}
+use Rattle.campaign_orders.specs.Outcomes.{oral_outcome}
+use Rattle.campaign_orders.specs.Schedules.{schedule_from}
+use Rattle.campaign_orders.specs.Text.{exploration_text, schedule_text}
 
 -- the text of the schedule of a finding's example
 abbrev pub example_text : Kind → Scenario → Finding → List ℕ

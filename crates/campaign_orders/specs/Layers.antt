@@ -2,17 +2,17 @@
 use Rattle.std.specs.Prelude.{ℕ, zero, suc, ◌≡◌, ◌<◌, ◌≤◌, ◌+◌, ◌*◌, ◌-◌, ◌^◌, ◌++◌, min, cond, Bool, true, false, List, [], ◌∷◌, All, length, sum_by, slice_get, slice_index_or, slice_set, Option, None, Some, ◌⊎◌}
 use Rattle.std.specs.declared.cmp.Ordering.{Ordering}
 use Rattle.std.specs.Ordering.{is_lt, is_gt}
-use Rattle.roster.specs.Scenario.{Scenario, IsScenario}
+use Rattle.round.specs.Scenario.{Scenario, IsScenario}
 use Rattle.world.specs.Kind.{World, opening, run}
 use Rattle.world.specs.KindHeld.{IsReached}
 use Rattle.world.specs.KindLists.{names_events}
 use Rattle.world.specs.World.{oral_kind}
-use Rattle.explore.specs.Ahead.{IsRunOn}
-use Rattle.explore.specs.Orders.{will_ask, past, behind, IsRoundFrom}
-use Rattle.explore.specs.Least.{Beginning, beginning_cmp}
-use Rattle.explore.specs.Listing.{Has, AreShort, askers, round_orders, most_in_round}
-use Rattle.explore.specs.Merging.{AreAlike}
-use Rattle.explore.specs.Walks.{IsWalk}
+use Rattle.campaign_orders.specs.Ahead.{IsRunOn}
+use Rattle.campaign_orders.specs.Orders.{will_ask, past, behind, IsRoundFrom}
+use Rattle.campaign_orders.specs.Least.{Beginning, beginning_cmp}
+use Rattle.campaign_orders.specs.Listing.{Has, AreShort, askers, round_orders, most_in_round}
+use Rattle.campaign_orders.specs.Merging.{AreAlike}
+use Rattle.campaign_orders.specs.Walks.{IsWalk}
 
 -- a world, in how many ways it or an alike one comes about, and the least of these: who made the accesses of its closed
 -- rounds, and of the open one

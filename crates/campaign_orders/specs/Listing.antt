@@ -2,9 +2,9 @@
 use Rattle.std.specs.Prelude.{ℕ, zero, suc, ◌≡◌, ◌≤◌, ◌*◌, ◌↔◌, ◌⊎◌, List, [], ◌∷◌, length, map, flat_map, filter, sum_by, slice_get, Option, None, Some}
 use Rattle.insn.specs.declared.insn.Insn.{Insn}
 use Rattle.label.specs.Labels.{generals}
-use Rattle.roster.specs.Scenario.{Scenario, IsScenario}
+use Rattle.round.specs.Scenario.{Scenario, IsScenario}
 use Rattle.world.specs.Kind.{Kind, World, opening}
-use Rattle.explore.specs.Orders.{IsOrder, will_ask, past, behind, IsRoundFrom}
+use Rattle.campaign_orders.specs.Orders.{IsOrder, will_ask, past, behind, IsRoundFrom}
 
 -- who is still to make an access in the open round, ascending
 abbrev pub askers : World → List ℕ

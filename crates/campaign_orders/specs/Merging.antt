@@ -1,14 +1,14 @@
 -- Worlds of oral campaigns that go on alike: they differ in what was accessed and in how many steps, and in nothing
 -- that is told or that decides (own).
 use Rattle.std.specs.Prelude.{ℕ, ◌≡◌, List, [], ◌∷◌}
-use Rattle.letter.specs.Letters.{Letter}
+use Rattle.round.specs.Letters.{Letter}
 use Rattle.world.specs.declared.event.Event.{Event}
 use Rattle.world.specs.Kind.{World}
 use Rattle.world.specs.World.{oral_kind, run}
 use Rattle.world.specs.Lists.{replayed_rounds}
-use Rattle.explore.specs.Orders.{IsRoundFrom, IsFrom}
-use Rattle.explore.specs.Listing.{round_orders, orders_from}
-use Rattle.explore.specs.Outcomes.{oral_outcome}
+use Rattle.campaign_orders.specs.Orders.{IsRoundFrom, IsFrom}
+use Rattle.campaign_orders.specs.Listing.{round_orders, orders_from}
+use Rattle.campaign_orders.specs.Outcomes.{oral_outcome}
 
 -- letters of the same generals that tell the same, one by one
 abbrev pub TellAlike : List Letter → List Letter → Type 0

@@ -1,10 +1,10 @@
 -- The orders in which the accesses of a campaign of some kind come, and what follows from one (own).
 use Rattle.std.specs.Prelude.{ℕ, zero, suc, ◌≡◌, ◌↔◌, Bool, true, false, List, [], ◌∷◌, ◌++◌, length, slice_get, Option, Some}
-use Rattle.roster.specs.Scenario.{Scenario, IsScenario}
-use Rattle.letter.specs.Activation.{Activation, Turn, Goes, Asks, Ended, turn}
+use Rattle.round.specs.Scenario.{Scenario, IsScenario}
+use Rattle.round.specs.Activation.{Activation, Turn, Goes, Asks, Ended, turn}
 use Rattle.world.specs.declared.event.Event.{Event}
-use Rattle.world.specs.declared.part.Part.{Part}
-use Rattle.world.specs.declared.part.Part.TheVariants.{Acting}
+use Rattle.world.specs.declared.part.Progress.{Progress}
+use Rattle.world.specs.declared.part.Progress.TheVariants.{Acting}
 use Rattle.world.specs.Kind.{Kind, World, opening, run}
 use Rattle.world.specs.KindLists.{IsComplete, ticks_named, names_events, wound_up, replayed, names_in}
 
@@ -28,7 +28,7 @@ asks_within zero a = false
 asks_within (suc k) a = asks_or (asks_within k) (turn a)
 
 -- whether a general is still to make an access in the open round
-abbrev pub will_ask : Option Part → Bool
+abbrev pub will_ask : Option Progress → Bool
 will_ask (Some (Acting a)) = asks_within (length a.program) a
 will_ask _ = false
 

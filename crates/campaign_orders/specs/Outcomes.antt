@@ -1,7 +1,7 @@
 -- What a campaign comes to, by its kind (own).
 use Rattle.std.specs.Prelude.{ℕ, List}
-use Rattle.roster.specs.Scenario.{Scenario}
-use Rattle.letter.specs.Letters.{messages}
+use Rattle.round.specs.Scenario.{Scenario}
+use Rattle.round.specs.Letters.{messages}
 use Rattle.world.specs.declared.event.Event.{Event}
 use Rattle.world.specs.Chronicle.{decisions}
 use Rattle.world.specs.Kind.{Kind, World, opening, run}

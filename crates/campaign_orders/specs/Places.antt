@@ -1,6 +1,6 @@
 -- Where decisions were found (own).
 use Rattle.std.specs.Prelude.{ℕ, ◌≡◌, ◌<◌, true, false, List, length, slice_index_or, bytes_eq}
-use Rattle.explore.specs.Exploring.{Finding}
+use Rattle.campaign_orders.specs.Exploring.{Finding}
 
 -- in none of so many findings from the first on
 abbrev pub AreElsewhere : ℕ → List Finding → List ℕ → Type 0

@@ -1,17 +1,17 @@
 -- What becomes of names that are to make their accesses in their order (own).
 use Rattle.std.specs.Prelude.{ℕ, ◌≡◌, true, false, List, length, slice_get, Option, None, Some}
-use Rattle.roster.specs.Scenario.{Scenario}
+use Rattle.round.specs.Scenario.{Scenario}
 use Rattle.world.specs.Kind.{Kind, World, opening, run}
 use Rattle.world.specs.declared.event.Event.{Event}
 use Rattle.world.specs.KindLists.{IsComplete, listed, replayed, ticks_named, names_events}
 use Rattle.world.specs.Schedules.{lines_by}
-use Rattle.explore.specs.declared.scheduled.Line.{Line}
-use Rattle.explore.specs.declared.scheduled.Line.TheVariants.{Made, Stuck}
-use Rattle.explore.specs.declared.scheduled.Scheduled.{Scheduled}
-use Rattle.explore.specs.declared.scheduled.Scheduled.TheVariants.{By, Never}
-use Rattle.explore.specs.Orders.{will_ask, past, order_of}
-use Rattle.explore.specs.Walks.{IsWalk, AreWalks, IsStuckAt, IsStuckIn, IsCompletion}
-use Rattle.explore.specs.Schedules.{entries_from, schedule_from}
+use Rattle.campaign_orders.specs.declared.schedule_outcome.Line.{Line}
+use Rattle.campaign_orders.specs.declared.schedule_outcome.Line.TheVariants.{Made, Stuck}
+use Rattle.campaign_orders.specs.declared.schedule_outcome.Scheduled.{Scheduled}
+use Rattle.campaign_orders.specs.declared.schedule_outcome.Scheduled.TheVariants.{By, Never}
+use Rattle.campaign_orders.specs.Orders.{will_ask, past, order_of}
+use Rattle.campaign_orders.specs.Walks.{IsWalk, AreWalks, IsStuckAt, IsStuckIn, IsCompletion}
+use Rattle.campaign_orders.specs.Schedules.{entries_from, schedule_from}
 
 -- so many steps of a general, with which he has made one more access; or none, where he is to make none
 abbrev pub IsStepTo : Kind → World → ℕ → World → Option ℕ → Type 0

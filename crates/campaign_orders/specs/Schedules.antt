@@ -1,13 +1,13 @@
 -- Schedules under which the accesses come in an order (own).
 use Rattle.std.specs.Prelude.{ℕ, ◌≡◌, List, [], ◌∷◌, length, slice_get}
-use Rattle.roster.specs.Scenario.{Scenario, IsScenario}
+use Rattle.round.specs.Scenario.{Scenario, IsScenario}
 use Rattle.world.specs.declared.event.Event.{Event}
 use Rattle.world.specs.declared.schedule.Repeat.{Repeat}
 use Rattle.world.specs.Kind.{Kind, World, opening, run}
 use Rattle.world.specs.KindLists.{IsComplete, listed, replayed, ticks_named}
 use Rattle.world.specs.Schedules.{lines_by}
-use Rattle.explore.specs.Orders.{past, behind, order_of, IsOrder}
-use Rattle.explore.specs.Walks.{AreWalks, IsCompletion}
+use Rattle.campaign_orders.specs.Orders.{past, behind, order_of, IsOrder}
+use Rattle.campaign_orders.specs.Walks.{AreWalks, IsCompletion}
 
 -- the entries of a round: one for each access, with as many steps of the general as it takes until he has made it
 abbrev pub entries_from : Kind → World → List ℕ → List Repeat

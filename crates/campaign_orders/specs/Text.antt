@@ -1,13 +1,13 @@
 -- What is printed of an exploration (own).
 use Rattle.std.specs.Prelude.{ℕ, ◌+◌, ◌-◌, ◌^◌, nat_lt, cond, Bool, true, false, List, [], ◌∷◌, ◌++◌, flat_map, decimal, codes, Option, None, Some}
-use Rattle.roster.specs.Scenario.{Scenario}
+use Rattle.round.specs.Scenario.{Scenario}
 use Rattle.world.specs.declared.schedule.Repeat.{Repeat}
 use Rattle.world.specs.Chronicle.{verdict_of}
 use Rattle.world.specs.Kind.{Kind, opening}
-use Rattle.explore.specs.declared.exploration.Reach.{Reach}
-use Rattle.explore.specs.declared.exploration.Reach.TheVariants.{Whole, Beyond, InPart}
-use Rattle.explore.specs.Exploring.{Finding, Exploration, counted_in}
-use Rattle.explore.specs.Schedules.{schedule_from}
+use Rattle.campaign_orders.specs.declared.exploration.Reach.{Reach}
+use Rattle.campaign_orders.specs.declared.exploration.Reach.TheVariants.{Whole, Beyond, InPart}
+use Rattle.campaign_orders.specs.Exploring.{Finding, Exploration, counted_in}
+use Rattle.campaign_orders.specs.Schedules.{schedule_from}
 
 -- a number behind a space
 abbrev pub further : ℕ → List ℕ

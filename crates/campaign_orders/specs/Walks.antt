@@ -2,8 +2,8 @@
 use Rattle.std.specs.Prelude.{ℕ, zero, suc, ◌≡◌, ◌≤◌, true, false, List, [], ◌∷◌, ◌++◌, slice_get}
 use Rattle.world.specs.Kind.{Kind, World}
 use Rattle.world.specs.KindLists.{first_line, later_lines}
-use Rattle.explore.specs.Orders.{will_ask, past, behind}
-use Rattle.explore.specs.Listing.{Has}
+use Rattle.campaign_orders.specs.Orders.{will_ask, past, behind}
+use Rattle.campaign_orders.specs.Listing.{Has}
 
 -- each of these is still to make an access as his turn comes
 abbrev pub IsWalk : Kind → World → List ℕ → Type 0

@@ -1,7 +1,7 @@
 //! Activations that are run on before their time.
-ghost use Rattle.explore.specs.Ahead.{IsRunOn};
+ghost use Rattle.campaign_orders.specs.Ahead.{IsRunOn};
 
-use world::{Plays, World, parts};
+use world::{PlayableWorld, World, parts};
 
 /// Runs each activation on to its next access or its end. Nothing that comes of the world depends on when these turns
 /// are taken, and what a program drops on its way there tells worlds apart no longer.

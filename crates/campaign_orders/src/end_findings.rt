@@ -1,14 +1,14 @@
 //! The findings of the states in which a campaign can end.
 ghost use Rattle.std.specs.Prelude.{◌≡◌, IfOk, OnOk};
-ghost use Rattle.explore.specs.Gathering.{AreGathered, IsFound};
+ghost use Rattle.campaign_orders.specs.Gathering.{AreGathered, IsFound};
 
-use crate::exploring::place_of;
-use crate::finding::Finding;
+use crate::explorer::place_of;
+use crate::finding::DecisionGroup;
 use crate::state::State;
 use std::alloc::{AllocError, Global};
 
 /// Enters the outcome of a state: it comes about in so many ways more, or for the first time.
-fn find(alloc: Global, findings: &mut Vec<Finding>, state: &State) -> Result<(), AllocError>
+fn find(alloc: Global, findings: &mut Vec<DecisionGroup>, state: &State) -> Result<(), AllocError>
     ensures { OnOk result (IsFound findings.old.items state.now findings.new.items) }
 {
     let outcome = state.world.decisions();
@@ -16,7 +16,7 @@ fn find(alloc: Global, findings: &mut Vec<Finding>, state: &State) -> Result<(),
     match place_of(findings.as_slice(), decisions) {
         Some(place) => { findings[place].count_more(alloc, state.ways, state.rows.as_slice()) }
         None => {
-            findings.push(Finding::of(alloc, decisions, state.ways, state.rows.as_slice())?)?;
+            findings.push(DecisionGroup::of(alloc, decisions, state.ways, state.rows.as_slice())?)?;
             Ok(())
         }
     }
@@ -27,7 +27,7 @@ fn find(alloc: Global, findings: &mut Vec<Finding>, state: &State) -> Result<(),
 /// # Errors
 ///
 /// `AllocError` where memory is refused.
-pub(crate) fn gather(alloc: Global, states: &[State]) -> Result<Vec<Finding>, AllocError>
+pub(crate) fn gather(alloc: Global, states: &[State]) -> Result<Vec<DecisionGroup>, AllocError>
     ensures { IfOk result (λ findings. AreGathered states.now findings.items) }
 {
     let mut findings = Vec::new(alloc);

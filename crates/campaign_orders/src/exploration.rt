@@ -1,7 +1,7 @@
 //! What an exploration answers.
 ghost use Rattle.std.specs.Prelude.{◌≡◌};
 
-use crate::finding::Finding;
+use crate::finding::DecisionGroup;
 use std::marker::Model;
 
 /// Of how many orders an exploration tells.
@@ -18,12 +18,12 @@ pub enum Reach {
 /// The outcomes that were found, in the order in which they were found, and of how many orders they tell.
 #[derive(Drop)]
 pub struct Exploration {
-    pub(crate) findings: Vec<Finding>,
+    pub(crate) findings: Vec<DecisionGroup>,
     pub(crate) reach: Reach,
 }
 
 impl Model for Exploration {
-    ghost use Rattle.explore.specs.Exploring.{Exploration as Explored};
+    ghost use Rattle.campaign_orders.specs.Exploring.{Exploration as Explored};
 
     ghost Value = { Explored };
 
@@ -32,7 +32,7 @@ impl Model for Exploration {
 
 impl Exploration {
     /// The outcomes, each with its count and an example.
-    pub fn findings(&self) -> &[Finding]
+    pub fn findings(&self) -> &[DecisionGroup]
         ensures { result.now ≡ self.now.findings }
     {
         self.findings.as_slice()

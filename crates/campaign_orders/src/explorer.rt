@@ -1,23 +1,23 @@
 //! All orders of a campaign, one after another, each played from the start.
 ghost use Rattle.std.specs.Prelude.{◌≡◌, ◌↔◌, IsTrue, ◌<◌, ◌+◌, ◌-◌, ◌^◌, ℕ, All, IfOk, OnOk, MatchOption, true, false, length, slice_index_or, option_map, bytes_eq};
-ghost use Rattle.explore.specs.Entering.{entered};
-ghost use Rattle.explore.specs.Exploring.{Finding as Found, IsExploration, counted_in};
-ghost use Rattle.explore.specs.Layers.{kept};
-ghost use Rattle.explore.specs.Orders.{order_of};
-ghost use Rattle.explore.specs.Outcomes.{oral_outcome, outcome_in};
-ghost use Rattle.explore.specs.Places.{IsPlaceOf, IsNowhere};
-ghost use Rattle.explore.specs.Succession.{next_order};
+ghost use Rattle.campaign_orders.specs.Entering.{entered};
+ghost use Rattle.campaign_orders.specs.Exploring.{Finding as Found, IsExploration, counted_in};
+ghost use Rattle.campaign_orders.specs.Layers.{kept};
+ghost use Rattle.campaign_orders.specs.Orders.{order_of};
+ghost use Rattle.campaign_orders.specs.Outcomes.{oral_outcome, outcome_in};
+ghost use Rattle.campaign_orders.specs.Places.{IsPlaceOf, IsNowhere};
+ghost use Rattle.campaign_orders.specs.Succession.{next_order};
 ghost use Rattle.world.specs.Playing.{lists_in};
 ghost use Rattle.world.specs.KindLists.{replayed};
 ghost use Rattle.world.specs.World.{oral_kind};
 
+use crate::end_findings::gather;
 use crate::exploration::{Exploration, Reach};
-use crate::finding::Finding;
-use crate::gathering::gather;
+use crate::finding::DecisionGroup;
 use crate::layers::last_states;
 use crate::order::order_in;
 use crate::succession::next_order;
-use roster::Scenario;
+use round::Scenario;
 use std::alloc::{AllocError, Global};
 use world::replay;
 
@@ -65,7 +65,7 @@ fn explore_all(alloc: Global, scenario: &Scenario) -> Result<Exploration, AllocE
 }
 
 /// How many orders were counted; 2^64 - 1 stands for that or more.
-fn most_counted(findings: &[Finding]) -> u64
+fn most_counted(findings: &[DecisionGroup]) -> u64
     ensures { result ≡ kept (counted_in findings.now) }
 {
     let mut count: u64 = 0;
@@ -107,7 +107,7 @@ fn visit(
     alloc: Global,
     scenario: &Scenario,
     names: &[Vec<u8>],
-    findings: &mut Vec<Finding>,
+    findings: &mut Vec<DecisionGroup>,
 ) -> Result<Option<Vec<Vec<u8>>>, AllocError>
     requires { counted_in findings.old.items + 1 < 2 ^ 64 }
     ensures entered { OnOk result
@@ -128,7 +128,7 @@ fn visit(
 /// One order more, which leads to these decisions.
 fn enter(
     alloc: Global,
-    findings: &mut Vec<Finding>,
+    findings: &mut Vec<DecisionGroup>,
     decisions: &[u32],
     order: &[Vec<u8>],
 ) -> Result<(), AllocError>
@@ -141,14 +141,14 @@ fn enter(
             Ok(())
         }
         None => {
-            findings.push(Finding::first(alloc, decisions, order)?)?;
+            findings.push(DecisionGroup::first(alloc, decisions, order)?)?;
             Ok(())
         }
     }
 }
 
 /// Where these decisions were found first.
-pub(crate) fn place_of(findings: &[Finding], decisions: &[u32]) -> Option<usize>
+pub(crate) fn place_of(findings: &[DecisionGroup], decisions: &[u32]) -> Option<usize>
     ensures { MatchOption result (IsNowhere findings.now decisions.now)
         (λ place. IsPlaceOf findings.now decisions.now place) }
 {

@@ -1,7 +1,7 @@
 //! What explorations find.
 ghost use Rattle.std.specs.Prelude.{◌≡◌, ◌+◌, ◌<◌, ◌^◌, IfOk, OnOk};
-ghost use Rattle.explore.specs.Layers.{kept};
-ghost use Rattle.explore.specs.Least.{lesser};
+ghost use Rattle.campaign_orders.specs.Layers.{kept};
+ghost use Rattle.campaign_orders.specs.Least.{lesser};
 ghost use Rattle.world.specs.Playing.{lists_in};
 
 use crate::order::{compared, copied};
@@ -10,14 +10,14 @@ use std::marker::Model;
 
 /// Decisions of a campaign's lieutenants, in how many orders of accesses they come about, and the least of these.
 #[derive(Drop)]
-pub struct Finding {
+pub struct DecisionGroup {
     decisions: Vec<u32>,
     count: u64,
     example: Vec<Vec<u8>>,
 }
 
-impl Model for Finding {
-    ghost use Rattle.explore.specs.Exploring.{Finding as Found};
+impl Model for DecisionGroup {
+    ghost use Rattle.campaign_orders.specs.Exploring.{Finding as Found};
     ghost use Rattle.world.specs.Playing.{lists_in};
 
     ghost Value = { Found };
@@ -25,7 +25,7 @@ impl Model for Finding {
     ghost view = { λ f. record { decisions = f.decisions.items; count = f.count; example = lists_in f.example.items } };
 }
 
-impl Finding {
+impl DecisionGroup {
     /// Decisions that come about in one order so far, which is the example.
     ///
     /// # Errors
@@ -35,14 +35,14 @@ impl Finding {
         alloc: Global,
         decisions: &[u32],
         order: &[Vec<u8>],
-    ) -> Result<Finding, AllocError>
+    ) -> Result<DecisionGroup, AllocError>
         ensures { IfOk result (λ finding. finding ≡ record {
           decisions = decisions.now;
           count = 1;
           example = lists_in order.now;
         }) }
     {
-        Ok(Finding {
+        Ok(DecisionGroup {
             decisions: Vec::from_slice(alloc, decisions)?,
             count: 1,
             example: copied(alloc, order)?,
@@ -59,14 +59,14 @@ impl Finding {
         decisions: &[u32],
         count: u64,
         order: &[Vec<u8>],
-    ) -> Result<Finding, AllocError>
+    ) -> Result<DecisionGroup, AllocError>
         ensures { IfOk result (λ finding. finding ≡ record {
           decisions = decisions.now;
           count = kept count;
           example = lists_in order.now;
         }) }
     {
-        Ok(Finding {
+        Ok(DecisionGroup {
             decisions: Vec::from_slice(alloc, decisions)?,
             count,
             example: copied(alloc, order)?,

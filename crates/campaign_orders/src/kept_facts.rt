@@ -1,9 +1,9 @@
 //! A call that does nothing but look: it recalls, for the proof of its caller, what the type of its argument keeps.
 ghost use Rattle.std.specs.Prelude.{◌≡◌, ◌≤◌, ℕ, List, Some, length};
 ghost use Rattle.insn.specs.declared.insn.Insn.{Insn};
-ghost use Rattle.roster.specs.Scenario.{program_of};
+ghost use Rattle.round.specs.Scenario.{program_of};
 
-use roster::Scenario;
+use round::Scenario;
 
 /// Does nothing. No program of a scenario has more than 4,096 instructions.
 pub fn recall_short(scenario: &Scenario)

@@ -1,9 +1,9 @@
 //! Laws of orders: each function does nothing, and its contract is the law.
-ghost use Rattle.explore.specs.Agreeing.{FindingsAgree};
-ghost use Rattle.explore.specs.Listing.{OrdersAreListed, OrdersAreWhole};
-ghost use Rattle.explore.specs.Merging.{AlikeWorldsGoOnAlike, AlikeWorldsHaveOneList};
-ghost use Rattle.explore.specs.Orders.{OrdersDecide};
-ghost use Rattle.explore.specs.Schedules.{OrdersAreSchedules};
+ghost use Rattle.campaign_orders.specs.Agreeing.{FindingsAgree};
+ghost use Rattle.campaign_orders.specs.Listing.{OrdersAreListed, OrdersAreWhole};
+ghost use Rattle.campaign_orders.specs.Merging.{AlikeWorldsGoOnAlike, AlikeWorldsHaveOneList};
+ghost use Rattle.campaign_orders.specs.Orders.{OrdersDecide};
+ghost use Rattle.campaign_orders.specs.Schedules.{OrdersAreSchedules};
 ghost use Rattle.world.specs.World.{oral_kind};
 
 /// Runs of one order of accesses are one, and each order is one choice after another of who makes the next access.

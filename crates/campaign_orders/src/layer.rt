@@ -1,6 +1,6 @@
 //! States of which each stands for all that are alike, found by their marks.
 ghost use Rattle.std.specs.Prelude.{◌≡◌, ◌++◌, ◌∷◌, [], IfSome, OnOk};
-ghost use Rattle.explore.specs.Layers.{IsAlikeAt, IsEntered};
+ghost use Rattle.campaign_orders.specs.Layers.{IsAlikeAt, IsEntered};
 
 use crate::state::{State, is_like};
 use std::alloc::{AllocError, Global};
@@ -18,7 +18,7 @@ pub(crate) struct Layer {
 
 impl Model for Layer {
     ghost use Rattle.std.specs.Prelude.{List};
-    ghost use Rattle.explore.specs.Layers.{State as StateSeen};
+    ghost use Rattle.campaign_orders.specs.Layers.{State as StateSeen};
 
     ghost Value = { List StateSeen };
 

@@ -1,20 +1,20 @@
 //! Orders layer by layer: each layer has one access more, and alike worlds of a layer are one state.
 ghost use Rattle.std.specs.Prelude.{◌≡◌, ◌<◌, ◌≤◌, ◌*◌, ◌++◌, ◌∷◌, ◌||◌, ℕ, [], suc, IfOk, None, OnOk, slice_get};
-ghost use Rattle.explore.specs.Ahead.{IsRunOn};
-ghost use Rattle.explore.specs.Layers.{AreLayers, AreStatesOf, IsAsked, IsExpanded, IsPastOf, IsRoundOn, IsStep, reached};
-ghost use Rattle.explore.specs.Listing.{instructions, most_in_round};
-ghost use Rattle.explore.specs.Orders.{behind};
-ghost use Rattle.roster.specs.Scenario.{program_of};
+ghost use Rattle.campaign_orders.specs.Ahead.{IsRunOn};
+ghost use Rattle.campaign_orders.specs.Layers.{AreLayers, AreStatesOf, IsAsked, IsExpanded, IsPastOf, IsRoundOn, IsStep, reached};
+ghost use Rattle.campaign_orders.specs.Listing.{instructions, most_in_round};
+ghost use Rattle.campaign_orders.specs.Orders.{behind};
+ghost use Rattle.round.specs.Scenario.{program_of};
 ghost use Rattle.world.specs.Kind.{opening};
 ghost use Rattle.world.specs.Playing.{lists_in, program_length};
 ghost use Rattle.world.specs.World.{oral_kind};
 
 use crate::layer::Layer;
-use crate::scheduling::{instructions, steps_to_access};
+use crate::schedules::{instructions, steps_to_access};
 use crate::state::{State, with_access};
-use roster::Scenario;
+use round::Scenario;
 use std::alloc::{AllocError, Global};
-use world::{Part, Plays, World, named_round, play_names, wind_up};
+use world::{PlayableWorld, Progress, World, named_round, play_names, wind_up};
 
 /// The world in which these made the accesses of the closed rounds, and these those of the open one.
 fn again(
@@ -163,7 +163,7 @@ fn ask_last(
 }
 
 /// The last general who acts in the open round, the first of all where nobody does.
-fn last_acting(standing: &[Part], generals: u8) -> u8
+fn last_acting(standing: &[Progress], generals: u8) -> u8
     requires { 0 < generals }
     ensures inside { result < generals }
     ensures last { (g : ℕ) → result < g → g < generals → program_length (slice_get standing.now g) ≡ None }

@@ -1,9 +1,9 @@
 //! Whether worlds go on alike.
 ghost use Rattle.std.specs.Prelude.{◌≡◌, ◌↔◌, IsTrue};
-ghost use Rattle.explore.specs.Merging.{AreAlike, RoundsAlike, TellAlike};
+ghost use Rattle.campaign_orders.specs.Merging.{AreAlike, RoundsAlike, TellAlike};
 
-use letter::{Letter, Round};
-use world::{Part, Plays, World};
+use round::{Letter, Round};
+use world::{PlayableWorld, Progress, World};
 
 /// Whether the letters are of one general and tell the same.
 fn tells_alike(letter: &Letter, other: &Letter) -> bool
@@ -44,27 +44,27 @@ fn rounds_alike(rounds: &[Round], others: &[Round]) -> bool
 }
 
 /// Whether both stand alike in the open round.
-fn same_part(part: &Part, other: &Part) -> bool
+fn same_part(part: &Progress, other: &Progress) -> bool
     ensures { IsTrue result ↔ (part.now ≡ other.now) }
 {
     match part {
-        Part::Acting(running) => match other {
-            Part::Acting(second) => running.same(second),
+        Progress::Acting(running) => match other {
+            Progress::Acting(second) => running.same(second),
             _ => false,
         },
-        Part::Silent => match other {
-            Part::Silent => true,
+        Progress::Silent => match other {
+            Progress::Silent => true,
             _ => false,
         },
-        Part::Posted => match other {
-            Part::Posted => true,
+        Progress::Posted => match other {
+            Progress::Posted => true,
             _ => false,
         },
     }
 }
 
 /// Whether all stand alike in the open round.
-fn same_parts(parts: &[Part], others: &[Part]) -> bool
+fn same_parts(parts: &[Progress], others: &[Progress]) -> bool
     ensures { IsTrue result ↔ (parts.now ≡ others.now) }
 {
     if parts.len() != others.len() {

@@ -1,6 +1,6 @@
 //! Orders of accesses: for each round the generals who make them, one after another.
 ghost use Rattle.std.specs.Prelude.{◌≡◌, ◌==◌, ◌<◌, All, IfOk, map, filter};
-ghost use Rattle.explore.specs.Least.{order_cmp};
+ghost use Rattle.campaign_orders.specs.Least.{order_cmp};
 ghost use Rattle.world.specs.KindLists.{names_in};
 ghost use Rattle.world.specs.Playing.{lists_in};
 

@@ -1,26 +1,26 @@
 //! What is printed of an exploration.
 ghost use Rattle.std.specs.Prelude.{◌≡◌, ◌≢◌, ◌≤◌, ◌<◌, ◌+◌, ◌^◌, ◌++◌, All, IfOk, OnOk, codes, decimal, flat_map, map, string_bytes};
-ghost use Rattle.explore.specs.declared.exploration.Reach.TheVariants.{Whole, Beyond, InPart};
-ghost use Rattle.explore.specs.Exploring.{Exploration as Explored, IsExploration, counted_in};
-ghost use Rattle.explore.specs.Outcomes.{oral_outcome};
-ghost use Rattle.explore.specs.Keeping.{IsKept, example_text};
-ghost use Rattle.explore.specs.Text.{count_text, entry_text, exploration_text, finding_text, further, head_text, line_text, outcome_text, round_text, rounds_text, schedule_text, yes_no, yes_no_none};
-ghost use Rattle.explore.specs.Walks.{AreWalks};
+ghost use Rattle.campaign_orders.specs.declared.exploration.Reach.TheVariants.{Whole, Beyond, InPart};
+ghost use Rattle.campaign_orders.specs.Exploring.{Exploration as Explored, IsExploration, counted_in};
+ghost use Rattle.campaign_orders.specs.Outcomes.{oral_outcome};
+ghost use Rattle.campaign_orders.specs.Keeping.{IsKept, example_text};
+ghost use Rattle.campaign_orders.specs.Text.{count_text, entry_text, exploration_text, finding_text, further, head_text, line_text, outcome_text, round_text, rounds_text, schedule_text, yes_no, yes_no_none};
+ghost use Rattle.campaign_orders.specs.Walks.{AreWalks};
 ghost use Rattle.world.specs.Chronicle.{verdict_of};
 ghost use Rattle.world.specs.Kind.{opening};
 ghost use Rattle.world.specs.World.{oral_kind};
 
 use crate::exploration::{Exploration, Reach};
-use crate::exploring::explore;
-use crate::finding::Finding;
-use crate::recalling::recall_short;
-use crate::scheduled::Scheduled;
-use crate::scheduling::schedule_names;
+use crate::explorer::explore;
+use crate::finding::DecisionGroup;
+use crate::kept_facts::recall_short;
+use crate::schedule_outcome::Scheduled;
+use crate::schedules::schedule_names;
 use itoa::Buffer;
-use roster::Scenario;
+use round::Scenario;
 use std::alloc::{AllocError, Global};
-use world::judging::{alike, loyal_decisions, obeyed};
-use world::{Entries, Repeat, Schedule};
+use world::judgement::{alike, loyal_decisions, obeyed};
+use world::{Repeat, Schedule, ScheduleLine};
 
 /// A number behind a space.
 fn put_further(out: &mut String, number: u64) -> Result<(), AllocError>
@@ -52,7 +52,7 @@ fn put_entry(out: &mut String, repeat: Repeat) -> Result<(), AllocError>
     put_repeat(out, repeat)
 }
 
-/// Entries, each behind a space.
+/// ScheduleLine, each behind a space.
 fn put_entries(out: &mut String, repeats: &[Repeat]) -> Result<(), AllocError>
     ensures { OnOk result (string_bytes out.new ≡ string_bytes out.old ++ flat_map entry_text repeats.now) }
 {
@@ -101,7 +101,7 @@ fn put_round(out: &mut String, round: u64, repeats: &[Repeat]) -> Result<(), All
 }
 
 /// The lines of a schedule, from round 1.
-fn put_rounds(out: &mut String, lines: &[Entries]) -> Result<(), AllocError>
+fn put_rounds(out: &mut String, lines: &[ScheduleLine]) -> Result<(), AllocError>
     ensures { OnOk result (string_bytes out.new ≡ string_bytes out.old ++ rounds_text 1 lines.now) }
 {
     for (before, line) in lines.iter().enumerate() {
@@ -163,7 +163,11 @@ fn put_verdict(
 }
 
 /// The line of an outcome.
-fn put_outcome(out: &mut String, scenario: &Scenario, finding: &Finding) -> Result<(), AllocError>
+fn put_outcome(
+    out: &mut String,
+    scenario: &Scenario,
+    finding: &DecisionGroup,
+) -> Result<(), AllocError>
     ensures { OnOk result (string_bytes out.new ≡ string_bytes out.old
         ++ outcome_text finding.now.count (verdict_of scenario.now finding.now.decisions).alike
         (verdict_of scenario.now finding.now.decisions).obeyed finding.now.decisions) }
@@ -183,7 +187,7 @@ fn put_finding(
     alloc: Global,
     out: &mut String,
     scenario: &Scenario,
-    finding: &Finding,
+    finding: &DecisionGroup,
 ) -> Result<(), AllocError>
     requires { AreWalks oral_kind (opening oral_kind scenario.now) finding.now.example }
     ensures { OnOk result (string_bytes out.new ≡ string_bytes out.old
@@ -197,7 +201,7 @@ fn put_finding(
 }
 
 /// How many orders were counted.
-fn counted(findings: &[Finding]) -> u64
+fn counted(findings: &[DecisionGroup]) -> u64
     requires { counted_in findings.now < 2 ^ 64 }
     ensures { result ≡ counted_in findings.now }
 {
@@ -205,7 +209,7 @@ fn counted(findings: &[Finding]) -> u64
 }
 
 /// How many orders there are, to the end of the line.
-fn put_count(out: &mut String, findings: &[Finding]) -> Result<(), AllocError>
+fn put_count(out: &mut String, findings: &[DecisionGroup]) -> Result<(), AllocError>
     requires { counted_in findings.now < 2 ^ 64 }
     ensures { OnOk result (string_bytes out.new ≡ string_bytes out.old ++ further (counted_in findings.now)
         ++ codes "\n") }
@@ -216,7 +220,7 @@ fn put_count(out: &mut String, findings: &[Finding]) -> Result<(), AllocError>
 }
 
 /// The first line.
-fn put_head(out: &mut String, reach: Reach, findings: &[Finding]) -> Result<(), AllocError>
+fn put_head(out: &mut String, reach: Reach, findings: &[DecisionGroup]) -> Result<(), AllocError>
     requires { reach ≢ Beyond → counted_in findings.now < 2 ^ 64 }
     ensures { OnOk result (string_bytes out.new ≡ string_bytes out.old ++ head_text reach (counted_in findings.now)) }
 {
@@ -241,7 +245,7 @@ fn put_findings(
     alloc: Global,
     out: &mut String,
     scenario: &Scenario,
-    findings: &[Finding],
+    findings: &[DecisionGroup],
 ) -> Result<(), AllocError>
     requires { All (λ f. AreWalks oral_kind (opening oral_kind scenario.now) f.example) findings.now }
     ensures { OnOk result (string_bytes out.new ≡ string_bytes out.old
@@ -270,7 +274,11 @@ fn exploration_text(
 }
 
 /// The text of the schedule of a finding's example.
-fn example_text(alloc: Global, scenario: &Scenario, finding: &Finding) -> Result<String, AllocError>
+fn example_text(
+    alloc: Global,
+    scenario: &Scenario,
+    finding: &DecisionGroup,
+) -> Result<String, AllocError>
     requires { AreWalks oral_kind (opening oral_kind scenario.now) finding.now.example }
     ensures { IfOk result (λ text. string_bytes text ≡ example_text oral_kind scenario.now finding.now) }
 {
@@ -284,7 +292,7 @@ fn example_text(alloc: Global, scenario: &Scenario, finding: &Finding) -> Result
 fn example_texts(
     alloc: Global,
     scenario: &Scenario,
-    findings: &[Finding],
+    findings: &[DecisionGroup],
 ) -> Result<Vec<String>, AllocError>
     requires { All (λ f. AreWalks oral_kind (opening oral_kind scenario.now) f.example) findings.now }
     ensures { IfOk result (λ texts. map string_bytes texts.items

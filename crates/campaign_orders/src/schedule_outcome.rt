@@ -1,11 +1,11 @@
 //! What becomes of names that are to make their accesses in their order.
-use world::{Entries, Schedule};
+use world::{Schedule, ScheduleLine};
 
 /// The entries of a round, or why there are none.
 #[derive(Drop)]
 pub enum Line {
     /// One entry for each access.
-    Made(Entries),
+    Made(ScheduleLine),
     /// The general who is named at this place, from 0, makes no access then.
     Stuck(usize),
 }

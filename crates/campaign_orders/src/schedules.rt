@@ -1,30 +1,30 @@
 //! Schedules under which generals make their accesses in an order.
 ghost use Rattle.std.specs.Prelude.{◌≡◌, ◌≤◌, IfOk, IfSome, slice_get};
-ghost use Rattle.explore.specs.Planning.{BringsBack, IsLineOf, IsPlan, IsScheduleOf, IsStepTo};
+ghost use Rattle.campaign_orders.specs.Planning.{BringsBack, IsLineOf, IsPlan, IsScheduleOf, IsStepTo};
 ghost use Rattle.world.specs.Kind.{opening};
 ghost use Rattle.world.specs.Playing.{lists_in, program_length};
 ghost use Rattle.world.specs.World.{oral_kind};
 
-use crate::scheduled::{Line, Scheduled};
-use roster::Scenario;
+use crate::schedule_outcome::{Line, Scheduled};
+use round::Scenario;
 use std::alloc::{AllocError, Global};
-use world::{Entries, Part, Plays, Repeat, Schedule, World, parts, wind_up};
+use world::{PlayableWorld, Progress, Repeat, Schedule, ScheduleLine, World, parts, wind_up};
 
 /// How many instructions the program of an acting general has, 1 to 4,096; none where nobody acts.
-pub(crate) fn instructions(standing: &[Part], general: u8) -> Option<u16>
+pub(crate) fn instructions(standing: &[Progress], general: u8) -> Option<u16>
     ensures same { result ≡ program_length (slice_get standing.now general) }
     ensures few { IfSome result (λ most. most ≤ 4096) }
 {
     match standing.get(usize::from(general)) {
-        Some(Part::Acting(running)) => Some(running.program().program().len() as u16),
-        Some(Part::Silent) => None,
-        Some(Part::Posted) => None,
+        Some(Progress::Acting(running)) => Some(running.program().program().len() as u16),
+        Some(Progress::Silent) => None,
+        Some(Progress::Posted) => None,
         None => None,
     }
 }
 
 /// A general's steps until he has made one more access; none where he is to make none.
-pub(crate) fn steps_to_access<W: Plays>(
+pub(crate) fn steps_to_access<W: PlayableWorld>(
     world: &mut W,
     general: u8,
 ) -> Result<Option<u16>, AllocError>
@@ -43,7 +43,7 @@ pub(crate) fn steps_to_access<W: Plays>(
 }
 
 /// The entries of a round in which these make their accesses in this order; the world is then as they have made them.
-fn line_of<W: Plays>(world: &mut W, alloc: Global, names: &[u8]) -> Result<Line, AllocError>
+fn line_of<W: PlayableWorld>(world: &mut W, alloc: Global, names: &[u8]) -> Result<Line, AllocError>
     ensures { IfOk result (λ line. IsLineOf W.kind (W.seen world.old) names.now (W.seen world.new) line) }
 {
     let mut repeats = Vec::new(alloc);
@@ -56,7 +56,7 @@ fn line_of<W: Plays>(world: &mut W, alloc: Global, names: &[u8]) -> Result<Line,
             None => return Ok(Line::Stuck(place)),
         }
     }
-    Ok(Line::Made(Entries { repeats }))
+    Ok(Line::Made(ScheduleLine { repeats }))
 }
 
 /// The schedule by which these, round by round, make their accesses in this order, from a world where a round begins:
@@ -65,7 +65,7 @@ fn line_of<W: Plays>(world: &mut W, alloc: Global, names: &[u8]) -> Result<Line,
 /// # Errors
 ///
 /// `AllocError` where memory is refused.
-pub fn schedule_from<W: Plays + Drop>(
+pub fn schedule_from<W: PlayableWorld + Drop>(
     mut world: W,
     alloc: Global,
     names: &[Vec<u8>],

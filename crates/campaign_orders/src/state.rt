@@ -1,22 +1,22 @@
 //! Worlds to which many beginnings of orders lead.
 ghost use Rattle.std.specs.Prelude.{◌≡◌, ◌++◌, ◌∷◌, [], IfOk, IsTrue};
 ghost use Rattle.std.specs.Ordering.{is_lt};
-ghost use Rattle.explore.specs.Layers.{IsAhead, State as StateSeen, begins_cmp, joined};
-ghost use Rattle.explore.specs.Merging.{AreAlike};
+ghost use Rattle.campaign_orders.specs.Layers.{IsAhead, State as StateSeen, begins_cmp, joined};
+ghost use Rattle.campaign_orders.specs.Merging.{AreAlike};
 ghost use Rattle.world.specs.Kind.{opening};
 ghost use Rattle.world.specs.Playing.{lists_in};
 ghost use Rattle.world.specs.World.{oral_kind};
 
-use crate::ahead::run_on;
-use crate::alike::are_alike;
+use crate::early_runs::run_on;
+use crate::likeness::are_alike;
 use crate::order::{compared, copied};
 use insn::Reg;
-use machine::Activation;
-use roster::Scenario;
+use machine::Machine;
+use round::Scenario;
 use semantics::Value;
 use std::alloc::{AllocError, Global};
 use std::marker::Model;
-use world::{Part, Plays, World};
+use world::{PlayableWorld, Progress, World};
 
 /// A world, in how many ways it or an alike one comes about, and the least of these ways.
 #[derive(Drop)]
@@ -35,7 +35,7 @@ pub(crate) struct State {
 }
 
 impl Model for State {
-    ghost use Rattle.explore.specs.Layers.{State as StateSeen};
+    ghost use Rattle.campaign_orders.specs.Layers.{State as StateSeen};
     ghost use Rattle.world.specs.Playing.{lists_in};
 
     ghost Value = { StateSeen };
@@ -141,16 +141,16 @@ fn mark_of(world: &World) -> u64 {
     }
     for part in world.open_parts() {
         match part {
-            Part::Acting(running) => mark = mixed_activation(mark, running.activation()),
-            Part::Silent => {}
-            Part::Posted => {}
+            Progress::Acting(running) => mark = mixed_activation(mark, running.activation()),
+            Progress::Silent => {}
+            Progress::Posted => {}
         }
     }
     mark
 }
 
 /// An activation mixed into a mark.
-fn mixed_activation(mark: u64, activation: &Activation) -> u64 {
+fn mixed_activation(mark: u64, activation: &Machine) -> u64 {
     let mut mark = mixed(mark, u64::from(activation.steps()));
     for number in 0..10u8 {
         if let Some(register) = Reg::new(number) {

@@ -1,6 +1,6 @@
 //! Which order comes next.
 ghost use Rattle.std.specs.Prelude.{◌≡◌, IfOk, option_map};
-ghost use Rattle.explore.specs.Succession.{least_above, nearer, next_names, next_order};
+ghost use Rattle.campaign_orders.specs.Succession.{least_above, nearer, next_names, next_order};
 ghost use Rattle.world.specs.Playing.{lists_in};
 
 use std::alloc::AllocError;

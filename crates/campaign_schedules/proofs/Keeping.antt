@@ -2,25 +2,25 @@
 use Rattle.std.proofs.Common.{◌≡◌, ◌∙◌, ℕ, zero, suc, List, [], ◌∷◌, All, map, refl, sym, ap, subst, arith}
 use Rattle.std.specs.List.{AllZip}
 use Rattle.std.proofs.lemmas.List.Elements.{All-weaker}
-use Rattle.roster.specs.Scenario.{Scenario, IsScenario}
+use Rattle.round.specs.Scenario.{Scenario, IsScenario}
 use Rattle.world.specs.Kind as kind
 use Rattle.world.specs.KindLists.{listed, replayed}
 use Rattle.world.specs.Schedules.{lines_by}
 use Rattle.world.specs.World.{oral_kind}
 use Rattle.world.proofs.Campaigns.{oral_campaigns}
-use Rattle.explore.specs.declared.exploration.Reach.{Reach}
-use Rattle.explore.specs.declared.exploration.Reach.TheVariants.{Whole, Beyond, InPart}
-use Rattle.explore.specs.Exploring.{Finding, Exploration, IsCappedFinding, IsExploration, IsFinding, IsLowerFinding, IsReal}
-use Rattle.explore.specs.Keeping.{example_text}
-use Rattle.explore.specs.Orders.{order_of}
-use Rattle.explore.specs.Outcomes.{oral_outcome, outcome_in}
-use Rattle.explore.specs.Schedules.{schedule_from}
-use Rattle.explore.proofs.Concluding.{from_count}
-use Rattle.explore.proofs.Deciding.{replay_has, to_steps}
-use Rattle.explore.proofs.ScheduleLaws.{orders_are_schedules}
-use Rattle.retracing.proofs.Retracing.{read_of}
-use Rattle.retracing.proofs.Within.{AreShort}
-use Rattle.retracing.specs.Keeping.{GivesOutcome, KeptSchedulesPlay}
+use Rattle.campaign_orders.specs.declared.exploration.Reach.{Reach}
+use Rattle.campaign_orders.specs.declared.exploration.Reach.TheVariants.{Whole, Beyond, InPart}
+use Rattle.campaign_orders.specs.Exploring.{Finding, Exploration, IsCappedFinding, IsExploration, IsFinding, IsLowerFinding, IsReal}
+use Rattle.campaign_orders.specs.Keeping.{example_text}
+use Rattle.campaign_orders.specs.Orders.{order_of}
+use Rattle.campaign_orders.specs.Outcomes.{oral_outcome, outcome_in}
+use Rattle.campaign_orders.specs.Schedules.{schedule_from}
+use Rattle.campaign_orders.proofs.Concluding.{from_count}
+use Rattle.campaign_orders.proofs.Deciding.{replay_has, to_steps}
+use Rattle.campaign_orders.proofs.ScheduleLaws.{orders_are_schedules}
+use Rattle.campaign_schedules.proofs.Retracing.{read_of}
+use Rattle.campaign_schedules.proofs.Within.{AreShort}
+use Rattle.campaign_schedules.specs.Keeping.{GivesOutcome, KeptSchedulesPlay}
 
 -- every finding is real
 abbrev Real : Scenario → Finding → Type 0

@@ -1,1 +1,7 @@
+mod Keeping
+mod Listed
+mod Reading
+mod Retracing
+mod Stopping
+mod Within
 mod Seeds

@@ -6,9 +6,9 @@ use Rattle.std.specs.Result.{result_err}
 use Rattle.text.specs.Parts.{pieces}
 use Rattle.text.specs.Number.{decimal_of}
 use Rattle.text.specs.Stop.{space}
-use Rattle.retracing.specs.Accesses.{accesses_told, fault_at, general_of, row_fault, row_told, rows_told, slash, with_general, with_row}
-use Rattle.retracing.specs.declared.fault.AccessFault.{AccessFault}
-use Rattle.retracing.specs.declared.fault.AccessFault.TheVariants.{Text}
+use Rattle.campaign_schedules.specs.Accesses.{accesses_told, fault_at, general_of, row_fault, row_told, rows_told, slash, with_general, with_row}
+use Rattle.campaign_schedules.specs.declared.fault.AccessFault.{AccessFault}
+use Rattle.campaign_schedules.specs.declared.fault.AccessFault.TheVariants.{Text}
 
 one_more : (before : List ℕ) (g : ℕ) → length (before ++ g ∷ []) ≡ suc (length before)
 one_more before g = let l = length-append before (g ∷ []) in omega arith

@@ -11,9 +11,9 @@ use Rattle.text.proofs.CutLemmas.{Lacks, pieces-append, pieces-all}
 use Rattle.text.proofs.DecimalLemmas.{decimal_of-decimal}
 use Rattle.book.proofs.FormLemmas.{digits_lack, no_space, no_feed, lines_read}
 use Rattle.world.specs.declared.schedule.Repeat.{Repeat}
-use Rattle.explore.specs.Text.{entry_text, line_text, schedule_text}
+use Rattle.campaign_orders.specs.Text.{entry_text, line_text, schedule_text}
 use Rattle.trace.specs.Schedules.{star, number_within, entry_of, entries_told, line_told, schedule_lines_told, schedule_told}
-use Rattle.retracing.specs.Reading.{IsEntry, SchedulesAreRead}
+use Rattle.campaign_schedules.specs.Reading.{IsEntry, SchedulesAreRead}
 
 no_star : (c : ℕ) → is_within 48 57 c ≡ true → not (is_stop star c) ≡ true
 no_star c h = grind (arith, nat_tests)

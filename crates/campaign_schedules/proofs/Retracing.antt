@@ -2,7 +2,7 @@
 use Rattle.std.proofs.Common.{◌≡◌, ◌<◌, ◌≤◌, ℕ, zero, suc, List, length, refl, sym, ap, ◌∙◌, subst, arith}
 use Rattle.std.specs.Prelude.{All}
 use Rattle.board.specs.Board.{Access}
-use Rattle.roster.specs.Scenario.{Scenario, IsScenario}
+use Rattle.round.specs.Scenario.{Scenario, IsScenario}
 use Rattle.world.specs.declared.schedule.Repeat.{Repeat}
 use Rattle.world.specs.Chronicle.{chronicle_of}
 use Rattle.world.specs.KindLists.{names_in}
@@ -11,16 +11,16 @@ use Rattle.world.specs.World.{oral_kind}
 use Rattle.world.proofs.Campaigns.{oral_campaigns}
 use Rattle.world.proofs.Lasting.{replayed_complete}
 use Rattle.world.proofs.Replaying.{runs_are_replays}
-use Rattle.explore.specs.Schedules.{schedule_from}
-use Rattle.explore.specs.Text.{schedule_text}
+use Rattle.campaign_orders.specs.Schedules.{schedule_from}
+use Rattle.campaign_orders.specs.Text.{schedule_text}
 use Rattle.trace.specs.Names.{chronicle_told, names_of}
-use Rattle.retracing.specs.Reading.{IsReadAs}
-use Rattle.explore.specs.declared.scheduled.Scheduled.TheVariants.{By}
-use Rattle.explore.specs.Planning.{IsScheduleOf}
+use Rattle.campaign_schedules.specs.Reading.{IsReadAs}
+use Rattle.campaign_orders.specs.declared.schedule_outcome.Scheduled.TheVariants.{By}
+use Rattle.campaign_orders.specs.Planning.{IsScheduleOf}
 use Rattle.world.specs.Kind.{opening as opening_of}
-use Rattle.retracing.proofs.Reading.{proved_schedules_are_read}
-use Rattle.retracing.proofs.Within.{AreShort, schedule_read}
-use Rattle.retracing.specs.Retraced.{ComesAgain, IsLedgerOfRun, IsRetraced}
+use Rattle.campaign_schedules.proofs.Reading.{proved_schedules_are_read}
+use Rattle.campaign_schedules.proofs.Within.{AreShort, schedule_read}
+use Rattle.campaign_schedules.specs.Retraced.{ComesAgain, IsLedgerOfRun, IsRetraced}
 
 -- what an audit replays is a complete run
 ledger_told : (s : Scenario) (t : List ℕ) → IsScenario s → IsLedgerOfRun s (chronicle_told s t).accesses

@@ -6,10 +6,10 @@ use Rattle.std.proofs.lemmas.Fmt.{length-decimal-le_succ}
 use Rattle.rand_chacha.specs.ChaCha.{ChaCha, next_word, of_seed}
 use Rattle.rand_core.specs.Pcg32Seed.{pcg32_seed}
 use Rattle.world.specs.declared.schedule.Repeat.{Repeat}
-use Rattle.explore.specs.Text.{entry_text, line_text, schedule_text}
-use Rattle.retracing.specs.Reading.{IsEntry, SchedulesAreRead}
+use Rattle.campaign_orders.specs.Text.{entry_text, line_text, schedule_text}
+use Rattle.campaign_schedules.specs.Reading.{IsEntry, SchedulesAreRead}
 use Rattle.trace.specs.Schedules.{schedule_told}
-use Rattle.chance.specs.Seeded.{after, entry_of, lines_from, more_times, seeded, words}
+use Rattle.campaign_schedules.specs.Seeded.{after, entry_of, lines_from, more_times, seeded, words}
 
 -- so many entries of a line are made, and what is left of it
 pub record IsOnLine (start g : ChaCha) (n : ℕ) (made : List Repeat) : Type 0 where
@@ -36,7 +36,7 @@ line_goes_on start g h word n made new on less is pushed = go on.left on.count o
           entries = ap (λ (l : List Repeat). l ++ map entry_of (words left h)) pushed
               ∙ (append_assoc made (entry_of word ∷ []) (map entry_of (words left h))
               ∙ ((λ i. made ++ entry_of (sym w i) ∷ map entry_of (words left (sym v i))) ∙ entries));
-          after = (λ i. Rattle.chance.specs.Seeded.after left (sym v i)) ∙ later;
+          after = (λ i. Rattle.campaign_schedules.specs.Seeded.after left (sym v i)) ∙ later;
         }
 
 pub line_ends : (start g : ChaCha) (n : ℕ) (made : List Repeat) → IsOnLine start g n made → 128 ≤ n

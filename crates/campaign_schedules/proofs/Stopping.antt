@@ -3,31 +3,31 @@ use Rattle.std.proofs.Common.{arith, length, length-append, ◌+◌, ◌<◌, �
 use Rattle.std.specs.Prelude.{slice_get}
 use Rattle.text.specs.Parts.{pieces}
 use Rattle.text.specs.Stop.{space}
-use Rattle.roster.specs.Scenario.{Scenario, IsScenario}
+use Rattle.round.specs.Scenario.{Scenario, IsScenario}
 use Rattle.world.specs.declared.schedule.Repeat.{Repeat}
 use Rattle.board.specs.Board.{Access, words_after}
-use Rattle.letter.specs.Letters.{Letter}
+use Rattle.round.specs.Letters.{Letter}
 use Rattle.world.specs.Campaigns.{IsCampaign}
 use Rattle.world.specs.Kind.{Kind, World, begun, opening}
 use Rattle.world.specs.KindLists.{names_events}
 use Rattle.world.proofs.Lasting.{IsOnTime, names_moves, opening_due, round_done}
-use Rattle.explore.proofs.Winding.{wound, wound_so}
+use Rattle.campaign_orders.proofs.Winding.{wound, wound_so}
 use Rattle.world.specs.World.{oral_kind}
 use Rattle.world.proofs.Campaigns.{oral_campaigns}
-use Rattle.explore.specs.Orders.{past, behind, IsRoundFrom, IsFrom}
-use Rattle.explore.specs.Text.{schedule_text}
-use Rattle.explore.specs.Walks.{IsWalk, AreWalks, IsStuckAt, IsStuckIn}
-use Rattle.explore.specs.Planning.{IsPlan, IsScheduleOf}
-use Rattle.explore.specs.declared.scheduled.Scheduled.TheVariants.{By}
-use Rattle.explore.proofs.Deciding.{to_steps}
-use Rattle.explore.proofs.Leading.{replay_completes}
-use Rattle.retracing.specs.Accesses.{accesses_told, general_of, row_told, rows_told, slash, with_general, with_row}
-use Rattle.retracing.specs.Arranged.{BeginsSo, IfFault, IsArranged, IsFirstThatCannot, IsListedAt, IsNever, IsUnarranged, until}
-use Rattle.retracing.specs.Reading.{IsReadAs}
-use Rattle.retracing.specs.declared.fault.AccessFault.{AccessFault}
-use Rattle.retracing.specs.declared.fault.AccessesError.{AccessesError}
-use Rattle.retracing.specs.declared.fault.AccessesError.TheVariants.{At, Memory}
-use Rattle.retracing.specs.declared.fault.AccessFault.TheVariants.{Text, Never}
+use Rattle.campaign_orders.specs.Orders.{past, behind, IsRoundFrom, IsFrom}
+use Rattle.campaign_orders.specs.Text.{schedule_text}
+use Rattle.campaign_orders.specs.Walks.{IsWalk, AreWalks, IsStuckAt, IsStuckIn}
+use Rattle.campaign_orders.specs.Planning.{IsPlan, IsScheduleOf}
+use Rattle.campaign_orders.specs.declared.schedule_outcome.Scheduled.TheVariants.{By}
+use Rattle.campaign_orders.proofs.Deciding.{to_steps}
+use Rattle.campaign_orders.proofs.Leading.{replay_completes}
+use Rattle.campaign_schedules.specs.Accesses.{accesses_told, general_of, row_told, rows_told, slash, with_general, with_row}
+use Rattle.campaign_schedules.specs.Arranged.{BeginsSo, IfFault, IsArranged, IsFirstThatCannot, IsListedAt, IsNever, IsUnarranged, until}
+use Rattle.campaign_schedules.specs.Reading.{IsReadAs}
+use Rattle.campaign_schedules.specs.declared.fault.AccessFault.{AccessFault}
+use Rattle.campaign_schedules.specs.declared.fault.AccessesError.{AccessesError}
+use Rattle.campaign_schedules.specs.declared.fault.AccessesError.TheVariants.{At, Memory}
+use Rattle.campaign_schedules.specs.declared.fault.AccessFault.TheVariants.{Text, Never}
 
 module _ (K : Kind) where
   -- who comes before the one who is stuck walks

@@ -6,26 +6,26 @@ use Rattle.insn.specs.declared.insn.Insn.{Insn}
 use Rattle.board.specs.Board.{Access, reply}
 use Rattle.semantics.specs.State.{Outcome, Next, Ask, Exit, Trap}
 use Rattle.semantics.specs.Execution.{step}
-use Rattle.letter.specs.Activation.{Activation, Turn, Goes, Asks, Ended, has_ended, started, turn, turned}
-use Rattle.letter.specs.Letters.{Letter}
-use Rattle.roster.specs.Scenario.{Scenario, program_of}
+use Rattle.round.specs.Activation.{Activation, Turn, Goes, Asks, Ended, has_ended, started, turn, turned}
+use Rattle.round.specs.Letters.{Letter}
+use Rattle.round.specs.Scenario.{Scenario, program_of}
 use Rattle.world.specs.declared.event.Event.{Event}
 use Rattle.world.specs.declared.event.Event.TheVariants.{Tick, Post, Close}
-use Rattle.world.specs.declared.part.Part.{Part}
-use Rattle.world.specs.declared.part.Part.TheVariants.{Acting, Silent, Posted}
+use Rattle.world.specs.declared.part.Progress.{Progress}
+use Rattle.world.specs.declared.part.Progress.TheVariants.{Acting, Silent, Posted}
 use Rattle.world.specs.Part.{owes_no_letter}
 use Rattle.world.specs.declared.schedule.Repeat.{Repeat}
 use Rattle.world.specs.Kind.{Kind, World, begins, begun, closing, each, happen, opening, posting, round_letters, round_open, run, served, ticked}
 use Rattle.world.specs.KindLists.{further_turns, names_events, ticks_named, until_access, wound_up}
 use Rattle.world.proofs.Listing.{each-get_only}
 use Rattle.world.proofs.Moves.{set-cases}
-use Rattle.explore.specs.Orders.{asks_or, asks_within, behind, past, will_ask}
-use Rattle.explore.specs.Schedules.{entries_from, schedule_from}
-use Rattle.explore.specs.Text.{schedule_text}
-use Rattle.explore.specs.Walks.{AreWalks, IsWalk}
-use Rattle.explore.proofs.Spending.{text_short}
+use Rattle.campaign_orders.specs.Orders.{asks_or, asks_within, behind, past, will_ask}
+use Rattle.campaign_orders.specs.Schedules.{entries_from, schedule_from}
+use Rattle.campaign_orders.specs.Text.{schedule_text}
+use Rattle.campaign_orders.specs.Walks.{AreWalks, IsWalk}
+use Rattle.campaign_orders.proofs.Spending.{text_short}
 use Rattle.world.specs.Campaigns.{IsCampaign}
-use Rattle.retracing.specs.Reading.{IsEntry, IsReadAs, SchedulesAreRead}
+use Rattle.campaign_schedules.specs.Reading.{IsEntry, IsReadAs, SchedulesAreRead}
 
 -- ---- how many steps an access takes
 
@@ -100,13 +100,13 @@ small_served s w g a at small (Goes b) kept = record { scenario = small.scenario
 small_served s w g a at small (Asks q f) kept = record { scenario = small.scenario; acting = small_set s w g a (f (reply w.words q)) at (kept (reply w.words q)) small }
 small_served s w g a at small Ended kept = small
 
-small_ticked : (s : Scenario) (w : World) (g : ℕ) → IsSmall s w → (o : Option Part) → slice_get w.parts g ≡ o → IsSmall s (ticked w g o)
+small_ticked : (s : Scenario) (w : World) (g : ℕ) → IsSmall s w → (o : Option Progress) → slice_get w.parts g ≡ o → IsSmall s (ticked w g o)
 small_ticked s w g small None at = small
 small_ticked s w g small (Some (Acting a)) at = small_served s w g a at small (turn a) (turn_keeps a)
 small_ticked s w g small (Some Silent) at = small
 small_ticked s w g small (Some Posted) at = small
 
-small_posting : (s : Scenario) (w : World) (g : ℕ) → IsSmall s w → (o : Option Part) → IsSmall s (posting w g o)
+small_posting : (s : Scenario) (w : World) (g : ℕ) → IsSmall s w → (o : Option Progress) → IsSmall s (posting w g o)
 small_posting s w g small None = small
 small_posting s w g small (Some (Acting a)) = small
 small_posting s w g small (Some Silent) = record {
@@ -154,7 +154,7 @@ module _ (K : Kind) (s : Scenario) (short : AreShort s) where
 
   -- ---- so an entry is one, and so are all
 
-  entry_is : s.generals ≤ 13 → (w : World) (g : ℕ) → IsSmall s w → (o : Option Part) → slice_get w.parts g ≡ o → will_ask o ≡ true → IsEntry (record { general = g; times = length (ticks_named g o) })
+  entry_is : s.generals ≤ 13 → (w : World) (g : ℕ) → IsSmall s w → (o : Option Progress) → slice_get w.parts g ≡ o → will_ask o ≡ true → IsEntry (record { general = g; times = length (ticks_named g o) })
   entry_is few w g small None at will = absurd (let f : false ≡ true = will in cc)
   entry_is few w g small (Some (Acting a)) at will =
       let here = small.acting g a at in

@@ -6,8 +6,8 @@ use Rattle.text.specs.Options.{◌>>=◌}
 use Rattle.text.specs.Stop.{space}
 use Rattle.text.specs.Parts.{pieces}
 use Rattle.text.specs.Number.{decimal_of}
-use Rattle.retracing.specs.declared.fault.AccessFault.{AccessFault}
-use Rattle.retracing.specs.declared.fault.AccessFault.TheVariants.{Text}
+use Rattle.campaign_schedules.specs.declared.fault.AccessFault.{AccessFault}
+use Rattle.campaign_schedules.specs.declared.fault.AccessFault.TheVariants.{Text}
 
 abbrev pub slash : Stop
 slash = Byte 47

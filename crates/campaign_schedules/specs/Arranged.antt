@@ -1,21 +1,21 @@
 -- Schedules by which a campaign has listed accesses (own).
 use Rattle.std.specs.Prelude.{ℕ, zero, suc, ◌≡◌, List, [], ◌∷◌, ◌++◌, Option, Some, Ok, Err, option_and_then, slice_get, take}
-use Rattle.roster.specs.Scenario.{Scenario}
+use Rattle.round.specs.Scenario.{Scenario}
 use Rattle.world.specs.declared.schedule.Repeat.{Repeat}
 use Rattle.world.specs.Kind.{opening}
 use Rattle.world.specs.KindLists.{listed, replayed}
 use Rattle.world.specs.Schedules.{lines_by}
 use Rattle.world.specs.World.{oral_kind}
-use Rattle.explore.specs.Orders.{IsOrder, order_of}
-use Rattle.explore.specs.Schedules.{schedule_from}
-use Rattle.explore.specs.Text.{schedule_text}
-use Rattle.explore.specs.Walks.{AreWalks, Continues, IsCompletion, IsStuckIn}
-use Rattle.retracing.specs.Reading.{IsReadAs}
-use Rattle.retracing.specs.declared.fault.AccessFault.{AccessFault}
-use Rattle.retracing.specs.declared.fault.AccessFault.TheVariants.{Text, Never}
-use Rattle.retracing.specs.declared.fault.AccessesError.{AccessesError}
-use Rattle.retracing.specs.declared.fault.AccessesError.TheVariants.{At, Memory}
-use Rattle.retracing.specs.Accesses.{accesses_told}
+use Rattle.campaign_orders.specs.Orders.{IsOrder, order_of}
+use Rattle.campaign_orders.specs.Schedules.{schedule_from}
+use Rattle.campaign_orders.specs.Text.{schedule_text}
+use Rattle.campaign_orders.specs.Walks.{AreWalks, Continues, IsCompletion, IsStuckIn}
+use Rattle.campaign_schedules.specs.Reading.{IsReadAs}
+use Rattle.campaign_schedules.specs.declared.fault.AccessFault.{AccessFault}
+use Rattle.campaign_schedules.specs.declared.fault.AccessFault.TheVariants.{Text, Never}
+use Rattle.campaign_schedules.specs.declared.fault.AccessesError.{AccessesError}
+use Rattle.campaign_schedules.specs.declared.fault.AccessesError.TheVariants.{At, Memory}
+use Rattle.campaign_schedules.specs.Accesses.{accesses_told}
 
 -- the rounds before one, and of it the accesses before a place, both from 0
 abbrev pub until : List (List ℕ) → ℕ → ℕ → List (List ℕ)

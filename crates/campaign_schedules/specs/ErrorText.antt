@@ -1,9 +1,9 @@
 -- What is said of a fault of listed accesses: its code and its place.
 use Rattle.std.specs.Prelude.{ℕ, List, ◌++◌, codes, decimal}
-use Rattle.retracing.specs.declared.fault.AccessFault.{AccessFault}
-use Rattle.retracing.specs.declared.fault.AccessFault.TheVariants.{Text, Never}
-use Rattle.retracing.specs.declared.fault.AccessesError.{AccessesError}
-use Rattle.retracing.specs.declared.fault.AccessesError.TheVariants.{At, Memory}
+use Rattle.campaign_schedules.specs.declared.fault.AccessFault.{AccessFault}
+use Rattle.campaign_schedules.specs.declared.fault.AccessFault.TheVariants.{Text, Never}
+use Rattle.campaign_schedules.specs.declared.fault.AccessesError.{AccessesError}
+use Rattle.campaign_schedules.specs.declared.fault.AccessesError.TheVariants.{At, Memory}
 
 abbrev pub fault_told : AccessFault → List ℕ
 fault_told (Text round place) = codes "X5 round " ++ decimal round ++ codes " access " ++ decimal place

@@ -1,16 +1,16 @@
 -- What is kept of an exploration can be played (own). The statement is the contract of a function of this crate.
 use Rattle.std.specs.Prelude.{ℕ, ◌≡◌, List}
 use Rattle.std.specs.List.{AllZip}
-use Rattle.roster.specs.Scenario.{Scenario}
+use Rattle.round.specs.Scenario.{Scenario}
 use Rattle.world.specs.declared.schedule.Repeat.{Repeat}
 use Rattle.world.specs.Chronicle.{chronicle_of}
 use Rattle.world.specs.Lists.{listed}
 use Rattle.world.specs.Schedules.{lines_by}
 use Rattle.world.specs.World.{opening, run, oral_kind}
-use Rattle.explore.specs.Exploring.{Finding}
-use Rattle.explore.specs.Keeping.{IsKept}
-use Rattle.explore.specs.Orders.{order_of}
-use Rattle.retracing.specs.Reading.{IsReadAs}
+use Rattle.campaign_orders.specs.Exploring.{Finding}
+use Rattle.campaign_orders.specs.Keeping.{IsKept}
+use Rattle.campaign_orders.specs.Orders.{order_of}
+use Rattle.campaign_schedules.specs.Reading.{IsReadAs}
 
 -- the text is read as a schedule; played by it, the campaign comes to the finding's decisions, its accesses in the
 -- order of the example

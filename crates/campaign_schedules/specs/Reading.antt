@@ -2,7 +2,7 @@
 use Rattle.std.specs.Prelude.{ℕ, ◌≡◌, ◌≤◌, List, length, Ok}
 use Rattle.std.specs.List.{AllByRecursion}
 use Rattle.world.specs.declared.schedule.Repeat.{Repeat}
-use Rattle.explore.specs.Text.{schedule_text}
+use Rattle.campaign_orders.specs.Text.{schedule_text}
 use Rattle.trace.specs.Schedules.{schedule_told}
 
 -- a general's number, and how often he acts

@@ -1,17 +1,17 @@
 -- Schedules by which a campaign comes again (own).
 use Rattle.std.specs.Prelude.{ℕ, suc, ◌≡◌, List}
 use Rattle.board.specs.Board.{Access}
-use Rattle.roster.specs.Scenario.{Scenario}
+use Rattle.round.specs.Scenario.{Scenario}
 use Rattle.world.specs.declared.event.Event.{Event}
 use Rattle.world.specs.declared.schedule.Repeat.{Repeat}
 use Rattle.world.specs.Chronicle.{chronicle_of}
 use Rattle.world.specs.Lists.{IsComplete, listed, names_in}
 use Rattle.world.specs.Schedules.{lines_by}
 use Rattle.world.specs.World.{oral_kind, opening, run}
-use Rattle.explore.specs.Schedules.{schedule_from}
-use Rattle.explore.specs.Text.{schedule_text}
+use Rattle.campaign_orders.specs.Schedules.{schedule_from}
+use Rattle.campaign_orders.specs.Text.{schedule_text}
 use Rattle.trace.specs.Names.{chronicle_told}
-use Rattle.retracing.specs.Reading.{IsReadAs}
+use Rattle.campaign_schedules.specs.Reading.{IsReadAs}
 
 -- the accesses of a complete run
 abbrev pub IsLedgerOfRun : Scenario → List Access → Type 0

@@ -1,10 +1,10 @@
 //! Which accesses a text lists. Whether it lists any is told without memory.
 ghost use Rattle.std.specs.Prelude.{◌≡◌, ◌+◌, ◌∷◌, ◌<◌, ◌≤◌, ◌^◌, ℕ, List, [], Err, Ok, Some, IfErr, IfOk, OnOk, MatchResult, vec_len};
 ghost use Rattle.std.specs.Result.{result_err};
-ghost use Rattle.retracing.specs.Accesses.{accesses_told, general_of, row_fault, row_told, slash};
-ghost use Rattle.retracing.specs.Arranged.{IfFault};
-ghost use Rattle.retracing.specs.declared.fault.AccessFault.{AccessFault as Fault};
-ghost use Rattle.retracing.specs.declared.fault.AccessesError.TheVariants.{At};
+ghost use Rattle.campaign_schedules.specs.Accesses.{accesses_told, general_of, row_fault, row_told, slash};
+ghost use Rattle.campaign_schedules.specs.Arranged.{IfFault};
+ghost use Rattle.campaign_schedules.specs.declared.fault.AccessFault.{AccessFault as Fault};
+ghost use Rattle.campaign_schedules.specs.declared.fault.AccessesError.TheVariants.{At};
 ghost use Rattle.text.specs.Parts.{pieces};
 ghost use Rattle.text.specs.Stop.{space};
 ghost use Rattle.world.specs.Playing.{lists_in};

@@ -1,15 +1,15 @@
 //! Schedules by which generals come to the board in an order that is listed.
 ghost use Rattle.std.specs.Prelude.{◌≡◌, Err, IfErr, IfOk, string_bytes};
-ghost use Rattle.retracing.specs.Accesses.{accesses_told};
-ghost use Rattle.retracing.specs.Arranged.{IfFault, IsArranged, IsListedAt, IsNever, IsUnarranged};
-ghost use Rattle.retracing.specs.declared.fault.AccessFault.{AccessFault as Fault};
-ghost use Rattle.retracing.specs.declared.fault.AccessesError.TheVariants.{At};
+ghost use Rattle.campaign_schedules.specs.Accesses.{accesses_told};
+ghost use Rattle.campaign_schedules.specs.Arranged.{IfFault, IsArranged, IsListedAt, IsNever, IsUnarranged};
+ghost use Rattle.campaign_schedules.specs.declared.fault.AccessFault.{AccessFault as Fault};
+ghost use Rattle.campaign_schedules.specs.declared.fault.AccessesError.TheVariants.{At};
 ghost use Rattle.world.specs.Playing.{lists_in};
 
+use crate::access_list::accesses_of;
 use crate::fault::{AccessFault, AccessesError};
-use crate::listing::accesses_of;
-use explore::{Scheduled, recall_short, schedule_names, schedule_text};
-use roster::Scenario;
+use campaign_orders::{Scheduled, recall_short, schedule_names, schedule_text};
+use round::Scenario;
 use std::alloc::Global;
 
 /// That the access at this place of this round, both from 0, cannot come.

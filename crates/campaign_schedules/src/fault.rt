@@ -1,5 +1,5 @@
 ghost use Rattle.std.specs.Prelude.{◌≡◌};
-ghost use Rattle.retracing.specs.declared.fault.AccessesError.TheVariants.{Memory};
+ghost use Rattle.campaign_schedules.specs.declared.fault.AccessesError.TheVariants.{Memory};
 
 use std::alloc::{AllocError, AllocFailed};
 use std::error::Error;
@@ -17,7 +17,7 @@ pub enum AccessFault {
 
 impl fmt::Display for AccessFault {
     ghost use Rattle.std.specs.Prelude.{Some};
-    ghost use Rattle.retracing.specs.ErrorText.{fault_told};
+    ghost use Rattle.campaign_schedules.specs.ErrorText.{fault_told};
 
     ghost output = { λ fault. Some (fault_told fault) };
 
@@ -43,7 +43,7 @@ pub enum AccessesError {
 
 impl fmt::Display for AccessesError {
     ghost use Rattle.std.specs.Prelude.{Some};
-    ghost use Rattle.retracing.specs.ErrorText.{told};
+    ghost use Rattle.campaign_schedules.specs.ErrorText.{told};
 
     ghost output = { λ error. Some (told error) };
 

@@ -1,9 +1,9 @@
 //! Laws of schedules: each function does nothing, and its contract is the law.
-ghost use Rattle.retracing.specs.Keeping.{KeptSchedulesPlay};
-ghost use Rattle.retracing.specs.Reading.{SchedulesAreRead};
+ghost use Rattle.campaign_schedules.specs.Keeping.{KeptSchedulesPlay};
+ghost use Rattle.campaign_schedules.specs.Reading.{SchedulesAreRead};
 
-use explore::recall_short;
-use roster::Scenario;
+use campaign_orders::recall_short;
+use round::Scenario;
 
 /// The text of a schedule is read as that schedule.
 pub fn schedules_are_read()

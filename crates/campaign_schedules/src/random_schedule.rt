@@ -1,16 +1,16 @@
 //! The random schedule of a seed.
 ghost use Rattle.std.specs.Prelude.{◌≡◌, ◌<◌, IfOk, Ok, map, string_bytes};
-ghost use Rattle.chance.specs.Seeded.{after, entry_of, more_times, seeded, words};
-ghost use Rattle.explore.specs.Text.{schedule_text};
+ghost use Rattle.campaign_schedules.specs.Seeded.{after, entry_of, more_times, seeded, words};
+ghost use Rattle.campaign_orders.specs.Text.{schedule_text};
 ghost use Rattle.trace.specs.Schedules.{schedule_told};
 
-use explore::schedule_text;
+use crate::laws::schedules_are_read;
+use campaign_orders::schedule_text;
 use rand_chacha::ChaCha8Rng;
 use rand_core::SeedableRng;
 use rand_core::utils::NextWord;
-use retracing::schedules_are_read;
 use std::alloc::{AllocError, Global};
-use world::{Entries, Repeat, Schedule};
+use world::{Repeat, Schedule, ScheduleLine};
 
 /// As many lines as a schedule may have: one for each round.
 const LINES: u8 = 5;
@@ -41,7 +41,7 @@ fn entry_of(word: u32) -> Repeat
 }
 
 /// The entries that the next words of the generator give.
-fn line(alloc: Global, generator: &mut ChaCha8Rng) -> Result<Entries, AllocError>
+fn line(alloc: Global, generator: &mut ChaCha8Rng) -> Result<ScheduleLine, AllocError>
     ensures entries { IfOk result (λ line. line ≡ map entry_of (words 128 generator.old)) }
     ensures after { IfOk result (λ _. generator.new ≡ after 128 generator.old) }
 {
@@ -51,7 +51,7 @@ fn line(alloc: Global, generator: &mut ChaCha8Rng) -> Result<Entries, AllocError
         let word = generator.next_word();
         repeats.push(entry_of(word))?;
     }
-    Ok(Entries { repeats })
+    Ok(ScheduleLine { repeats })
 }
 
 /// The random schedule of this seed.

@@ -1,9 +1,9 @@
 //! Schedules by which campaigns come again.
 ghost use Rattle.std.specs.Prelude.{◌≡◌, ◌≢◌, suc, IfOk, IfErr, string_bytes};
-ghost use Rattle.explore.specs.Schedules.{schedule_from};
-ghost use Rattle.explore.specs.Text.{schedule_text};
-ghost use Rattle.retracing.specs.Reading.{IsReadAs};
-ghost use Rattle.retracing.specs.Retraced.{ComesAgain, IsLedgerOfRun, IsRetraced};
+ghost use Rattle.campaign_orders.specs.Schedules.{schedule_from};
+ghost use Rattle.campaign_orders.specs.Text.{schedule_text};
+ghost use Rattle.campaign_schedules.specs.Reading.{IsReadAs};
+ghost use Rattle.campaign_schedules.specs.Retraced.{ComesAgain, IsLedgerOfRun, IsRetraced};
 ghost use Rattle.trace.specs.Audit.{IsFaultOf};
 ghost use Rattle.trace.specs.Laws.{IsSoundText};
 ghost use Rattle.trace.specs.declared.fault.TraceError.TheVariants.{Memory};
@@ -12,8 +12,8 @@ ghost use Rattle.world.specs.KindLists.{names_in};
 ghost use Rattle.world.specs.World.{oral_kind};
 
 use board::Access;
-use explore::{Scheduled, order_in, recall_short, schedule_names, schedule_text};
-use roster::Scenario;
+use campaign_orders::{Scheduled, order_in, recall_short, schedule_names, schedule_text};
+use round::Scenario;
 use std::alloc::{AllocError, Global};
 use trace::{TraceError, sound_chronicle};
 use world::Schedule;

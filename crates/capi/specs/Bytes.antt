@@ -1,7 +1,7 @@
 -- What is said of the bytes of a program (own; the bytes as in RFC 9669, 3).
 use Rattle.std.specs.Prelude.{ℕ, ◌≡◌, List, None, Some}
 use Rattle.insn.specs.declared.insn.Insn.{Insn}
-use Rattle.codec.specs.declared.fault.Fault.{Fault}
+use Rattle.codec.specs.declared.fault.CodecFault.{CodecFault}
 use Rattle.codec.specs.Program.{SpellsProgram, IsFirstFault}
 use Rattle.semantics.specs.Run.{IsSound}
 use Rattle.verify.specs.declared.reason.Reason.{Reason}
@@ -28,7 +28,7 @@ pub record IsSoundProgram (bytes : List ℕ) : Type 0 where
 
 -- the bytes spell no program: the number of their first fault, and its unit
 pub record IsMisspelt (bytes : List ℕ) (number unit : ℕ) : Type 0 where
-  pub fault : Fault
+  pub fault : CodecFault
   pub first : IsFirstFault bytes fault unit
   pub numbered : number ≡ fault_number fault
 

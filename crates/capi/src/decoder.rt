@@ -8,7 +8,7 @@ ghost use Rattle.capi.specs.Bytes.{IsAccepted, IsProgram};
 ghost use Rattle.capi.specs.Refusals.{Refuses, status_of};
 ghost use Rattle.capi.specs.Texts.{IsExplanation, IsAssembly};
 
-use crate::refusal::Refusal;
+use crate::refusal::BytecodeRefusal;
 use asm::disassemble;
 use codec::{CodecError, decode, first_fault, no_fault_in_programs};
 use explain::explanation;
@@ -17,20 +17,20 @@ use std::alloc::Global;
 use verify::{Verified, VerifyError, verify};
 
 /// What is told of the bytes where decoding was refused memory: their first fault, which takes none to be found.
-fn undecoded(bytes: &[u8]) -> Refusal
+fn undecoded(bytes: &[u8]) -> BytecodeRefusal
     ensures refused { Refuses bytes.now result }
     ensures unjudged { status_of result ≢ 2 }
     ensures only { IsProgram bytes.now → result ≡ Refusal.Memory }
 {
     no_fault_in_programs();
     match first_fault(bytes) {
-        Some((fault, unit)) => Refusal::Misspelt(fault, unit),
-        None => Refusal::Memory,
+        Some((fault, unit)) => BytecodeRefusal::Misspelt(fault, unit),
+        None => BytecodeRefusal::Memory,
     }
 }
 
 /// The program that the bytes spell.
-fn spelt(alloc: Global, bytes: &[u8]) -> Result<Program, Refusal>
+fn spelt(alloc: Global, bytes: &[u8]) -> Result<Program, BytecodeRefusal>
     ensures spelt { IfOk result (λ program. SpellsProgram bytes.now program) }
     ensures refused { IfErr result (λ refusal. Refuses bytes.now refusal) }
     ensures unjudged { IfErr result (λ refusal. status_of refusal ≢ 2) }
@@ -39,13 +39,13 @@ fn spelt(alloc: Global, bytes: &[u8]) -> Result<Program, Refusal>
 {
     match decode(alloc, bytes) {
         Ok(program) => Ok(program),
-        Err(CodecError::At(fault, unit)) => Err(Refusal::Misspelt(fault, unit)),
+        Err(CodecError::At(fault, unit)) => Err(BytecodeRefusal::Misspelt(fault, unit)),
         Err(CodecError::Memory) => Err(undecoded(bytes)),
     }
 }
 
 /// The program that the bytes spell, where it is accepted.
-pub fn accepted(alloc: Global, bytes: &[u8]) -> Result<Verified, Refusal>
+pub fn accepted(alloc: Global, bytes: &[u8]) -> Result<Verified, BytecodeRefusal>
     ensures spelt { IfOk result (λ v. SpellsProgram bytes.now v) }
     ensures accepted { IfOk result (λ v. judged v ≡ None) }
     ensures sound { IfOk result (λ v. IsSound v) }
@@ -59,14 +59,14 @@ pub fn accepted(alloc: Global, bytes: &[u8]) -> Result<Verified, Refusal>
     match verify(alloc, program) {
         Ok(verified) => Ok(verified),
         Err(refused) => match refused.fault {
-            VerifyError::At(reason, unit) => Err(Refusal::Refused(reason, unit)),
-            VerifyError::Memory => Err(Refusal::Memory),
+            VerifyError::At(reason, unit) => Err(BytecodeRefusal::Refused(reason, unit)),
+            VerifyError::Memory => Err(BytecodeRefusal::Memory),
         },
     }
 }
 
 /// What the verifier knows at each unit of the program that the bytes spell, and why it refuses it, if so.
-pub fn explained(alloc: Global, bytes: &[u8]) -> Result<String, Refusal>
+pub fn explained(alloc: Global, bytes: &[u8]) -> Result<String, BytecodeRefusal>
     ensures text { IfOk result (λ text. IsExplanation bytes.now (string_bytes text)) }
     ensures refused { IfErr result (λ refusal. Refuses bytes.now refusal) }
     ensures unjudged { IfErr result (λ refusal. status_of refusal ≢ 2) }
@@ -78,12 +78,12 @@ pub fn explained(alloc: Global, bytes: &[u8]) -> Result<String, Refusal>
     };
     match explanation(alloc, &program) {
         Ok(text) => Ok(text),
-        Err(_) => Err(Refusal::Memory),
+        Err(_) => Err(BytecodeRefusal::Memory),
     }
 }
 
 /// The assembly text of the program that the bytes spell.
-pub fn assembly(alloc: Global, bytes: &[u8]) -> Result<String, Refusal>
+pub fn assembly(alloc: Global, bytes: &[u8]) -> Result<String, BytecodeRefusal>
     ensures text { IfOk result (λ text. IsAssembly bytes.now (string_bytes text)) }
     ensures refused { IfErr result (λ refusal. Refuses bytes.now refusal) }
     ensures unjudged { IfErr result (λ refusal. status_of refusal ≢ 2) }
@@ -95,6 +95,6 @@ pub fn assembly(alloc: Global, bytes: &[u8]) -> Result<String, Refusal>
     };
     match disassemble(alloc, &program) {
         Ok(text) => Ok(text),
-        Err(_) => Err(Refusal::Memory),
+        Err(_) => Err(BytecodeRefusal::Memory),
     }
 }

@@ -4,15 +4,15 @@ ghost use Rattle.capi.specs.Numbers.{fault_number, reason_number};
 ghost use Rattle.capi.specs.Bytes.{IsProgram, IsMisspelt, IsRefused};
 ghost use Rattle.capi.specs.Refusals.{Refuses, status_of};
 
-use crate::refusal::Refusal;
+use crate::refusal::BytecodeRefusal;
 use crate::status::{MEMORY, MISSPELT, REFUSED};
-use codec::Fault as Misspelling;
+use codec::CodecFault as Misspelling;
 use verify::Reason;
 
 /// Why bytes are not accepted: the number of the fault, 1 to 8 or 101 to 113, and the unit at which it stands.
 #[repr(C)]
 #[derive(Clone, Copy, Drop)]
-pub struct Fault {
+pub struct NumberedFault {
     pub number: u32,
     pub unit: usize,
 }
@@ -55,7 +55,7 @@ pub fn reason_number(reason: Reason) -> u32
 }
 
 /// Writes a refusal into the fault, and answers its status. Want of memory writes nothing.
-pub fn tell(refusal: Refusal, fault: &mut Fault) -> u32
+pub fn tell(refusal: BytecodeRefusal, fault: &mut NumberedFault) -> u32
     ensures status { result ≡ status_of refusal }
     ensures least { 1 ≤ result }
     ensures most { result ≤ 3 }
@@ -68,16 +68,16 @@ pub fn tell(refusal: Refusal, fault: &mut Fault) -> u32
     ensures untold { result ≡ 3 → fault.new ≡ fault.old }
 {
     match refusal {
-        Refusal::Misspelt(found, unit) => {
+        BytecodeRefusal::Misspelt(found, unit) => {
             fault.number = fault_number(found);
             fault.unit = unit;
             MISSPELT
         }
-        Refusal::Refused(reason, unit) => {
+        BytecodeRefusal::Refused(reason, unit) => {
             fault.number = reason_number(reason);
             fault.unit = unit;
             REFUSED
         }
-        Refusal::Memory => MEMORY,
+        BytecodeRefusal::Memory => MEMORY,
     }
 }

@@ -8,10 +8,10 @@ ghost use Rattle.machine.specs.Advance.{IsOfRun};
 ghost use Rattle.capi.specs.Runs.{Exits, host};
 ghost use Rattle.capi.specs.Many.{IsOutcome, AreRuns, AreBegun};
 
-use crate::outcome::Outcome;
+use crate::outcome::RunOutcome;
 use board::Board;
 use label::Shape;
-use machine::Activation;
+use machine::Machine;
 use mem::Context;
 use outbox::Outbox;
 use std::alloc::{AllocError, Global};
@@ -42,10 +42,10 @@ pub fn run_hosted(
     verified: &Verified,
     context: &Context,
     board: &mut Board,
-) -> Result<Outcome, AllocError>
+) -> Result<RunOutcome, AllocError>
     ensures { IfOk result (λ o. Exits board.old.words verified.now context.now o.r0 o.steps board.new.words) }
 {
-    let mut activation = Activation::start(verified, context, outbox(alloc)?);
+    let mut activation = Machine::start(verified, context, outbox(alloc)?);
     run_begun(verified, context, board, &mut activation)
 }
 
@@ -55,15 +55,15 @@ fn run_begun(
     verified: &Verified,
     context: &Context,
     board: &mut Board,
-    activation: &mut Activation,
-) -> Result<Outcome, AllocError>
+    activation: &mut Machine,
+) -> Result<RunOutcome, AllocError>
     requires relay { activation.old.relay ≡ oral host }
     requires started { activation.old.state ≡ entry (empty_outbox (oral host)) }
     requires of_run { IsOfRun verified.now context.now activation.old }
     ensures { IfOk result (λ o. Exits board.old.words verified.now context.now o.r0 o.steps board.new.words) }
 {
     let r0 = run_on(board, verified, context, HOST, activation)?;
-    Ok(Outcome {
+    Ok(RunOutcome {
         r0,
         steps: activation.steps(),
     })
@@ -74,8 +74,8 @@ fn run_afresh(
     alloc: Global,
     verified: &Verified,
     context: &Context,
-    activation: &mut Activation,
-) -> Result<Outcome, AllocError>
+    activation: &mut Machine,
+) -> Result<RunOutcome, AllocError>
     requires relay { activation.old.relay ≡ oral host }
     requires started { activation.old.state ≡ entry (empty_outbox (oral host)) }
     requires of_run { IsOfRun verified.now context.now activation.old }
@@ -91,7 +91,7 @@ pub fn run_each(
     alloc: Global,
     verified: &Verified,
     contexts: &[u8],
-    outcomes: &mut [Outcome],
+    outcomes: &mut [RunOutcome],
 ) -> Result<(), AllocError>
     requires whole { length contexts.now ≡ 4096 * length outcomes.old }
     ensures ran { IfOk result (λ _. (bytes : List ℕ) → SpellsProgram bytes verified.now →
@@ -100,7 +100,7 @@ pub fn run_each(
         AreBegun bytes contexts.now outcomes.old outcomes.new }
 {
     let blank = [0; Context::BYTES];
-    let mut activation = Activation::start(verified, &Context::new(&blank), outbox(alloc)?);
+    let mut activation = Machine::start(verified, &Context::new(&blank), outbox(alloc)?);
     for index in 0..outcomes.len() {
         let context = Context::new(&contexts[4096 * index..4096 * index + 4096]);
         activation.restart(verified, &context, outbox(alloc)?);

@@ -3,13 +3,13 @@
 #![tactic(auto)]
 
 mod buffer;
-mod decoding;
+mod decoder;
 mod fault;
-mod hosting;
+mod host;
 mod outcome;
-mod reading;
 mod refusal;
 mod runs;
 mod status;
+mod text_exports;
 mod verdict;
 mod version;

@@ -4,10 +4,10 @@ ghost use Rattle.capi.specs.Bytes.{IsProgram, IsAccepted, IsMisspelt, IsRefused}
 ghost use Rattle.capi.specs.Runs.{IsRun};
 ghost use Rattle.capi.specs.Many.{AreRuns, AreBegun};
 
-use crate::decoding::accepted;
-use crate::fault::{Fault, tell};
-use crate::hosting::{run_each, run_hosted};
-use crate::outcome::Outcome;
+use crate::decoder::accepted;
+use crate::fault::{NumberedFault, tell};
+use crate::host::{run_each, run_hosted};
+use crate::outcome::RunOutcome;
 use crate::status::{DONE, LENGTH, MEMORY};
 use board::Board;
 use mem::Context;
@@ -20,8 +20,8 @@ pub extern "C" fn byzlab_run(
     program: &[u8],
     context: &[u8],
     board: &mut [u64; 64],
-    fault: &mut Fault,
-    outcome: &mut Outcome,
+    fault: &mut NumberedFault,
+    outcome: &mut RunOutcome,
 ) -> u32
     ensures known { result ≤ 4 }
 
@@ -70,8 +70,8 @@ pub extern "C" fn byzlab_run_many(
     alloc: Global,
     program: &[u8],
     contexts: &[u8],
-    fault: &mut Fault,
-    outcomes: &mut [Outcome],
+    fault: &mut NumberedFault,
+    outcomes: &mut [RunOutcome],
 ) -> u32
     ensures known { result ≤ 4 }
 

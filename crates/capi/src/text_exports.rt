@@ -4,8 +4,8 @@ ghost use Rattle.capi.specs.Bytes.{IsProgram, IsAccepted, IsMisspelt, IsRefused}
 ghost use Rattle.capi.specs.Texts.{GivesExplanation, GivesAssembly};
 
 use crate::buffer::put_text;
-use crate::decoding::{assembly, explained};
-use crate::fault::{Fault, tell};
+use crate::decoder::{assembly, explained};
+use crate::fault::{NumberedFault, tell};
 use crate::status::{DONE, REFUSED};
 use crate::verdict::byzlab_verify;
 use std::alloc::Global;
@@ -18,7 +18,7 @@ pub extern "C" fn byzlab_explain(
     program: &[u8],
     text: &mut [u8],
     needed: &mut usize,
-    fault: &mut Fault,
+    fault: &mut NumberedFault,
 ) -> u32
     ensures known { result ≤ 3 }
 
@@ -59,7 +59,7 @@ pub extern "C" fn byzlab_disassemble(
     program: &[u8],
     text: &mut [u8],
     needed: &mut usize,
-    fault: &mut Fault,
+    fault: &mut NumberedFault,
 ) -> u32
     ensures known { result ≤ 3 }
     ensures unrefused { result ≢ 2 }

@@ -2,14 +2,14 @@
 ghost use Rattle.std.specs.Prelude.{◌≡◌, ◌≤◌, ◌⊎◌};
 ghost use Rattle.capi.specs.Bytes.{IsProgram, IsAccepted, IsSoundProgram, IsMisspelt, IsRefused};
 
-use crate::decoding::accepted;
-use crate::fault::{Fault, tell};
+use crate::decoder::accepted;
+use crate::fault::{NumberedFault, tell};
 use crate::status::DONE;
 use std::alloc::Global;
 
 /// Whether the bytes spell a program that the verifier accepts.
 #[unsafe(no_mangle)]
-pub extern "C" fn byzlab_verify(alloc: Global, program: &[u8], fault: &mut Fault) -> u32
+pub extern "C" fn byzlab_verify(alloc: Global, program: &[u8], fault: &mut NumberedFault) -> u32
     ensures known { result ≤ 3 }
 
     // 0 exactly where the program is accepted, memory aside; it is then sound.

@@ -9,15 +9,15 @@ use Rattle.serde_json.specs.Written.{has_float, items_have_float, members_have_f
 use Rattle.combine.specs.Names.{rule_named}
 use Rattle.text.specs.Parts.{before, lines_of, pieces}
 use Rattle.text.specs.Stop.{dot, feed, space}
-use Rattle.json_lines.specs.declared.held.Held.{Held}
-use Rattle.json_lines.specs.declared.shape.Within.{Within}
-use Rattle.json_lines.specs.declared.shape.Within.TheVariants.{Nothing, Round, Letter, Outbox}
-use Rattle.json_lines.specs.Labels.{label_of, number_at, numbers, placed, with_label, with_number}
-use Rattle.json_lines.specs.Lines.{with_file}
-use Rattle.json_lines.specs.Objects.{called, first_by, first_shaped, line_object, or, shaped, told_by, unshaped, with_mark, with_name}
-use Rattle.json_lines.specs.Refusals.{behind_stop, class_of, fault_object, namer, namer_of, refusal_object, refused_object, reported, sentence_of, with_namer, with_sentence, with_text}
-use Rattle.json_lines.specs.Shapes.{Row, accesses, shapes}
-use Rattle.json_lines.specs.Values.{Word, all, joined, number_of, place_of, places, rule_of, small, told, yes_no_of}
+use Rattle.cli_answers.specs.declared.position.Held.{Held}
+use Rattle.cli_answers.specs.declared.shape.Within.{Within}
+use Rattle.cli_answers.specs.declared.shape.Within.TheVariants.{Nothing, Round, Letter, Outbox}
+use Rattle.cli_answers.specs.Labels.{label_of, number_at, numbers, placed, with_label, with_number}
+use Rattle.cli_answers.specs.Lines.{with_file}
+use Rattle.cli_answers.specs.Objects.{called, first_by, first_shaped, line_object, or, shaped, told_by, unshaped, with_mark, with_name}
+use Rattle.cli_answers.specs.Refusals.{behind_stop, class_of, fault_object, namer, namer_of, refusal_object, refused_object, reported, sentence_of, with_namer, with_sentence, with_text}
+use Rattle.cli_answers.specs.Shapes.{Row, accesses, shapes}
+use Rattle.cli_answers.specs.Values.{Word, all, joined, number_of, place_of, places, rule_of, small, told, yes_no_of}
 
 abbrev IsClean : Option Data → Type 0
 IsClean None = Unit {0}

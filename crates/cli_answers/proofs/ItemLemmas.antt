@@ -7,8 +7,8 @@ use Rattle.serde_json.specs.declared.value.Value.{Value, Array}
 use Rattle.serde_json.proofs.Views.{view-Array}
 use Rattle.text.specs.declared.stop.Stop.{Stop}
 use Rattle.text.specs.Parts.{GivesPieces, left, pieces}
-use Rattle.json_lines.specs.Labels.{numbers}
-use Rattle.json_lines.specs.Values.{Word, all}
+use Rattle.cli_answers.specs.Labels.{numbers}
+use Rattle.cli_answers.specs.Values.{Word, all}
 
 -- the items of both lists
 abbrev pub join : Items → Items → Items

@@ -4,8 +4,8 @@ use Rattle.std.proofs.lemmas.Bool.Decides.{nat_tests}
 use Rattle.std.specs.Prelude.{◌==◌, ◌&&◌, if◌then◌else◌, slice_get}
 use Rattle.label.specs.Labels.{labels}
 use Rattle.label.specs.Relay.{relay}
-use Rattle.json_lines.specs.declared.held.Held.{Held}
-use Rattle.json_lines.specs.Labels.{own_label, shape_of}
+use Rattle.cli_answers.specs.declared.position.Held.{Held}
+use Rattle.cli_answers.specs.Labels.{own_label, shape_of}
 
 at_own : (b : Bool) (rank : ℕ) → slice_get {X = List ℕ} (if b then [] ∷ [] else []) rank ≡ (if b && rank == 0 then Some [] else None)
 at_own true zero = refl

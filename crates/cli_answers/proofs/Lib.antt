@@ -1,1 +1,6 @@
+mod CleanLemmas
+mod ItemLemmas
+mod LabelLemmas
+mod ValueLemmas
+mod WhyLemmas
 pub mod ShownLemmas

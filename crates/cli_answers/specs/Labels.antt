@@ -4,9 +4,9 @@ use Rattle.label.specs.declared.shape.Shape.{Shape}
 use Rattle.label.specs.Relay.{relay}
 use Rattle.serde_json.specs.Data.{number, unsigned, array, Items, no_items, item, Members, put}
 use Rattle.serde_json.specs.Find.{get_member, as_number, as_u64}
-use Rattle.json_lines.specs.declared.held.Held.{Held}
-use Rattle.json_lines.specs.declared.shape.Within.{Within}
-use Rattle.json_lines.specs.declared.shape.Within.TheVariants.{Nothing, Round, Letter, Outbox}
+use Rattle.cli_answers.specs.declared.position.Held.{Held}
+use Rattle.cli_answers.specs.declared.shape.Within.{Within}
+use Rattle.cli_answers.specs.declared.shape.Within.TheVariants.{Nothing, Round, Letter, Outbox}
 
 -- the number at a name
 abbrev pub number_at : List ℕ → Members → Option ℕ

@@ -4,9 +4,9 @@ use Rattle.label.specs.declared.shape.Shape.{Shape}
 use Rattle.serde_json.specs.Data.{Members, object, put, string}
 use Rattle.serde_json.specs.Written.{compact_text}
 use Rattle.text.specs.Parts.{lines_of}
-use Rattle.json_lines.specs.declared.held.Held.{Held}
-use Rattle.json_lines.specs.Labels.{heard, held_by}
-use Rattle.json_lines.specs.Objects.{line_object}
+use Rattle.cli_answers.specs.declared.position.Held.{Held}
+use Rattle.cli_answers.specs.Labels.{heard, held_by}
+use Rattle.cli_answers.specs.Objects.{line_object}
 
 -- the line of an object
 abbrev pub object_line : Members → List ℕ

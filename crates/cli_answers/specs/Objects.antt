@@ -4,10 +4,10 @@ use Rattle.std.specs.Str.Lossy.{utf8_lossy}
 use Rattle.serde_json.specs.Data.{Data, boolean, string, Members, no_members, put}
 use Rattle.text.specs.Parts.{pieces}
 use Rattle.text.specs.Stop.{space}
-use Rattle.json_lines.specs.declared.held.Held.{Held}
-use Rattle.json_lines.specs.Labels.{placed}
-use Rattle.json_lines.specs.Shapes.{Row, accesses, shapes}
-use Rattle.json_lines.specs.Values.{Word, places, told}
+use Rattle.cli_answers.specs.declared.position.Held.{Held}
+use Rattle.cli_answers.specs.Labels.{placed}
+use Rattle.cli_answers.specs.Shapes.{Row, accesses, shapes}
+use Rattle.cli_answers.specs.Values.{Word, places, told}
 
 -- a member by its name, but for a dash
 abbrev pub with_name : List ℕ → Data → Members → Members

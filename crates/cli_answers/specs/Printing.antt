@@ -2,21 +2,21 @@
 use Rattle.std.specs.Prelude.{ℕ, ◌++◌, ◌||◌, Bool, true, false, List, [], ◌∷◌, Option, Some, codes, find, option_map, take, unwrap_or}
 use Rattle.std.specs.Str.{bytes_eq}
 use Rattle.std.specs.String.{string_bytes}
-use Rattle.command_line.specs.Tasks.{file_of}
-use Rattle.command_line.specs.declared.tasks.Request.{Request}
-use Rattle.command_line.specs.declared.tasks.Task.{Task}
-use Rattle.command_line.specs.declared.tasks.Task.TheVariants.{Audit}
+use Rattle.cli_words.specs.Tasks.{file_of}
+use Rattle.cli_words.specs.declared.tasks.TaskRequest.{TaskRequest}
+use Rattle.cli_words.specs.declared.tasks.Task.{Task}
+use Rattle.cli_words.specs.declared.tasks.Task.TheVariants.{Audit}
 use Rattle.label.specs.declared.shape.Shape.{Shape}
-use Rattle.json_lines.specs.Labels.{at_first}
-use Rattle.json_lines.specs.Lines.{json_text, object_line, with_file}
-use Rattle.json_lines.specs.Objects.{line_object}
-use Rattle.json_lines.specs.Refusals.{refusal_object}
+use Rattle.cli_answers.specs.Labels.{at_first}
+use Rattle.cli_answers.specs.Lines.{json_text, object_line, with_file}
+use Rattle.cli_answers.specs.Objects.{line_object}
+use Rattle.cli_answers.specs.Refusals.{refusal_object}
 use Rattle.streams.specs.Names.{shown}
 use Rattle.text.specs.Parts.{before, lines_of}
 use Rattle.text.specs.Stop.{feed}
 
 -- JSON, or one line, is asked for
-abbrev pub is_shaped : Request → Bool
+abbrev pub is_shaped : TaskRequest → Bool
 is_shaped request = request.json || request.verdicts
 
 -- the file that is judged: of an audit the chronicle, else the only or first one
@@ -42,7 +42,7 @@ answer_by true false name place text = Some (json_text place text)
 answer_by false true name place text = named_line name (outcome text)
 answer_by true true name place text = Some (object_line (with_file name (line_object at_first (outcome text))))
 
-abbrev pub answer_as : Request → Option Shape → List ℕ → Option (List ℕ)
+abbrev pub answer_as : TaskRequest → Option Shape → List ℕ → Option (List ℕ)
 answer_as request place text = answer_by request.json request.verdicts (judged request.task) place text
 
 -- a refusal's text: as it is, as an object, as one line, as an object with the file
@@ -52,5 +52,5 @@ refusal_by true false name text = Some (object_line (refusal_object text))
 refusal_by false true name text = named_line name (before feed text)
 refusal_by true true name text = Some (object_line (with_file name (refusal_object text)))
 
-abbrev pub refusal_as : Request → List ℕ → Option (List ℕ)
+abbrev pub refusal_as : TaskRequest → List ℕ → Option (List ℕ)
 refusal_as request text = refusal_by request.json request.verdicts (judged request.task) text

@@ -6,7 +6,7 @@ use Rattle.serde_json.specs.Data.{string, Members, put}
 use Rattle.text.specs.declared.stop.Stop.{Stop}
 use Rattle.text.specs.Parts.{before, from, lines_of}
 use Rattle.text.specs.Stop.{feed, space}
-use Rattle.json_lines.specs.Objects.{called, unshaped}
+use Rattle.cli_answers.specs.Objects.{called, unshaped}
 
 -- what stands behind the first stop
 abbrev pub behind_stop : Stop → List ℕ → List ℕ

@@ -1,17 +1,17 @@
 -- How a request ends (own).
 use Rattle.std.specs.Prelude.{ℕ, ◌≡◌, ◌⊎◌, List, Option, IfSome, codes}
 use Rattle.std.specs.Io.KnownBytes.{Appends}
-use Rattle.command_line.specs.declared.tasks.Request.{Request}
-use Rattle.lab.specs.Faults.{Prevents}
-use Rattle.faults.specs.Faults.{fault_text, status_of}
+use Rattle.cli_words.specs.declared.tasks.TaskRequest.{TaskRequest}
+use Rattle.cli_tasks.specs.TaskFaults.{Prevents}
+use Rattle.cli_tasks.specs.Faults.{fault_text, status_of}
 use Rattle.label.specs.declared.shape.Shape.{Shape}
-use Rattle.lab.specs.Serving.{Files, IsPlacedAnswer, Tells}
-use Rattle.faults.specs.declared.failure.Failure.{Failure}
+use Rattle.cli_tasks.specs.Serving.{Files, IsPlacedAnswer, Tells}
+use Rattle.cli_tasks.specs.declared.failure.TaskFailure.{TaskFailure}
 use Rattle.streams.specs.Writing.{AppendsFront}
-use Rattle.desk.specs.Printing.{answer_as, refusal_as}
+use Rattle.cli_answers.specs.Printing.{answer_as, refusal_as}
 
 -- the output has grown by the task's whole answer on the files, in the form that is asked for
-abbrev pub IsShown : Request → Files → Option (List ℕ) → Option (List ℕ) → Type 0
+abbrev pub IsShown : TaskRequest → Files → Option (List ℕ) → Option (List ℕ) → Type 0
 IsShown request files old new =
     (text : List ℕ) × ((place : Option Shape) × IsPlacedAnswer request.task files text place
     × IfSome (answer_as request place text) (Appends old new))
@@ -23,20 +23,20 @@ IsUnwritten unwritten tells lines old new =
 
 -- the output has grown by a refusal of this text, in the form that is asked for, and nothing else is told; or it failed
 -- on that
-abbrev pub IsRefusalShown : Type 0 → Type 0 → (List ℕ → Type 0) → Request → Option (List ℕ) → Option (List ℕ) → List ℕ →
+abbrev pub IsRefusalShown : Type 0 → Type 0 → (List ℕ → Type 0) → TaskRequest → Option (List ℕ) → Option (List ℕ) → List ℕ →
     Type 0
 IsRefusalShown quiet unwritten tells request old new text =
     (quiet × IfSome (refusal_as request text) (Appends old new))
     ⊎ IsUnwritten unwritten tells (refusal_as request text) old new
 
 -- the output failed on the task's answer, in the form that is asked for
-abbrev pub IsAnswerUnwritten : Type 0 → (List ℕ → Type 0) → Request → Files → Option (List ℕ) → Option (List ℕ) → Type 0
+abbrev pub IsAnswerUnwritten : Type 0 → (List ℕ → Type 0) → TaskRequest → Files → Option (List ℕ) → Option (List ℕ) → Type 0
 IsAnswerUnwritten unwritten tells request files old new =
     (text : List ℕ) × ((place : Option Shape) × IsPlacedAnswer request.task files text place
     × IsUnwritten unwritten tells (answer_as request place text) old new)
 
 -- the task has no answer, and why stands so, where it is known how that is told; it is not want of memory
-abbrev pub IsPrevented : Type 0 → Type 0 → (List ℕ → Type 0) → Request → Files → Type 0
+abbrev pub IsPrevented : Type 0 → Type 0 → (List ℕ → Type 0) → TaskRequest → Files → Type 0
 IsPrevented unread second_unread shown request files =
-    (fault : Failure) × Prevents unread second_unread request.task files fault × (status_of fault ≡ 1)
+    (fault : TaskFailure) × Prevents unread second_unread request.task files fault × (status_of fault ≡ 1)
     × IfSome (fault_text fault) shown

@@ -2,11 +2,11 @@
 use Rattle.std.specs.Prelude.{ℕ, Bool, true, false, List, [], ◌∷◌, codes, map}
 use Rattle.text.specs.Parts.{pieces}
 use Rattle.text.specs.Stop.{space}
-use Rattle.asking.specs.Wording as asking
-use Rattle.asking.specs.Wording.{rows}
-use Rattle.json_lines.specs.declared.shape.Shape.{Shape}
-use Rattle.json_lines.specs.declared.shape.Within.{Within}
-use Rattle.json_lines.specs.declared.shape.Within.TheVariants.{Nothing, Round, Letter, Outbox}
+use Rattle.board.specs.Wording as asking
+use Rattle.board.specs.Wording.{rows}
+use Rattle.cli_answers.specs.declared.shape.Shape.{Shape}
+use Rattle.cli_answers.specs.declared.shape.Within.{Within}
+use Rattle.cli_answers.specs.declared.shape.Within.TheVariants.{Nothing, Round, Letter, Outbox}
 
 -- what such a line is called, its words with their names, what holds of it or does not, and where it stands
 pub record Row : Type 0 where

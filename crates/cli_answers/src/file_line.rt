@@ -2,14 +2,14 @@
 ghost use Rattle.std.specs.Prelude.{◌≡◌, false, IfOk};
 ghost use Rattle.serde_json.specs.View.{members_view};
 ghost use Rattle.serde_json.specs.Written.{members_have_float};
-ghost use Rattle.json_lines.specs.Lines.{object_line, with_file};
-ghost use Rattle.json_lines.specs.Labels.{at_first};
-ghost use Rattle.json_lines.specs.Objects.{line_object};
-ghost use Rattle.json_lines.specs.Refusals.{refusal_object};
+ghost use Rattle.cli_answers.specs.Lines.{object_line, with_file};
+ghost use Rattle.cli_answers.specs.Labels.{at_first};
+ghost use Rattle.cli_answers.specs.Objects.{line_object};
+ghost use Rattle.cli_answers.specs.Refusals.{refusal_object};
 
-use crate::held::Held;
-use crate::lines::push_object;
+use crate::json_lines::push_object;
 use crate::objects::line_object;
+use crate::position::Held;
 use crate::refusals::refusal_object;
 use serde_json::{Map, Value, put};
 use std::alloc::{AllocError, Global};

@@ -3,10 +3,10 @@ ghost use Rattle.std.specs.Prelude.{◌≡◌, ◌++◌, false, IfOk, OnOk, stri
 ghost use Rattle.serde_json.specs.Data.{object};
 ghost use Rattle.serde_json.specs.View.{members_view};
 ghost use Rattle.serde_json.specs.Written.{members_have_float};
-ghost use Rattle.json_lines.specs.Lines.{json_text, object_line};
+ghost use Rattle.cli_answers.specs.Lines.{json_text, object_line};
 
-use crate::held::Held;
 use crate::objects::line_object;
+use crate::position::Held;
 use label::Shape;
 use serde_json::{Map, Value};
 use std::alloc::{AllocError, Global};

@@ -2,9 +2,9 @@
 ghost use Rattle.std.specs.Prelude.{◌≡◌, ◌==◌, false, true, IfOk, OnOk, option_and_then, slice_get};
 ghost use Rattle.label.specs.Relay.{IsShape, relay};
 ghost use Rattle.serde_json.specs.View.{items_view, members_view};
-ghost use Rattle.json_lines.specs.Labels.{is_possible, label_of, numbers, own_label, placed, shape_of, with_label};
+ghost use Rattle.cli_answers.specs.Labels.{is_possible, label_of, numbers, own_label, placed, shape_of, with_label};
 
-use crate::held::{Held, number_at};
+use crate::position::{Held, number_at};
 use crate::shape::Within;
 use label::{Label, Space, count, unrank};
 use serde_json::{Map, Value, put};

@@ -1,9 +1,21 @@
+//! What the laboratory prints, as JSON: a line is an object, whose members are the words of the line by their names.
 //! What stands between the words and the laboratory: answers and refusals as JSON, or by one line.
 #![tactic(auto)]
 
-mod lines;
+mod file_line;
+mod json_lines;
+mod labels;
+mod objects;
 mod outcome;
-mod printing;
-mod serving;
+mod position;
+mod printed_lines;
+mod printer;
+mod refusals;
+mod service;
+mod shape;
+mod values;
 
-pub use serving::{serve, turned_down};
+pub use file_line::{answer_of, refusal_of};
+pub use json_lines::answer;
+pub use refusals::refusal;
+pub use service::{serve, turned_down};

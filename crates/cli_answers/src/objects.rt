@@ -3,15 +3,15 @@ ghost use Rattle.std.specs.Prelude.{◌≡◌, IfOk, IfErr, OnOk, map, option_ma
 ghost use Rattle.serde_json.specs.View.{members_view, view};
 ghost use Rattle.text.specs.Parts.{pieces};
 ghost use Rattle.text.specs.Stop.{space};
-ghost use Rattle.json_lines.specs.Objects.{called, first_shaped, found, line_object, shaped, told_by, unshaped, with_mark, with_name};
-ghost use Rattle.asking.specs.Wording as asking;
-ghost use Rattle.json_lines.specs.Shapes.{access_row, row_of};
+ghost use Rattle.cli_answers.specs.Objects.{called, first_shaped, found, line_object, shaped, told_by, unshaped, with_mark, with_name};
+ghost use Rattle.board.specs.Wording as asking;
+ghost use Rattle.cli_answers.specs.Shapes.{access_row, row_of};
 
-use crate::held::Held;
 use crate::labels::put_place;
+use crate::position::Held;
 use crate::shape::{Shape, access_shape, shapes};
 use crate::values::{places, spelled, told};
-use asking::{Wording, wordings};
+use board::{Wording, wordings};
 use serde_json::{Map, Value, put};
 use std::alloc::{AllocError, Global};
 use text::{SPACE, piece};

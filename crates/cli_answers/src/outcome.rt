@@ -2,9 +2,9 @@
 ghost use Rattle.std.specs.Prelude.{◌≡◌, find, option_map};
 ghost use Rattle.text.specs.Parts.{before, lines_of};
 ghost use Rattle.text.specs.Stop.{feed};
-ghost use Rattle.desk.specs.Printing.{is_verdict, judged, outcome};
+ghost use Rattle.cli_answers.specs.Printing.{is_verdict, judged, outcome};
 
-use command_line::Task;
+use cli_words::Task;
 use text::{Stop, cut, line};
 
 /// The name of the file that is judged.

@@ -1,7 +1,7 @@
 //! Where a line stands.
 ghost use Rattle.std.specs.Prelude.{◌≡◌};
 ghost use Rattle.serde_json.specs.View.{members_view};
-ghost use Rattle.json_lines.specs.Labels.{at_first, heard, held_by, number_at};
+ghost use Rattle.cli_answers.specs.Labels.{at_first, heard, held_by, number_at};
 
 use label::Shape;
 use serde_json::{Map, Value};

@@ -1,9 +1,9 @@
 //! What is printed of an answer, and of a refusal.
 ghost use Rattle.std.specs.Prelude.{◌≡◌, IfOk, IfSome};
-ghost use Rattle.desk.specs.Printing.{answer_as, named_line, refusal_as};
+ghost use Rattle.cli_answers.specs.Printing.{answer_as, named_line, refusal_as};
 
 use crate::outcome::{first_line, judged, outcome};
-use command_line::Request;
+use cli_words::TaskRequest;
 use label::Shape;
 use std::alloc::{AllocError, Global};
 use streams::FileName;
@@ -22,7 +22,7 @@ fn named_line(alloc: Global, name: &str, line: &[u8]) -> Result<Vec<u8>, AllocEr
 /// An answer's text in the form that is asked for, of a trial in this place, if it tells of one.
 pub(crate) fn answer_lines(
     alloc: Global,
-    request: &Request,
+    request: &TaskRequest,
     place: Option<Shape>,
     text: &[u8],
 ) -> Result<Vec<u8>, AllocError>
@@ -31,16 +31,16 @@ pub(crate) fn answer_lines(
     let name = judged(&request.task);
     match (request.json, request.verdicts) {
         (false, false) => text.to_vec(alloc),
-        (true, false) => json_lines::answer(alloc, place, text),
+        (true, false) => crate::json_lines::answer(alloc, place, text),
         (false, true) => named_line(alloc, name, outcome(text)),
-        (true, true) => json_lines::answer_of(alloc, name, outcome(text)),
+        (true, true) => crate::file_line::answer_of(alloc, name, outcome(text)),
     }
 }
 
 /// A refusal's text in the form that is asked for.
 pub(crate) fn refusal_lines(
     alloc: Global,
-    request: &Request,
+    request: &TaskRequest,
     text: &[u8],
 ) -> Result<Vec<u8>, AllocError>
     ensures { IfOk result (λ all. IfSome (refusal_as request.now text.now) (λ known. all.items ≡ known)) }
@@ -48,8 +48,8 @@ pub(crate) fn refusal_lines(
     let name = judged(&request.task);
     match (request.json, request.verdicts) {
         (false, false) => text.to_vec(alloc),
-        (true, false) => json_lines::refusal(alloc, text),
+        (true, false) => crate::refusals::refusal(alloc, text),
         (false, true) => named_line(alloc, name, first_line(text)),
-        (true, true) => json_lines::refusal_of(alloc, name, text),
+        (true, true) => crate::file_line::refusal_of(alloc, name, text),
     }
 }

@@ -1,12 +1,12 @@
 //! Answers and refusals, printed in the form that is asked for.
 ghost use Rattle.std.specs.Prelude.{◌≡◌, ◌⊎◌, IfSome, codes};
 ghost use Rattle.std.specs.Io.KnownBytes.{Appends};
-ghost use Rattle.lab.specs.Serving.{Tells};
-ghost use Rattle.desk.specs.Printing.{answer_as};
-ghost use Rattle.desk.specs.Serving.{IsRefusalShown, IsUnwritten};
+ghost use Rattle.cli_tasks.specs.Serving.{Tells};
+ghost use Rattle.cli_answers.specs.Printing.{answer_as};
+ghost use Rattle.cli_answers.specs.Serving.{IsRefusalShown, IsUnwritten};
 
-use crate::lines::{answer_lines, refusal_lines};
-use command_line::Request;
+use crate::printed_lines::{answer_lines, refusal_lines};
+use cli_words::TaskRequest;
 use label::Shape;
 use std::alloc::Global;
 use streams::Output;
@@ -32,7 +32,7 @@ fn unwritten<F: Output>(fault: &mut F) -> u8
 /// Prints an answer, which may tell of a trial in such a place. The result is the exit status.
 pub(crate) fn show_answer<O: Output, F: Output>(
     alloc: Global,
-    request: &Request,
+    request: &TaskRequest,
     place: Option<Shape>,
     text: &[u8],
     out: &mut O,
@@ -61,7 +61,7 @@ pub(crate) fn show_answer<O: Output, F: Output>(
 /// Prints a refusal. The result is the exit status.
 pub(crate) fn show_refusal<O: Output, F: Output>(
     alloc: Global,
-    request: &Request,
+    request: &TaskRequest,
     text: &[u8],
     out: &mut O,
     fault: &mut F,

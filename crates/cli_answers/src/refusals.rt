@@ -2,10 +2,10 @@
 ghost use Rattle.std.specs.Prelude.{◌≡◌, IfNone, IfOk, IfSome, OnOk, drop, false, option_and_then, option_map, slice_get, true};
 ghost use Rattle.serde_json.specs.View.{members_view};
 ghost use Rattle.text.specs.Parts.{before, lines_of};
-ghost use Rattle.json_lines.specs.Lines.{object_line};
-ghost use Rattle.json_lines.specs.Refusals.{behind_stop, class_of, fault_object, is_reported, is_unsafe, is_why, namer, namer_behind, namer_of, refusal_object, refused_object, reported, said, second_of, sentence_of, why, with_namer, with_sentence, with_text};
+ghost use Rattle.cli_answers.specs.Lines.{object_line};
+ghost use Rattle.cli_answers.specs.Refusals.{behind_stop, class_of, fault_object, is_reported, is_unsafe, is_why, namer, namer_behind, namer_of, refusal_object, refused_object, reported, said, second_of, sentence_of, why, with_namer, with_sentence, with_text};
 
-use crate::lines::push_object;
+use crate::json_lines::push_object;
 use crate::objects::{called, unshaped};
 use crate::values::spelled;
 use serde_json::{Map, Value, put};

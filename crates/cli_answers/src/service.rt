@@ -1,13 +1,13 @@
 //! Requests, served.
 ghost use Rattle.std.specs.Prelude.{◌≡◌, ◌⊎◌, IfSome, IsSomeAnd, codes, false, true};
-ghost use Rattle.lab.specs.Serving.{IsFault, Tells, files};
+ghost use Rattle.cli_tasks.specs.Serving.{IsFault, Tells, files};
 ghost use Rattle.streams.specs.Writing.{AppendsFront};
-ghost use Rattle.desk.specs.Printing.{is_shaped};
-ghost use Rattle.desk.specs.Serving.{IsAnswerUnwritten, IsPrevented, IsRefusalShown, IsShown};
+ghost use Rattle.cli_answers.specs.Printing.{is_shaped};
+ghost use Rattle.cli_answers.specs.Serving.{IsAnswerUnwritten, IsPrevented, IsRefusalShown, IsShown};
 
-use crate::printing::{lacking, show_answer, show_refusal};
-use command_line::Request;
-use lab::{Answer, Failure};
+use crate::printer::{lacking, show_answer, show_refusal};
+use cli_tasks::{Answer, TaskFailure};
+use cli_words::TaskRequest;
 use std::alloc::Global;
 use std::fmt::Display;
 use std::sync::Wait;
@@ -15,20 +15,20 @@ use std::thread::Threads;
 use streams::{Output, Source};
 
 /// Whether JSON, or one line, is asked for.
-fn is_shaped(request: &Request) -> bool
+fn is_shaped(request: &TaskRequest) -> bool
     ensures { result ≡ is_shaped request.now }
 {
     request.json || request.verdicts
 }
 
-/// Does what is asked for, as `lab::serve` does the task; where JSON or one line is asked for, the answer or the
+/// Does what is asked for, as `cli_tasks::serve` does the task; where JSON or one line is asked for, the answer or the
 /// refusal is printed so, on `out`. The result is the exit status: 0 done, 1 refused or a fault of a file, 3 want of
 /// memory.
 #[tactic(auto, using(crate::proofs::ShownLemmas::shown_plainly))]
 pub fn serve<T, R, O, F>(
     rt: &T,
     alloc: Global,
-    request: &Request,
+    request: &TaskRequest,
     first: R,
     second: Option<R>,
     out: &mut O,
@@ -67,14 +67,14 @@ where
 {
     let task = &request.task;
     if !is_shaped(request) {
-        return lab::serve(rt, alloc, task, first, second, out, fault);
+        return cli_tasks::serve(rt, alloc, task, first, second, out, fault);
     }
-    match lab::placed(rt, alloc, task, first, second) {
+    match cli_tasks::placed(rt, alloc, task, first, second) {
         Ok(answer) => {
             let Answer { text, place } = answer;
             show_answer(alloc, request, place, text.as_slice(), out, fault)
         }
-        Err(Failure::Memory) => lacking(fault),
+        Err(TaskFailure::Memory) => lacking(fault),
         Err(failure) => shown(alloc, request, failure, out, fault),
     }
 }
@@ -83,7 +83,7 @@ where
 /// status: 1, or 3 for want of memory.
 pub fn turned_down<D, O, F>(
     alloc: Global,
-    request: &Request,
+    request: &TaskRequest,
     line: D,
     out: &mut O,
     fault: &mut F,
@@ -114,7 +114,7 @@ where
 }
 
 /// Prints this line as a refusal, in the form that is asked for. The result is the exit status.
-fn shown<D, O, F>(alloc: Global, request: &Request, line: D, out: &mut O, fault: &mut F) -> u8
+fn shown<D, O, F>(alloc: Global, request: &TaskRequest, line: D, out: &mut O, fault: &mut F) -> u8
 where
     D: Display + Drop,
     O: Output,

@@ -1,9 +1,9 @@
 //! The shapes of lines, and what their words are called.
 ghost use Rattle.std.specs.Prelude.{◌≡◌, map};
-ghost use Rattle.asking.specs.Wording as asking;
-ghost use Rattle.json_lines.specs.Shapes.{access_row, row_of, shapes};
+ghost use Rattle.board.specs.Wording as asking;
+ghost use Rattle.cli_answers.specs.Shapes.{access_row, row_of, shapes};
 
-use asking::Wording;
+use board::Wording;
 
 /// Where a line stands in a chronicle, which is told with it.
 #[derive(Clone, Copy, PartialEq, Eq)]

@@ -5,7 +5,7 @@ ghost use Rattle.serde_json.specs.Data.{string};
 ghost use Rattle.serde_json.specs.View.{view};
 ghost use Rattle.text.specs.Parts.{left};
 ghost use Rattle.text.specs.Stop.{space};
-ghost use Rattle.json_lines.specs.Values.{joined, number_of, numbers_of, place_of, places, rule_of, small, told, yes_no_of};
+ghost use Rattle.cli_answers.specs.Values.{joined, number_of, numbers_of, place_of, places, rule_of, small, told, yes_no_of};
 
 use combine::Rule;
 use serde_json::Value;

@@ -4,7 +4,7 @@ use Rattle.std.specs.Prelude.{IfOk}
 use Rattle.std.specs.declared.alloc.AllocError.{AllocError}
 use Rattle.scenario.specs.declared.fault.ScenarioError.{ScenarioError}
 use Rattle.scenario.specs.declared.fault.ScenarioError.TheVariants as errors
-use Rattle.own_lines.specs.Refused.{IsErrorIn}
+use Rattle.cli_report.specs.Refused.{IsErrorIn}
 
 -- what is known of the answer is known of the error
 pub error_told : {T : Type 0} (Reads : Result T ScenarioError → Type 0) (Tells : Option ScenarioError → Type 0)

@@ -3,7 +3,7 @@ use Rattle.std.proofs.Common.{◌≡◌, ◌∙◌, ℕ, ◌+◌, ◌<◌, List,
 use Rattle.std.proofs.lemmas.List.{drop_more, take_more}
 use Rattle.std.specs.Prelude.{nat_eq}
 use Rattle.std.specs.List.{starts_with}
-use Rattle.why.specs.Scenarios.{before_feed, before_quote, behind_feed, is_feed}
+use Rattle.cli_report.specs.Scenarios.{before_feed, before_quote, behind_feed, is_feed}
 
 no_feed : (x : ℕ) (xs : List ℕ) → is_feed (x ∷ xs) ≡ false → behind_feed (x ∷ xs) ≡ behind_feed xs
 no_feed x xs none = rw none refl

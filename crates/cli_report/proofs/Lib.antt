@@ -1,1 +1,8 @@
-pub mod Errors
+pub mod TrimLemmas
+pub mod TakenLemmas
+pub mod FeedLemmas
+pub mod MadeLemmas
+pub mod PlaceLemmas
+pub mod SayingLemmas
+pub mod TellingLaws
+pub mod ErrorLemmas

@@ -9,8 +9,8 @@ use Rattle.scenario.specs.Tables.{Source}
 use Rattle.scenario.specs.Reading.{IsProgramOf}
 use Rattle.scenario.specs.declared.fault.ScenarioError.{ScenarioError}
 use Rattle.scenario.specs.declared.fault.ScenarioError.TheVariants.{Toml, Unknown, At, Program, Memory}
-use Rattle.why.specs.Judged.{GivesProgram, IsExplainedOf, IsMadeBy}
-use Rattle.why.specs.Keys.{Found}
+use Rattle.cli_report.specs.Judged.{GivesProgram, IsExplainedOf, IsMadeBy}
+use Rattle.cli_report.specs.Keys.{Found}
 
 pub made_is_had : (g : ℕ) (source : Source) (made : Result (List Insn) ScenarioError)
     (answer : Result (Option (List Insn)) AllocError) → OrMemory (Makes g source) made → IsMadeBy made answer

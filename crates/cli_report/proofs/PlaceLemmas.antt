@@ -2,10 +2,10 @@
 use Rattle.std.proofs.Common.{ℕ, suc, ◌≡◌, ◌+◌, ◌-◌, ◌≤◌, ◌⊎◌, ◌==◌, ◌&&◌, inl, inr, List, [], ◌∷◌, Bool, true, false, cond, arith, codes, refl, subst}
 use Rattle.std.specs.Prelude.{Option, None, Some, IfSome, option_map, slice_get}
 use Rattle.text.specs.Parts.{lines_of}
-use Rattle.why.specs.Keys.{Found, begins_with, entry_line, found, found_on, header, or_else, shown_at, table_at}
-use Rattle.why.specs.Laws.{IsInText}
-use Rattle.why.specs.Lines.{line_at, marked, trimmed}
-use Rattle.why.specs.Report.{Mark}
+use Rattle.cli_report.specs.Keys.{Found, begins_with, entry_line, found, found_on, header, or_else, shown_at, table_at}
+use Rattle.cli_report.specs.Laws.{IsInText}
+use Rattle.cli_report.specs.Lines.{line_at, marked, trimmed}
+use Rattle.cli_report.specs.Report.{Mark}
 
 -- a part of a line
 pub marked-in : (text line : List ℕ) (number before size : ℕ) → line_at text number ≡ Some line → IsInText text (marked number (trimmed line) before size)

@@ -1,42 +1,42 @@
 -- No sentence is empty.
 use Rattle.std.proofs.Common.{ℕ, ◌≢◌, List, [], ◌∷◌, Bool, true, false, cond}
 use Rattle.std.specs.Prelude.{Option, None, Some}
-use Rattle.asm.specs.declared.fault.Fault.{Fault as AsmFault}
-use Rattle.asm.specs.declared.fault.Fault.TheVariants as asm
-use Rattle.codec.specs.declared.fault.Fault.{Fault as CodecFault}
-use Rattle.codec.specs.declared.fault.Fault.TheVariants as codec
-use Rattle.book.specs.declared.fault.Fault.{Fault as TableFault}
-use Rattle.book.specs.declared.fault.Fault.TheVariants as table
-use Rattle.elf.specs.Sentences.{sentence_of}
-use Rattle.elf.specs.declared.fault.Damage.TheVariants as damages
-use Rattle.elf.specs.declared.fault.Fault.{Fault as ObjectFault}
-use Rattle.elf.specs.declared.fault.Fault.TheVariants as objects
+use Rattle.asm.specs.declared.fault.AsmFault.{Fault as AsmFault}
+use Rattle.asm.specs.declared.fault.AsmFault.TheVariants as asm
+use Rattle.codec.specs.declared.fault.CodecFault.{Fault as CodecFault}
+use Rattle.codec.specs.declared.fault.CodecFault.TheVariants as codec
+use Rattle.book.specs.declared.fault.TableFault.{Fault as TableFault}
+use Rattle.book.specs.declared.fault.TableFault.TheVariants as table
+use Rattle.object.specs.Sentences.{sentence_of}
+use Rattle.object.specs.declared.fault.Damage.TheVariants as damages
+use Rattle.object.specs.declared.fault.ObjectFault.{Fault as ObjectFault}
+use Rattle.object.specs.declared.fault.ObjectFault.TheVariants as objects
 use Rattle.threads.specs.declared.error.MusterError.{MusterError}
 use Rattle.threads.specs.declared.error.MusterError.TheVariants as musters
-use Rattle.trace.specs.declared.fault.Fault.{Fault as TraceFault}
-use Rattle.trace.specs.declared.fault.Fault.TheVariants as trace
-use Rattle.scenario.specs.declared.fault.Fault.{Fault as ScenarioFault}
-use Rattle.scenario.specs.declared.fault.Fault.TheVariants as faults
-use Rattle.scenario.specs.declared.place.Name.{Name}
-use Rattle.scenario.specs.declared.place.Name.TheVariants as names
-use Rattle.scenario.specs.declared.place.Place.{Place}
-use Rattle.scenario.specs.declared.place.Place.TheVariants as places
-use Rattle.trial.specs.declared.fault.Fault.{Fault as SettingFault}
-use Rattle.trial.specs.declared.fault.Fault.TheVariants as setting
-use Rattle.trial.specs.declared.place.Name.{Name as SettingName}
-use Rattle.trial.specs.declared.place.Name.TheVariants as setting_names
-use Rattle.trial.specs.declared.place.Place.{Place as SettingPlace}
-use Rattle.trial.specs.declared.place.Place.TheVariants as setting_places
-use Rattle.why.specs.declared.mnemonics.Takes.{Takes}
-use Rattle.why.specs.declared.mnemonics.Takes.TheVariants as takes
-use Rattle.why.specs.Assembly.{assembly_sentence, call_sentence, mnemonic_in, operand_sentence, operands_in, outline_sentence, past_ascii, range_sentence}
-use Rattle.why.specs.Bytecode.{byte_of, choice_sentence, left_out_sentence, unit_sentence}
-use Rattle.why.specs.Chronicles.{chronicle_sentence}
-use Rattle.why.specs.Messages.{table_sentence}
-use Rattle.why.specs.Musters.{muster_sentence}
-use Rattle.why.specs.Mnemonics.{taken, takes_text}
-use Rattle.why.specs.Scenarios.{kind_sentence, missing_sentence, name_sentence, place_sentence, range_sentence as name_range_sentence, word_sentence}
-use Rattle.why.specs.Settings.{order_sentence, setting_kind_sentence, setting_name_sentence, setting_range_sentence, setting_sentence, setting_word_sentence}
+use Rattle.trace.specs.declared.fault.TraceFault.{Fault as TraceFault}
+use Rattle.trace.specs.declared.fault.TraceFault.TheVariants as trace
+use Rattle.scenario.specs.declared.fault.ScenarioFault.{Fault as ScenarioFault}
+use Rattle.scenario.specs.declared.fault.ScenarioFault.TheVariants as faults
+use Rattle.scenario.specs.declared.place.ScenarioKey.{ScenarioKey}
+use Rattle.scenario.specs.declared.place.ScenarioKey.TheVariants as names
+use Rattle.scenario.specs.declared.place.ScenarioPlace.{ScenarioPlace}
+use Rattle.scenario.specs.declared.place.ScenarioPlace.TheVariants as places
+use Rattle.trial.specs.declared.fault.SettingFault.{Fault as SettingFault}
+use Rattle.trial.specs.declared.fault.SettingFault.TheVariants as setting
+use Rattle.trial.specs.declared.place.SettingKey.{ScenarioKey as SettingName}
+use Rattle.trial.specs.declared.place.SettingKey.TheVariants as setting_names
+use Rattle.trial.specs.declared.place.SettingPlace.{ScenarioPlace as SettingPlace}
+use Rattle.trial.specs.declared.place.SettingPlace.TheVariants as setting_places
+use Rattle.cli_report.specs.declared.mnemonics.Takes.{Takes}
+use Rattle.cli_report.specs.declared.mnemonics.Takes.TheVariants as takes
+use Rattle.cli_report.specs.Assembly.{assembly_sentence, call_sentence, mnemonic_in, operand_sentence, operands_in, outline_sentence, past_ascii, range_sentence}
+use Rattle.cli_report.specs.Bytecode.{byte_of, choice_sentence, left_out_sentence, unit_sentence}
+use Rattle.cli_report.specs.Chronicles.{chronicle_sentence}
+use Rattle.cli_report.specs.Messages.{table_sentence}
+use Rattle.cli_report.specs.Musters.{muster_sentence}
+use Rattle.cli_report.specs.Mnemonics.{taken, takes_text}
+use Rattle.cli_report.specs.Scenarios.{kind_sentence, missing_sentence, name_sentence, place_sentence, range_sentence as name_range_sentence, word_sentence}
+use Rattle.cli_report.specs.Settings.{order_sentence, setting_kind_sentence, setting_name_sentence, setting_range_sentence, setting_sentence, setting_word_sentence}
 
 -- one sentence or another
 if-says : (b : Bool) (s t : List ℕ) → s ≢ [] → t ≢ [] → cond b s t ≢ []
@@ -159,7 +159,7 @@ object-says (objects.Leaves place) = λ e. cc
 
 -- ---- scenarios
 
-missing-says : (name : Name) → missing_sentence name ≢ []
+missing-says : (name : ScenarioKey) → missing_sentence name ≢ []
 missing-says names.Generals = λ e. cc
 missing-says names.Bound = λ e. cc
 missing-says names.Commander = λ e. cc
@@ -173,7 +173,7 @@ missing-says names.General = λ e. cc
 missing-says names.Asm = λ e. cc
 missing-says names.Code = λ e. cc
 
-kind-says : (name : Name) → kind_sentence name ≢ []
+kind-says : (name : ScenarioKey) → kind_sentence name ≢ []
 kind-says names.Generals = λ e. cc
 kind-says names.Bound = λ e. cc
 kind-says names.Commander = λ e. cc
@@ -187,7 +187,7 @@ kind-says names.General = λ e. cc
 kind-says names.Asm = λ e. cc
 kind-says names.Code = λ e. cc
 
-name_range-says : (name : Name) → name_range_sentence name ≢ []
+name_range-says : (name : ScenarioKey) → name_range_sentence name ≢ []
 name_range-says names.Generals = λ e. cc
 name_range-says names.Bound = λ e. cc
 name_range-says names.Commander = λ e. cc
@@ -201,7 +201,7 @@ name_range-says names.General = λ e. cc
 name_range-says names.Asm = λ e. cc
 name_range-says names.Code = λ e. cc
 
-name-says : (f : ScenarioFault) (name : Name) → name_sentence f name ≢ []
+name-says : (f : ScenarioFault) (name : ScenarioKey) → name_sentence f name ≢ []
 name-says faults.Key name = missing-says name
 name-says faults.Kind name = kind-says name
 name-says faults.Range name = name_range-says name
@@ -215,7 +215,7 @@ word-says faults.Range = λ e. cc
 word-says faults.General = λ e. cc
 word-says faults.Twice = λ e. cc
 
-pub place-says : (f : ScenarioFault) (place : Place) → place_sentence f place ≢ []
+pub place-says : (f : ScenarioFault) (place : ScenarioPlace) → place_sentence f place ≢ []
 place-says f (places.Key name) = name-says f name
 place-says f (places.Word index) = word-says f
 place-says f (places.Table index) = λ e. cc

@@ -4,8 +4,8 @@ use Rattle.std.specs.Prelude.{Option, Some, option_map}
 use Rattle.std.specs.Str.{bytes_eq}
 use Rattle.asm.specs.Table.{first_named, name_of}
 use Rattle.asm.specs.declared.mnemonic.Mnemonic.{Mnemonic}
-use Rattle.why.specs.declared.mnemonics.Takes.{Takes}
-use Rattle.why.specs.Mnemonics.{first_taken, takes_of}
+use Rattle.cli_report.specs.declared.mnemonics.Takes.{Takes}
+use Rattle.cli_report.specs.Mnemonics.{first_taken, takes_of}
 
 by_test : (b : Bool) (m : Mnemonic) (takes : Option Takes) (rest : Option Mnemonic) → takes ≡ option_map takes_of rest
     → cond b (Some (takes_of m)) takes ≡ option_map takes_of (cond b (Some m) rest)

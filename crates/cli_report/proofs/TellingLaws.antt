@@ -2,46 +2,46 @@
 use Rattle.std.proofs.Common.{ℕ, ◌≡◌, ◌≢◌, ◌+◌, ◌-◌, ◌^◌, ◌⊎◌, inl, inr, List, [], ◌∷◌, Bool, true, false, ◌==◌, cond, codes, arith, drop, length, refl, subst, sym, take}
 use Rattle.std.specs.Prelude.{Option, None, Some, IfSome, if◌then◌else◌, nat_le, nat_lt, option_and_then, option_map}
 use Rattle.std.specs.Str.{IsUtf8}
-use Rattle.asm.specs.declared.fault.Fault.{Fault as AsmFault}
-use Rattle.codec.specs.declared.fault.Fault.{Fault as CodecFault}
-use Rattle.codec.specs.declared.fault.Fault.TheVariants as codec
-use Rattle.book.specs.declared.fault.Fault.{Fault as TableFault}
+use Rattle.asm.specs.declared.fault.AsmFault.{Fault as AsmFault}
+use Rattle.codec.specs.declared.fault.CodecFault.{Fault as CodecFault}
+use Rattle.codec.specs.declared.fault.CodecFault.TheVariants as codec
+use Rattle.book.specs.declared.fault.TableFault.{Fault as TableFault}
 use Rattle.hex.specs.Hex.{encode_lower}
-use Rattle.trace.specs.declared.fault.Fault.{Fault as TraceFault}
-use Rattle.scenario.specs.declared.fault.Fault.{Fault as ScenarioFault}
-use Rattle.references.specs.Origins.{seat}
+use Rattle.trace.specs.declared.fault.TraceFault.{Fault as TraceFault}
+use Rattle.scenario.specs.declared.fault.ScenarioFault.{Fault as ScenarioFault}
+use Rattle.scenario.specs.Origins.{seat}
 use Rattle.scenario.specs.Names.{text_of}
 use Rattle.scenario.specs.Sources.{source_by}
 use Rattle.scenario.specs.Tables.{Source, Assembly, Hex}
-use Rattle.scenario.specs.declared.place.Place.{Place}
-use Rattle.scenario.specs.declared.place.Place.TheVariants as places
+use Rattle.scenario.specs.declared.place.ScenarioPlace.{ScenarioPlace}
+use Rattle.scenario.specs.declared.place.ScenarioPlace.TheVariants as places
 use Rattle.scenario.specs.declared.fault.ProgramFault.{ProgramFault}
 use Rattle.scenario.specs.declared.fault.ProgramFault.TheVariants as programs
 use Rattle.scenario.specs.declared.fault.ScenarioError.{ScenarioError}
 use Rattle.scenario.specs.declared.fault.ScenarioError.TheVariants as scenario
-use Rattle.trial.specs.declared.place.Place.{Place as SettingPlace}
-use Rattle.trial.specs.declared.fault.Fault.{Fault as SettingFault}
+use Rattle.trial.specs.declared.place.SettingPlace.{ScenarioPlace as SettingPlace}
+use Rattle.trial.specs.declared.fault.SettingFault.{Fault as SettingFault}
 use Rattle.trial.specs.declared.fault.SettingError.{SettingError}
 use Rattle.trial.specs.declared.fault.SettingError.TheVariants as setting
 use Rattle.toml.specs.Data.{Members}
 use Rattle.toml.specs.Parse.{parse_document}
 use Rattle.verify.specs.declared.reason.Reason.{Reason}
-use Rattle.why.specs.Assembly.{Spot, assembly_told, line_told, unit_mark, whole}
-use Rattle.why.specs.Bytecode.{bytecode_told, unit_at, unit_marked}
-use Rattle.why.specs.Chronicles.{chronicle_line_told, chronicle_told, schedule_line_told, schedule_told}
-use Rattle.why.specs.Errors.{ReportsScenario, TellsSetting}
-use Rattle.why.specs.Keys.{Found, entry_line, found, header, table_of, value_end}
-use Rattle.why.specs.Laws.{IsInText, IsInUnit, IsReport, IsReportOfFile, RefusalsAreTold}
-use Rattle.why.specs.Lines.{line_at, trimmed}
-use Rattle.why.specs.Made.{IsRefusedFile, IsRefusedTold, ReportsMade, ReportsProgram, asm_told, assembly_of, bytes_shown, code_shown, file_key_shown, file_shown, file_told, line_shown, own_line, own_mark, own_place_told, own_word, unit_told}
-use Rattle.why.specs.Messages.{stranger_line_told, stranger_told, table_line_told, table_told}
-use Rattle.why.specs.Nearest.{near}
-use Rattle.why.specs.Report.{Mark, report_text}
-use Rattle.why.specs.Scenarios.{IsProgramTold, IsRefusedAt, before_quote, behind_feeds, bytecode_shown, code_line_told, end_spot, is_long, line_behind, line_spot, long_spot, place_mark, place_told, program_line, source_line, source_shown, short_spot, spot_in, spot_told, text_told, entry_key_told, entry_keys, is_itself, top_key_told, unknown_told}
-use Rattle.why.specs.Settings.{setting_place_told, setting_unknown_told, setting_word}
-use Rattle.why.specs.Toml.{TellsToml, span_marked}
-use Rattle.why.proofs.PlaceLemmas.{entry-at, found-at, found-in, marked-in, or-at, shown-in}
-use Rattle.why.proofs.SayingLemmas.{assembly-says, chronicle-says, muster-says, object-says, place-says, setting-says, table-says, unit-says}
+use Rattle.cli_report.specs.Assembly.{Spot, assembly_told, line_told, unit_mark, whole}
+use Rattle.cli_report.specs.Bytecode.{bytecode_told, unit_at, unit_marked}
+use Rattle.cli_report.specs.Chronicles.{chronicle_line_told, chronicle_told, schedule_line_told, schedule_told}
+use Rattle.cli_report.specs.Errors.{ReportsScenario, TellsSetting}
+use Rattle.cli_report.specs.Keys.{Found, entry_line, found, header, table_of, value_end}
+use Rattle.cli_report.specs.Laws.{IsInText, IsInUnit, IsReport, IsReportOfFile, RefusalsAreTold}
+use Rattle.cli_report.specs.Lines.{line_at, trimmed}
+use Rattle.cli_report.specs.Made.{IsRefusedFile, IsRefusedTold, ReportsMade, ReportsProgram, asm_told, assembly_of, bytes_shown, code_shown, file_key_shown, file_shown, file_told, line_shown, own_line, own_mark, own_place_told, own_word, unit_told}
+use Rattle.cli_report.specs.Messages.{stranger_line_told, stranger_told, table_line_told, table_told}
+use Rattle.cli_report.specs.Nearest.{near}
+use Rattle.cli_report.specs.Report.{Mark, report_text}
+use Rattle.cli_report.specs.Scenarios.{IsProgramTold, IsRefusedAt, before_quote, behind_feeds, bytecode_shown, code_line_told, end_spot, is_long, line_behind, line_spot, long_spot, place_mark, place_told, program_line, source_line, source_shown, short_spot, spot_in, spot_told, text_told, entry_key_told, entry_keys, is_itself, top_key_told, unknown_told}
+use Rattle.cli_report.specs.Settings.{setting_place_told, setting_unknown_told, setting_word}
+use Rattle.cli_report.specs.Toml.{TellsToml, span_marked}
+use Rattle.cli_report.proofs.PlaceLemmas.{entry-at, found-at, found-in, marked-in, or-at, shown-in}
+use Rattle.cli_report.proofs.SayingLemmas.{assembly-says, chronicle-says, muster-says, object-says, place-says, setting-says, table-says, unit-says}
 
 -- a report by its parts
 report : (IsIn : Mark → Type 0) (name sentence : List ℕ) (place : Option Mark) (help : Option (List ℕ)) → sentence ≢ [] → IfSome place IsIn
@@ -208,13 +208,13 @@ program_report name text told general (programs.Verifier reason unit) (members, 
 
 -- ---- scenarios
 
-place-in : (text : List ℕ) (f : ScenarioFault) (place : Place) → IfSome (place_mark f place text) (IsInText text)
+place-in : (text : List ℕ) (f : ScenarioFault) (place : ScenarioPlace) → IfSome (place_mark f place text) (IsInText text)
 place-in text f (places.Key name) = found-in text _ (text_of name) (found 0 (text_of name) text) (found-at 0 (text_of name) text)
 place-in text f (places.Word index) = found-in text true (codes "board") (found 0 (codes "board") text) (found-at 0 (codes "board") text)
 place-in text f (places.Table index) = found-in text false header (entry_line index header text) (entry-at index header text)
 place-in text f (places.Entry index name) = found-in text _ (text_of name) (entry_line index (text_of name) text) (entry-at index (text_of name) text)
 
-place_report : (name text : List ℕ) (f : ScenarioFault) (place : Place) → IsReport (IsInText text) name (place_told name text f place)
+place_report : (name text : List ℕ) (f : ScenarioFault) (place : ScenarioPlace) → IsReport (IsInText text) name (place_told name text f place)
 unfolding place_told
 place_report name text f place = report (IsInText text) name _ _ _ (place-says f place) (place-in text f place)
 
@@ -243,7 +243,7 @@ own-at : (table : Option ℕ) (word own : List ℕ) (f : Found) → own_line tab
 own-at None word own f is = absurd cc
 own-at (Some index) word own f is = found-at (index + 1) word own f is
 
-own-in : (own : List ℕ) (f : ScenarioFault) (place : Place) → IfSome (own_mark f place own) (IsInText own)
+own-in : (own : List ℕ) (f : ScenarioFault) (place : ScenarioPlace) → IfSome (own_mark f place own) (IsInText own)
 unfolding own_mark
 own-in own f (places.Key name) = place-in own f (places.Key name)
 own-in own f (places.Word index) = place-in own f (places.Word index)
@@ -252,7 +252,7 @@ own-in own f (places.Entry index name) =
     let word : List ℕ = own_word index name own in
     found-in own _ word (entry_line index word own) (entry-at index word own)
 
-own_place_report : (name own : List ℕ) (f : ScenarioFault) (place : Place) → IsReport (IsInText own) name (own_place_told name own f place)
+own_place_report : (name own : List ℕ) (f : ScenarioFault) (place : ScenarioPlace) → IsReport (IsInText own) name (own_place_told name own f place)
 unfolding own_place_told
 own_place_report name own f place = report (IsInText own) name _ _ _ (place-says f place) (own-in own f place)
 

@@ -2,7 +2,7 @@
 use Rattle.std.proofs.Common.{◌≡◌, ◌∙◌, ℕ, zero, suc, ◌<◌, ◌≤◌, List, [], ◌∷◌, Bool, true, false, ap, arith, cond, get_or, length, length-take, refl, sym, take}
 use Rattle.text.specs.declared.stop.Stop.{Stop}
 use Rattle.text.specs.Parts.{before, until}
-use Rattle.why.specs.Lines.{is_white, kept, trimmed}
+use Rattle.cli_report.specs.Lines.{is_white, kept, trimmed}
 
 -- white space at the end counts for nothing
 trimmed-white : (xs : List ℕ) (n : ℕ) → n < length xs → is_white (get_or xs n 0) ≡ true → trimmed (take (suc n) xs) ≡ trimmed (take n xs)

@@ -6,15 +6,15 @@ use Rattle.text.specs.declared.stop.Stop.TheVariants.{Blank, Solid}
 use Rattle.text.specs.Stop.{colon, comma, is_within, semicolon}
 use Rattle.text.specs.Parts.{before, from, pieces, until}
 use Rattle.asm.specs.Helper.{helpers}
-use Rattle.asm.specs.declared.fault.Fault.{Fault}
-use Rattle.asm.specs.declared.fault.Fault.TheVariants as fault
-use Rattle.why.specs.declared.assembly.Spot.{Spot as Held}
-use Rattle.why.specs.declared.mnemonics.Takes.{Takes}
-use Rattle.why.specs.declared.mnemonics.Takes.TheVariants as takes
-use Rattle.why.specs.Lines.{line_at, marked, trimmed}
-use Rattle.why.specs.Mnemonics.{mnemonic_names, taken, takes_text}
-use Rattle.why.specs.Nearest.{near}
-use Rattle.why.specs.Report.{Mark, near_words, report_text}
+use Rattle.asm.specs.declared.fault.AsmFault.{AsmFault}
+use Rattle.asm.specs.declared.fault.AsmFault.TheVariants as fault
+use Rattle.cli_report.specs.declared.assembly.Spot.{Spot as Held}
+use Rattle.cli_report.specs.declared.mnemonics.Takes.{Takes}
+use Rattle.cli_report.specs.declared.mnemonics.Takes.TheVariants as takes
+use Rattle.cli_report.specs.Lines.{line_at, marked, trimmed}
+use Rattle.cli_report.specs.Mnemonics.{mnemonic_names, taken, takes_text}
+use Rattle.cli_report.specs.Nearest.{near}
+use Rattle.cli_report.specs.Report.{Mark, near_words, report_text}
 
 -- ---- the parts of a line
 
@@ -77,7 +77,7 @@ operands_part statement [] = mnemonic_part statement
 operands_part statement (c ∷ cs) = all_of (c ∷ cs)
 
 -- what is at fault: the name, the mnemonic, its operands, the last of them, or all of the code
-abbrev pub part_of : Fault → List ℕ → Part
+abbrev pub part_of : AsmFault → List ℕ → Part
 part_of fault.Line code = outline_part code (past_ascii code)
 part_of fault.Mnemonic code = mnemonic_part (statement_in code)
 part_of fault.Operand code = operands_part (statement_in code) (operands_in code)
@@ -90,7 +90,7 @@ part_of fault.Count code = all_of code
 abbrev pub behind_front : List ℕ → Part → ℕ × ℕ
 behind_front line part = (length (trimmed (before semicolon line)) - length part.0, part.1)
 
-unfoldable pub place_in : Fault → List ℕ → ℕ × ℕ
+unfoldable pub place_in : AsmFault → List ℕ → ℕ × ℕ
 place_in f line = behind_front line (part_of f (code_in line))
 
 -- the same of the statement
@@ -148,7 +148,7 @@ range_sentence (Some takes.StoreNumber) =
     codes "a number here is -2147483648 to 2147483647, and an offset -32768 to 32767"
 range_sentence _ = codes "a number here is -2147483648 to 2147483647"
 
-abbrev pub assembly_sentence : Fault → List ℕ → List ℕ
+abbrev pub assembly_sentence : AsmFault → List ℕ → List ℕ
 assembly_sentence fault.Line code = outline_sentence (past_ascii code)
 assembly_sentence fault.Mnemonic code = codes "there is no such mnemonic"
 assembly_sentence fault.Operand code = operand_sentence (taken (mnemonic_in code)) (operands_in code)
@@ -196,7 +196,7 @@ abbrev pub operand_advice : Option Takes → List ℕ → Option (List ℕ)
 operand_advice takes operands =
     or_small operands (if is_call takes then option_map (near_words (codes "helper")) (near operands helpers) else None)
 
-abbrev pub assembly_advice : Fault → ℕ → List ℕ → List ℕ → Option (List ℕ)
+abbrev pub assembly_advice : AsmFault → ℕ → List ℕ → List ℕ → Option (List ℕ)
 assembly_advice fault.Line number line code = outline_advice number line code
 assembly_advice fault.Mnemonic number line code =
     or_small (mnemonic_in code) (option_map (near_words (codes "mnemonic")) (near (mnemonic_in code) mnemonic_names))
@@ -206,15 +206,15 @@ assembly_advice _ number line code = None
 -- ---- all of it
 
 -- of a fault in a line of code, which stands here in the file with this name
-abbrev pub code_told : List ℕ → Fault → Spot → List ℕ
+abbrev pub code_told : List ℕ → AsmFault → Spot → List ℕ
 code_told name f s =
     report_text name (assembly_sentence f (code_in s.code)) (Some (spot_mark s (place_in f s.code)))
     (assembly_advice f s.number s.code (code_in s.code))
 
-abbrev pub line_told : List ℕ → Fault → ℕ → Option (List ℕ) → List ℕ
+abbrev pub line_told : List ℕ → AsmFault → ℕ → Option (List ℕ) → List ℕ
 line_told name f number None = report_text name (assembly_sentence f []) None None
 line_told name f number (Some line) = code_told name f (whole number line)
 
 -- of a fault at a line of the text of a file with this name
-unfoldable pub assembly_told : List ℕ → List ℕ → Fault → ℕ → List ℕ
+unfoldable pub assembly_told : List ℕ → List ℕ → AsmFault → ℕ → List ℕ
 assembly_told name text f number = line_told name f number (line_at text number)

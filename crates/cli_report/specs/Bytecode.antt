@@ -1,11 +1,11 @@
 -- What is said of a fault of bytecode: the sentence of each code, and the place among the digits in hex of the unit.
 use Rattle.std.specs.Prelude.{ℕ, List, [], ◌∷◌, ◌*◌, ◌==◌, ◌||◌, if◌then◌else◌, Option, None, Some, codes, drop, take, unwrap_or}
-use Rattle.codec.specs.declared.fault.Fault.{Fault}
-use Rattle.codec.specs.declared.fault.Fault.TheVariants as fault
+use Rattle.codec.specs.declared.fault.CodecFault.{CodecFault}
+use Rattle.codec.specs.declared.fault.CodecFault.TheVariants as fault
 use Rattle.hex.specs.Hex.{encode_lower}
 use Rattle.text.specs.Number.{digits_on}
-use Rattle.why.specs.Lines.{marked}
-use Rattle.why.specs.Report.{Mark, report_text}
+use Rattle.cli_report.specs.Lines.{marked}
+use Rattle.cli_report.specs.Report.{Mark, report_text}
 
 -- the number of two digits
 abbrev pub byte_of : List ℕ → ℕ
@@ -31,7 +31,7 @@ choice_sentence opcode =
     else codes "the offset of a division or a remainder is 0, or 1 for the signed one"
 
 -- of a fault in a unit of these digits
-abbrev pub unit_sentence : Fault → List ℕ → List ℕ
+abbrev pub unit_sentence : CodecFault → List ℕ → List ℕ
 unit_sentence fault.Length digits = codes "the file ends within this unit, and a unit has 8 bytes"
 unit_sentence fault.Opcode digits = codes "no instruction has this opcode"
 unit_sentence fault.Reserved digits = codes "a field that this instruction does not use is not zero"
@@ -50,7 +50,7 @@ abbrev pub choice_place : ℕ → ℕ × ℕ
 choice_place opcode = if opcode == 0xd4 || opcode == 0xd7 || opcode == 0xdc then (8, 8) else (4, 4)
 
 -- before the part so many digits, and so many in it
-abbrev pub unit_place : Fault → List ℕ → ℕ × ℕ
+abbrev pub unit_place : CodecFault → List ℕ → ℕ × ℕ
 unit_place fault.Opcode digits = (0, 2)
 unit_place fault.Register digits = (2, 2)
 unit_place fault.LeftOut digits = left_out_place (byte_of digits)
@@ -62,14 +62,14 @@ abbrev pub unit_at : List ℕ → ℕ → List ℕ
 unit_at bytes unit = take 8 (drop (8 * unit) (take 32768 bytes))
 
 -- the unit, with the part marked: none where the file has too many units or none
-abbrev pub unit_marked : Fault → ℕ → List ℕ → Option Mark
+abbrev pub unit_marked : CodecFault → ℕ → List ℕ → Option Mark
 unit_marked fault.Count unit digits = None
 unit_marked f unit [] = None
 unit_marked f unit (d ∷ ds) = Some (marked unit (d ∷ ds) (unit_place f (d ∷ ds)).0 (unit_place f (d ∷ ds)).1)
 
-abbrev pub unit_told : List ℕ → Fault → ℕ → List ℕ → List ℕ
+abbrev pub unit_told : List ℕ → CodecFault → ℕ → List ℕ → List ℕ
 unit_told name f unit digits = report_text name (unit_sentence f digits) (unit_marked f unit digits) None
 
 -- of a fault at a unit of the file with this name and these bytes
-unfoldable pub bytecode_told : List ℕ → List ℕ → Fault → ℕ → List ℕ
+unfoldable pub bytecode_told : List ℕ → List ℕ → CodecFault → ℕ → List ℕ
 bytecode_told name bytes f unit = unit_told name f unit (encode_lower (unit_at bytes unit))

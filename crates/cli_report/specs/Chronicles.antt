@@ -2,11 +2,11 @@
 use Rattle.std.specs.Prelude.{ℕ, List, ◌++◌, Bool, true, false, ◌==◌, if◌then◌else◌, Option, None, Some, codes, length, option_map, take}
 use Rattle.text.specs.Stop.{feed}
 use Rattle.text.specs.Parts.{pieces}
-use Rattle.trace.specs.declared.fault.Fault.{Fault}
-use Rattle.trace.specs.declared.fault.Fault.TheVariants as fault
-use Rattle.why.specs.Assembly.{begins_marked, has}
-use Rattle.why.specs.Lines.{all_marked, line_at, trimmed}
-use Rattle.why.specs.Report.{has_words, report_text, shown_line}
+use Rattle.trace.specs.declared.fault.TraceFault.{TraceFault}
+use Rattle.trace.specs.declared.fault.TraceFault.TheVariants as fault
+use Rattle.cli_report.specs.Assembly.{begins_marked, has}
+use Rattle.cli_report.specs.Lines.{all_marked, line_at, trimmed}
+use Rattle.cli_report.specs.Report.{has_words, report_text, shown_line}
 
 -- ---- of a schedule
 
@@ -39,7 +39,7 @@ is_last text number = number == length (pieces feed text)
 
 -- by whether the line is the last one: a shape that it lacks is then its line feed, and any other fault is that no line
 -- stands there
-abbrev pub chronicle_sentence : Bool → Fault → List ℕ
+abbrev pub chronicle_sentence : Bool → TraceFault → List ℕ
 chronicle_sentence true fault.Line = codes "the file is cut off: this line has no line feed at its end"
 chronicle_sentence true f = codes "the file ends here, and the campaign has more lines"
 chronicle_sentence false fault.Line = codes "no line of a chronicle has this shape"
@@ -54,7 +54,7 @@ chronicle_advice number None line =
     else if has 13 line then Some (codes "the file has Windows line ends: a line ends with a line feed alone")
     else None
 
-abbrev pub chronicle_line_told : List ℕ → Bool → Fault → ℕ → Option (List ℕ) → Option (List ℕ) → List ℕ
+abbrev pub chronicle_line_told : List ℕ → Bool → TraceFault → ℕ → Option (List ℕ) → Option (List ℕ) → List ℕ
 chronicle_line_told name last f number wanted None =
     report_text name (chronicle_sentence last f) None (option_map has_words wanted)
 chronicle_line_told name last f number wanted (Some line) =
@@ -62,15 +62,15 @@ chronicle_line_told name last f number wanted (Some line) =
     (chronicle_advice number wanted line)
 
 -- of a fault at a line of the chronicle of a file with this name, where the campaign has this line
-unfoldable pub chronicle_told : List ℕ → List ℕ → Fault → ℕ → Option (List ℕ) → List ℕ
+unfoldable pub chronicle_told : List ℕ → List ℕ → TraceFault → ℕ → Option (List ℕ) → List ℕ
 chronicle_told name text f number wanted =
     chronicle_line_told name (is_last text number) f number wanted (line_at text number)
 
 -- the line that the campaign has, as it is shown, where its text is this: of a line of no shape it is not said
-abbrev pub wanted_in : Fault → List ℕ → ℕ → Option (List ℕ)
+abbrev pub wanted_in : TraceFault → List ℕ → ℕ → Option (List ℕ)
 wanted_in fault.Line again number = None
 wanted_in f again number = option_map shown_line (line_at again number)
 
 -- the same, where the campaign has this text
-abbrev pub replayed_told : List ℕ → List ℕ → Fault → ℕ → List ℕ → List ℕ
+abbrev pub replayed_told : List ℕ → List ℕ → TraceFault → ℕ → List ℕ → List ℕ
 replayed_told name text f number again = chronicle_told name text f number (wanted_in f again number)

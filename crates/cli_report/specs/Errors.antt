@@ -4,11 +4,11 @@ use Rattle.scenario.specs.declared.fault.ScenarioError.{ScenarioError}
 use Rattle.scenario.specs.declared.fault.ScenarioError.TheVariants as scenario
 use Rattle.trial.specs.declared.fault.SettingError.{SettingError}
 use Rattle.trial.specs.declared.fault.SettingError.TheVariants as setting
-use Rattle.why.specs.Judged.{IsJudged, judged_of}
-use Rattle.why.specs.Report.{report_text}
-use Rattle.why.specs.Scenarios.{IsProgramTold, place_told, unknown_told}
-use Rattle.why.specs.Settings.{setting_place_told, setting_unknown_told}
-use Rattle.why.specs.Toml.{TellsToml}
+use Rattle.cli_report.specs.Judged.{IsJudged, judged_of}
+use Rattle.cli_report.specs.Report.{report_text}
+use Rattle.cli_report.specs.Scenarios.{IsProgramTold, place_told, unknown_told}
+use Rattle.cli_report.specs.Settings.{setting_place_told, setting_unknown_told}
+use Rattle.cli_report.specs.Toml.{TellsToml}
 
 abbrev pub memory_told : List ℕ → List ℕ
 memory_told name = report_text name (codes "there is not enough memory") None None

@@ -18,9 +18,9 @@ use Rattle.scenario.specs.declared.fault.ProgramFault.{ProgramFault}
 use Rattle.scenario.specs.declared.fault.ProgramFault.TheVariants as programs
 use Rattle.scenario.specs.declared.fault.ScenarioError.{ScenarioError}
 use Rattle.scenario.specs.declared.fault.ScenarioError.TheVariants as scenario
-use Rattle.why.specs.Keys.{Found, value_end}
-use Rattle.why.specs.Lines.{trimmed}
-use Rattle.why.specs.Scenarios.{is_long, source_line}
+use Rattle.cli_report.specs.Keys.{Found, value_end}
+use Rattle.cli_report.specs.Lines.{trimmed}
+use Rattle.cli_report.specs.Scenarios.{is_long, source_line}
 
 -- how many lines of the file stand before those of a text that goes on over lines: where nothing stands behind its
 -- quotation marks on the key's line, it begins on the next

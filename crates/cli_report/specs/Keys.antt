@@ -7,9 +7,9 @@ use Rattle.std.specs.Fmt.{decimal}
 use Rattle.text.specs.declared.stop.Stop.{Stop}
 use Rattle.text.specs.declared.stop.Stop.TheVariants.{Byte, Solid}
 use Rattle.text.specs.Parts.{before, from, lines_of, until}
-use Rattle.why.specs.declared.keys.Found.{Found as Kept}
-use Rattle.why.specs.Lines.{all_marked, is_white, marked, trimmed}
-use Rattle.why.specs.Report.{Mark}
+use Rattle.cli_report.specs.declared.keys.Found.{Found as Kept}
+use Rattle.cli_report.specs.Lines.{all_marked, is_white, marked, trimmed}
+use Rattle.cli_report.specs.Report.{Mark}
 
 abbrev pub header : List ℕ
 header = codes "[[traitor]]"

@@ -1,11 +1,11 @@
 -- The law of what is said: each refusal has a sentence, and the place that is told lies within the file.
 use Rattle.std.specs.Prelude.{ℕ, ◌≡◌, ◌≢◌, ◌⊎◌, ◌+◌, ◌≤◌, List, [], Option, None, Some, IfSome, codes, length, option_and_then, take, unwrap_or}
 use Rattle.hex.specs.Hex.{encode_lower}
-use Rattle.asm.specs.declared.fault.Fault.{Fault as AsmFault}
-use Rattle.codec.specs.declared.fault.Fault.{Fault as CodecFault}
-use Rattle.book.specs.declared.fault.Fault.{Fault as TableFault}
-use Rattle.trace.specs.declared.fault.Fault.{Fault as TraceFault}
-use Rattle.references.specs.Origins.{seat}
+use Rattle.asm.specs.declared.fault.AsmFault.{Fault as AsmFault}
+use Rattle.codec.specs.declared.fault.CodecFault.{Fault as CodecFault}
+use Rattle.book.specs.declared.fault.TableFault.{Fault as TableFault}
+use Rattle.trace.specs.declared.fault.TraceFault.{Fault as TraceFault}
+use Rattle.scenario.specs.Origins.{seat}
 use Rattle.scenario.specs.Sources.{source_by}
 use Rattle.scenario.specs.declared.fault.ProgramFault.{ProgramFault}
 use Rattle.scenario.specs.declared.fault.ScenarioError.{ScenarioError}
@@ -15,19 +15,19 @@ use Rattle.trial.specs.declared.fault.SettingError.TheVariants as setting
 use Rattle.std.specs.Str.{IsUtf8}
 use Rattle.toml.specs.Data.{Members}
 use Rattle.toml.specs.Parse.{parse_document}
-use Rattle.why.specs.Assembly.{assembly_told}
-use Rattle.why.specs.Bytecode.{bytecode_told, unit_at}
-use Rattle.why.specs.Chronicles.{chronicle_told, schedule_told}
-use Rattle.why.specs.Errors.{ReportsScenario, TellsSetting}
-use Rattle.why.specs.Keys.{Found}
-use Rattle.why.specs.Lines.{line_at, trimmed}
-use Rattle.why.specs.Made.{ReportsMade, assembly_of, file_shown, own_line}
-use Rattle.why.specs.Messages.{stranger_told, table_told}
-use Rattle.why.specs.Musters.{muster_sentence}
-use Rattle.elf.specs.Sentences.{sentence_of}
-use Rattle.elf.specs.declared.fault.Fault.{Fault as ObjectFault}
+use Rattle.cli_report.specs.Assembly.{assembly_told}
+use Rattle.cli_report.specs.Bytecode.{bytecode_told, unit_at}
+use Rattle.cli_report.specs.Chronicles.{chronicle_told, schedule_told}
+use Rattle.cli_report.specs.Errors.{ReportsScenario, TellsSetting}
+use Rattle.cli_report.specs.Keys.{Found}
+use Rattle.cli_report.specs.Lines.{line_at, trimmed}
+use Rattle.cli_report.specs.Made.{ReportsMade, assembly_of, file_shown, own_line}
+use Rattle.cli_report.specs.Messages.{stranger_told, table_told}
+use Rattle.cli_report.specs.Musters.{muster_sentence}
+use Rattle.object.specs.Sentences.{sentence_of}
+use Rattle.object.specs.declared.fault.ObjectFault.{Fault as ObjectFault}
 use Rattle.threads.specs.declared.error.MusterError.{MusterError}
-use Rattle.why.specs.Report.{Mark, report_text}
+use Rattle.cli_report.specs.Report.{Mark, report_text}
 
 -- the mark is a part of a line of the text, or stands behind its last line
 pub record IsInText (text : List ℕ) (m : Mark) : Type 0 where

@@ -3,7 +3,7 @@ use Rattle.std.specs.Prelude.{ℕ, List, [], ◌∷◌, Bool, ◌-◌, ◌==◌,
 use Rattle.text.specs.declared.stop.Stop.TheVariants.{Solid}
 use Rattle.text.specs.Stop.{is_blank}
 use Rattle.text.specs.Parts.{lines_of, until}
-use Rattle.why.specs.Report.{Mark}
+use Rattle.cli_report.specs.Report.{Mark}
 
 -- a space, a tab or a carriage return
 abbrev pub is_white : ℕ → Bool

@@ -4,63 +4,63 @@ use Rattle.text.specs.Parts.{before}
 use Rattle.text.specs.declared.stop.Stop.TheVariants.{Byte}
 use Rattle.toml.specs.Data.{Members}
 use Rattle.toml.specs.Parse.{parse_document}
-use Rattle.asm.specs.declared.fault.Fault.{Fault as AsmFault}
-use Rattle.codec.specs.declared.fault.Fault.{Fault as CodecFault}
-use Rattle.references.specs.Origins.{origin, seat}
+use Rattle.asm.specs.declared.fault.AsmFault.{ScenarioFault as AsmFault}
+use Rattle.codec.specs.declared.fault.CodecFault.{ScenarioFault as CodecFault}
+use Rattle.scenario.specs.Origins.{origin, seat}
 use Rattle.scenario.specs.Names.{text_of}
 use Rattle.scenario.specs.Sources.{source_by}
 use Rattle.scenario.specs.Tables.{Source, Assembly, Hex}
-use Rattle.scenario.specs.declared.fault.Fault.{Fault}
+use Rattle.scenario.specs.declared.fault.ScenarioFault.{ScenarioFault}
 use Rattle.scenario.specs.declared.fault.ProgramFault.{ProgramFault}
 use Rattle.scenario.specs.declared.fault.ProgramFault.TheVariants as programs
 use Rattle.scenario.specs.declared.fault.ScenarioError.{ScenarioError}
 use Rattle.scenario.specs.declared.fault.ScenarioError.TheVariants as errors
-use Rattle.scenario.specs.declared.place.Name.{Name}
-use Rattle.scenario.specs.declared.place.Name.TheVariants as names
-use Rattle.scenario.specs.declared.place.Place.{Place}
-use Rattle.scenario.specs.declared.place.Place.TheVariants as places
+use Rattle.scenario.specs.declared.place.ScenarioKey.{ScenarioKey}
+use Rattle.scenario.specs.declared.place.ScenarioKey.TheVariants as names
+use Rattle.scenario.specs.declared.place.ScenarioPlace.{ScenarioPlace}
+use Rattle.scenario.specs.declared.place.ScenarioPlace.TheVariants as places
 use Rattle.verify.specs.declared.reason.Reason.{Reason}
-use Rattle.why.specs.Assembly.{assembly_sentence, assembly_told, unit_mark, whole}
-use Rattle.why.specs.Bytecode.{unit_sentence}
-use Rattle.why.specs.Errors.{memory_told}
-use Rattle.why.specs.Judged.{IsExplainedBy, judged_of}
-use Rattle.why.specs.Keys.{Found, entry_line, found, or_else, shown_at, value_end}
-use Rattle.why.specs.Lines.{line_at}
-use Rattle.why.specs.Report.{Mark, report_text, shown_line}
-use Rattle.why.specs.Scenarios.{IsUnitShown, code_line_told, is_of_value, place_mark, place_sentence, text_told, unknown_told, verifier_sentence}
-use Rattle.why.specs.Toml.{TellsToml}
-use Rattle.why.specs.Units.{IsUnitLine}
+use Rattle.cli_report.specs.Assembly.{assembly_sentence, assembly_told, unit_mark, whole}
+use Rattle.cli_report.specs.Bytecode.{unit_sentence}
+use Rattle.cli_report.specs.Errors.{memory_told}
+use Rattle.cli_report.specs.Judged.{IsExplainedBy, judged_of}
+use Rattle.cli_report.specs.Keys.{Found, entry_line, found, or_else, shown_at, value_end}
+use Rattle.cli_report.specs.Lines.{line_at}
+use Rattle.cli_report.specs.Report.{Mark, report_text, shown_line}
+use Rattle.cli_report.specs.Scenarios.{IsUnitShown, code_line_told, is_of_value, place_mark, place_sentence, text_told, unknown_told, verifier_sentence}
+use Rattle.cli_report.specs.Toml.{TellsToml}
+use Rattle.cli_report.specs.Units.{IsUnitLine}
 
 -- ---- a fault at a place
 
 -- the place in the scenario's own text, whose table stands for those that are made of it
-abbrev pub own_place : Option Members → Place → Place
+abbrev pub own_place : Option Members → ScenarioPlace → ScenarioPlace
 own_place own (places.Table index) = places.Table (origin index own)
 own_place own (places.Entry index name) = places.Entry (origin index own) name
 own_place own place = place
 
 -- by which key a table has from a file, or for several generals, what this key tells
-abbrev pub other_key : Name → List ℕ
+abbrev pub other_key : ScenarioKey → List ℕ
 other_key names.General = codes "generals"
 other_key names.Asm = codes "asm_file"
 other_key names.Code = codes "code_file"
 other_key name = text_of name
 
-abbrev pub word_if : Option Found → Name → List ℕ
+abbrev pub word_if : Option Found → ScenarioKey → List ℕ
 word_if None name = other_key name
 word_if (Some f) name = text_of name
 
-abbrev pub own_word : ℕ → Name → List ℕ → List ℕ
+abbrev pub own_word : ℕ → ScenarioKey → List ℕ → List ℕ
 own_word index name own = word_if (found (index + 1) (text_of name) own) name
 
-abbrev pub word_shown : Fault → ℕ → List ℕ → List ℕ → Option Mark
+abbrev pub word_shown : ScenarioFault → ℕ → List ℕ → List ℕ → Option Mark
 word_shown f index word own = option_map (shown_at (is_of_value f) word) (entry_line index word own)
 
-unfoldable pub own_mark : Fault → Place → List ℕ → Option Mark
+unfoldable pub own_mark : ScenarioFault → ScenarioPlace → List ℕ → Option Mark
 own_mark f (places.Entry index name) own = word_shown f index (own_word index name own) own
 own_mark f place own = place_mark f place own
 
-unfoldable pub own_place_told : List ℕ → List ℕ → Fault → Place → List ℕ
+unfoldable pub own_place_told : List ℕ → List ℕ → ScenarioFault → ScenarioPlace → List ℕ
 own_place_told name own f place = report_text name (place_sentence f place) (own_mark f place own) None
 
 abbrev pub own_index : Option Members → Option ℕ → Option ℕ

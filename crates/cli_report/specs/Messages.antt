@@ -1,17 +1,17 @@
 -- What is said of a fault of a message table.
 use Rattle.std.specs.Prelude.{ℕ, List, ◌++◌, ◌-◌, ◌==◌, ◌||◌, if◌then◌else◌, Option, None, Some, codes, decimal, length}
 use Rattle.combine.specs.Names.{rule_names}
-use Rattle.book.specs.declared.fault.Fault.{Fault}
-use Rattle.book.specs.declared.fault.Fault.TheVariants as fault
-use Rattle.why.specs.Assembly.{begins_marked, has}
-use Rattle.why.specs.Lines.{all_marked, line_at, trimmed}
-use Rattle.why.specs.Report.{report_text}
+use Rattle.book.specs.declared.fault.TableFault.{TableFault}
+use Rattle.book.specs.declared.fault.TableFault.TheVariants as fault
+use Rattle.cli_report.specs.Assembly.{begins_marked, has}
+use Rattle.cli_report.specs.Lines.{all_marked, line_at, trimmed}
+use Rattle.cli_report.specs.Report.{report_text}
 
 abbrev pub first_sentence : List ℕ
 first_sentence = codes
     "the first line is `generals N bound M commander C`, perhaps with ` rule R` behind it, where R is " ++ rule_names
 
-abbrev pub table_sentence : Fault → ℕ → List ℕ
+abbrev pub table_sentence : TableFault → ℕ → List ℕ
 table_sentence fault.Line number =
     if number == 1
     then first_sentence
@@ -35,17 +35,17 @@ shape_advice number line =
     else if has 9 line then Some (codes "one space stands between two parts, and no tab")
     else None
 
-abbrev pub table_advice : Fault → ℕ → List ℕ → Option (List ℕ)
+abbrev pub table_advice : TableFault → ℕ → List ℕ → Option (List ℕ)
 table_advice fault.Line number line = shape_advice number line
 table_advice _ number line = None
 
-abbrev pub table_line_told : List ℕ → Fault → ℕ → Option (List ℕ) → List ℕ
+abbrev pub table_line_told : List ℕ → TableFault → ℕ → Option (List ℕ) → List ℕ
 table_line_told name f number None = report_text name (table_sentence f number) None None
 table_line_told name f number (Some line) =
     report_text name (table_sentence f number) (Some (all_marked number (trimmed line))) (table_advice f number line)
 
 -- of a fault at a line of the text of a file with this name
-unfoldable pub table_told : List ℕ → List ℕ → Fault → ℕ → List ℕ
+unfoldable pub table_told : List ℕ → List ℕ → TableFault → ℕ → List ℕ
 table_told name text f number = table_line_told name f number (line_at text number)
 
 -- ---- a general who is named, and is none of the table's

@@ -4,8 +4,8 @@ use Rattle.std.specs.Str.{bytes_eq}
 use Rattle.asm.specs.Table.{mnemonic_of, mnemonics, name_of}
 use Rattle.asm.specs.declared.mnemonic.Mnemonic.{Mnemonic}
 use Rattle.asm.specs.declared.mnemonic.Mnemonic.TheVariants as words
-use Rattle.why.specs.declared.mnemonics.Takes.{Takes}
-use Rattle.why.specs.declared.mnemonics.Takes.TheVariants as takes
+use Rattle.cli_report.specs.declared.mnemonics.Takes.{Takes}
+use Rattle.cli_report.specs.declared.mnemonics.Takes.TheVariants as takes
 
 abbrev pub takes_of : Mnemonic → Takes
 takes_of (words.Arithmetic width operation) = takes.Arithmetic

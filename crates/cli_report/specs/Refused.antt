@@ -2,20 +2,20 @@
 use Rattle.std.specs.Prelude.{ℕ, ◌≡◌, ◌≢◌, List, [], ◌++◌, Option, None, Some, Result, Ok, Err, IsErr, IfSome, codes, unwrap_or}
 use Rattle.std.specs.declared.alloc.AllocError.{AllocError}
 use Rattle.toml.specs.Parse.{parse_document}
-use Rattle.command_line.specs.declared.tasks.Account.TheVariants.{Chronicle, Table}
-use Rattle.command_line.specs.declared.tasks.Task.{Task}
-use Rattle.command_line.specs.declared.tasks.Task.TheVariants.{Audit, Muster, Play}
-use Rattle.command_line.specs.Tasks.{file_of}
-use Rattle.roster.specs.Scenario.{Scenario}
+use Rattle.cli_words.specs.declared.tasks.Account.TheVariants.{Chronicle, Table}
+use Rattle.cli_words.specs.declared.tasks.Task.{Task}
+use Rattle.cli_words.specs.declared.tasks.Task.TheVariants.{Audit, Muster, Play}
+use Rattle.cli_words.specs.Tasks.{file_of}
+use Rattle.round.specs.Scenario.{Scenario}
 use Rattle.scenario.specs.Reading.{Reads, ReadsAny}
 use Rattle.scenario.specs.ErrorText.{told}
 use Rattle.scenario.specs.declared.fault.ScenarioError.{ScenarioError}
 use Rattle.scenario.specs.declared.fault.ScenarioError.TheVariants.{Memory}
 use Rattle.scenario.specs.declared.messages.Campaign.{Campaign}
 use Rattle.streams.specs.Names.{shown}
-use Rattle.why.specs.Made.{TellsMade}
-use Rattle.own_lines.specs.declared.refusing.Taken.{Taken}
-use Rattle.own_lines.specs.declared.refusing.Taken.TheVariants as taken
+use Rattle.cli_report.specs.Made.{TellsMade}
+use Rattle.cli_report.specs.declared.refusal.Taken.{Taken}
+use Rattle.cli_report.specs.declared.refusal.Taken.TheVariants as taken
 
 -- which campaigns a task takes that explains what it refuses of a scenario: a message table and a muster are of oral
 -- ones

@@ -4,9 +4,9 @@ use Rattle.std.specs.Prelude.{ℕ, List, [], ◌++◌, ◌==◌, ◌&&◌, ◌||
 use Rattle.std.specs.Fmt.{is_char_start}
 use Rattle.std.specs.List.{flat_map, repeat}
 use Rattle.std.specs.Str.Lossy.{utf8_lossy}
-use Rattle.why.specs.declared.report.Mark.{Mark as Held}
-use Rattle.why.specs.declared.report.Help.{Help}
-use Rattle.why.specs.declared.report.Help.TheVariants.{Said, Near, Has}
+use Rattle.cli_report.specs.declared.report.Mark.{Mark as Held}
+use Rattle.cli_report.specs.declared.report.Help.{Help}
+use Rattle.cli_report.specs.declared.report.Help.TheVariants.{Said, Near, Has}
 
 -- a part of a line of a file: so many bytes of it, behind so many others
 pub record Mark : Type 0 where

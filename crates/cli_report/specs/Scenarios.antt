@@ -8,39 +8,39 @@ use Rattle.toml.specs.Data.{Members}
 use Rattle.toml.specs.Errors.{IsMemory}
 use Rattle.toml.specs.declared.de.error.Error.{Error}
 use Rattle.toml.specs.Parse.{parse_document}
-use Rattle.asm.specs.declared.fault.Fault.{Fault as AsmFault}
+use Rattle.asm.specs.declared.fault.AsmFault.{ScenarioFault as AsmFault}
 use Rattle.combine.specs.Names.{rule_names}
-use Rattle.codec.specs.declared.fault.Fault.{Fault as CodecFault}
+use Rattle.codec.specs.declared.fault.CodecFault.{ScenarioFault as CodecFault}
 use Rattle.verify.specs.ErrorText.{code_of}
 use Rattle.verify.specs.declared.reason.Reason.{Reason}
 use Rattle.scenario.specs.Names.{text_of}
 use Rattle.scenario.specs.Sources.{source_by}
 use Rattle.scenario.specs.Tables.{Source, Assembly, Hex}
-use Rattle.scenario.specs.declared.place.Name.{Name}
-use Rattle.scenario.specs.declared.place.Name.TheVariants as names
-use Rattle.scenario.specs.declared.place.Place.{Place}
-use Rattle.scenario.specs.declared.place.Place.TheVariants as places
-use Rattle.scenario.specs.declared.fault.Fault.{Fault}
-use Rattle.scenario.specs.declared.fault.Fault.TheVariants as faults
+use Rattle.scenario.specs.declared.place.ScenarioKey.{ScenarioKey}
+use Rattle.scenario.specs.declared.place.ScenarioKey.TheVariants as names
+use Rattle.scenario.specs.declared.place.ScenarioPlace.{ScenarioPlace}
+use Rattle.scenario.specs.declared.place.ScenarioPlace.TheVariants as places
+use Rattle.scenario.specs.declared.fault.ScenarioFault.{ScenarioFault}
+use Rattle.scenario.specs.declared.fault.ScenarioFault.TheVariants as faults
 use Rattle.scenario.specs.declared.fault.ProgramFault.{ProgramFault}
 use Rattle.scenario.specs.declared.fault.ProgramFault.TheVariants as programs
-use Rattle.why.specs.Assembly.{Spot, assembly_sentence, code_told, unit_mark}
-use Rattle.why.specs.Bytecode.{unit_place, unit_sentence}
-use Rattle.why.specs.Keys.{Found, entry_line, found, header, or_else, shown_at, table_of, value_end}
-use Rattle.why.specs.Lines.{line_at, marked, trimmed}
-use Rattle.why.specs.Nearest.{near}
-use Rattle.why.specs.Report.{Mark, near_words, report_text}
-use Rattle.why.specs.Units.{IsUnitLine}
+use Rattle.cli_report.specs.Assembly.{Spot, assembly_sentence, code_told, unit_mark}
+use Rattle.cli_report.specs.Bytecode.{unit_place, unit_sentence}
+use Rattle.cli_report.specs.Keys.{Found, entry_line, found, header, or_else, shown_at, table_of, value_end}
+use Rattle.cli_report.specs.Lines.{line_at, marked, trimmed}
+use Rattle.cli_report.specs.Nearest.{near}
+use Rattle.cli_report.specs.Report.{Mark, near_words, report_text}
+use Rattle.cli_report.specs.Units.{IsUnitLine}
 
 -- ---- a fault at a place
 
-abbrev pub missing_sentence : Name → List ℕ
+abbrev pub missing_sentence : ScenarioKey → List ℕ
 missing_sentence names.Rule = codes "a signed campaign combines nothing, and has no rule"
 missing_sentence names.Asm =
     codes "a traitor's table has one of `asm`, `code`, `asm_file`, `code_file` and `elf`, and no second"
 missing_sentence name = codes "the key `" ++ text_of name ++ codes "` is missing"
 
-abbrev pub kind_sentence : Name → List ℕ
+abbrev pub kind_sentence : ScenarioKey → List ℕ
 kind_sentence names.Board = codes "a board is a list of whole numbers"
 kind_sentence names.Rule = codes "a rule is a text in quotation marks: " ++ rule_names
 kind_sentence names.Messages = codes "messages are a text, \"oral\" or \"signed\""
@@ -49,7 +49,7 @@ kind_sentence names.Asm = codes "a program is a text in quotation marks, as `asm
 kind_sentence names.Code = codes "bytecode is a text in quotation marks, of digits in hex"
 kind_sentence name = codes "a whole number is wanted here"
 
-abbrev pub range_sentence : Name → List ℕ
+abbrev pub range_sentence : ScenarioKey → List ℕ
 range_sentence names.Generals = codes "there are 2 to 13 generals"
 range_sentence names.Bound = codes "a bound is 0 to 4, and at most generals - 2"
 range_sentence names.Commander = codes "a general is numbered from 0 on"
@@ -61,36 +61,36 @@ range_sentence names.Messages =
     codes "messages are \"oral\" or \"signed\", and of all but `play` without `--table` and `audit` \"oral\""
 range_sentence name = codes "this value is out of its range"
 
-abbrev pub name_sentence : Fault → Name → List ℕ
+abbrev pub name_sentence : ScenarioFault → ScenarioKey → List ℕ
 name_sentence faults.Key name = missing_sentence name
 name_sentence faults.Kind name = kind_sentence name
 name_sentence faults.Range name = range_sentence name
 name_sentence faults.General name = codes "no general has this number: they are 0 to generals - 1"
 name_sentence faults.Twice name = codes "a table before is of this general"
 
-abbrev pub word_sentence : Fault → List ℕ
+abbrev pub word_sentence : ScenarioFault → List ℕ
 word_sentence faults.Kind = codes "a word of the board is a whole number"
 word_sentence f = codes "a word of the board is 0 to 9223372036854775807"
 
-abbrev pub place_sentence : Fault → Place → List ℕ
+abbrev pub place_sentence : ScenarioFault → ScenarioPlace → List ℕ
 place_sentence f (places.Key name) = name_sentence f name
 place_sentence f (places.Word index) = word_sentence f
 place_sentence f (places.Table index) = codes "a traitor is a table, begun by `[[traitor]]`"
 place_sentence f (places.Entry index name) = name_sentence f name
 
 -- a missing key is one of the word, any other fault one of its value
-abbrev pub is_of_value : Fault → Bool
+abbrev pub is_of_value : ScenarioFault → Bool
 is_of_value faults.Key = false
 is_of_value f = true
 
-abbrev pub place_mark : Fault → Place → List ℕ → Option Mark
+abbrev pub place_mark : ScenarioFault → ScenarioPlace → List ℕ → Option Mark
 place_mark f (places.Key name) text = option_map (shown_at (is_of_value f) (text_of name)) (found 0 (text_of name) text)
 place_mark f (places.Word index) text = option_map (shown_at true (codes "board")) (found 0 (codes "board") text)
 place_mark f (places.Table index) text = option_map (shown_at false header) (entry_line index header text)
 place_mark f (places.Entry index name) text =
     option_map (shown_at (is_of_value f) (text_of name)) (entry_line index (text_of name) text)
 
-unfoldable pub place_told : List ℕ → List ℕ → Fault → Place → List ℕ
+unfoldable pub place_told : List ℕ → List ℕ → ScenarioFault → ScenarioPlace → List ℕ
 place_told name text f place = report_text name (place_sentence f place) (place_mark f place text) None
 
 -- ---- an unknown key

@@ -4,9 +4,9 @@ use Rattle.std.specs.Str.{IsUtf8}
 use Rattle.text.specs.Stop.{feed}
 use Rattle.text.specs.Parts.{pieces}
 use Rattle.toml.specs.Parse.{parse_document}
-use Rattle.why.specs.Assembly.{last_of}
-use Rattle.why.specs.Lines.{line_at, marked, trimmed}
-use Rattle.why.specs.Report.{Mark, report_text}
+use Rattle.cli_report.specs.Assembly.{last_of}
+use Rattle.cli_report.specs.Lines.{line_at, marked, trimmed}
+use Rattle.cli_report.specs.Report.{Mark, report_text}
 
 -- the bytes of a text between these two places, marked in the line of the first
 abbrev pub span_marked : List ℕ → ℕ → ℕ → Mark

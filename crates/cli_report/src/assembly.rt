@@ -4,17 +4,17 @@ ghost use Rattle.asm.specs.Helper.{helpers};
 ghost use Rattle.text.specs.declared.stop.Stop.TheVariants.{Blank};
 ghost use Rattle.text.specs.Stop.{comma, semicolon};
 ghost use Rattle.text.specs.Parts.{before, pieces, until};
-ghost use Rattle.why.specs.Assembly.{assembly_advice, assembly_sentence, assembly_told, begins_marked, call_sentence, code_in, code_told, has, has_capital, is_call, last_of, last_operand, line_told, mnemonic_in, operand_advice, operand_sentence, operands_in, operands_part, or_small, outline_advice, mnemonic_part, outline_part, outline_sentence, part_of, part_view, past_ascii, place_in, range_sentence, spot_view, statement_in, statement_place, unit_mark, whole};
-ghost use Rattle.why.specs.Mnemonics.{mnemonic_names};
-ghost use Rattle.why.specs.Nearest.{near};
-ghost use Rattle.why.specs.Lines.{trimmed};
-ghost use Rattle.why.specs.Report.{help_words, mark_view, near_words};
+ghost use Rattle.cli_report.specs.Assembly.{assembly_advice, assembly_sentence, assembly_told, begins_marked, call_sentence, code_in, code_told, has, has_capital, is_call, last_of, last_operand, line_told, mnemonic_in, operand_advice, operand_sentence, operands_in, operands_part, or_small, outline_advice, mnemonic_part, outline_part, outline_sentence, part_of, part_view, past_ascii, place_in, range_sentence, spot_view, statement_in, statement_place, unit_mark, whole};
+ghost use Rattle.cli_report.specs.Mnemonics.{mnemonic_names};
+ghost use Rattle.cli_report.specs.Nearest.{near};
+ghost use Rattle.cli_report.specs.Lines.{trimmed};
+ghost use Rattle.cli_report.specs.Report.{help_words, mark_view, near_words};
 
 use crate::lines::{line_at, marked, trimmed};
 use crate::mnemonics::{self, Takes, taken};
-use crate::nearest::near;
+use crate::nearest_name::near;
 use crate::report::{Help, Mark, report};
-use asm::Fault;
+use asm::AsmFault;
 use explain::HELPERS;
 use std::alloc::{AllocError, Global};
 use text::{Stop, cut, find, piece};
@@ -133,25 +133,25 @@ fn mnemonic_part(code: &[u8]) -> (&[u8], usize)
 }
 
 /// The part of the code that is at fault: the end of the code that it begins, and its size.
-fn part_of(fault: Fault, code: &[u8]) -> (&[u8], usize)
+fn part_of(fault: AsmFault, code: &[u8]) -> (&[u8], usize)
     ensures { part_view result ≡ part_of fault code.now }
 {
     match fault {
-        Fault::Line => outline_part(code),
-        Fault::Mnemonic => mnemonic_part(code),
-        Fault::Operand | Fault::Range => operands_part(code),
-        Fault::Label => {
+        AsmFault::Line => outline_part(code),
+        AsmFault::Mnemonic => mnemonic_part(code),
+        AsmFault::Operand | AsmFault::Range => operands_part(code),
+        AsmFault::Label => {
             let operand = last_operand(operands_in(code));
             (operand, operand.len())
         }
-        Fault::Twice => (code, find(Stop::Byte(b':'), code)),
-        Fault::Count => (code, code.len()),
+        AsmFault::Twice => (code, find(Stop::Byte(b':'), code)),
+        AsmFault::Count => (code, code.len()),
     }
 }
 
 /// How many bytes of the line stand before the part that is at fault, and how many it has.
 #[tactic(auto, unfolding(crate::specs::Assembly::place_in))]
-fn place_in(fault: Fault, line: &[u8]) -> (usize, usize)
+fn place_in(fault: AsmFault, line: &[u8]) -> (usize, usize)
     ensures place { result ≡ place_in fault line.now }
     ensures inside { result.0 ≤ length line.now }
 {
@@ -221,17 +221,17 @@ fn range_sentence(takes: Option<Takes>) -> &'static str
 }
 
 /// What was wanted.
-pub(crate) fn sentence(fault: Fault, code: &[u8]) -> &'static str
+pub(crate) fn sentence(fault: AsmFault, code: &[u8]) -> &'static str
     ensures { result.now ≡ assembly_sentence fault code.now }
 {
     match fault {
-        Fault::Line => outline_sentence(code),
-        Fault::Mnemonic => "there is no such mnemonic",
-        Fault::Operand => operand_sentence(taken(mnemonic_in(code)), operands_in(code)),
-        Fault::Label => "no line has this name",
-        Fault::Twice => "a line before has this name",
-        Fault::Range => range_sentence(taken(mnemonic_in(code))),
-        Fault::Count => "a program has 1 to 4096 units",
+        AsmFault::Line => outline_sentence(code),
+        AsmFault::Mnemonic => "there is no such mnemonic",
+        AsmFault::Operand => operand_sentence(taken(mnemonic_in(code)), operands_in(code)),
+        AsmFault::Label => "no line has this name",
+        AsmFault::Twice => "a line before has this name",
+        AsmFault::Range => range_sentence(taken(mnemonic_in(code))),
+        AsmFault::Count => "a program has 1 to 4096 units",
     }
 }
 
@@ -343,7 +343,7 @@ fn mnemonic_help(alloc: Global, word: &[u8]) -> Result<Option<Help<'static>>, Al
 /// What may mend a line.
 fn help(
     alloc: Global,
-    fault: Fault,
+    fault: AsmFault,
     number: u64,
     line: &[u8],
     code: &[u8],
@@ -351,9 +351,9 @@ fn help(
     ensures { IfOk result (λ help. option_map help_words help ≡ assembly_advice fault number line.now code.now) }
 {
     match fault {
-        Fault::Line => Ok(outline_help(number, line, code)),
-        Fault::Mnemonic => mnemonic_help(alloc, mnemonic_in(code)),
-        Fault::Operand => operand_help(alloc, taken(mnemonic_in(code)), operands_in(code)),
+        AsmFault::Line => Ok(outline_help(number, line, code)),
+        AsmFault::Mnemonic => mnemonic_help(alloc, mnemonic_in(code)),
+        AsmFault::Operand => operand_help(alloc, taken(mnemonic_in(code)), operands_in(code)),
         _ => Ok(None),
     }
 }
@@ -396,7 +396,7 @@ pub(crate) fn unit_mark(spot: Spot<'_>) -> Mark<'_>
 pub(crate) fn code_told(
     alloc: Global,
     name: &str,
-    fault: Fault,
+    fault: AsmFault,
     spot: Spot<'_>,
 ) -> Result<String, AllocError>
     ensures { IfOk result (λ told. string_bytes told ≡ code_told name.now fault (spot_view spot.entry)) }
@@ -417,7 +417,7 @@ pub(crate) fn code_told(
 fn line_told(
     alloc: Global,
     name: &str,
-    fault: Fault,
+    fault: AsmFault,
     number: u64,
     line: Option<&[u8]>,
 ) -> Result<String, AllocError>
@@ -436,7 +436,7 @@ pub fn of_assembly(
     alloc: Global,
     name: &str,
     text: &[u8],
-    fault: Fault,
+    fault: AsmFault,
     number: u64,
 ) -> Result<String, AllocError>
     ensures { IfOk result (λ told. string_bytes told ≡ assembly_told name.now text.now fault number) }

@@ -1,11 +1,11 @@
 //! What is said of a fault of bytecode.
 ghost use Rattle.std.specs.Prelude.{◌≡◌, ◌≤◌, IfOk, option_map, string_bytes};
-ghost use Rattle.why.specs.Bytecode.{byte_of, bytecode_told, choice_place, choice_sentence, left_out_place, left_out_sentence, unit_at, unit_marked, unit_place, unit_sentence, unit_told};
-ghost use Rattle.why.specs.Report.{mark_view};
+ghost use Rattle.cli_report.specs.Bytecode.{byte_of, bytecode_told, choice_place, choice_sentence, left_out_place, left_out_sentence, unit_at, unit_marked, unit_place, unit_sentence, unit_told};
+ghost use Rattle.cli_report.specs.Report.{mark_view};
 
 use crate::lines::marked;
 use crate::report::{Mark, behind, front, report};
-use codec::Fault;
+use codec::CodecFault;
 use std::alloc::{AllocError, Global};
 use text::{Base, digits};
 
@@ -46,18 +46,18 @@ fn choice_sentence(opcode: u128) -> &'static str
 }
 
 /// What was wanted of a unit of these digits.
-pub(crate) fn unit_sentence(fault: Fault, hex: &[u8]) -> &'static str
+pub(crate) fn unit_sentence(fault: CodecFault, hex: &[u8]) -> &'static str
     ensures { result.now ≡ unit_sentence fault hex.now }
 {
     match fault {
-        Fault::Length => "the file ends within this unit, and a unit has 8 bytes",
-        Fault::Opcode => "no instruction has this opcode",
-        Fault::Reserved => "a field that this instruction does not use is not zero",
-        Fault::WideCut => "the second half of this wide instruction is missing",
-        Fault::Register => "the registers are r0 to r10",
-        Fault::LeftOut => left_out_sentence(byte_of(hex)),
-        Fault::Operand => choice_sentence(byte_of(hex)),
-        Fault::Count => "a program has 1 to 4096 units",
+        CodecFault::Length => "the file ends within this unit, and a unit has 8 bytes",
+        CodecFault::Opcode => "no instruction has this opcode",
+        CodecFault::Reserved => "a field that this instruction does not use is not zero",
+        CodecFault::WideCut => "the second half of this wide instruction is missing",
+        CodecFault::Register => "the registers are r0 to r10",
+        CodecFault::LeftOut => left_out_sentence(byte_of(hex)),
+        CodecFault::Operand => choice_sentence(byte_of(hex)),
+        CodecFault::Count => "a program has 1 to 4096 units",
     }
 }
 
@@ -82,15 +82,15 @@ fn choice_place(opcode: u128) -> (usize, usize)
 }
 
 /// How many digits stand before the part that is at fault, and how many it has.
-pub(crate) fn unit_place(fault: Fault, hex: &[u8]) -> (usize, usize)
+pub(crate) fn unit_place(fault: CodecFault, hex: &[u8]) -> (usize, usize)
     ensures place { result ≡ unit_place fault hex.now }
     ensures few { result.0 ≤ 8 }
 {
     match fault {
-        Fault::Opcode => (0, 2),
-        Fault::Register => (2, 2),
-        Fault::LeftOut => left_out_place(byte_of(hex)),
-        Fault::Operand => choice_place(byte_of(hex)),
+        CodecFault::Opcode => (0, 2),
+        CodecFault::Register => (2, 2),
+        CodecFault::LeftOut => left_out_place(byte_of(hex)),
+        CodecFault::Operand => choice_place(byte_of(hex)),
         _ => (0, 16),
     }
 }
@@ -107,10 +107,10 @@ fn unit_at(bytes: &[u8], unit: usize) -> &[u8]
 }
 
 /// The unit with the part that is at fault, if it is one of the file.
-fn unit_marked(fault: Fault, unit: usize, hex: &[u8]) -> Option<Mark<'_>>
+fn unit_marked(fault: CodecFault, unit: usize, hex: &[u8]) -> Option<Mark<'_>>
     ensures { option_map mark_view result ≡ unit_marked fault unit hex.now }
 {
-    if fault == Fault::Count || hex.is_empty() {
+    if fault == CodecFault::Count || hex.is_empty() {
         return None;
     }
     let (from, size) = unit_place(fault, hex);
@@ -123,7 +123,7 @@ pub fn of_bytecode(
     alloc: Global,
     name: &str,
     bytes: &[u8],
-    fault: Fault,
+    fault: CodecFault,
     unit: usize,
 ) -> Result<String, AllocError>
     ensures { IfOk result (λ told. string_bytes told ≡ bytecode_told name.now bytes.now fault unit) }

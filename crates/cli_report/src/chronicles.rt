@@ -1,14 +1,14 @@
 //! What is said of a fault of a schedule or a chronicle.
 ghost use Rattle.std.specs.Prelude.{◌≡◌, IfOk, option_map, string_bytes};
-ghost use Rattle.why.specs.Chronicles.{chronicle_advice, chronicle_line_told, chronicle_sentence, chronicle_told, is_last, replayed_told, schedule_advice, schedule_line_told, schedule_sentence, schedule_told, wanted_in};
-ghost use Rattle.why.specs.Report.{help_words};
+ghost use Rattle.cli_report.specs.Chronicles.{chronicle_advice, chronicle_line_told, chronicle_sentence, chronicle_told, is_last, replayed_told, schedule_advice, schedule_line_told, schedule_sentence, schedule_told, wanted_in};
+ghost use Rattle.cli_report.specs.Report.{help_words};
 
 use crate::assembly::{begins_marked, has};
 use crate::lines::{all_marked, line_at, trimmed};
 use crate::report::{Help, front, report, shown_line};
-use crate::unread::last_line;
+use crate::toml_errors::last_line;
 use std::alloc::{AllocError, Global};
-use trace::{Fault, MOST_SCHEDULE_BYTES};
+use trace::{MOST_SCHEDULE_BYTES, TraceFault};
 
 /// What may mend a text that comes from another system.
 fn ends_help(number: u64, line: &[u8]) -> Option<Help<'static>>
@@ -82,15 +82,15 @@ fn is_last(text: &[u8], number: u64) -> bool
 }
 
 /// What is wrong with a line of a chronicle, by whether it is the last one.
-fn chronicle_sentence(last: bool, fault: Fault) -> &'static str
+fn chronicle_sentence(last: bool, fault: TraceFault) -> &'static str
     ensures { result.now ≡ chronicle_sentence last fault }
 {
     match fault {
-        Fault::Line if last => "the file is cut off: this line has no line feed at its end",
+        TraceFault::Line if last => "the file is cut off: this line has no line feed at its end",
         _ if last => "the file ends here, and the campaign has more lines",
-        Fault::Line => "no line of a chronicle has this shape",
-        Fault::Scenario => "the first two lines are not those of this scenario's campaign",
-        Fault::Differs => "this line is not the campaign's",
+        TraceFault::Line => "no line of a chronicle has this shape",
+        TraceFault::Scenario => "the first two lines are not those of this scenario's campaign",
+        TraceFault::Differs => "this line is not the campaign's",
     }
 }
 
@@ -109,7 +109,7 @@ fn chronicle_line_told(
     alloc: Global,
     name: &str,
     last: bool,
-    fault: Fault,
+    fault: TraceFault,
     number: u64,
     wanted: Option<&str>,
     line: Option<&[u8]>,
@@ -140,13 +140,13 @@ fn chronicle_line_told(
 /// The line that the campaign has, as it is shown, where its text is this.
 fn wanted_in(
     alloc: Global,
-    fault: Fault,
+    fault: TraceFault,
     again: &[u8],
     number: u64,
 ) -> Result<Option<String>, AllocError>
     ensures { IfOk result (λ wanted. option_map string_bytes wanted ≡ wanted_in fault again.now number) }
 {
-    if fault == Fault::Line {
+    if fault == TraceFault::Line {
         return Ok(None);
     }
     match line_at(again, number) {
@@ -161,7 +161,7 @@ fn chronicle_told(
     alloc: Global,
     name: &str,
     text: &[u8],
-    fault: Fault,
+    fault: TraceFault,
     number: u64,
     wanted: Option<&str>,
 ) -> Result<String, AllocError>
@@ -179,7 +179,7 @@ pub fn of_chronicle(
     alloc: Global,
     name: &str,
     text: &[u8],
-    fault: Fault,
+    fault: TraceFault,
     number: u64,
     again: &[u8],
 ) -> Result<String, AllocError>

@@ -1,11 +1,11 @@
 //! What is said of the errors of a scenario and a setting.
 ghost use Rattle.std.specs.Prelude.{IfOk, string_bytes};
-ghost use Rattle.why.specs.Errors.{ReportsScenario, TellsScenario, TellsSetting};
+ghost use Rattle.cli_report.specs.Errors.{ReportsScenario, TellsScenario, TellsSetting};
 
-use crate::judged::judged;
+use crate::program_faults::program_told;
+use crate::program_judgements::judged;
 use crate::report::report;
-use crate::seated::program_told;
-use crate::unread::not_toml;
+use crate::toml_errors::not_toml;
 use crate::{scenarios, settings};
 use scenario::ScenarioError;
 use std::alloc::{AllocError, Global};

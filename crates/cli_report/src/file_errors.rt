@@ -4,38 +4,43 @@ ghost use Rattle.toml.specs.Parse.{parse_document};
 ghost use Rattle.toml.specs.View.{table_view};
 ghost use Rattle.scenario.specs.Seen.{source_of};
 ghost use Rattle.scenario.specs.Sources.{source_by};
-ghost use Rattle.why.specs.Judged.{judged_of};
-ghost use Rattle.why.specs.Keys.{found_view};
-ghost use Rattle.why.specs.Made.{IsMadeJudged, IsOwnUnitTold, IsRefusedFile, IsRefusedTold, IsUnitTold, ReportsMade, ReportsProgram, TellsMade, asm_told, assembly_of, bytes_shown, code_shown, digits_of, file_named, file_source, file_told, hex_told, in_file, key_told, line_shown, other_key, own_index, own_line, own_mark, own_place, own_place_told, own_source, own_word, unit_digits, unit_told};
-ghost use Rattle.why.specs.Report.{mark_view, report_text};
+ghost use Rattle.cli_report.specs.Judged.{judged_of};
+ghost use Rattle.cli_report.specs.Keys.{found_view};
+ghost use Rattle.cli_report.specs.Made.{IsMadeJudged, IsOwnUnitTold, IsRefusedFile, IsRefusedTold, IsUnitTold, ReportsMade, ReportsProgram, TellsMade, asm_told, assembly_of, bytes_shown, code_shown, digits_of, file_named, file_source, file_told, hex_told, in_file, key_told, line_shown, other_key, own_index, own_line, own_mark, own_place, own_place_told, own_source, own_word, unit_digits, unit_told};
+ghost use Rattle.cli_report.specs.Report.{mark_view, report_text};
 
 use crate::assembly::{of_assembly, sentence, unit_mark, whole};
 use crate::bytecode::unit_sentence;
-use crate::judged::{explained_of, judged_of};
 use crate::keys::{Found, entry_line, find_line, shown_at, value_end};
 use crate::lines::line_at;
+use crate::program_faults::{code_line_told, text_told, unit_shown, verifier_sentence};
+use crate::program_judgements::{explained_of, judged_of};
 use crate::report::{Mark, behind, front, report, shown_line};
 use crate::scenarios::{
     is_of_value, key_mark, place_mark, place_sentence, unknown_told, value_mark,
 };
-use crate::seated::{code_line_told, text_told, unit_shown, verifier_sentence};
 use crate::sources::{source_in, table_in};
+use crate::toml_errors::not_toml;
 use crate::units::line_of_unit;
-use crate::unread::not_toml;
-use references::{origin, seat};
-use scenario::{Fault, Name, Place, ProgramFault, ScenarioError, Written};
+use scenario::{
+    ProgramFault, ProgramText, ScenarioError, ScenarioFault, ScenarioKey, ScenarioPlace, origin,
+    seat,
+};
 use std::alloc::{AllocError, Global};
 use text::{Stop, cut};
 use toml::Table;
 use verify::Reason;
 
 /// The place in the scenario's own text, whose tables stand for those that are made of them.
-fn own_place(alloc: Global, own: &str, place: Place) -> Result<Place, AllocError>
+fn own_place(alloc: Global, own: &str, place: ScenarioPlace) -> Result<ScenarioPlace, AllocError>
     ensures { IfOk result (λ at. at ≡ own_place (parse_document own.now) place) }
 {
     match place {
-        Place::Table(index) => Ok(Place::Table(origin(alloc, own, index)?)),
-        Place::Entry(index, name) => Ok(Place::Entry(origin(alloc, own, index)?, name)),
+        ScenarioPlace::Table(index) => Ok(ScenarioPlace::Table(origin(alloc, own, index)?)),
+        ScenarioPlace::Entry(index, name) => Ok(ScenarioPlace::Entry(
+            origin(alloc, own, index)?,
+            name,
+        )),
         place => Ok(place),
     }
 }
@@ -51,19 +56,19 @@ fn own_index(alloc: Global, own: &str, at: Option<usize>) -> Result<Option<usize
 }
 
 /// By which key a table has from a file, or for several generals, what this key tells.
-fn other_key(name: Name) -> &'static str
+fn other_key(name: ScenarioKey) -> &'static str
     ensures { result.now ≡ other_key name }
 {
     match name {
-        Name::General => "generals",
-        Name::Asm => "asm_file",
-        Name::Code => "code_file",
+        ScenarioKey::General => "generals",
+        ScenarioKey::Asm => "asm_file",
+        ScenarioKey::Code => "code_file",
         name => name.text(),
     }
 }
 
 /// The key of this table that tells it.
-fn own_word(index: usize, name: Name, own: &[u8]) -> &'static str
+fn own_word(index: usize, name: ScenarioKey, own: &[u8]) -> &'static str
     ensures { result.now ≡ own_word index name own.now }
 {
     match find_line(index as u128 + 1, name.text().as_bytes(), own) {
@@ -74,11 +79,11 @@ fn own_word(index: usize, name: Name, own: &[u8]) -> &'static str
 
 /// Where a place stands in the scenario's own text.
 #[tactic(auto, unfolding(crate::specs::Made::own_mark))]
-fn own_mark(fault: Fault, place: Place, own: &[u8]) -> Option<Mark<'_>>
+fn own_mark(fault: ScenarioFault, place: ScenarioPlace, own: &[u8]) -> Option<Mark<'_>>
     ensures { option_map mark_view result ≡ own_mark fault place own.now }
 {
     match place {
-        Place::Entry(index, name) => {
+        ScenarioPlace::Entry(index, name) => {
             let word = own_word(index, name, own).as_bytes();
             Some(shown_at(is_of_value(fault), word, entry_line(index, word, own)?))
         }
@@ -92,8 +97,8 @@ fn own_place_told(
     alloc: Global,
     name: &str,
     own: &[u8],
-    fault: Fault,
-    place: Place,
+    fault: ScenarioFault,
+    place: ScenarioPlace,
 ) -> Result<String, AllocError>
     ensures { IfOk result (λ told. string_bytes told ≡ own_place_told name.now own.now fault place) }
 {
@@ -123,21 +128,21 @@ fn file_named(line: Found<'_>) -> &[u8]
 }
 
 /// The assembly that is written so.
-fn assembly_of<'a>(source: Option<Written<'a>>) -> &'a str
+fn assembly_of<'a>(source: Option<ProgramText<'a>>) -> &'a str
     ensures { result.now ≡ assembly_of (option_map source_of source.entry) }
 {
     match source {
-        Some(Written::Asm(text)) => text,
+        Some(ProgramText::Asm(text)) => text,
         _ => "",
     }
 }
 
 /// The digits of the bytecode that is written so.
-fn digits_of<'a>(source: Option<Written<'a>>) -> &'a str
+fn digits_of<'a>(source: Option<ProgramText<'a>>) -> &'a str
     ensures { result.now ≡ digits_of (option_map source_of source.entry) }
 {
     match source {
-        Some(Written::Code(text)) => text,
+        Some(ProgramText::Code(text)) => text,
         _ => "",
     }
 }
@@ -146,9 +151,9 @@ fn digits_of<'a>(source: Option<Written<'a>>) -> &'a str
 fn file_told(
     alloc: Global,
     name: &str,
-    fault: asm::Fault,
+    fault: asm::AsmFault,
     number: u64,
-    source: Option<Written<'_>>,
+    source: Option<ProgramText<'_>>,
     key: Option<Found<'_>>,
 ) -> Result<String, AllocError>
     ensures { IfOk result (λ told. string_bytes told
@@ -167,9 +172,9 @@ fn asm_told(
     alloc: Global,
     name: &str,
     own: &[u8],
-    fault: asm::Fault,
+    fault: asm::AsmFault,
     number: u64,
-    source: Option<Written<'_>>,
+    source: Option<ProgramText<'_>>,
     table: Option<usize>,
 ) -> Result<String, AllocError>
     ensures { IfOk result (λ told. string_bytes told
@@ -210,9 +215,9 @@ fn unit_told(
     alloc: Global,
     name: &str,
     own: &[u8],
-    fault: codec::Fault,
+    fault: codec::CodecFault,
     unit: usize,
-    source: Option<Written<'_>>,
+    source: Option<ProgramText<'_>>,
     table: Option<usize>,
 ) -> Result<String, AllocError>
     ensures { IfOk result (λ told. string_bytes told
@@ -314,7 +319,7 @@ fn refused_told(
     own: &[u8],
     reason: Reason,
     unit: usize,
-    source: Option<Written<'_>>,
+    source: Option<ProgramText<'_>>,
     table: Option<usize>,
 ) -> Result<String, AllocError>
     ensures { IfOk result (λ told. IsRefusedTold name.now own.now reason unit (option_map source_of source.entry) table
@@ -333,7 +338,7 @@ fn refused_file_told(
     own: &[u8],
     reason: Reason,
     unit: usize,
-    source: Option<Written<'_>>,
+    source: Option<ProgramText<'_>>,
     table: Option<usize>,
 ) -> Result<String, AllocError>
     ensures { IfOk result (λ told. IsRefusedFile name.now own.now reason unit (option_map source_of source.entry) table
@@ -367,7 +372,7 @@ fn program_told(
     alloc: Global,
     name: &str,
     own: &[u8],
-    source: Option<Written<'_>>,
+    source: Option<ProgramText<'_>>,
     table: Option<usize>,
     fault: ProgramFault,
 ) -> Result<String, AllocError>

@@ -1,7 +1,7 @@
 //! Where a key of a TOML text stands.
 ghost use Rattle.std.specs.Prelude.{◌≡◌, ◌+◌, ◌<◌, ◌≤◌, ◌^◌, IfOk, option_map};
-ghost use Rattle.why.specs.Keys.{begins_with, ends_word, entry_line, found, found_view, header, shown_at, table_at, table_of, value_end, value_in, value_marked, word_marked};
-ghost use Rattle.why.specs.Report.{mark_view};
+ghost use Rattle.cli_report.specs.Keys.{begins_with, ends_word, entry_line, found, found_view, header, shown_at, table_at, table_of, value_end, value_in, value_marked, word_marked};
+ghost use Rattle.cli_report.specs.Report.{mark_view};
 
 use crate::lines::{all_marked, marked, trimmed};
 use crate::report::{Mark, behind};

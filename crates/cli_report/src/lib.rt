@@ -1,6 +1,35 @@
+//! Why a file is refused: the sentence of each code, its place in the file, and a help where one is likely.
 //! Why a scenario that names files is refused, at its own lines and those of its files.
 #![tactic(auto)]
 
-mod refusing;
+mod assembly;
+mod bytecode;
+mod chronicles;
+mod errors;
+mod file_errors;
+mod keys;
+mod laws;
+mod lines;
+mod messages;
+mod mnemonics;
+mod musters;
+mod nearest_name;
+mod program_faults;
+mod program_judgements;
+mod refusal;
+mod report;
+mod scenarios;
+mod settings;
+mod sources;
+mod toml_errors;
+mod units;
 
-pub use refusing::refused;
+pub use assembly::of_assembly;
+pub use bytecode::of_bytecode;
+pub use chronicles::{of_chronicle, of_schedule};
+pub use errors::{of_scenario, of_setting};
+pub use file_errors::of_made;
+pub use laws::refusals_are_told;
+pub use messages::{of_stranger, of_table};
+pub use musters::of_muster;
+pub use refusal::refused;

@@ -1,7 +1,7 @@
 //! The lines of a file, and the places in them.
 ghost use Rattle.std.specs.Prelude.{◌≡◌, option_map};
-ghost use Rattle.why.specs.Lines.{all_marked, is_white, line_at, marked, trimmed};
-ghost use Rattle.why.specs.Report.{mark_view};
+ghost use Rattle.cli_report.specs.Lines.{all_marked, is_white, line_at, marked, trimmed};
+ghost use Rattle.cli_report.specs.Report.{mark_view};
 
 use crate::report::Mark;
 use text::{Stop, find};

@@ -1,12 +1,12 @@
 //! What is said of a fault of a message table.
 ghost use Rattle.std.specs.Prelude.{◌≡◌, IfOk, option_map, string_bytes};
-ghost use Rattle.why.specs.Messages.{first_sentence, shape_advice, stranger_line_told, stranger_told, table_advice, table_line_told, table_sentence, table_told};
-ghost use Rattle.why.specs.Report.{help_words};
+ghost use Rattle.cli_report.specs.Messages.{first_sentence, shape_advice, stranger_line_told, stranger_told, table_advice, table_line_told, table_sentence, table_told};
+ghost use Rattle.cli_report.specs.Report.{help_words};
 
 use crate::assembly::{begins_marked, has};
 use crate::lines::{all_marked, line_at, trimmed};
 use crate::report::{Help, report};
-use book::Fault;
+use book::TableFault;
 use combine::Rule;
 use std::alloc::{AllocError, Global};
 
@@ -21,20 +21,20 @@ fn first_sentence(alloc: Global) -> Result<String, AllocError>
 }
 
 /// What was wanted in a line of this number.
-fn sentence(alloc: Global, fault: Fault, number: u64) -> Result<String, AllocError>
+fn sentence(alloc: Global, fault: TableFault, number: u64) -> Result<String, AllocError>
     ensures { IfOk result (λ text. string_bytes text ≡ table_sentence fault number) }
 {
     let sentence = match fault {
-        Fault::Line if number == 1 => return first_sentence(alloc),
-        Fault::Line =>
+        TableFault::Line if number == 1 => return first_sentence(alloc),
+        TableFault::Line =>
             "a line is `tell LABEL RECEIVER ORDER`: the label's generals joined by dots, \
              numbers without leading zeros, an order of at most 4294967295",
-        Fault::Range =>
+        TableFault::Range =>
             "a table has 2 to 13 generals, a bound of 0 to 4 and at most generals - 2, and a commander below generals",
-        Fault::Place =>
+        TableFault::Place =>
             "nobody is told of this label, or not this receiver: a label begins with the commander, \
              has at most bound + 1 generals, none twice, and the receiver is not on it",
-        Fault::Twice => "a line before tells this receiver of this label",
+        TableFault::Twice => "a line before tells this receiver of this label",
     };
     String::from_str(alloc, sentence)
 }
@@ -62,11 +62,11 @@ fn shape_help(number: u64, line: &[u8]) -> Option<Help<'static>>
 }
 
 /// What may mend a line.
-fn help(fault: Fault, number: u64, line: &[u8]) -> Option<Help<'static>>
+fn help(fault: TableFault, number: u64, line: &[u8]) -> Option<Help<'static>>
     ensures { option_map help_words result ≡ table_advice fault number line.now }
 {
     match fault {
-        Fault::Line => shape_help(number, line),
+        TableFault::Line => shape_help(number, line),
         _ => None,
     }
 }
@@ -75,7 +75,7 @@ fn help(fault: Fault, number: u64, line: &[u8]) -> Option<Help<'static>>
 fn line_told(
     alloc: Global,
     name: &str,
-    fault: Fault,
+    fault: TableFault,
     number: u64,
     line: Option<&[u8]>,
 ) -> Result<String, AllocError>
@@ -97,7 +97,7 @@ pub fn of_table(
     alloc: Global,
     name: &str,
     text: &[u8],
-    fault: Fault,
+    fault: TableFault,
     number: u64,
 ) -> Result<String, AllocError>
     ensures { IfOk result (λ told. string_bytes told ≡ table_told name.now text.now fault number) }

@@ -1,6 +1,6 @@
 //! What each mnemonic takes.
 ghost use Rattle.std.specs.Prelude.{◌≡◌, map, IfOk};
-ghost use Rattle.why.specs.Mnemonics.{first_taken, mnemonic_names, taken, takes_text};
+ghost use Rattle.cli_report.specs.Mnemonics.{first_taken, mnemonic_names, taken, takes_text};
 
 use std::alloc::{AllocError, Global};
 

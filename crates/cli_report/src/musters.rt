@@ -1,6 +1,6 @@
 //! What is said of a muster that gave no chronicle.
 ghost use Rattle.std.specs.Prelude.{◌≡◌, IfOk, string_bytes};
-ghost use Rattle.why.specs.Musters.{muster_sentence, muster_told};
+ghost use Rattle.cli_report.specs.Musters.{muster_sentence, muster_told};
 
 use std::alloc::{AllocError, Global};
 use threads::MusterError;

@@ -1,6 +1,6 @@
 //! The name that is nearest to a word.
 ghost use Rattle.std.specs.Prelude.{◌≡◌, map, option_map, IfOk};
-ghost use Rattle.why.specs.Nearest.{distance, near};
+ghost use Rattle.cli_report.specs.Nearest.{distance, near};
 
 use std::alloc::{AllocError, Global};
 use strsim::generic_levenshtein;

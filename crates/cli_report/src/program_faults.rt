@@ -3,10 +3,10 @@ ghost use Rattle.std.specs.Prelude.{◌≡◌, IfOk, nat_eq, option_and_then, op
 ghost use Rattle.std.specs.List.{starts_with};
 ghost use Rattle.toml.specs.View.{table_view};
 ghost use Rattle.scenario.specs.Seen.{source_of};
-ghost use Rattle.why.specs.Assembly.{spot_view, unit_mark};
-ghost use Rattle.why.specs.Keys.{found_view};
-ghost use Rattle.why.specs.Report.{mark_view};
-ghost use Rattle.why.specs.Scenarios.{IsProgramTold, IsRefusedAt, IsRefusedBy, IsRefusedProgram, IsUnitShown, before_feed, before_quote, behind_feed, behind_feeds, bytecode_shown, code_line_told, end_spot, hex_told, is_feed, is_long, line_behind, line_spot, long_spot, program_line, source_line, source_shown, spot_in, spot_told, text_told, unit_end, verifier_sentence};
+ghost use Rattle.cli_report.specs.Assembly.{spot_view, unit_mark};
+ghost use Rattle.cli_report.specs.Keys.{found_view};
+ghost use Rattle.cli_report.specs.Report.{mark_view};
+ghost use Rattle.cli_report.specs.Scenarios.{IsProgramTold, IsRefusedAt, IsRefusedBy, IsRefusedProgram, IsUnitShown, before_feed, before_quote, behind_feed, behind_feeds, bytecode_shown, code_line_told, end_spot, hex_told, is_feed, is_long, line_behind, line_spot, long_spot, program_line, source_line, source_shown, spot_in, spot_told, text_told, unit_end, verifier_sentence};
 
 use crate::assembly::{Spot, code_told, sentence, unit_mark};
 use crate::bytecode::{unit_place, unit_sentence};
@@ -16,7 +16,7 @@ use crate::report::{Mark, behind, front, report};
 use crate::scenarios::{key_mark, value_mark};
 use crate::sources::{document_of, source_in};
 use crate::units::line_of_unit;
-use scenario::{ProgramFault, Written};
+use scenario::{ProgramFault, ProgramText};
 use std::alloc::{AllocError, Global};
 use toml::Table;
 use verify::Reason;
@@ -209,7 +209,7 @@ fn spot_of<'a>(text: &'a [u8], number: u64, line: Option<Found<'a>>) -> Option<S
 fn spot_told(
     alloc: Global,
     name: &str,
-    fault: asm::Fault,
+    fault: asm::AsmFault,
     spot: Option<Spot<'_>>,
 ) -> Result<String, AllocError>
     ensures { IfOk result (λ told. string_bytes told ≡ spot_told name.now fault (option_map spot_view spot.entry)) }
@@ -225,7 +225,7 @@ pub(crate) fn text_told(
     alloc: Global,
     name: &str,
     text: &[u8],
-    fault: asm::Fault,
+    fault: asm::AsmFault,
     number: u64,
     line: Option<Found<'_>>,
 ) -> Result<String, AllocError>
@@ -249,7 +249,7 @@ fn unit_end(line: &[u8], unit: usize) -> &[u8]
 pub(crate) fn code_line_told(
     alloc: Global,
     name: &str,
-    fault: codec::Fault,
+    fault: codec::CodecFault,
     unit: usize,
     line: Option<Found<'_>>,
 ) -> Result<String, AllocError>
@@ -325,15 +325,15 @@ fn refused_at<'a>(
     text: &'a [u8],
     general: u8,
     unit: usize,
-    source: Option<Written<'_>>,
+    source: Option<ProgramText<'_>>,
 ) -> Result<Option<Mark<'a>>, AllocError>
     ensures { IfOk result (λ mark. IsRefusedAt text.now general unit (option_map source_of source.entry)
         (option_map mark_view mark)) }
 {
     match source {
         None => source_shown(alloc, general, text),
-        Some(Written::Code(_)) => bytecode_shown(alloc, general, text),
-        Some(Written::Asm(asm)) => {
+        Some(ProgramText::Code(_)) => bytecode_shown(alloc, general, text),
+        Some(ProgramText::Asm(asm)) => {
             let line = program_line(alloc, general, b"asm", text)?;
             unit_shown(alloc, text, unit, asm, line)
         }

@@ -8,17 +8,17 @@ ghost use Rattle.asm.specs.Places.{AreWritten, line_text};
 ghost use Rattle.asm.specs.Program.{lines_of, nothing, read_on};
 ghost use Rattle.insn.specs.Program.{slots_of};
 ghost use Rattle.scenario.specs.Seen.{source_of};
-ghost use Rattle.why.specs.Judged.{ArePlaced, AreStated, GivesProgram, IsExplained, IsExplainedBy, IsExplainedOf, IsJudged, IsMadeBy, judged_of, lines_before, pushed_down};
-ghost use Rattle.why.specs.Keys.{found_view};
+ghost use Rattle.cli_report.specs.Judged.{ArePlaced, AreStated, GivesProgram, IsExplained, IsExplainedBy, IsExplainedOf, IsJudged, IsMadeBy, judged_of, lines_before, pushed_down};
+ghost use Rattle.cli_report.specs.Keys.{found_view};
 
 use crate::keys::{Found, value_end};
 use crate::lines::trimmed;
+use crate::program_faults::{is_long, source_line};
 use crate::report::behind;
-use crate::seated::{is_long, source_line};
 use crate::sources::table_in;
 use explain::explanation_at;
 use insn::Program;
-use scenario::{ProgramFault, ScenarioError, Written, program, written_by};
+use scenario::{ProgramFault, ProgramText, ScenarioError, program, written_by};
 use std::alloc::{AllocError, Global};
 use toml::Table;
 
@@ -67,7 +67,7 @@ fn all_at(alloc: Global, units: usize, number: u64) -> Result<Vec<String>, Alloc
 /// Where the units of a program stand that is written so, and whose key stands in this line.
 fn placed(
     alloc: Global,
-    written: Written<'_>,
+    written: ProgramText<'_>,
     line: Option<Found<'_>>,
     program: &Program,
 ) -> Result<Vec<String>, AllocError>
@@ -78,21 +78,21 @@ fn placed(
         return Ok(Vec::new(alloc));
     };
     match written {
-        Written::Asm(text) if is_long(value_end(line.line)) => {
+        ProgramText::Asm(text) if is_long(value_end(line.line)) => {
             let text = pushed_down(alloc, lines_before(line), text)?;
             asm::places(alloc, text.as_str())
         }
-        Written::Asm(_) | Written::Code(_) => all_at(alloc, program.units(), line.number),
+        ProgramText::Asm(_) | ProgramText::Code(_) => all_at(alloc, program.units(), line.number),
     }
 }
 
 /// How the units of a program that is written so are written.
-fn stated(alloc: Global, written: Written<'_>) -> Result<Vec<String>, AllocError>
+fn stated(alloc: Global, written: ProgramText<'_>) -> Result<Vec<String>, AllocError>
     ensures { IfOk result (λ statements. AreStated (source_of written.entry) (map string_bytes statements.items)) }
 {
     match written {
-        Written::Asm(text) => asm::statements(alloc, text),
-        Written::Code(_) => Ok(Vec::new(alloc)),
+        ProgramText::Asm(text) => asm::statements(alloc, text),
+        ProgramText::Code(_) => Ok(Vec::new(alloc)),
     }
 }
 
@@ -112,7 +112,7 @@ fn made(program: Result<Program, ScenarioError>) -> Result<Option<Program>, Allo
 fn program_of(
     alloc: Global,
     general: u8,
-    written: Written<'_>,
+    written: ProgramText<'_>,
 ) -> Result<Option<Program>, AllocError>
     ensures { IfOk result (GivesProgram (source_of written.entry)) }
 {
@@ -124,7 +124,7 @@ fn program_of(
 pub(crate) fn explained_of(
     alloc: Global,
     general: u8,
-    written: Written<'_>,
+    written: ProgramText<'_>,
     line: Option<Found<'_>>,
 ) -> Result<String, AllocError>
     ensures { IfOk result (λ told. IsExplainedOf (source_of written.entry) (option_map found_view line.entry)
@@ -135,7 +135,7 @@ pub(crate) fn explained_of(
     };
     let places = placed(alloc, written, line, &program)?;
     let statements = stated(alloc, written)?;
-    let lists = explain::Written {
+    let lists = explain::UnitTexts {
         places: places.as_slice(),
         statements: statements.as_slice(),
     };

@@ -2,10 +2,10 @@
 ghost use Rattle.std.specs.Prelude.{◌≡◌, ◌≢◌, IfOk, IfSome, None, option_map, string_bytes};
 ghost use Rattle.std.specs.Str.{IsUtf8};
 ghost use Rattle.streams.specs.Names.{shown};
-ghost use Rattle.own_lines.specs.declared.refusing.Taken.TheVariants.{Any, Oral};
-ghost use Rattle.own_lines.specs.Refused.{IsErrorIn, IsErrorOf, IsRefusalShown, IsReportShown, IsTold, IsToldOf, taken_by};
+ghost use Rattle.cli_report.specs.declared.refusal.Taken.TheVariants.{Any, Oral};
+ghost use Rattle.cli_report.specs.Refused.{IsErrorIn, IsErrorOf, IsRefusalShown, IsReportShown, IsTold, IsToldOf, taken_by};
 
-use command_line::{Account, Task};
+use cli_words::{Account, Task};
 use scenario::ScenarioError;
 use std::alloc::{AllocError, Global};
 use streams::FileName;
@@ -99,7 +99,7 @@ fn report_shown(
     ensures { IfOk result (λ report. IsReportShown file.now own.now made.now error.now (string_bytes report)) }
 {
     let name = shown_name(alloc, file)?;
-    why::of_made(alloc, name.as_str(), own, made, error)
+    crate::file_errors::of_made(alloc, name.as_str(), own, made, error)
 }
 
 /// The line of a refusal, and what is said of it.

@@ -2,7 +2,7 @@
 ghost use Rattle.std.specs.Prelude.{◌≡◌, ◌++◌, codes, drop, length, map, option_map, string_bytes, take, IfOk, OnOk};
 ghost use Rattle.std.specs.Fmt.{is_char_start};
 ghost use Rattle.std.specs.List.{flat_map};
-ghost use Rattle.why.specs.Report.{blank_below, caret_below, carets_below, excerpt_text, help_text, help_words, margin_of, mark_view, marked_text, report_text, shown_byte, shown_line, shown_text, where_text};
+ghost use Rattle.cli_report.specs.Report.{blank_below, caret_below, carets_below, excerpt_text, help_text, help_words, margin_of, mark_view, marked_text, report_text, shown_byte, shown_line, shown_text, where_text};
 
 use std::alloc::{AllocError, Global};
 use std::fmt;
@@ -33,7 +33,7 @@ pub(crate) enum Help<'a> {
 
 impl fmt::Display for Help<'_> {
     ghost use Rattle.std.specs.Prelude.{Some};
-    ghost use Rattle.why.specs.Report.{help_words};
+    ghost use Rattle.cli_report.specs.Report.{help_words};
 
     ghost output = { λ help. Some (help_words help) };
 

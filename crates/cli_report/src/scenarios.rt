@@ -1,15 +1,15 @@
 //! What is said of a fault of a scenario.
 ghost use Rattle.std.specs.Prelude.{◌≡◌, false, true, IfOk, codes, option_map, string_bytes};
-ghost use Rattle.why.specs.Keys.{found_view, shown_at};
-ghost use Rattle.why.specs.Nearest.{near};
-ghost use Rattle.why.specs.Report.{help_words, mark_view, near_words};
-ghost use Rattle.why.specs.Scenarios.{entry_key_told, entry_keys, entry_sentence, is_itself, is_of_value, key_told, kind_sentence, missing_sentence, name_sentence, other_than, place_mark, place_sentence, place_told, range_sentence, top_key_told, top_keys, unknown_told, word_sentence};
+ghost use Rattle.cli_report.specs.Keys.{found_view, shown_at};
+ghost use Rattle.cli_report.specs.Nearest.{near};
+ghost use Rattle.cli_report.specs.Report.{help_words, mark_view, near_words};
+ghost use Rattle.cli_report.specs.Scenarios.{entry_key_told, entry_keys, entry_sentence, is_itself, is_of_value, key_told, kind_sentence, missing_sentence, name_sentence, other_than, place_mark, place_sentence, place_told, range_sentence, top_key_told, top_keys, unknown_told, word_sentence};
 
 use crate::keys::{Found, entry_line, find_line, header, shown_at};
-use crate::nearest::near;
+use crate::nearest_name::near;
 use crate::report::{Help, Mark, report};
 use combine::Rule;
-use scenario::{Fault, Name, Place};
+use scenario::{ScenarioFault, ScenarioKey, ScenarioPlace};
 use std::alloc::{AllocError, Global};
 
 /// The keys at the top.
@@ -38,15 +38,15 @@ static ENTRY_KEYS: [&'static str; 8] = [
 ];
 
 /// What is missing.
-fn missing_sentence(alloc: Global, name: Name) -> Result<String, AllocError>
+fn missing_sentence(alloc: Global, name: ScenarioKey) -> Result<String, AllocError>
     ensures { IfOk result (λ text. string_bytes text ≡ missing_sentence name) }
 {
     match name {
-        Name::Rule => String::from_str(
+        ScenarioKey::Rule => String::from_str(
             alloc,
             "a signed campaign combines nothing, and has no rule",
         ),
-        Name::Asm => String::from_str(
+        ScenarioKey::Asm => String::from_str(
             alloc,
             "a traitor's table has one of `asm`, `code`, `asm_file`, `code_file` and `elf`, and no second",
         ),
@@ -55,40 +55,41 @@ fn missing_sentence(alloc: Global, name: Name) -> Result<String, AllocError>
 }
 
 /// Of which kind a value is to be.
-fn kind_sentence(alloc: Global, name: Name) -> Result<String, AllocError>
+fn kind_sentence(alloc: Global, name: ScenarioKey) -> Result<String, AllocError>
     ensures { IfOk result (λ text. string_bytes text ≡ kind_sentence name) }
 {
     let sentence = match name {
-        Name::Rule => {
+        ScenarioKey::Rule => {
             let names = Rule::names();
             return format!(in alloc; "a rule is a text in quotation marks: {names}");
         }
-        Name::Board => "a board is a list of whole numbers",
-        Name::Messages => "messages are a text, \"oral\" or \"signed\"",
-        Name::Traitor => "the traitors are a list of tables, each begun by `[[traitor]]`",
-        Name::Asm => "a program is a text in quotation marks, as `asm = \"mov r0, 0\\nexit\"`",
-        Name::Code => "bytecode is a text in quotation marks, of digits in hex",
+        ScenarioKey::Board => "a board is a list of whole numbers",
+        ScenarioKey::Messages => "messages are a text, \"oral\" or \"signed\"",
+        ScenarioKey::Traitor => "the traitors are a list of tables, each begun by `[[traitor]]`",
+        ScenarioKey::Asm =>
+            "a program is a text in quotation marks, as `asm = \"mov r0, 0\\nexit\"`",
+        ScenarioKey::Code => "bytecode is a text in quotation marks, of digits in hex",
         _ => "a whole number is wanted here",
     };
     String::from_str(alloc, sentence)
 }
 
 /// In which range it is to be.
-fn range_sentence(alloc: Global, name: Name) -> Result<String, AllocError>
+fn range_sentence(alloc: Global, name: ScenarioKey) -> Result<String, AllocError>
     ensures { IfOk result (λ text. string_bytes text ≡ range_sentence name) }
 {
     let sentence = match name {
-        Name::Rule => {
+        ScenarioKey::Rule => {
             let names = Rule::names();
             return format!(in alloc; "a rule is one of these texts, in quotation marks: {names}");
         }
-        Name::Generals => "there are 2 to 13 generals",
-        Name::Bound => "a bound is 0 to 4, and at most generals - 2",
-        Name::Commander => "a general is numbered from 0 on",
-        Name::Order => "an order is 0 to 4294967295",
-        Name::Board => "a board has at most 64 words",
-        Name::Patience => "a patience is 1 to 4096 steps",
-        Name::Messages =>
+        ScenarioKey::Generals => "there are 2 to 13 generals",
+        ScenarioKey::Bound => "a bound is 0 to 4, and at most generals - 2",
+        ScenarioKey::Commander => "a general is numbered from 0 on",
+        ScenarioKey::Order => "an order is 0 to 4294967295",
+        ScenarioKey::Board => "a board has at most 64 words",
+        ScenarioKey::Patience => "a patience is 1 to 4096 steps",
+        ScenarioKey::Messages =>
             "messages are \"oral\" or \"signed\", and of all but `play` without `--table` and `audit` \"oral\"",
         _ => "this value is out of its range",
     };
@@ -96,25 +97,29 @@ fn range_sentence(alloc: Global, name: Name) -> Result<String, AllocError>
 }
 
 /// What is wrong with a key or its value.
-fn name_sentence(alloc: Global, fault: Fault, name: Name) -> Result<String, AllocError>
+fn name_sentence(
+    alloc: Global,
+    fault: ScenarioFault,
+    name: ScenarioKey,
+) -> Result<String, AllocError>
     ensures { IfOk result (λ text. string_bytes text ≡ name_sentence fault name) }
 {
     let sentence = match fault {
-        Fault::Key => return missing_sentence(alloc, name),
-        Fault::Kind => return kind_sentence(alloc, name),
-        Fault::Range => return range_sentence(alloc, name),
-        Fault::General => "no general has this number: they are 0 to generals - 1",
-        Fault::Twice => "a table before is of this general",
+        ScenarioFault::Key => return missing_sentence(alloc, name),
+        ScenarioFault::Kind => return kind_sentence(alloc, name),
+        ScenarioFault::Range => return range_sentence(alloc, name),
+        ScenarioFault::General => "no general has this number: they are 0 to generals - 1",
+        ScenarioFault::Twice => "a table before is of this general",
     };
     String::from_str(alloc, sentence)
 }
 
 /// What is wrong with a word of the board.
-fn word_sentence(fault: Fault) -> &'static str
+fn word_sentence(fault: ScenarioFault) -> &'static str
     ensures { result.now ≡ word_sentence fault }
 {
     match fault {
-        Fault::Kind => "a word of the board is a whole number",
+        ScenarioFault::Kind => "a word of the board is a whole number",
         _ => "a word of the board is 0 to 9223372036854775807",
     }
 }
@@ -122,42 +127,51 @@ fn word_sentence(fault: Fault) -> &'static str
 /// What is wrong at a place.
 pub(crate) fn place_sentence(
     alloc: Global,
-    fault: Fault,
-    place: Place,
+    fault: ScenarioFault,
+    place: ScenarioPlace,
 ) -> Result<String, AllocError>
     ensures { IfOk result (λ text. string_bytes text ≡ place_sentence fault place) }
 {
     match place {
-        Place::Key(name) | Place::Entry(_, name) => name_sentence(alloc, fault, name),
-        Place::Word(_) => String::from_str(alloc, word_sentence(fault)),
-        Place::Table(_) => String::from_str(alloc, "a traitor is a table, begun by `[[traitor]]`"),
+        ScenarioPlace::Key(name) | ScenarioPlace::Entry(_, name) => name_sentence(
+            alloc, fault, name,
+        ),
+        ScenarioPlace::Word(_) => String::from_str(alloc, word_sentence(fault)),
+        ScenarioPlace::Table(_) => String::from_str(
+            alloc,
+            "a traitor is a table, begun by `[[traitor]]`",
+        ),
     }
 }
 
 /// Whether a fault is one of the value.
-pub(crate) fn is_of_value(fault: Fault) -> bool
+pub(crate) fn is_of_value(fault: ScenarioFault) -> bool
     ensures { result ≡ is_of_value fault }
 {
     match fault {
-        Fault::Key => false,
+        ScenarioFault::Key => false,
         _ => true,
     }
 }
 
 /// Where a place stands in the text.
-pub(crate) fn place_mark(fault: Fault, place: Place, text: &[u8]) -> Option<Mark<'_>>
+pub(crate) fn place_mark(
+    fault: ScenarioFault,
+    place: ScenarioPlace,
+    text: &[u8],
+) -> Option<Mark<'_>>
     ensures { option_map mark_view result ≡ place_mark fault place text.now }
 {
     match place {
-        Place::Key(name) => {
+        ScenarioPlace::Key(name) => {
             let word = name.text().as_bytes();
             Some(shown_at(is_of_value(fault), word, find_line(0, word, text)?))
         }
-        Place::Word(_) => Some(shown_at(true, b"board", find_line(0, b"board", text)?)),
-        Place::Table(index) => {
+        ScenarioPlace::Word(_) => Some(shown_at(true, b"board", find_line(0, b"board", text)?)),
+        ScenarioPlace::Table(index) => {
             Some(shown_at(false, header(), entry_line(index, header(), text)?))
         }
-        Place::Entry(index, name) => {
+        ScenarioPlace::Entry(index, name) => {
             let word = name.text().as_bytes();
             Some(shown_at(is_of_value(fault), word, entry_line(index, word, text)?))
         }
@@ -170,8 +184,8 @@ pub(crate) fn place_told(
     alloc: Global,
     name: &str,
     text: &[u8],
-    fault: Fault,
-    place: Place,
+    fault: ScenarioFault,
+    place: ScenarioPlace,
 ) -> Result<String, AllocError>
     ensures { IfOk result (λ told. string_bytes told ≡ place_told name.now text.now fault place) }
 {

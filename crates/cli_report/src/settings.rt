@@ -1,15 +1,15 @@
 //! What is said of a fault of a setting.
 ghost use Rattle.std.specs.Prelude.{◌≡◌, IfOk, option_map, string_bytes};
-ghost use Rattle.why.specs.Nearest.{near};
-ghost use Rattle.why.specs.Report.{mark_view};
-ghost use Rattle.why.specs.Settings.{order_sentence, setting_keys, setting_kind_sentence, setting_mark, setting_name_sentence, setting_place_told, setting_range_sentence, setting_sentence, setting_unknown_told, setting_word, setting_word_sentence};
+ghost use Rattle.cli_report.specs.Nearest.{near};
+ghost use Rattle.cli_report.specs.Report.{mark_view};
+ghost use Rattle.cli_report.specs.Settings.{order_sentence, setting_keys, setting_kind_sentence, setting_mark, setting_name_sentence, setting_place_told, setting_range_sentence, setting_sentence, setting_unknown_told, setting_word, setting_word_sentence};
 
 use crate::keys::find_line;
-use crate::nearest::near;
+use crate::nearest_name::near;
 use crate::report::{Mark, report};
 use crate::scenarios::{key_report, value_mark};
 use std::alloc::{AllocError, Global};
-use trial::{Fault, Name, Place};
+use trial::{SettingFault, SettingKey, SettingPlace};
 
 /// The keys of a setting.
 static KEYS: [&'static str; 7] = [
@@ -23,87 +23,87 @@ static KEYS: [&'static str; 7] = [
 ];
 
 /// Of which kind the value is to be.
-fn kind_sentence(name: Name) -> &'static str
+fn kind_sentence(name: SettingKey) -> &'static str
     ensures { result.now ≡ setting_kind_sentence name }
 {
     match name {
-        Name::Taken => "the orders taken are a list of whole numbers",
-        Name::Board => "the board is a list of whole numbers",
+        SettingKey::Taken => "the orders taken are a list of whole numbers",
+        SettingKey::Board => "the board is a list of whole numbers",
         _ => "a whole number is wanted here",
     }
 }
 
 /// In which range it is to be.
-fn range_sentence(name: Name) -> &'static str
+fn range_sentence(name: SettingKey) -> &'static str
     ensures { result.now ≡ setting_range_sentence name }
 {
     match name {
-        Name::Generals => "there are 2 to 13 generals",
-        Name::Bound => "a bound is 0 to 4, and at most generals - 2",
-        Name::Round => "a round is 1 to bound + 1",
-        Name::Taken => "these are more orders than he relays labels in this round",
-        Name::Board => "a board has at most 64 words",
+        SettingKey::Generals => "there are 2 to 13 generals",
+        SettingKey::Bound => "a bound is 0 to 4, and at most generals - 2",
+        SettingKey::Round => "a round is 1 to bound + 1",
+        SettingKey::Taken => "these are more orders than he relays labels in this round",
+        SettingKey::Board => "a board has at most 64 words",
         _ => "this value is out of its range",
     }
 }
 
 /// What is wrong with a key or its value.
-fn name_sentence(alloc: Global, fault: Fault, name: Name) -> Result<String, AllocError>
+fn name_sentence(alloc: Global, fault: SettingFault, name: SettingKey) -> Result<String, AllocError>
     ensures { IfOk result (λ text. string_bytes text ≡ setting_name_sentence fault name) }
 {
     let sentence = match fault {
-        Fault::Key => return format!(in alloc; "the key `{}` is missing", name.text()),
-        Fault::Kind => kind_sentence(name),
-        Fault::Range => range_sentence(name),
-        Fault::General => "no general has this number: they are 0 to generals - 1",
+        SettingFault::Key => return format!(in alloc; "the key `{}` is missing", name.text()),
+        SettingFault::Kind => kind_sentence(name),
+        SettingFault::Range => range_sentence(name),
+        SettingFault::General => "no general has this number: they are 0 to generals - 1",
     };
     String::from_str(alloc, sentence)
 }
 
 /// What is wrong with an order that was taken.
-fn order_sentence(fault: Fault) -> &'static str
+fn order_sentence(fault: SettingFault) -> &'static str
     ensures { result.now ≡ order_sentence fault }
 {
     match fault {
-        Fault::Kind => "an order that was taken is a whole number",
+        SettingFault::Kind => "an order that was taken is a whole number",
         _ => "an order is 0 to 4294967295",
     }
 }
 
 /// What is wrong with a word of the board.
-fn word_sentence(fault: Fault) -> &'static str
+fn word_sentence(fault: SettingFault) -> &'static str
     ensures { result.now ≡ setting_word_sentence fault }
 {
     match fault {
-        Fault::Kind => "a word of the board is a whole number",
+        SettingFault::Kind => "a word of the board is a whole number",
         _ => "a word of the board is 0 to 2^63 - 1",
     }
 }
 
 /// What is wrong at a place.
-fn sentence(alloc: Global, fault: Fault, place: Place) -> Result<String, AllocError>
+fn sentence(alloc: Global, fault: SettingFault, place: SettingPlace) -> Result<String, AllocError>
     ensures { IfOk result (λ text. string_bytes text ≡ setting_sentence fault place) }
 {
     match place {
-        Place::Key(name) => name_sentence(alloc, fault, name),
-        Place::Order(_) => String::from_str(alloc, order_sentence(fault)),
-        Place::Word(_) => String::from_str(alloc, word_sentence(fault)),
+        SettingPlace::Key(name) => name_sentence(alloc, fault, name),
+        SettingPlace::Order(_) => String::from_str(alloc, order_sentence(fault)),
+        SettingPlace::Word(_) => String::from_str(alloc, word_sentence(fault)),
     }
 }
 
 /// The key whose value is at fault.
-fn word(place: Place) -> &'static str
+fn word(place: SettingPlace) -> &'static str
     ensures { result.now ≡ setting_word place }
 {
     match place {
-        Place::Key(name) => name.text(),
-        Place::Order(_) => "taken",
-        Place::Word(_) => "board",
+        SettingPlace::Key(name) => name.text(),
+        SettingPlace::Order(_) => "taken",
+        SettingPlace::Word(_) => "board",
     }
 }
 
 /// The value that is at fault.
-fn mark(place: Place, text: &[u8]) -> Option<Mark<'_>>
+fn mark(place: SettingPlace, text: &[u8]) -> Option<Mark<'_>>
     ensures { option_map mark_view result ≡ setting_mark place text.now }
 {
     let word = word(place).as_bytes();
@@ -116,8 +116,8 @@ pub(crate) fn place_told(
     alloc: Global,
     name: &str,
     text: &[u8],
-    fault: Fault,
-    place: Place,
+    fault: SettingFault,
+    place: SettingPlace,
 ) -> Result<String, AllocError>
     ensures { IfOk result (λ told. string_bytes told ≡ setting_place_told name.now text.now fault place) }
 {

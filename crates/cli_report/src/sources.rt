@@ -4,9 +4,9 @@ ghost use Rattle.toml.specs.Parse.{parse_document};
 ghost use Rattle.toml.specs.View.{table_view};
 ghost use Rattle.scenario.specs.Seen.{source_of};
 ghost use Rattle.scenario.specs.Sources.{source_by};
-ghost use Rattle.why.specs.Scenarios.{IsDocumentOf, IsTableBy};
+ghost use Rattle.cli_report.specs.Scenarios.{IsDocumentOf, IsTableBy};
 
-use scenario::{Written, written_by};
+use scenario::{ProgramText, written_by};
 use std::alloc::{AllocError, Global};
 use toml::de::Error;
 use toml::{Table, table_from_str};
@@ -40,7 +40,7 @@ pub(crate) fn document_of(alloc: Global, bytes: &[u8]) -> Result<Option<Table>, 
 }
 
 /// The program of this general in the tables of a text.
-pub(crate) fn source_in(tables: Option<&Table>, general: u8) -> Option<Written<'_>>
+pub(crate) fn source_in(tables: Option<&Table>, general: u8) -> Option<ProgramText<'_>>
     ensures { option_map source_of result
         ≡ option_and_then (source_by general) (option_map (λ t. table_view t.now) tables.entry) }
 {

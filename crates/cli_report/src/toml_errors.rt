@@ -3,9 +3,9 @@ ghost use Rattle.std.specs.Prelude.{◌≡◌, ◌↔◌, IfOk, IsErr, length, s
 ghost use Rattle.text.specs.Stop.{feed};
 ghost use Rattle.text.specs.Parts.{pieces};
 ghost use Rattle.toml.specs.Errors.{IsMemory, span_end, span_start};
-ghost use Rattle.why.specs.Assembly.{last_of};
-ghost use Rattle.why.specs.Report.{mark_view};
-ghost use Rattle.why.specs.Toml.{TellsToml, span_marked, span_told};
+ghost use Rattle.cli_report.specs.Assembly.{last_of};
+ghost use Rattle.cli_report.specs.Report.{mark_view};
+ghost use Rattle.cli_report.specs.Toml.{TellsToml, span_marked, span_told};
 
 use crate::lines::{line_at, marked, trimmed};
 use crate::report::{Mark, front, report};

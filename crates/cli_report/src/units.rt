@@ -1,6 +1,6 @@
 //! In which line of its assembly a unit is written.
 ghost use Rattle.std.specs.Prelude.{◌≡◌, IfOk};
-ghost use Rattle.why.specs.Units.{IsUnitLine, as_line, number_in, unit_line};
+ghost use Rattle.cli_report.specs.Units.{IsUnitLine, as_line, number_in, unit_line};
 
 use crate::report::behind;
 use std::alloc::{AllocError, Global};

@@ -6,12 +6,12 @@ use Rattle.std.specs.List.{AllByRecursion, range_with_len}
 use Rattle.book.proofs.Places.{all_flat}
 use Rattle.label.proofs.Counting.{range-on_within}
 use Rattle.label.proofs.Places.{all-append}
-use Rattle.diagram.specs.Laws.{IsDrawnHonest}
-use Rattle.diagram.specs.Order.{arranged}
-use Rattle.diagram.specs.Words.{kind_of}
-use Rattle.diagram.specs.declared.stroke.Stroke.{Stroke}
-use Rattle.diagram.proofs.OrderLemmas.{all_arranged}
-use Rattle.roster.specs.Scenario.{Scenario, IsScenario, is_traitor}
+use Rattle.show_diagram.specs.Laws.{IsDrawnHonest}
+use Rattle.show_diagram.specs.Order.{arranged}
+use Rattle.show_diagram.specs.Words.{kind_of}
+use Rattle.show_diagram.specs.declared.stroke.Stroke.{Stroke}
+use Rattle.show_diagram.proofs.OrderLemmas.{all_arranged}
+use Rattle.round.specs.Scenario.{Scenario, IsScenario, is_traitor}
 use Rattle.signed.specs.Accepted.{firsts}
 use Rattle.signed.specs.Chains.{Chain, orders}
 use Rattle.signed.specs.Chronicle.{signed_chronicle_of}
@@ -19,10 +19,10 @@ use Rattle.signed.specs.Kind.{signed_kind, played}
 use Rattle.signed.proofs.Concluding.{same_scenario}
 use Rattle.signed.proofs.Promised.{complete_finished}
 use Rattle.signed.proofs.Worlds.{signed_campaigns}
-use Rattle.signed_diagram.specs.declared.stroke.Way.{Way}
-use Rattle.signed_diagram.specs.Owed.{is_among, owed_to, sent_to}
-use Rattle.signed_diagram.specs.Strokes.{Drawn, behind, between, grouped, in_round, is_lie, list_to, made, numbered, sender, strokes_of, told_between, told_to, way}
-use Rattle.signed_diagram.proofs.LoyalLaws.{proved_only_traitors_differ}
+use Rattle.show_chains.specs.declared.stroke.Way.{Way}
+use Rattle.show_chains.specs.Owed.{is_among, owed_to, sent_to}
+use Rattle.show_chains.specs.Strokes.{Drawn, behind, between, grouped, in_round, is_lie, list_to, made, numbered, sender, strokes_of, told_between, told_to, way}
+use Rattle.show_chains.proofs.LoyalLaws.{proved_only_traitors_differ}
 use Rattle.trace.specs.Names.{names_of}
 use Rattle.trace.specs.SignedAudit.{signed_chronicle_told}
 use Rattle.world.specs.Chronicle.{Chronicle}
@@ -31,8 +31,8 @@ use Rattle.world.specs.Schedules.{lines_by}
 use Rattle.world.specs.declared.event.Event.{Event}
 use Rattle.world.specs.declared.schedule.Repeat.{Repeat}
 use Rattle.world.proofs.Lasting.{lists_are_complete}
-use Rattle.inputs.specs.Schedules.{signed_played}
-use Rattle.picture_tasks.specs.Diagrams.{BlamesSignedTraitors}
+use Rattle.cli_tasks.specs.Schedules.{signed_played}
+use Rattle.cli_tasks.specs.Diagrams.{BlamesSignedTraitors}
 
 drawn_honest : (stroke : Stroke) → stroke.differs ≡ false → IsDrawnHonest stroke
 drawn_honest stroke e = (e, ap (λ (b : Bool). kind_of b stroke.told) e)

@@ -1,18 +1,18 @@
 -- What is known of the texts of campaigns.
 use Rattle.std.proofs.Common.{ℕ, suc, ◌≡◌, ◌∙◌, ◌++◌, ◌∷◌, [], List, Option, None, Some, ap, append_assoc, append-nil, refl, subst, sym}
-use Rattle.command_line.specs.declared.tasks.Account.{Account}
-use Rattle.command_line.specs.declared.tasks.Lieutenants.{Lieutenants}
+use Rattle.cli_words.specs.declared.tasks.Account.{Account}
+use Rattle.cli_words.specs.declared.tasks.Lieutenants.{Lieutenants}
 use Rattle.board.specs.Board.{IsLegal}
-use Rattle.roster.specs.Scenario.{Scenario, IsScenario}
+use Rattle.round.specs.Scenario.{Scenario, IsScenario}
 use Rattle.world.specs.declared.schedule.Repeat.{Repeat}
 use Rattle.world.specs.Chronicle.{Chronicle, chronicle_of}
 use Rattle.world.specs.Promises.{AgreeUnderBound, IsVerdictOn, IsWellUnderBound}
-use Rattle.retold.specs.Retold.{Explains, IsWhole}
-use Rattle.retold.proofs.Rounds.{played_whole, replayed_whole}
+use Rattle.show_table.specs.Retold.{Explains, IsWhole}
+use Rattle.show_table.proofs.Rounds.{played_whole, replayed_whole}
 use Rattle.trace.specs.Laws.{IsSoundText}
 use Rattle.trace.specs.Names.{chronicle_told, names_of}
 use Rattle.trace.specs.Text.{chronicle_text}
-use Rattle.campaign_tasks.specs.Lines.{sound_lines}
+use Rattle.cli_tasks.specs.AuditLines.{sound_lines}
 use Rattle.world.specs.KindLists.{IsComplete}
 use Rattle.world.specs.Lists.{listed, names_in, replayed}
 use Rattle.world.specs.Replay.{replay_of}
@@ -23,8 +23,8 @@ use Rattle.signed.specs.Kind.{signed_kind}
 use Rattle.signed.specs.Promises.{AgreeUnderSignedBound, AreSafeThroughout, AreWhole, IsSignedVerdictOn}
 use Rattle.trace.specs.SignedAudit.{IsSoundSignedText, signed_chronicle_told}
 use Rattle.trace.specs.SignedText.{signed_text}
-use Rattle.campaign_tasks.specs.Campaigns.{IsAccount, IsFollowed, IsMustered, IsOralAudited, IsOralPlayed, IsSignedAudited, IsSignedPlayed, asked, signed_behind}
-use Rattle.inputs.specs.Schedules.{played, signed_played}
+use Rattle.cli_tasks.specs.Campaigns.{IsAccount, IsFollowed, IsMustered, IsOralAudited, IsOralPlayed, IsSignedAudited, IsSignedPlayed, asked, signed_behind}
+use Rattle.cli_tasks.specs.Schedules.{played, signed_played}
 
 -- the account of the chronicle that is played, and what is behind it
 pub is_played : (s : Scenario) (schedule : List (List Repeat)) (account : Account) (explained : Option Lieutenants) (chronicle : Chronicle) (front text : List ℕ) → chronicle ≡ played s schedule

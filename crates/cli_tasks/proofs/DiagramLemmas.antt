@@ -4,33 +4,33 @@ use Rattle.combine.specs.Rule.{combined_by}
 use Rattle.book.specs.Grammar.{table_told}
 use Rattle.book.specs.Table.{MessageTable}
 use Rattle.book.proofs.Places.{is_place_of}
-use Rattle.diagram.specs.Laws.{BlamesTraitors}
-use Rattle.diagram.specs.Svg.{svg_text}
-use Rattle.diagram.proofs.LoyalLaws.{blamed}
-use Rattle.retold.specs.Retold.{IsWhole, table_of}
-use Rattle.retold.proofs.Heard.{heard_is}
-use Rattle.retold.proofs.Rounds.{played_whole, replayed_whole}
-use Rattle.retold.proofs.Tables.{numbers_within}
-use Rattle.letter.specs.Letters.{messages}
-use Rattle.roster.specs.Scenario.{Scenario, IsScenario}
-use Rattle.delivery.specs.Told.{ToldSeen, WasTold}
+use Rattle.show_diagram.specs.Laws.{BlamesTraitors}
+use Rattle.show_diagram.specs.Svg.{svg_text}
+use Rattle.show_diagram.proofs.LoyalLaws.{blamed}
+use Rattle.show_table.specs.Retold.{IsWhole, table_of}
+use Rattle.show_table.proofs.Heard.{heard_is}
+use Rattle.show_table.proofs.Rounds.{played_whole, replayed_whole}
+use Rattle.show_table.proofs.Tables.{numbers_within}
+use Rattle.round.specs.Letters.{messages}
+use Rattle.round.specs.Scenario.{Scenario, IsScenario}
+use Rattle.round.specs.Told.{ToldSeen, WasTold}
 use Rattle.scenario.specs.declared.messages.Campaign.TheVariants.{Signed}
-use Rattle.signed_diagram.specs.Svg.{signed_svg}
-use Rattle.tables.specs.Hearing.{heard}
-use Rattle.tables.specs.Laws.{AreOrders, IsTableOf}
-use Rattle.tables.proofs.Flattened.{tables_same}
-use Rattle.tables.proofs.Reread.{decides_same, proved_tables_are_read, within}
+use Rattle.show_chains.specs.Svg.{signed_svg}
+use Rattle.book.specs.Hearing.{heard}
+use Rattle.book.specs.WrittenLaws.{AreOrders, IsTableOf}
+use Rattle.book.proofs.Flattened.{tables_same}
+use Rattle.book.proofs.Reread.{decides_same, proved_tables_are_read, within}
 use Rattle.tree.specs.LieutenantTree.{LieutenantTree}
 use Rattle.trace.specs.Names.{chronicle_told, names_of}
 use Rattle.trace.specs.SignedAudit.{IsSoundSignedText, signed_chronicle_told}
 use Rattle.world.specs.Chronicle.{Chronicle}
 use Rattle.world.specs.Schedules.{lines_by}
 use Rattle.world.specs.declared.schedule.Repeat.{Repeat}
-use Rattle.inputs.specs.Schedules.{played, signed_played}
-use Rattle.picture_tasks.specs.Diagrams.{IsCampaignDrawn, IsDiagram, IsRecordDrawn}
-use Rattle.picture_tasks.specs.Promises.{AreFaithful}
-use Rattle.picture_tasks.proofs.BlameLemmas.{signed_played_blames, signed_told_blames}
-use Rattle.picture_tasks.proofs.PromiseLemmas.{played_faithful, played_kept, signed_played_kept, signed_told_kept, told_faithful, told_kept}
+use Rattle.cli_tasks.specs.Schedules.{played, signed_played}
+use Rattle.cli_tasks.specs.Diagrams.{IsCampaignDrawn, IsDiagram, IsRecordDrawn}
+use Rattle.cli_tasks.specs.Promises.{AreFaithful}
+use Rattle.cli_tasks.proofs.BlameLemmas.{signed_played_blames, signed_told_blames}
+use Rattle.cli_tasks.proofs.PromiseLemmas.{played_faithful, played_kept, signed_played_kept, signed_told_kept, told_faithful, told_kept}
 
 -- a chronicle that is played is whole, and one that is told
 pub played_wholly : (s : Scenario) (schedule : List (List Repeat)) (c : Chronicle) → IsScenario s → c ≡ played s schedule → IsWhole c

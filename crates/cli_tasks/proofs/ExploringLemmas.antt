@@ -1,14 +1,14 @@
 -- What is known of the text of a campaign's orders.
 use Rattle.std.proofs.Common.{ℕ, ◌≡◌, List, Option, subst}
-use Rattle.explore.specs.Agreeing.{FindingsAgree}
-use Rattle.explore.specs.Exploring.{Exploration, IsExploration}
-use Rattle.explore.specs.Keeping.{IsKept}
-use Rattle.explore.specs.Outcomes.{oral_outcome}
-use Rattle.explore.specs.Text.{exploration_text}
-use Rattle.roster.specs.Scenario.{Scenario, IsScenario}
+use Rattle.campaign_orders.specs.Agreeing.{FindingsAgree}
+use Rattle.campaign_orders.specs.Exploring.{Exploration, IsExploration}
+use Rattle.campaign_orders.specs.Keeping.{IsKept}
+use Rattle.campaign_orders.specs.Outcomes.{oral_outcome}
+use Rattle.campaign_orders.specs.Text.{exploration_text}
+use Rattle.round.specs.Scenario.{Scenario, IsScenario}
 use Rattle.world.specs.World.{oral_kind}
 use Rattle.scenario.specs.Reading.{Tells}
-use Rattle.campaign_tasks.specs.Exploring.{IsExplored, KeepsOrders, limit}
+use Rattle.cli_tasks.specs.Exploring.{IsExplored, KeepsOrders, limit}
 
 pub is_explored : (s : Scenario) (most : ℕ) (text : List ℕ) → FindingsAgree → IsScenario s
     → ((e : Exploration) × IsExploration oral_kind oral_outcome s most e × (text ≡ exploration_text oral_kind s e)) → IsExplored s most text

@@ -3,20 +3,20 @@ use Rattle.std.proofs.Common.{ℕ, ◌≡◌, ◌≢◌, ◌⊎◌, ◌++◌, Li
 use Rattle.std.specs.Prelude.{Option, None, Some, IfSome, Result, Ok, Err, OnErr, OnOk}
 use Rattle.std.specs.Fmt.{◌++?◌, with_newline}
 use Rattle.std.specs.Io.KnownBytes.{Appends}
-use Rattle.command_line.specs.declared.tasks.Task.{Task}
-use Rattle.inputs.specs.declared.refusal.Refusal.{Refusal}
-use Rattle.inputs.specs.declared.refusal.Refusal.TheVariants as refusal
-use Rattle.faults.specs.declared.failure.Failure.{Failure}
-use Rattle.faults.specs.declared.failure.Failure.TheVariants.{Read, Text, Refused, Write, Memory}
-use Rattle.lab.specs.declared.first_answer.FirstAnswer.{FirstAnswer}
-use Rattle.faults.specs.declared.hint.Hint.{Hint}
-use Rattle.faults.specs.Hints.{hint_behind}
-use Rattle.inputs.specs.ErrorText.{refusal_text}
-use Rattle.faults.specs.Whys.{is_explained}
-use Rattle.faults.specs.Faults.{fault_text, status_of, Stops}
-use Rattle.lab.specs.Faults.{Undoes, Prevents}
+use Rattle.cli_words.specs.declared.tasks.Task.{Task}
+use Rattle.cli_tasks.specs.declared.refusal.InputRefusal.{InputRefusal}
+use Rattle.cli_tasks.specs.declared.refusal.InputRefusal.TheVariants as refusal
+use Rattle.cli_tasks.specs.declared.failure.TaskFailure.{TaskFailure}
+use Rattle.cli_tasks.specs.declared.failure.TaskFailure.TheVariants.{Read, Text, Refused, Write, Memory}
+use Rattle.cli_tasks.specs.declared.first_answer.FirstAnswer.{FirstAnswer}
+use Rattle.cli_tasks.specs.declared.hint.Hint.{Hint}
+use Rattle.cli_tasks.specs.Hints.{hint_behind}
+use Rattle.cli_tasks.specs.ErrorText.{refusal_text}
+use Rattle.cli_tasks.specs.Whys.{is_explained}
+use Rattle.cli_tasks.specs.Faults.{fault_text, status_of, Stops}
+use Rattle.cli_tasks.specs.TaskFaults.{Undoes, Prevents}
 use Rattle.streams.specs.Names.{shown}
-use Rattle.lab.specs.Serving.{Files, IsFault, IsRefused, IsTaken, IsToldLater, IsTurnedDown, Tells, TellsName, TellsRefusal, first_name, second_name}
+use Rattle.cli_tasks.specs.Serving.{Files, IsFault, IsRefused, IsTaken, IsToldLater, IsTurnedDown, Tells, TellsName, TellsRefusal, first_name, second_name}
 
 -- a write that failed, or what it wrote
 pub written : {E : Type 0} (r : Result (Unit {0}) E) (P Q : Type 0) → OnOk r P → OnErr r Q → Q ⊎ P
@@ -24,7 +24,7 @@ written (Ok x) P Q p q = inr p
 written (Err e) P Q p q = inl q
 
 -- what is said of a refusal
-refusal_told : (name : List ℕ) (tells : List ℕ → Type 0) (cause : Refusal) (hint : Option Hint) → cause ≢ refusal.NotText
+refusal_told : (name : List ℕ) (tells : List ℕ → Type 0) (cause : InputRefusal) (hint : Option Hint) → cause ≢ refusal.NotText
     → tells (codes "refused " ++ refusal_text cause ++ hint_behind hint) → TellsRefusal name tells cause hint
 refusal_told name tells (refusal.Codec error) hint other told = told
 refusal_told name tells (refusal.Object fault) hint other told = told
@@ -47,7 +47,7 @@ named_line fails old new words None line = tt
 named_line fails old new words (Some name) line = line
 
 -- a file that stops a task, but for want of memory
-turned_down : (unread : Type 0) (refused : Refusal → Option Hint → Type 0) (name : List ℕ) (fails : Type 0) (old new : Option (List ℕ)) (fault : Failure)
+turned_down : (unread : Type 0) (refused : InputRefusal → Option Hint → Type 0) (name : List ℕ) (fails : Type 0) (old new : Option (List ℕ)) (fault : TaskFailure)
     → Stops unread refused name fault → fails ⊎ IfSome (with_newline (fault_text fault)) (Appends old new) → status_of fault ≡ 1
     → IsTurnedDown unread refused name (Tells fails old new)
 turned_down unread refused name fails old new (Read file) why told one =
@@ -63,7 +63,7 @@ turned_down unread refused name fails old new Memory why told one =
     let no : ⊥ = omega (arith, one) in absurd no
 
 -- the first file, or the second
-prevented : (unread second_unread fails : Type 0) (task : Task) (files : Files) (old new : Option (List ℕ)) (fault : Failure)
+prevented : (unread second_unread fails : Type 0) (task : Task) (files : Files) (old new : Option (List ℕ)) (fault : TaskFailure)
     → Prevents unread second_unread task files fault → fails ⊎ IfSome (with_newline (fault_text fault)) (Appends old new) → status_of fault ≡ 1
     → IsTurnedDown unread (IsRefused task files.first) (first_name task) (Tells fails old new)
     ⊎ ((more : FirstAnswer) × IsTaken task files.first more × IsTurnedDown second_unread (IsToldLater (is_explained task) (second_name task) files.second more) (second_name task) (Tells fails old new))
@@ -73,7 +73,7 @@ prevented unread second_unread fails task files old new fault (inr (more, taken,
     inr (more, taken, turned_down second_unread (IsToldLater (is_explained task) (second_name task) files.second more) (second_name task) fails old new fault why told one)
 
 -- each fault but want of memory
-pub fault_ends : (unread second_unread unwritten fails : Type 0) (begun : List ℕ → Type 0) (task : Task) (files : Files) (old new : Option (List ℕ)) (kept : Type 0) (fault : Failure)
+pub fault_ends : (unread second_unread unwritten fails : Type 0) (begun : List ℕ → Type 0) (task : Task) (files : Files) (old new : Option (List ℕ)) (kept : Type 0) (fault : TaskFailure)
     → Undoes unread second_unread unwritten begun task files fault → (fault ≢ Write → kept)
     → fails ⊎ IfSome (with_newline (fault_text fault)) (Appends old new) → status_of fault ≡ 1
     → IsFault unread second_unread unwritten begun task files kept (Tells fails old new)

@@ -6,21 +6,21 @@ use Rattle.std.proofs.lemmas.List.{drop_more, take-append-drop, take_more}
 use Rattle.std.proofs.lemmas.Slice.Zip.{all_zipped_more}
 use Rattle.std.specs.declared.io.ErrorKind.{ErrorKind}
 use Rattle.streams.specs.Names.{shown}
-use Rattle.references.specs.declared.key.Key.{Key}
-use Rattle.references.specs.Asking.{Asked}
-use Rattle.references.specs.Names.{File}
-use Rattle.neighbours.specs.Taken.{AreBytes, IsBeside, IsFaultOf, IsFile, IsNamed, IsTextOf, IsUnread, IsUntaken, IsUntakenIn, IsUntakenOf, function_in}
-use Rattle.neighbours.specs.declared.naming.Untaken.{Untaken}
-use Rattle.neighbours.specs.declared.naming.Untaken.TheVariants.{Told, Memory}
+use Rattle.scenario.specs.declared.reference_key.ReferenceKey.{ReferenceKey}
+use Rattle.scenario.specs.Asking.{Asked}
+use Rattle.scenario.specs.ReferenceNames.{File}
+use Rattle.cli_tasks.specs.Taken.{AreBytes, IsBeside, IsFaultOf, IsFile, IsNamed, IsTextOf, IsUnread, IsUntaken, IsUntakenIn, IsUntakenOf, function_in}
+use Rattle.cli_tasks.specs.declared.named_files.FileProblem.{FileProblem}
+use Rattle.cli_tasks.specs.declared.named_files.FileProblem.TheVariants.{Told, Memory}
 
 -- a file with what is asked for
-pub beside_so : (a : Asked) (f : File) (key : Key) (name text bytes : List ℕ) (function : Option (List ℕ)) → a.key ≡ key → name ≡ a.name → function ≡ function_in key a.function → IsTextOf key a.function bytes text
+pub beside_so : (a : Asked) (f : File) (key : ReferenceKey) (name text bytes : List ℕ) (function : Option (List ℕ)) → a.key ≡ key → name ≡ a.name → function ≡ function_in key a.function → IsTextOf key a.function bytes text
     → f ≡ record { key = key; name = name; function = function; text = text } → IsFile a bytes f
 beside_so a f key name text bytes function keyed named of is f_is = record {
   key = ap (λ (x : File). x.key) f_is ∙ sym keyed;
   name = ap (λ (x : File). x.name) f_is ∙ named;
-  function = ap (λ (x : File). x.function) f_is ∙ (of ∙ ap (λ (k : Key). function_in k a.function) (sym keyed));
-  text = subst (λ (x : File). IsTextOf a.key a.function bytes x.text) (sym f_is) (subst (λ (k : Key). IsTextOf k a.function bytes text) (sym keyed) is);
+  function = ap (λ (x : File). x.function) f_is ∙ (of ∙ ap (λ (k : ReferenceKey). function_in k a.function) (sym keyed));
+  text = subst (λ (x : File). IsTextOf a.key a.function bytes x.text) (sym f_is) (subst (λ (k : ReferenceKey). IsTextOf k a.function bytes text) (sym keyed) is);
 }
 
 -- one file more
@@ -31,7 +31,7 @@ files_on known asked i a files more f l ea h b e =
     rw (longer, e) (all_zipped_more (IsBeside known) (take i asked) files a f h b)
 
 -- those before it are taken, and it is not
-pub untaken_of : (known : List ℕ → Option (List ℕ)) (fails : List ℕ → ErrorKind → Type 0) (asked : List Asked) (i : ℕ) (a : Asked) (files : List File) (e : Untaken) → i < length asked → a ≡ get_or asked i a
+pub untaken_of : (known : List ℕ → Option (List ℕ)) (fails : List ℕ → ErrorKind → Type 0) (asked : List Asked) (i : ℕ) (a : Asked) (files : List File) (e : FileProblem) → i < length asked → a ≡ get_or asked i a
     → AllZip (IsBeside known) (take i asked) files → IsUntakenOf known fails a e → IsUntaken known fails asked e
 untaken_of known fails asked i a files (Told lines kind) l ea taken h =
     let rest : drop i asked ≡ a ∷ drop (i + 1) asked = drop_more asked i a l ∙ ap (λ x. x ∷ drop (i + 1) asked) (sym ea) in
@@ -39,11 +39,11 @@ untaken_of known fails asked i a files (Told lines kind) l ea taken h =
 untaken_of known fails asked i a files Memory l ea taken h = tt
 
 -- for its bytes, or a read that failed
-pub untaken_in : (known : List ℕ → Option (List ℕ)) (fails : List ℕ → ErrorKind → Type 0) (a : Asked) (bytes : List ℕ) (e : Untaken) → AreBytes known a.name bytes → IsUntakenIn a bytes e → IsUntakenOf known fails a e
+pub untaken_in : (known : List ℕ → Option (List ℕ)) (fails : List ℕ → ErrorKind → Type 0) (a : Asked) (bytes : List ℕ) (e : FileProblem) → AreBytes known a.name bytes → IsUntakenIn a bytes e → IsUntakenOf known fails a e
 untaken_in known fails a bytes (Told lines kind) own h = subst (λ (k : Option ErrorKind). IsFaultOf known fails a (string_bytes lines) k) (sym h.0) (bytes, own, h.1)
 untaken_in known fails a bytes Memory own h = tt
 
-pub unread_so : (known : List ℕ → Option (List ℕ)) (fails : List ℕ → ErrorKind → Type 0) (a : Asked) (failed : ErrorKind) (e : Untaken) → fails a.name failed → IsUnread a failed e → IsUntakenOf known fails a e
+pub unread_so : (known : List ℕ → Option (List ℕ)) (fails : List ℕ → ErrorKind → Type 0) (a : Asked) (failed : ErrorKind) (e : FileProblem) → fails a.name failed → IsUnread a failed e → IsUntakenOf known fails a e
 unread_so known fails a failed (Told lines kind) f h = subst (λ (k : Option ErrorKind). IsFaultOf known fails a (string_bytes lines) k) (sym h.0) (f, h.1)
 unread_so known fails a failed Memory f h = tt
 

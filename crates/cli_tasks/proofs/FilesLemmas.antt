@@ -4,33 +4,33 @@ use Rattle.std.specs.Borrow.{Bor}
 use Rattle.std.specs.declared.alloc.Global.{Global}
 use Rattle.std.specs.Prelude.{Bool, true, false, Option, None, Some, Ok, String, option_map, string_bytes, unwrap_or}
 use Rattle.insn.specs.declared.insn.Insn.{Insn}
-use Rattle.command_line.specs.Tasks.{file_of, second_of}
-use Rattle.command_line.specs.declared.tasks.Account.{Account}
-use Rattle.command_line.specs.declared.tasks.Accesses.TheVariants.{OfChronicle, Listed}
-use Rattle.command_line.specs.declared.tasks.Course.TheVariants.{Scheduled, Recorded}
-use Rattle.command_line.specs.declared.tasks.Lieutenants.{Lieutenants}
-use Rattle.command_line.specs.declared.tasks.Task.{Task}
-use Rattle.command_line.specs.declared.tasks.Task.TheVariants.{Check, Assemble, AssemblePartly, Disassemble, DisassemblePartly, Book, ExplainDecisions, Form, Play, Muster, Audit, Explore, Tree, Draw, Page, Retrace}
-use Rattle.roster.specs.Scenario.{Scenario}
+use Rattle.cli_words.specs.Tasks.{file_of, second_of}
+use Rattle.cli_words.specs.declared.tasks.Account.{Account}
+use Rattle.cli_words.specs.declared.tasks.Accesses.TheVariants.{OfChronicle, Listed}
+use Rattle.cli_words.specs.declared.tasks.Course.TheVariants.{Scheduled, Recorded}
+use Rattle.cli_words.specs.declared.tasks.Lieutenants.{Lieutenants}
+use Rattle.cli_words.specs.declared.tasks.Task.{Task}
+use Rattle.cli_words.specs.declared.tasks.Task.TheVariants.{Check, Assemble, AssemblePartly, Disassemble, DisassemblePartly, Book, ExplainDecisions, Form, Play, Muster, Audit, Explore, Tree, Draw, Page, Retrace}
+use Rattle.round.specs.Scenario.{Scenario}
 use Rattle.scenario.specs.declared.messages.Campaign.{Campaign}
 use Rattle.world.specs.declared.schedule.Repeat.{Repeat}
 use Rattle.trace.specs.Schedules.{schedule_told}
-use Rattle.lab.specs.Answers.{ComesTo, GoesOn, Prints}
-use Rattle.program_tasks.specs.Answers.{IsTriedBy}
-use Rattle.lab.specs.Hints.{explained_in}
-use Rattle.program_tasks.specs.Programs.{if_asked}
-use Rattle.faults.specs.Whys.{is_explained}
-use Rattle.campaign_tasks.specs.Campaigns.{IsAudited, IsMustered, IsPlayed}
-use Rattle.picture_tasks.specs.Diagrams.{IsRecordDrawn}
-use Rattle.lab.specs.Faults.{Prevents}
-use Rattle.faults.specs.Faults.{Stops}
-use Rattle.picture_tasks.specs.Pages.{IsCampaignPaged, IsRecordTold}
-use Rattle.campaign_tasks.specs.Retracing.{IsScheduleFor}
-use Rattle.lab.specs.Serving.{AreSecond, AreSecondBytes, Files, IsAnswer, IsAuditOf, IsDrawnAs, IsDrawnBy, IsPagedAs, IsPagedBy, IsPlayedBy, IsRetracedBy, IsScheduleOf, IsToldLater, IsTrialOf, first_name, second_name}
+use Rattle.cli_tasks.specs.TaskAnswers.{ComesTo, GoesOn, Prints}
+use Rattle.cli_tasks.specs.Answers.{IsTriedBy}
+use Rattle.cli_tasks.specs.TaskHints.{explained_in}
+use Rattle.cli_tasks.specs.Programs.{if_asked}
+use Rattle.cli_tasks.specs.Whys.{is_explained}
+use Rattle.cli_tasks.specs.Campaigns.{IsAudited, IsMustered, IsPlayed}
+use Rattle.cli_tasks.specs.Diagrams.{IsRecordDrawn}
+use Rattle.cli_tasks.specs.TaskFaults.{Prevents}
+use Rattle.cli_tasks.specs.Faults.{Stops}
+use Rattle.cli_tasks.specs.Pages.{IsCampaignPaged, IsRecordTold}
+use Rattle.cli_tasks.specs.Retracing.{IsScheduleFor}
+use Rattle.cli_tasks.specs.Serving.{AreSecond, AreSecondBytes, Files, IsAnswer, IsAuditOf, IsDrawnAs, IsDrawnBy, IsPagedAs, IsPagedBy, IsPlayedBy, IsRetracedBy, IsScheduleOf, IsToldLater, IsTrialOf, first_name, second_name}
 use Rattle.streams.specs.Reading.{AreBytes}
-use Rattle.faults.specs.declared.failure.Failure.{Failure}
-use Rattle.lab.specs.declared.first_answer.FirstAnswer.{FirstAnswer}
-use Rattle.lab.specs.declared.first_answer.FirstAnswer.TheVariants as answer
+use Rattle.cli_tasks.specs.declared.failure.TaskFailure.{TaskFailure}
+use Rattle.cli_tasks.specs.declared.first_answer.FirstAnswer.{FirstAnswer}
+use Rattle.cli_tasks.specs.declared.first_answer.FirstAnswer.TheVariants as answer
 
 -- the schedule that the second file tells
 pub second_told : {R : Type 0} (bytes : R → Option (List ℕ)) (second : Option R) (own : R) (all : List ℕ) (schedule : List (List Repeat))
@@ -294,7 +294,7 @@ answered_retraced (Retrace scenario (OfChronicle own)) files first text s are co
     (first, are, (second.0, second.1, (s, comes, subst (λ (own : List ℕ). IsScheduleFor s own text) second.2 retraced)))
 
 -- why a task has no answer behind a first file with which it goes on
-pub prevented_later : (task : Task) (files : Files) (unread second_unread : Type 0) (first name : List ℕ) (more : FirstAnswer) (explained : Bool) (fault : Failure)
+pub prevented_later : (task : Task) (files : Files) (unread second_unread : Type 0) (first name : List ℕ) (more : FirstAnswer) (explained : Bool) (fault : TaskFailure)
     → AreBytes files.first first → GoesOn task first more → name ≡ second_name task → explained ≡ is_explained task
     → Stops second_unread (IsToldLater explained name files.second more) name fault → Prevents unread second_unread task files fault
 prevented_later task files unread second_unread first name more explained fault are goes named same why =

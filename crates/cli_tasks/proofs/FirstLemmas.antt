@@ -3,48 +3,48 @@ use Rattle.std.proofs.Common.{ℕ, ◌≡◌, ◌≢◌, ◌∙◌, Bool, List, 
 use Rattle.std.specs.Borrow.{Bor}
 use Rattle.std.specs.declared.alloc.Global.{Global}
 use Rattle.std.specs.Prelude.{Option, None, Some, IfSome, String, string_bytes}
-use Rattle.command_line.specs.declared.tasks.Notation.{Notation}
-use Rattle.command_line.specs.declared.tasks.Notation.TheVariants.{Bytecode, Assembly as Texts, Object as Objects}
-use Rattle.command_line.specs.declared.tasks.Task.{Task}
-use Rattle.command_line.specs.declared.tasks.Accesses.TheVariants as accesses
-use Rattle.command_line.specs.declared.tasks.Task.TheVariants as task
-use Rattle.inputs.specs.Schedules.{is_chronicle}
-use Rattle.table_tasks.specs.Picturing.{is_toml}
-use Rattle.faults.specs.Faults.{IsTold, IsUnjudged, Stops, fault_of_bytes}
-use Rattle.lab.specs.Faults.{Prevents, StopsFirst}
-use Rattle.lab.specs.Hints.{IsHint, IsHintBy, IsSaid, asked_of, bytecode_in, explained_in}
-use Rattle.program_tasks.specs.Programs.{IsWhy}
-use Rattle.faults.specs.Hints.{hint_behind, is_reported, seems_behind}
-use Rattle.lab.specs.Refusals.{Refuses}
-use Rattle.inputs.specs.Refusals.{RefusesAsked}
-use Rattle.program_tasks.specs.Refusals.{RefusesCheck, RefusesCheckIn, RefusesDisassembly, RefusesNotation, RefusesParts}
-use Rattle.table_tasks.specs.Refusals.{RefusesTreeIn}
-use Rattle.lab.specs.Serving.{Files, IsRefused, first_name}
-use Rattle.faults.specs.Whys.{TellsWhyOf, is_explained, Nothing}
+use Rattle.cli_words.specs.declared.tasks.Notation.{Notation}
+use Rattle.cli_words.specs.declared.tasks.Notation.TheVariants.{Bytecode, Assembly as Texts, Object as Objects}
+use Rattle.cli_words.specs.declared.tasks.Task.{Task}
+use Rattle.cli_words.specs.declared.tasks.Accesses.TheVariants as accesses
+use Rattle.cli_words.specs.declared.tasks.Task.TheVariants as task
+use Rattle.cli_tasks.specs.Schedules.{is_chronicle}
+use Rattle.cli_tasks.specs.Picturing.{is_toml}
+use Rattle.cli_tasks.specs.Faults.{IsTold, IsUnjudged, Stops, fault_of_bytes}
+use Rattle.cli_tasks.specs.TaskFaults.{Prevents, StopsFirst}
+use Rattle.cli_tasks.specs.TaskHints.{IsHint, IsHintBy, IsSaid, asked_of, bytecode_in, explained_in}
+use Rattle.cli_tasks.specs.Programs.{IsWhy}
+use Rattle.cli_tasks.specs.Hints.{hint_behind, is_reported, seems_behind}
+use Rattle.cli_tasks.specs.TaskRefusals.{Refuses}
+use Rattle.cli_tasks.specs.Refusals.{RefusesAsked}
+use Rattle.cli_tasks.specs.ProgramRefusals.{RefusesCheck, RefusesCheckIn, RefusesDisassembly, RefusesNotation, RefusesParts}
+use Rattle.cli_tasks.specs.TableRefusals.{RefusesTreeIn}
+use Rattle.cli_tasks.specs.Serving.{Files, IsRefused, first_name}
+use Rattle.cli_tasks.specs.Whys.{TellsWhyOf, is_explained, Nothing}
 use Rattle.streams.specs.Names.{shown}
 use Rattle.streams.specs.Reading.{AreBytes}
-use Rattle.faults.specs.declared.failure.Failure.{Failure}
-use Rattle.faults.specs.declared.failure.Failure.TheVariants.{Read, Text, Refused, Write, Memory as FaultMemory}
-use Rattle.faults.specs.declared.hint.Hint.{Hint}
-use Rattle.faults.specs.declared.hint.Hint.TheVariants.{Explained}
-use Rattle.inputs.specs.declared.refusal.Refusal.{Refusal}
-use Rattle.inputs.specs.declared.refusal.Refusal.TheVariants.{Codec, Object, Verifier, Assembly, Table, Scenario, Setting, Trace, Threads, Accesses, Stranger, NotText, Memory}
+use Rattle.cli_tasks.specs.declared.failure.TaskFailure.{TaskFailure}
+use Rattle.cli_tasks.specs.declared.failure.TaskFailure.TheVariants.{Read, Text, Refused, Write, Memory as FaultMemory}
+use Rattle.cli_tasks.specs.declared.hint.Hint.{Hint}
+use Rattle.cli_tasks.specs.declared.hint.Hint.TheVariants.{Explained}
+use Rattle.cli_tasks.specs.declared.refusal.InputRefusal.{InputRefusal}
+use Rattle.cli_tasks.specs.declared.refusal.InputRefusal.TheVariants.{Codec, Object, Verifier, Assembly, Table, Scenario, Setting, Trace, Threads, Accesses, Stranger, NotText, Memory}
 use Rattle.verify.specs.declared.error.VerifyError.{VerifyError}
-use Rattle.lab.proofs.WhyLemmas.{nothing_said}
+use Rattle.cli_tasks.proofs.WhyLemmas.{nothing_said}
 
 -- what is said behind it
-hint_known : (task : Task) (known : Option (List ℕ)) (bytes : List ℕ) (refusal : Refusal) (hint : Option Hint) → AreBytes known bytes → IsHint refusal task bytes hint
+hint_known : (task : Task) (known : Option (List ℕ)) (bytes : List ℕ) (refusal : InputRefusal) (hint : Option Hint) → AreBytes known bytes → IsHint refusal task bytes hint
     → IfSome known (λ all. IsHint refusal task all hint)
 hint_known task None bytes refusal hint are is = tt
 hint_known task (Some all) bytes refusal hint are is = subst (λ (own : List ℕ). IsHint refusal task own hint) are is
 
 -- the refusal, with what is said behind it
-pub refused_first : (task : Task) (known : Option (List ℕ)) (bytes : List ℕ) (refusal : Refusal) (hint : Option Hint) → AreBytes known bytes → Refuses task bytes refusal → refusal ≢ Memory
+pub refused_first : (task : Task) (known : Option (List ℕ)) (bytes : List ℕ) (refusal : InputRefusal) (hint : Option Hint) → AreBytes known bytes → Refuses task bytes refusal → refusal ≢ Memory
     → IsHint refusal task bytes hint → IsRefused task known refusal hint
 refused_first task known bytes refusal hint are refuses other is = (other, (bytes, are, refuses), hint_known task known bytes refusal hint are is)
 
 -- the same of a file of which no more is said than what its bytes seem to be, or the sentence of an object's fault
-pub stopped_first : (task : Task) (known : Option (List ℕ)) (bytes own : List ℕ) (refusal : Refusal) (file : Bor (List ℕ)) → AreBytes known bytes
+pub stopped_first : (task : Task) (known : Option (List ℕ)) (bytes own : List ℕ) (refusal : InputRefusal) (file : Bor (List ℕ)) → AreBytes known bytes
     → file.now ≡ first_name task → Refuses task bytes refusal → IsHint refusal task bytes (seems_behind refusal own)
     → Stops ⊥ (IsRefused task known) (first_name task) (fault_of_bytes refusal file own)
 stopped_first task known bytes own (Codec error) file are named refuses is = ((λ e. cc), refused_first task known bytes (Codec error) _ are refuses (λ e. cc) is)
@@ -83,7 +83,7 @@ asks (task.Draw scenario course) notation is = absurd cc
 asks (task.Page scenario course target) notation is = absurd cc
 asks (task.Retrace scenario chronicle) notation is = absurd cc
 
-pub explained_first : (task : Task) (notation : Notation) (known : Option (List ℕ)) (bytes : List ℕ) (refusal : Refusal) (text : String Global) → AreBytes known bytes
+pub explained_first : (task : Task) (notation : Notation) (known : Option (List ℕ)) (bytes : List ℕ) (refusal : InputRefusal) (text : String Global) → AreBytes known bytes
     → Refuses task bytes refusal → asked_of refusal task ≡ Some notation → IsWhy notation bytes (string_bytes text)
     → Stops ⊥ (IsRefused task known) (first_name task) (Refused refusal (Some (Explained text)))
 explained_first task notation known bytes (Verifier fault) text are refuses is why =
@@ -105,18 +105,18 @@ explained_first task notation known bytes NotText text are refuses is why = absu
 explained_first task notation known bytes Memory text are refuses is why = absurd cc
 
 -- no more is asked for
-pub unexplained : (task : Task) (bytes : List ℕ) (refusal : Refusal) → is_reported task refusal ≡ false → IsHint refusal task bytes (seems_behind refusal (bytecode_in task bytes))
+pub unexplained : (task : Task) (bytes : List ℕ) (refusal : InputRefusal) → is_reported task refusal ≡ false → IsHint refusal task bytes (seems_behind refusal (bytecode_in task bytes))
 unexplained task bytes refusal none =
     subst (λ (own : Bool). IsHintBy own refusal task bytes (bytecode_in task bytes) (seems_behind refusal (bytecode_in task bytes))) (sym none) refl
 
 -- ---- a report that is asked for
 
 -- it is not the verifier that refuses
-abbrev pub IsNotJudged : Refusal → Type 0
+abbrev pub IsNotJudged : InputRefusal → Type 0
 IsNotJudged (Verifier fault) = ⊥
 IsNotJudged _ = Unit {0}
 
-hint_told : (task : Task) (bytes : List ℕ) (refusal : Refusal) (hint : Option Hint) → is_reported task refusal ≡ true → IsNotJudged refusal
+hint_told : (task : Task) (bytes : List ℕ) (refusal : InputRefusal) (hint : Option Hint) → is_reported task refusal ≡ true → IsNotJudged refusal
     → TellsWhyOf refusal Nothing (first_name task) (bytecode_in task bytes) (hint_behind hint) → IsHint refusal task bytes hint
 hint_told task bytes (Verifier fault) hint is not told = absurd not
 hint_told task bytes (Object fault) hint is not told = absurd cc
@@ -132,18 +132,18 @@ hint_told task bytes (Stranger general generals) hint is not told = subst (λ (o
 hint_told task bytes NotText hint is not told = subst (λ (own : Bool). IsHintBy own NotText task bytes (bytecode_in task bytes) hint) (sym is) told
 hint_told task bytes Memory hint is not told = subst (λ (own : Bool). IsHintBy own Memory task bytes (bytecode_in task bytes) hint) (sym is) told
 
-pub told_first : (task : Task) (known : Option (List ℕ)) (bytes : List ℕ) (cause : Refusal) (file : Bor (List ℕ)) (fault : Failure) → AreBytes known bytes
+pub told_first : (task : Task) (known : Option (List ℕ)) (bytes : List ℕ) (cause : InputRefusal) (file : Bor (List ℕ)) (fault : TaskFailure) → AreBytes known bytes
     → file.now ≡ first_name task → Refuses task bytes cause → is_reported task cause ≡ true → IsNotJudged cause
     → IsTold cause file (TellsWhyOf cause Nothing file.now (bytecode_in task bytes)) fault → Stops ⊥ (IsRefused task known) (first_name task) fault
 told_first task known bytes cause file (Read own) are named refuses is not told = absurd told
 told_first task known bytes cause file (Text own) are named refuses is not told =
-    let reported : is_reported task NotText ≡ true = subst (λ (r : Refusal). is_reported task r ≡ true) told.0 is in
+    let reported : is_reported task NotText ≡ true = subst (λ (r : InputRefusal). is_reported task r ≡ true) told.0 is in
     let none : IsRefused task known NotText None =
-    refused_first task known bytes NotText None are (subst (λ (r : Refusal). Refuses task bytes r) told.0 refuses) (λ e. cc)
+    refused_first task known bytes NotText None are (subst (λ (r : InputRefusal). Refuses task bytes r) told.0 refuses) (λ e. cc)
     (hint_told task bytes NotText None reported tt (nothing_said (shown (first_name task)))) in
     (none, subst (λ (f : Bor (List ℕ)). f.now ≡ first_name task) (sym told.1) named)
 told_first task known bytes cause file (Refused own hint) are named refuses is not told =
-    let P : Refusal → Type 0 = λ r. (r ≢ NotText) × IsRefused task known r hint in
+    let P : InputRefusal → Type 0 = λ r. (r ≢ NotText) × IsRefused task known r hint in
     let says : TellsWhyOf cause Nothing (first_name task) (bytecode_in task bytes) (hint_behind hint) =
     subst (λ (n : List ℕ). TellsWhyOf cause Nothing n (bytecode_in task bytes) (hint_behind hint)) named told.3 in
     subst P (sym told.0) (told.1, refused_first task known bytes cause hint are refuses told.2 (hint_told task bytes cause hint is not says))
@@ -151,13 +151,13 @@ told_first task known bytes cause file Write are named refuses is not told = abs
 told_first task known bytes cause file FaultMemory are named refuses is not told = tt
 
 -- with the report or without it
-unjudged_first : (task : Task) (known : Option (List ℕ)) (bytes : List ℕ) (cause : Refusal) (file : Bor (List ℕ)) (fault : Failure) → AreBytes known bytes
+unjudged_first : (task : Task) (known : Option (List ℕ)) (bytes : List ℕ) (cause : InputRefusal) (file : Bor (List ℕ)) (fault : TaskFailure) → AreBytes known bytes
     → file.now ≡ first_name task → Refuses task bytes cause → (is_reported task cause ≡ true → IsNotJudged cause)
     → IsUnjudged (is_reported task cause) cause file (bytecode_in task bytes) fault → Stops ⊥ (IsRefused task known) (first_name task) fault
 unjudged_first task known bytes cause file fault are named refuses not told = by_report (is_reported task cause) refl told where
   by_report : (reported : Bool) → is_reported task cause ≡ reported → IsUnjudged reported cause file (bytecode_in task bytes) fault → Stops ⊥ (IsRefused task known) (first_name task) fault
   by_report false is plain =
-      subst (λ (f : Failure). Stops ⊥ (IsRefused task known) (first_name task) f) (sym plain)
+      subst (λ (f : TaskFailure). Stops ⊥ (IsRefused task known) (first_name task) f) (sym plain)
       (stopped_first task known bytes (bytecode_in task bytes) cause file are named refuses (unexplained task bytes cause is))
   by_report true is says = told_first task known bytes cause file fault are named refuses is (not is) says
 
@@ -191,7 +191,7 @@ no_parts (Objects entry) bytes fault (inl (other, is, none)) = absurd cc
 no_parts (Objects entry) bytes fault (inr (code, is, refuses)) = refuses
 
 -- so it refuses only the program of a check, which is explained where more is asked for
-pub not_judged : (task : Task) (bytes : List ℕ) (refusal : Refusal) → Refuses task bytes refusal → is_reported task refusal ≡ true → asked_of refusal task ≡ None → IsNotJudged refusal
+pub not_judged : (task : Task) (bytes : List ℕ) (refusal : InputRefusal) → Refuses task bytes refusal → is_reported task refusal ≡ true → asked_of refusal task ≡ None → IsNotJudged refusal
 not_judged (task.Check file own context true traced) bytes (Verifier fault) refuses is none = absurd cc
 not_judged (task.Check file own context false traced) bytes (Verifier fault) refuses is none = absurd cc
 not_judged (task.Assemble file spelling target explained) bytes (Verifier fault) refuses is none = absurd refuses
@@ -224,7 +224,7 @@ not_judged task bytes (Stranger general generals) refuses is none = tt
 not_judged task bytes NotText refuses is none = tt
 not_judged task bytes Memory refuses is none = tt
 
-pub unasked_first : (task : Task) (known : Option (List ℕ)) (bytes : List ℕ) (cause : Refusal) (file : Bor (List ℕ)) (fault : Failure) → AreBytes known bytes
+pub unasked_first : (task : Task) (known : Option (List ℕ)) (bytes : List ℕ) (cause : InputRefusal) (file : Bor (List ℕ)) (fault : TaskFailure) → AreBytes known bytes
     → file.now ≡ first_name task → Refuses task bytes cause → asked_of cause task ≡ None
     → IsUnjudged (is_reported task cause) cause file (bytecode_in task bytes) fault → Stops ⊥ (IsRefused task known) (first_name task) fault
 unasked_first task known bytes cause file fault are named refuses none told =
@@ -233,7 +233,7 @@ unasked_first task known bytes cause file fault are named refuses none told =
 -- ---- a program that is read once more
 
 -- it is asked for of a program that the verifier refuses
-asked_in : (task : Task) (notation : Notation) (refusal : Refusal) → asked_of refusal task ≡ Some notation → explained_in task ≡ Some notation
+asked_in : (task : Task) (notation : Notation) (refusal : InputRefusal) → asked_of refusal task ≡ Some notation → explained_in task ≡ Some notation
 asked_in task notation (Verifier fault) is = is
 asked_in task notation (Codec error) is = absurd cc
 asked_in task notation (Object fault) is = absurd cc
@@ -249,7 +249,7 @@ asked_in task notation NotText is = absurd cc
 asked_in task notation Memory is = absurd cc
 
 -- bytes that spell no program
-unspelt : (code : List ℕ) (refusal : Refusal) → RefusesDisassembly code refusal → RefusesCheck code refusal × IsNotJudged refusal
+unspelt : (code : List ℕ) (refusal : InputRefusal) → RefusesDisassembly code refusal → RefusesCheck code refusal × IsNotJudged refusal
 unspelt code (Codec error) refuses = (refuses, tt)
 unspelt code Memory refuses = (tt, tt)
 unspelt code (Object fault) refuses = absurd refuses
@@ -265,7 +265,7 @@ unspelt code (Stranger general generals) refuses = absurd refuses
 unspelt code NotText refuses = absurd refuses
 
 -- the file has no program
-by_notation : (notation : Notation) (bytes : List ℕ) (refusal : Refusal) → RefusesNotation notation bytes refusal → RefusesCheckIn notation bytes refusal × IsNotJudged refusal
+by_notation : (notation : Notation) (bytes : List ℕ) (refusal : InputRefusal) → RefusesNotation notation bytes refusal → RefusesCheckIn notation bytes refusal × IsNotJudged refusal
 by_notation Bytecode bytes refusal refuses = unspelt bytes refusal refuses
 by_notation Texts bytes (Assembly error) refuses = (refuses, tt)
 by_notation Texts bytes NotText refuses = (refuses, tt)
@@ -280,10 +280,10 @@ by_notation Texts bytes (Trace error) refuses = absurd refuses
 by_notation Texts bytes (Threads error) refuses = absurd refuses
 by_notation Texts bytes (Accesses fault) refuses = absurd refuses
 by_notation Texts bytes (Stranger general generals) refuses = absurd refuses
-by_notation (Objects entry) bytes refusal (inl (fault, is, none)) = (inl (fault, is, none), subst (λ (r : Refusal). IsNotJudged r) (sym is) tt)
+by_notation (Objects entry) bytes refusal (inl (fault, is, none)) = (inl (fault, is, none), subst (λ (r : InputRefusal). IsNotJudged r) (sym is) tt)
 by_notation (Objects entry) bytes refusal (inr (code, is, refuses)) = let both = unspelt code refusal refuses in (inr (code, is, both.0), both.1)
 
-checks_in : (task : Task) (notation : Notation) (bytes : List ℕ) (refusal : Refusal) → explained_in task ≡ Some notation → RefusesCheckIn notation bytes refusal → Refuses task bytes refusal
+checks_in : (task : Task) (notation : Notation) (bytes : List ℕ) (refusal : InputRefusal) → explained_in task ≡ Some notation → RefusesCheckIn notation bytes refusal → Refuses task bytes refusal
 checks_in (task.Check file own context true traced) notation bytes refusal is refuses =
     let same : notation ≡ own = cc in subst (λ (n : Notation). RefusesCheckIn n bytes refusal) same refuses
 checks_in (task.Check file own context false traced) notation bytes refusal is refuses = absurd cc
@@ -304,7 +304,7 @@ checks_in (task.Page scenario course target) notation bytes refusal is refuses =
 checks_in (task.Retrace scenario chronicle) notation bytes refusal is refuses = absurd cc
 
 -- it cannot be told, since the file has no program
-pub unread_first : (task : Task) (notation : Notation) (known : Option (List ℕ)) (bytes : List ℕ) (first refusal : Refusal) (file : Bor (List ℕ)) (fault : Failure) → AreBytes known bytes
+pub unread_first : (task : Task) (notation : Notation) (known : Option (List ℕ)) (bytes : List ℕ) (first refusal : InputRefusal) (file : Bor (List ℕ)) (fault : TaskFailure) → AreBytes known bytes
     → file.now ≡ first_name task → asked_of first task ≡ Some notation → RefusesNotation notation bytes refusal
     → IsUnjudged (is_reported task refusal) refusal file (bytecode_in task bytes) fault → Stops ⊥ (IsRefused task known) (first_name task) fault
 unread_first task notation known bytes first refusal file fault are named is refuses told =
@@ -313,20 +313,20 @@ unread_first task notation known bytes first refusal file fault are named is ref
 
 -- ---- why the task has no answer then
 
-stops_for : (unread : Type 0) (refused : Refusal → Option Hint → Type 0) (name : List ℕ) (fault : Failure) → Stops ⊥ refused name fault → Stops unread refused name fault
+stops_for : (unread : Type 0) (refused : InputRefusal → Option Hint → Type 0) (name : List ℕ) (fault : TaskFailure) → Stops ⊥ refused name fault → Stops unread refused name fault
 stops_for unread refused name (Read file) stops = absurd stops.0
 stops_for unread refused name (Text file) stops = stops
 stops_for unread refused name (Refused cause hint) stops = stops
 stops_for unread refused name Write stops = absurd stops
 stops_for unread refused name FaultMemory stops = tt
 
-pub prevented_first : (task : Task) (files : Files) (unread second_unread : Type 0) (bytes : List ℕ) (fault : Failure) → AreBytes files.first bytes
+pub prevented_first : (task : Task) (files : Files) (unread second_unread : Type 0) (bytes : List ℕ) (fault : TaskFailure) → AreBytes files.first bytes
     → StopsFirst task bytes fault → Prevents unread second_unread task files fault
 prevented_first task files unread second_unread bytes fault are stops = inl (stops_for unread (IsRefused task files.first) (first_name task) fault (stops files.first are))
 
 -- ---- a refusal of which nothing is reported
 
-pub quiet_first : (cause : Refusal) (file : Bor (List ℕ)) (own : List ℕ) (fault : Failure) → cause ≢ Memory → fault ≡ fault_of_bytes cause file own → fault ≢ FaultMemory
+pub quiet_first : (cause : InputRefusal) (file : Bor (List ℕ)) (own : List ℕ) (fault : TaskFailure) → cause ≢ Memory → fault ≡ fault_of_bytes cause file own → fault ≢ FaultMemory
 quiet_first (Codec error) file own told other is e = (let z : FaultMemory ≡ Refused (Codec error) (seems_behind (Codec error) own) = sym e ∙ is in cc)
 quiet_first (Object fault) file own told other is e = (let z : FaultMemory ≡ Refused (Object fault) (seems_behind (Object fault) own) = sym e ∙ is in cc)
 quiet_first (Verifier fault) file own told other is e = (let z : FaultMemory ≡ Refused (Verifier fault) (seems_behind (Verifier fault) own) = sym e ∙ is in cc)
@@ -341,7 +341,7 @@ quiet_first (Stranger general generals) file own told other is e = (let z : Faul
 quiet_first NotText file own told other is e = (let z : FaultMemory ≡ Text file = sym e ∙ is in cc)
 quiet_first Memory file own told other is e = other refl
 
-pub asked_reports : (task : Task) (refusal : Refusal) (notation : Notation) → asked_of refusal task ≡ Some notation → is_reported task refusal ≡ true
+pub asked_reports : (task : Task) (refusal : InputRefusal) (notation : Notation) → asked_of refusal task ≡ Some notation → is_reported task refusal ≡ true
 asked_reports task (Verifier fault) notation is = asks task notation is
 asked_reports task (Codec error) notation is = absurd cc
 asked_reports task (Object fault) notation is = absurd cc

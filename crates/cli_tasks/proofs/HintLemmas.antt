@@ -3,9 +3,9 @@ use Rattle.std.proofs.Common.{ℕ, ◌≡◌, List, refl, subst}
 use Rattle.std.specs.Borrow.{Bor}
 use Rattle.std.specs.declared.alloc.Global.{Global}
 use Rattle.std.specs.Prelude.{Option, None, Some, IfSome, String, string_bytes}
-use Rattle.faults.specs.Faults.{IsTold, text_fault}
-use Rattle.inputs.specs.declared.refusal.Refusal.{Refusal}
-use Rattle.inputs.specs.declared.refusal.Refusal.TheVariants as refusal
+use Rattle.cli_tasks.specs.Faults.{IsTold, text_fault}
+use Rattle.cli_tasks.specs.declared.refusal.InputRefusal.{InputRefusal}
+use Rattle.cli_tasks.specs.declared.refusal.InputRefusal.TheVariants as refusal
 
 -- what is said with the name that was made for the file
 pub told_named : (name : Option (List ℕ)) (own : List ℕ) (P : List ℕ → Type 0) → IfSome name (λ n. own ≡ n) → P own → IfSome name P
@@ -13,7 +13,7 @@ told_named None own P is p = tt
 told_named (Some n) own P is p = subst P is p
 
 -- a text behind the line
-pub by_text : (cause : Refusal) (file : Bor (List ℕ)) (text : String Global) (tells : List ℕ → Type 0) → tells (string_bytes text) → IsTold cause file tells (text_fault cause file text)
+pub by_text : (cause : InputRefusal) (file : Bor (List ℕ)) (text : String Global) (tells : List ℕ → Type 0) → tells (string_bytes text) → IsTold cause file tells (text_fault cause file text)
 by_text (refusal.Codec error) file text tells t = (refl, (λ e. cc), (λ e. cc), t)
 by_text (refusal.Object fault) file text tells t = (refl, (λ e. cc), (λ e. cc), t)
 by_text (refusal.Verifier fault) file text tells t = (refl, (λ e. cc), (λ e. cc), t)

@@ -1,3 +1,17 @@
+pub mod ScheduleLimits
+pub mod Files
+pub mod HintLemmas
+pub mod PartLemmas
+pub mod RefusalLemmas
+pub mod PicturingLemmas
+pub mod StrangerLemmas
+pub mod CampaignLemmas
+pub mod ExploringLemmas
+pub mod ListedLemmas
+pub mod BlameLemmas
+pub mod DiagramLemmas
+pub mod PageLemmas
+pub mod PromiseLemmas
 pub mod FaultLemmas
 pub mod FilesLemmas
 pub mod FirstLemmas

@@ -1,16 +1,16 @@
 -- Accesses that are listed, and why they are refused.
 use Rattle.std.proofs.Common.{◌≡◌, List, ℕ, subst, sym}
-use Rattle.roster.specs.Scenario.{Scenario as OralScenario}
-use Rattle.retracing.specs.Arranged.{IfFault, IsUnarranged}
-use Rattle.retracing.specs.declared.fault.AccessesError.{AccessesError}
-use Rattle.retracing.specs.declared.fault.AccessesError.TheVariants as accesses
+use Rattle.round.specs.Scenario.{Scenario as OralScenario}
+use Rattle.campaign_schedules.specs.Arranged.{IfFault, IsUnarranged}
+use Rattle.campaign_schedules.specs.declared.fault.AccessesError.{AccessesError}
+use Rattle.campaign_schedules.specs.declared.fault.AccessesError.TheVariants as accesses
 use Rattle.scenario.specs.Reading.{Tells}
-use Rattle.campaign_tasks.specs.Refusals.{RefusesListed}
-use Rattle.inputs.specs.Refusals.{RefusesScenario, RefusesText, accesses_refusal}
-use Rattle.inputs.specs.declared.refusal.Refusal.{Refusal}
-use Rattle.inputs.specs.declared.refusal.Refusal.TheVariants.{Codec, Object, Verifier, Assembly, Table, Scenario, Setting, Trace, Threads, Accesses, Stranger, NotText, Memory}
+use Rattle.cli_tasks.specs.CampaignRefusals.{RefusesListed}
+use Rattle.cli_tasks.specs.Refusals.{RefusesScenario, RefusesText, accesses_refusal}
+use Rattle.cli_tasks.specs.declared.refusal.InputRefusal.{InputRefusal}
+use Rattle.cli_tasks.specs.declared.refusal.InputRefusal.TheVariants.{Codec, Object, Verifier, Assembly, Table, Scenario, Setting, Trace, Threads, Accesses, Stranger, NotText, Memory}
 
-pub of_scenario : (list bytes : List ℕ) (refusal : Refusal) → RefusesText RefusesScenario bytes refusal → RefusesText (RefusesListed list) bytes refusal
+pub of_scenario : (list bytes : List ℕ) (refusal : InputRefusal) → RefusesText RefusesScenario bytes refusal → RefusesText (RefusesListed list) bytes refusal
 of_scenario list bytes (Codec error) refuses = refuses
 of_scenario list bytes (Object fault) refuses = refuses
 of_scenario list bytes (Verifier fault) refuses = refuses
@@ -25,7 +25,7 @@ of_scenario list bytes (Stranger general generals) refuses = refuses
 of_scenario list bytes NotText refuses = refuses
 of_scenario list bytes Memory refuses = refuses
 
-pub of_accesses : (list bytes : List ℕ) (s : OralScenario) (error : AccessesError) (refusal : Refusal) → Tells bytes s → IfFault error (IsUnarranged s list)
+pub of_accesses : (list bytes : List ℕ) (s : OralScenario) (error : AccessesError) (refusal : InputRefusal) → Tells bytes s → IfFault error (IsUnarranged s list)
     → refusal ≡ accesses_refusal error → RefusesText (RefusesListed list) bytes refusal
-of_accesses list bytes s (accesses.At fault) refusal tells unarranged is = subst (λ (r : Refusal). RefusesText (RefusesListed list) bytes r) (sym is) (s, tells, unarranged)
-of_accesses list bytes s accesses.Memory refusal tells unarranged is = subst (λ (r : Refusal). RefusesText (RefusesListed list) bytes r) (sym is) tt
+of_accesses list bytes s (accesses.At fault) refusal tells unarranged is = subst (λ (r : InputRefusal). RefusesText (RefusesListed list) bytes r) (sym is) (s, tells, unarranged)
+of_accesses list bytes s accesses.Memory refusal tells unarranged is = subst (λ (r : InputRefusal). RefusesText (RefusesListed list) bytes r) (sym is) tt

@@ -2,19 +2,19 @@
 use Rattle.std.proofs.Common.{ℕ, ◌≡◌, ◌≤◌, ◌∙◌, List, None, Option, Ok, Some, ap, length, subst, sym}
 use Rattle.book.specs.Grammar.{table_told}
 use Rattle.book.specs.Table.{MessageTable}
-use Rattle.campaign_page.specs.Account.{page_text}
-use Rattle.campaign_page.specs.Room.{longest_page}
-use Rattle.campaign_page.proofs.ShortLaws.{proved_campaign_pages_are_short}
-use Rattle.retold.specs.Retold.{table_of}
-use Rattle.roster.specs.Scenario.{Scenario, IsScenario}
-use Rattle.delivery.specs.Told.{ToldSeen, WasTold}
+use Rattle.show_page.specs.Account.{page_text}
+use Rattle.show_page.specs.Room.{longest_page}
+use Rattle.show_page.proofs.ShortLaws.{proved_campaign_pages_are_short}
+use Rattle.show_table.specs.Retold.{table_of}
+use Rattle.round.specs.Scenario.{Scenario, IsScenario}
+use Rattle.round.specs.Told.{ToldSeen, WasTold}
 use Rattle.scenario.specs.declared.messages.Campaign.TheVariants.{Signed}
 use Rattle.signed.specs.Kind.{signed_kind}
 use Rattle.signed.proofs.Concluding.{same_scenario}
-use Rattle.signed_page.specs.Account.{signed_page_text}
-use Rattle.signed_page.proofs.ShortLaws.{proved_signed_pages_are_short}
-use Rattle.tables.specs.Hearing.{heard}
-use Rattle.tables.specs.Laws.{AreOrders}
+use Rattle.show_page.specs.SignedAccount.{signed_page_text}
+use Rattle.show_page.proofs.SignedShortLaws.{proved_signed_pages_are_short}
+use Rattle.book.specs.Hearing.{heard}
+use Rattle.book.specs.WrittenLaws.{AreOrders}
 use Rattle.tree.specs.LieutenantTree.{LieutenantTree}
 use Rattle.trace.specs.Names.{names_of}
 use Rattle.trace.specs.SignedAudit.{IsSoundSignedText, signed_chronicle_told}
@@ -22,12 +22,12 @@ use Rattle.world.specs.Chronicle.{Chronicle}
 use Rattle.world.specs.KindLists.{listed, replayed}
 use Rattle.world.specs.Schedules.{lines_by}
 use Rattle.world.specs.declared.schedule.Repeat.{Repeat}
-use Rattle.inputs.specs.Schedules.{signed_played}
-use Rattle.picture_tasks.specs.Pages.{IsCampaignPaged, IsPage, IsRecordTold}
-use Rattle.picture_tasks.specs.Promises.{AreFaithful}
-use Rattle.picture_tasks.proofs.BlameLemmas.{signed_played_blames, signed_told_blames}
-use Rattle.picture_tasks.proofs.DiagramLemmas.{blames, played_wholly, told_wholly}
-use Rattle.picture_tasks.proofs.PromiseLemmas.{played_faithful, played_kept, signed_played_kept, signed_told_kept, told_faithful, told_kept}
+use Rattle.cli_tasks.specs.Schedules.{signed_played}
+use Rattle.cli_tasks.specs.Pages.{IsCampaignPaged, IsPage, IsRecordTold}
+use Rattle.cli_tasks.specs.Promises.{AreFaithful}
+use Rattle.cli_tasks.proofs.BlameLemmas.{signed_played_blames, signed_told_blames}
+use Rattle.cli_tasks.proofs.DiagramLemmas.{blames, played_wholly, told_wholly}
+use Rattle.cli_tasks.proofs.PromiseLemmas.{played_faithful, played_kept, signed_played_kept, signed_told_kept, told_faithful, told_kept}
 
 -- ---- how long it is
 

@@ -1,11 +1,11 @@
 -- Bytes that a text says, and which are no whole units.
 use Rattle.std.proofs.Common.{ℕ, ◌≡◌, List, Ok}
-use Rattle.partial.specs.Reading.{bytes_said}
-use Rattle.program_tasks.specs.Refusals.{RefusesSaid, RefusesUnits}
-use Rattle.inputs.specs.declared.refusal.Refusal.{Refusal}
-use Rattle.inputs.specs.declared.refusal.Refusal.TheVariants.{Codec, Object, Verifier, Assembly, Table, Scenario, Setting, Trace, Threads, Accesses, Stranger, NotText, Memory}
+use Rattle.asm.specs.Reading.{bytes_said}
+use Rattle.cli_tasks.specs.ProgramRefusals.{RefusesSaid, RefusesUnits}
+use Rattle.cli_tasks.specs.declared.refusal.InputRefusal.{InputRefusal}
+use Rattle.cli_tasks.specs.declared.refusal.InputRefusal.TheVariants.{Codec, Object, Verifier, Assembly, Table, Scenario, Setting, Trace, Threads, Accesses, Stranger, NotText, Memory}
 
-pub cut_said : (text bytes : List ℕ) (refusal : Refusal) → bytes_said text ≡ Ok bytes → RefusesUnits bytes refusal → RefusesSaid text refusal
+pub cut_said : (text bytes : List ℕ) (refusal : InputRefusal) → bytes_said text ≡ Ok bytes → RefusesUnits bytes refusal → RefusesSaid text refusal
 cut_said text bytes (Codec error) said refuses = (bytes, said, refuses)
 cut_said text bytes Memory said refuses = tt
 cut_said text bytes (Object fault) said refuses = absurd refuses

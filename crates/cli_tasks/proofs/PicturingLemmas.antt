@@ -2,24 +2,24 @@
 use Rattle.std.proofs.Common.{ℕ, ◌≡◌, ◌∙◌, ◌++◌, Bool, true, false, List, [], Ok, ap, subst, sym}
 use Rattle.book.specs.Grammar.{table_told}
 use Rattle.book.specs.Table.{MessageTable}
-use Rattle.drawing.specs.Drawn.{DrawsTable, drawn}
-use Rattle.drawing.specs.Shown.{ordered}
-use Rattle.drawing.specs.declared.form.Form.{Form}
-use Rattle.drawing.specs.declared.node.View.{View}
-use Rattle.retold.specs.Retold.{IsWhole, table_of, traitors_of}
-use Rattle.retold.proofs.Rounds.{played_whole}
-use Rattle.roster.specs.Scenario.{IsScenario, Scenario}
+use Rattle.show_tree.specs.Drawn.{DrawsTable, drawn}
+use Rattle.show_tree.specs.Shown.{ordered}
+use Rattle.show_tree.specs.declared.form.TreeForm.{TreeForm}
+use Rattle.show_tree.specs.declared.node.View.{View}
+use Rattle.show_table.specs.Retold.{IsWhole, table_of, traitors_of}
+use Rattle.show_table.proofs.Rounds.{played_whole}
+use Rattle.round.specs.Scenario.{IsScenario, Scenario}
 use Rattle.scenario.specs.Reading.{Tells}
 use Rattle.world.specs.Chronicle.{Chronicle}
 use Rattle.world.specs.Schedules.{lines_by}
 use Rattle.world.specs.declared.schedule.Repeat.{Repeat}
-use Rattle.inputs.specs.Schedules.{played}
-use Rattle.table_tasks.specs.Picturing.{IsTreeIn, is_toml}
-use Rattle.table_tasks.specs.Refusals.{RefusesTree, RefusesTreeIn}
-use Rattle.table_tasks.specs.Strangers.{KnowsTree}
-use Rattle.inputs.specs.declared.refusal.Refusal.{Refusal}
+use Rattle.cli_tasks.specs.Schedules.{played}
+use Rattle.cli_tasks.specs.Picturing.{IsTreeIn, is_toml}
+use Rattle.cli_tasks.specs.TableRefusals.{RefusesTree, RefusesTreeIn}
+use Rattle.cli_tasks.specs.Strangers.{KnowsTree}
+use Rattle.cli_tasks.specs.declared.refusal.InputRefusal.{InputRefusal}
 
-module _ (text traitors : List ℕ) (view : View) (form : Form) (general : ℕ) (picture : List ℕ) where
+module _ (text traitors : List ℕ) (view : View) (form : TreeForm) (general : ℕ) (picture : List ℕ) where
   pub of_table : is_toml text ≡ false → DrawsTable text traitors view form general picture → IsTreeIn (is_toml text) text traitors view form general picture
   of_table none draws = subst (λ (own : Bool). IsTreeIn own text traitors view form general picture) (sym none) draws
 
@@ -43,7 +43,7 @@ module _ (text traitors : List ℕ) (view : View) (form : Form) (general : ℕ) 
 pub played_wholly : (s : Scenario) (schedule : List (List Repeat)) (c : Chronicle) → IsScenario s → c ≡ played s schedule → IsWhole c
 played_wholly s schedule c inside is = played_whole s (lines_by schedule) c inside is
 
-pub not_drawn : (general : ℕ) (traitors text : List ℕ) (refusal : Refusal) (toml : Bool) → is_toml text ≡ toml → RefusesTreeIn toml general traitors text refusal → RefusesTree general traitors text refusal
+pub not_drawn : (general : ℕ) (traitors text : List ℕ) (refusal : InputRefusal) (toml : Bool) → is_toml text ≡ toml → RefusesTreeIn toml general traitors text refusal → RefusesTree general traitors text refusal
 not_drawn general traitors text refusal toml is refuses = subst (λ (own : Bool). RefusesTreeIn own general traitors text refusal) (sym is) refuses
 
 pub known_in : (general : ℕ) (traitors text : List ℕ) (toml : Bool) → is_toml text ≡ toml → KnowsTree toml text general traitors → KnowsTree (is_toml text) text general traitors

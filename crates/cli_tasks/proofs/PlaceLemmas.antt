@@ -1,24 +1,24 @@
 -- Whose relay it is in which a task tries a program.
 use Rattle.std.proofs.Common.{ℕ, ◌≡◌, ◌∙◌, List, ap, refl, subst, sym}
 use Rattle.std.specs.Prelude.{Bool, true, false, Option, None, Some, unwrap_or}
-use Rattle.command_line.specs.declared.tasks.Notation.{Notation}
-use Rattle.command_line.specs.declared.tasks.Task.{Task}
-use Rattle.command_line.specs.declared.tasks.Task.TheVariants.{Check, Assemble, AssemblePartly, Disassemble, DisassemblePartly, Book, ExplainDecisions, Form, Play, Muster, Audit, Explore, Tree, Draw, Page, Retrace}
+use Rattle.cli_words.specs.declared.tasks.Notation.{Notation}
+use Rattle.cli_words.specs.declared.tasks.Task.{Task}
+use Rattle.cli_words.specs.declared.tasks.Task.TheVariants.{Check, Assemble, AssemblePartly, Disassemble, DisassemblePartly, Book, ExplainDecisions, Form, Play, Muster, Audit, Explore, Tree, Draw, Page, Retrace}
 use Rattle.insn.specs.declared.insn.Insn.{Insn}
 use Rattle.label.specs.declared.shape.Shape.{Shape}
 use Rattle.semantics.specs.Run.{IsSound}
 use Rattle.trial.specs.Answers.{Tells}
 use Rattle.verify.specs.Judgement.{judged}
-use Rattle.lab.specs.Answers.{GoesOn, trial_of}
-use Rattle.program_tasks.specs.Answers.{IsTriedBy}
-use Rattle.program_tasks.specs.Programs.{HasProgram, if_asked}
-use Rattle.lab.specs.Hints.{explained_in}
-use Rattle.lab.specs.Refusals.{Refuses}
-use Rattle.program_tasks.specs.Refusals.{RefusesCheckIn}
-use Rattle.lab.specs.Serving.{Files, IsAnswer, IsPlacedAnswer, IsTrialAt, IsTrialOf}
-use Rattle.lab.specs.declared.first_answer.FirstAnswer.TheVariants as answer
-use Rattle.inputs.specs.declared.refusal.Refusal.{Refusal}
-use Rattle.lab.proofs.FilesLemmas.{second_bytes}
+use Rattle.cli_tasks.specs.TaskAnswers.{GoesOn, trial_of}
+use Rattle.cli_tasks.specs.Answers.{IsTriedBy}
+use Rattle.cli_tasks.specs.Programs.{HasProgram, if_asked}
+use Rattle.cli_tasks.specs.TaskHints.{explained_in}
+use Rattle.cli_tasks.specs.TaskRefusals.{Refuses}
+use Rattle.cli_tasks.specs.ProgramRefusals.{RefusesCheckIn}
+use Rattle.cli_tasks.specs.Serving.{Files, IsAnswer, IsPlacedAnswer, IsTrialAt, IsTrialOf}
+use Rattle.cli_tasks.specs.declared.first_answer.FirstAnswer.TheVariants as answer
+use Rattle.cli_tasks.specs.declared.refusal.InputRefusal.{InputRefusal}
+use Rattle.cli_tasks.proofs.FilesLemmas.{second_bytes}
 use Rattle.streams.specs.Reading.{AreBytes}
 
 -- the notation and the steps of a trial are its task's
@@ -148,7 +148,7 @@ goes_on (Page scenario course target) first program notation steps is has accept
 goes_on (Retrace scenario chronicle) first program notation steps is has accepted sound = absurd cc
 
 -- it refuses what has no such program
-pub refuses_trial : (task : Task) (bytes : List ℕ) (refusal : Refusal) (notation : Notation) (steps : Bool) → trial_of task ≡ Some (notation, steps) → RefusesCheckIn notation bytes refusal
+pub refuses_trial : (task : Task) (bytes : List ℕ) (refusal : InputRefusal) (notation : Notation) (steps : Bool) → trial_of task ≡ Some (notation, steps) → RefusesCheckIn notation bytes refusal
     → Refuses task bytes refusal
 refuses_trial (Check file own None explained traced) bytes refusal notation steps is refuses = absurd cc
 refuses_trial (Check file own (Some context) explained traced) bytes refusal notation steps is refuses =

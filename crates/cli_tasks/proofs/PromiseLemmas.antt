@@ -1,8 +1,8 @@
 -- What every campaign promises, by whatever schedule it is played, and each that is replayed.
 use Rattle.std.proofs.Common.{ℕ, ◌<◌, ◌≡◌, false, List, refl, subst, sym}
 use Rattle.label.specs.Oral.{IsFaithful, Messages}
-use Rattle.letter.specs.Letters.{messages}
-use Rattle.roster.specs.Scenario.{Scenario, IsScenario, is_traitor}
+use Rattle.round.specs.Letters.{messages}
+use Rattle.round.specs.Scenario.{Scenario, IsScenario, is_traitor}
 use Rattle.signed.specs.Kind.{signed_kind}
 use Rattle.signed.proofs.Promised.{promised_agree, promised_verdict, promised_well}
 use Rattle.signed.proofs.Worlds.{signed_campaigns}
@@ -24,8 +24,8 @@ use Rattle.world.proofs.Outcomes.{finished_agree, finished_verdict, finished_wel
 use Rattle.world.proofs.Punctual.{run_scenario}
 use Rattle.signed.specs.Chronicle.{signed_chronicle_of}
 use Rattle.signed.specs.Kind as signed
-use Rattle.inputs.specs.Schedules.{played, signed_played}
-use Rattle.picture_tasks.specs.Promises.{AreFaithful, KeepsPromises, KeepsSignedPromises}
+use Rattle.cli_tasks.specs.Schedules.{played, signed_played}
+use Rattle.cli_tasks.specs.Promises.{AreFaithful, KeepsPromises, KeepsSignedPromises}
 
 -- a finished world's chronicle keeps them
 finished_kept : (s : Scenario) (events : List Event) → IsScenario s → IsFinished (run (opening s) events) → KeepsPromises s (chronicle_of (run (opening s) events))

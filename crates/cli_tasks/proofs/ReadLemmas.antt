@@ -6,28 +6,28 @@ use Rattle.std.specs.Prelude.{Option, None, Some, IfSome, String, option_map, re
 use Rattle.std.proofs.lemmas.List.{length-replicate}
 use Rattle.codec.specs.declared.fault.CodecError.{CodecError}
 use Rattle.codec.specs.declared.fault.CodecError.TheVariants.{At, Memory as NoMemory}
-use Rattle.codec.specs.declared.fault.Fault.{Fault}
-use Rattle.command_line.specs.declared.tasks.Notation.TheVariants.{Bytecode}
-use Rattle.command_line.specs.declared.tasks.Task.{Task}
-use Rattle.command_line.specs.declared.tasks.Task.TheVariants.{Check, Disassemble}
+use Rattle.codec.specs.declared.fault.CodecFault.{CodecFault}
+use Rattle.cli_words.specs.declared.tasks.Notation.TheVariants.{Bytecode}
+use Rattle.cli_words.specs.declared.tasks.Task.{Task}
+use Rattle.cli_words.specs.declared.tasks.Task.TheVariants.{Check, Disassemble}
 use Rattle.hex.specs.Hex.{encode_lower}
-use Rattle.faults.specs.Faults.{IsTold, IsUnjudged, Stops, fault_of_bytes}
-use Rattle.lab.specs.Hints.{IsHintBy, IsHintOf}
-use Rattle.faults.specs.Hints.{hint_behind, seems_behind}
-use Rattle.lab.specs.Reading.{IsTooLong}
-use Rattle.program_tasks.specs.Refusals.{RefusesBytes}
-use Rattle.faults.specs.Seeming.{seems_at_first, seems_of}
-use Rattle.lab.specs.Serving.{IsRefused, first_name}
-use Rattle.faults.specs.Whys.{TellsWhy, TellsWhyOf, is_explained, seems_line, Nothing}
-use Rattle.faults.specs.declared.failure.Failure.{Failure}
-use Rattle.faults.specs.declared.failure.Failure.TheVariants.{Read, Text, Refused, Write, Memory}
-use Rattle.faults.specs.declared.hint.Hint.{Hint}
-use Rattle.faults.specs.declared.hint.Hint.TheVariants.{Seems}
-use Rattle.inputs.specs.declared.refusal.Refusal.{Refusal}
-use Rattle.inputs.specs.declared.refusal.Refusal.TheVariants.{Codec, Object, Verifier, Assembly, Table, Scenario, Setting, Trace, Threads, Accesses, Stranger, NotText, Memory as NoMemoryLeft}
+use Rattle.cli_tasks.specs.Faults.{IsTold, IsUnjudged, Stops, fault_of_bytes}
+use Rattle.cli_tasks.specs.TaskHints.{IsHintBy, IsHintOf}
+use Rattle.cli_tasks.specs.Hints.{hint_behind, seems_behind}
+use Rattle.cli_tasks.specs.Reading.{IsTooLong}
+use Rattle.cli_tasks.specs.ProgramRefusals.{RefusesBytes}
+use Rattle.cli_tasks.specs.Seeming.{seems_at_first, seems_of}
+use Rattle.cli_tasks.specs.Serving.{IsRefused, first_name}
+use Rattle.cli_tasks.specs.Whys.{TellsWhy, TellsWhyOf, is_explained, seems_line, Nothing}
+use Rattle.cli_tasks.specs.declared.failure.TaskFailure.{TaskFailure}
+use Rattle.cli_tasks.specs.declared.failure.TaskFailure.TheVariants.{Read, Text, Refused, Write, Memory}
+use Rattle.cli_tasks.specs.declared.hint.Hint.{Hint}
+use Rattle.cli_tasks.specs.declared.hint.Hint.TheVariants.{Seems}
+use Rattle.cli_tasks.specs.declared.refusal.InputRefusal.{InputRefusal}
+use Rattle.cli_tasks.specs.declared.refusal.InputRefusal.TheVariants.{Codec, Object, Verifier, Assembly, Table, Scenario, Setting, Trace, Threads, Accesses, Stranger, NotText, Memory as NoMemoryLeft}
 use Rattle.streams.specs.Names.{shown}
 use Rattle.streams.specs.Reading.{AreBytes}
-use Rattle.why.specs.Bytecode.{bytecode_told, unit_told}
+use Rattle.cli_report.specs.Bytecode.{bytecode_told, unit_told}
 
 -- bytes of which their number is known
 pub bytes_of : (known : Option (List ℕ)) (number : ℕ) (front : List ℕ) → IfSome known (λ all. (length all ≡ number) × (take 32768 front ≡ take 32768 all)) → (bytes : List ℕ) × AreBytes known bytes × (length bytes ≡ number)
@@ -42,7 +42,7 @@ unfolding seems_at_first
 seems_same front all same = ap seems_of same
 
 -- the same is said of a unit
-unit_same : (name front all : List ℕ) (f : Fault) (unit : ℕ) → take 32768 front ≡ take 32768 all → bytecode_told name front f unit ≡ bytecode_told name all f unit
+unit_same : (name front all : List ℕ) (f : CodecFault) (unit : ℕ) → take 32768 front ≡ take 32768 all → bytecode_told name front f unit ≡ bytecode_told name all f unit
 unfolding bytecode_told
 unit_same name front all f unit same = ap (λ bytes. unit_told name f unit (encode_lower (take 8 (drop (8 * unit) bytes)))) same
 
@@ -76,14 +76,14 @@ long_plain unread task known number front error file is same refuses =
     let own = bytes_of known number front same in
     ((λ e. cc), ((own.0, own.1, refuses own.0 own.2), hint_plain task known number front error is same))
 
-long_told : (unread : Type 0) (task : Task) (known : Option (List ℕ)) (number : ℕ) (front : List ℕ) (error : CodecError) (file : Bor (List ℕ)) (fault : Failure) → file.now ≡ first_name task
+long_told : (unread : Type 0) (task : Task) (known : Option (List ℕ)) (number : ℕ) (front : List ℕ) (error : CodecError) (file : Bor (List ℕ)) (fault : TaskFailure) → file.now ≡ first_name task
     → is_explained task ≡ true → IfSome known (λ all. (length all ≡ number) × (take 32768 front ≡ take 32768 all)) → ((bytes : List ℕ) → length bytes ≡ number → RefusesBytes bytes error)
     → IsTold (Codec error) file (TellsWhyOf (Codec error) Nothing file.now front) fault → Stops unread (IsTooLong task known) file.now fault
 long_told unread task known number front error file (Read own) named is same refuses told = absurd told
 long_told unread task known number front error file (Text own) named is same refuses told = absurd (let e = told.0 in cc)
 long_told unread task known number front error file (Refused own hint) named is same refuses told =
     let bytes = bytes_of known number front same in
-    let P : Refusal → Type 0 = λ r. (r ≢ NotText) × IsTooLong task known r hint in
+    let P : InputRefusal → Type 0 = λ r. (r ≢ NotText) × IsTooLong task known r hint in
     subst P (sym told.0) (
       told.1,
       (
@@ -94,18 +94,18 @@ long_told unread task known number front error file (Refused own hint) named is 
 long_told unread task known number front error file Write named is same refuses told = absurd told
 long_told unread task known number front error file Memory named is same refuses told = tt
 
-pub long_first : (unread : Type 0) (task : Task) (known : Option (List ℕ)) (number : ℕ) (front : List ℕ) (error : CodecError) (file : Bor (List ℕ)) (fault : Failure) → file.now ≡ first_name task
+pub long_first : (unread : Type 0) (task : Task) (known : Option (List ℕ)) (number : ℕ) (front : List ℕ) (error : CodecError) (file : Bor (List ℕ)) (fault : TaskFailure) → file.now ≡ first_name task
     → IfSome known (λ all. (length all ≡ number) × (take 32768 front ≡ take 32768 all)) → ((bytes : List ℕ) → length bytes ≡ number → RefusesBytes bytes error)
     → IsUnjudged (is_explained task) (Codec error) file front fault → Stops unread (IsTooLong task known) file.now fault
 long_first unread task known number front error file fault named same refuses told = by_report (is_explained task) refl told where
   by_report : (reported : Bool) → is_explained task ≡ reported → IsUnjudged reported (Codec error) file front fault → Stops unread (IsTooLong task known) file.now fault
   by_report false is plain =
-      subst (λ (f : Failure). Stops unread (IsTooLong task known) file.now f) (sym plain) (long_plain unread task known number front error file is same refuses)
+      subst (λ (f : TaskFailure). Stops unread (IsTooLong task known) file.now f) (sym plain) (long_plain unread task known number front error file is same refuses)
   by_report true is says = long_told unread task known number front error file fault named is same refuses says
 
 -- ---- of a task whose first file is bytecode
 
-pub check_long : (unread : Type 0) (file : String Global) (context : Option (String Global)) (explained traced : Bool) (known : Option (List ℕ)) (name : List ℕ) (fault : Failure)
+pub check_long : (unread : Type 0) (file : String Global) (context : Option (String Global)) (explained traced : Bool) (known : Option (List ℕ)) (name : List ℕ) (fault : TaskFailure)
     → Stops unread (IsTooLong (Check file Bytecode context explained traced) known) name fault → Stops unread (IsRefused (Check file Bytecode context explained traced) known) name fault
 check_long unread file context explained traced known name (Read own) stops = stops
 check_long unread file context explained traced known name (Text own) stops = absurd stops.0
@@ -125,7 +125,7 @@ check_long unread file context explained traced known name (Refused NoMemoryLeft
 check_long unread file context explained traced known name Write stops = absurd stops
 check_long unread file context explained traced known name Memory stops = tt
 
-pub listing_long : (unread : Type 0) (file : String Global) (units explained : Bool) (known : Option (List ℕ)) (name : List ℕ) (fault : Failure)
+pub listing_long : (unread : Type 0) (file : String Global) (units explained : Bool) (known : Option (List ℕ)) (name : List ℕ) (fault : TaskFailure)
     → Stops unread (IsTooLong (Disassemble file Bytecode units explained) known) name fault → Stops unread (IsRefused (Disassemble file Bytecode units explained) known) name fault
 listing_long unread file units explained known name (Read own) stops = stops
 listing_long unread file units explained known name (Text own) stops = absurd stops.0

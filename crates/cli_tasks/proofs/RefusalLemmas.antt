@@ -5,17 +5,17 @@ use Rattle.insn.specs.declared.insn.Insn.{Insn}
 use Rattle.verify.specs.declared.error.VerifyError.{VerifyError}
 use Rattle.verify.specs.declared.error.VerifyError.TheVariants.{At, Memory}
 use Rattle.verify.specs.Judgement.{judged}
-use Rattle.inputs.specs.declared.refusal.Refusal.{Refusal}
-use Rattle.inputs.specs.Refusals.{verifier_refusal}
-use Rattle.program_tasks.specs.Refusals.{RefusesProgram}
+use Rattle.cli_tasks.specs.declared.refusal.InputRefusal.{InputRefusal}
+use Rattle.cli_tasks.specs.Refusals.{verifier_refusal}
+use Rattle.cli_tasks.specs.ProgramRefusals.{RefusesProgram}
 
 by_fault : (program : List Insn) (fault : VerifyError) → (fault ≡ Memory) ⊎ (judged program ≡ Some fault) → RefusesProgram program (verifier_refusal fault)
 by_fault program (At reason unit) (inl memory) = absurd (let e = memory in cc)
 by_fault program (At reason unit) (inr first) = first
 by_fault program Memory r = tt
 
-pub refused_program : (program : List Insn) (fault : VerifyError) (refusal : Refusal) → refusal ≡ verifier_refusal fault → (fault ≡ Memory) ⊎ (judged program ≡ Some fault) → RefusesProgram program refusal
-refused_program program fault refusal e r = subst (λ (x : Refusal). RefusesProgram program x) (sym e) (by_fault program fault r)
+pub refused_program : (program : List Insn) (fault : VerifyError) (refusal : InputRefusal) → refusal ≡ verifier_refusal fault → (fault ≡ Memory) ⊎ (judged program ≡ Some fault) → RefusesProgram program refusal
+refused_program program fault refusal e r = subst (λ (x : InputRefusal). RefusesProgram program x) (sym e) (by_fault program fault r)
 
 -- an answer of which only the error is told otherwise
 pub told_ok : {T E F : Type 0} (f : E → F) (P : T → Type 0) (answer : Result T E) (own : Result T F) → MatchResult answer (λ t. own ≡ Ok t) (λ e. own ≡ Err (f e)) → IfOk answer P → IfOk own P

@@ -7,19 +7,19 @@ use Rattle.std.proofs.lemmas.List.{append-nil, take-append-le}
 use Rattle.world.specs.declared.schedule.Repeat.{Repeat}
 use Rattle.trace.specs.Schedules.{schedule_told}
 use Rattle.trace.specs.declared.fault.TraceError.TheVariants.{At, Write, Memory}
-use Rattle.faults.specs.Faults.{IsToldIf, Stops}
-use Rattle.faults.specs.Whys.{TellsWhy, TellsWhyOf, Schedule}
+use Rattle.cli_tasks.specs.Faults.{IsToldIf, Stops}
+use Rattle.cli_tasks.specs.Whys.{TellsWhy, TellsWhyOf, Schedule}
 use Rattle.streams.specs.Names.{shown}
-use Rattle.why.specs.Chronicles.{schedule_line_told, schedule_told as schedule_why}
-use Rattle.why.specs.Lines.{line_at}
+use Rattle.cli_report.specs.Chronicles.{schedule_line_told, schedule_told as schedule_why}
+use Rattle.cli_report.specs.Lines.{line_at}
 use Rattle.streams.specs.Reading.{BeginsSo, IsFront, AreBytes}
-use Rattle.inputs.specs.Refusals.{RefusesSchedule, RefusesText}
-use Rattle.lab.specs.Serving.{IsScheduleOf, IsScheduleRefused, IsScheduleTold}
-use Rattle.faults.specs.declared.failure.Failure.{Failure}
-use Rattle.inputs.specs.declared.refusal.Refusal.{Refusal}
-use Rattle.inputs.specs.declared.refusal.Refusal.TheVariants as refusal
-use Rattle.lab.proofs.FilesLemmas.{second_told}
-use Rattle.lab.proofs.WhyLemmas.{stops_later, told_weaker}
+use Rattle.cli_tasks.specs.Refusals.{RefusesSchedule, RefusesText}
+use Rattle.cli_tasks.specs.Serving.{IsScheduleOf, IsScheduleRefused, IsScheduleTold}
+use Rattle.cli_tasks.specs.declared.failure.TaskFailure.{TaskFailure}
+use Rattle.cli_tasks.specs.declared.refusal.InputRefusal.{InputRefusal}
+use Rattle.cli_tasks.specs.declared.refusal.InputRefusal.TheVariants as refusal
+use Rattle.cli_tasks.proofs.FilesLemmas.{second_told}
+use Rattle.cli_tasks.proofs.WhyLemmas.{stops_later, told_weaker}
 
 -- all that a file may have which begins so
 all_of : (most : ℕ) (known : Option (List ℕ)) (front : List ℕ) → IsFront most known front → (all : List ℕ) × AreBytes known all × BeginsSo most all front
@@ -45,7 +45,7 @@ same_front all front begins = by_length (nat_le (length front) 1048576) refl whe
       let long : 1048576 ≤ length front = omega (arith, more) in rw (begins.split, take-append-le 1048576 front begins.rest long) refl
 
 -- what is said of them is said of all
-front_says : (cause : Refusal) (name : Option (List ℕ)) (front all text : List ℕ) → take 1048576 front ≡ take 1048576 all → RefusesText RefusesSchedule all cause
+front_says : (cause : InputRefusal) (name : Option (List ℕ)) (front all text : List ℕ) → take 1048576 front ≡ take 1048576 all → RefusesText RefusesSchedule all cause
     → IfSome name (λ n. TellsWhy cause Schedule n front text) → IfSome name (λ n. TellsWhy cause Schedule n all text)
 unfolding schedule_why
 front_says cause None front all text same refuses says = tt
@@ -65,7 +65,7 @@ front_says (refusal.Threads error) (Some n) front all text same refuses says = a
 front_says (refusal.Accesses fault) (Some n) front all text same refuses says = absurd refuses
 front_says (refusal.Stranger general generals) (Some n) front all text same refuses says = absurd refuses
 
-pub front_refused : {R : Type 0} (bytes : R → Option (List ℕ)) (unread : Type 0) (explained : Bool) (second : Option R) (own : R) (front : List ℕ) (file : Bor (List ℕ)) (cause : Refusal) (fault : Failure)
+pub front_refused : {R : Type 0} (bytes : R → Option (List ℕ)) (unread : Type 0) (explained : Bool) (second : Option R) (own : R) (front : List ℕ) (file : Bor (List ℕ)) (cause : InputRefusal) (fault : TaskFailure)
     → second ≡ Some own → IsFront 1048576 (bytes own) front → ((all : List ℕ) → BeginsSo 1048576 all front → RefusesText RefusesSchedule all cause)
     → IsToldIf explained cause file (TellsWhyOf cause Schedule file.now front) fault
     → Stops unread (IsScheduleTold explained file.now (option_map bytes second)) file.now fault

@@ -5,7 +5,7 @@ use Rattle.std.specs.Str.{IsUtf8}
 use Rattle.std.proofs.lemmas.Bool.{lt-leb}
 use Rattle.std.proofs.lemmas.List.{length-append}
 use Rattle.trace.specs.Schedules.{schedule_told}
-use Rattle.trace.specs.declared.fault.Fault.TheVariants.{Line}
+use Rattle.trace.specs.declared.fault.TraceFault.TheVariants.{Line}
 use Rattle.trace.specs.declared.fault.TraceError.TheVariants.{At}
 use Rattle.streams.specs.Reading.{BeginsSo}
 

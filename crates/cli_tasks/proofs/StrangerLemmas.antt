@@ -6,19 +6,19 @@ use Rattle.book.specs.Grammar.{table_told}
 use Rattle.book.specs.Table.{MessageTable}
 use Rattle.book.specs.declared.fault.TableError.{TableError}
 use Rattle.book.specs.declared.fault.TableError.TheVariants as table
-use Rattle.roster.specs.Scenario.{Scenario as Campaign}
+use Rattle.round.specs.Scenario.{Scenario as Campaign}
 use Rattle.scenario.specs.Reading.{Tells}
-use Rattle.tables.specs.Numbers.{HasGenerals as AreNumbersOf}
-use Rattle.table_tasks.specs.Refusals.{RefusesFilled, RefusesForm, RefusesNaming, RefusesTable, RefusesTreeIn}
-use Rattle.inputs.specs.Refusals.{RefusesScenario, table_refusal}
-use Rattle.table_tasks.specs.Strangers.{HasNumbers, IsStranger, IsStrangerToTree, KnowsAll, KnowsLiar, KnowsTree, liars, stranger_among, stranger_to_tree}
-use Rattle.inputs.specs.declared.refusal.Refusal.{Refusal}
-use Rattle.inputs.specs.declared.refusal.Refusal.TheVariants.{Codec, Object, Verifier, Assembly, Table, Scenario, Setting, Trace, Threads, Accesses, Stranger, NotText, Memory}
+use Rattle.book.specs.Numbers.{HasGenerals as AreNumbersOf}
+use Rattle.cli_tasks.specs.TableRefusals.{RefusesFilled, RefusesForm, RefusesNaming, RefusesTable, RefusesTreeIn}
+use Rattle.cli_tasks.specs.Refusals.{RefusesScenario, table_refusal}
+use Rattle.cli_tasks.specs.Strangers.{HasNumbers, IsStranger, IsStrangerToTree, KnowsAll, KnowsLiar, KnowsTree, liars, stranger_among, stranger_to_tree}
+use Rattle.cli_tasks.specs.declared.refusal.InputRefusal.{InputRefusal}
+use Rattle.cli_tasks.specs.declared.refusal.InputRefusal.TheVariants.{Codec, Object, Verifier, Assembly, Table, Scenario, Setting, Trace, Threads, Accesses, Stranger, NotText, Memory}
 
 pub of_table : (text named : List ℕ) (table : MessageTable) → table_told text ≡ Ok table → stranger_among table.generals named ≡ None → KnowsAll text named
 of_table text named table is none = (table.generals, (table, is, refl), none)
 
-pub unread_table : (text named : List ℕ) (refusal : Refusal) → RefusesTable text refusal → RefusesNaming named text refusal
+pub unread_table : (text named : List ℕ) (refusal : InputRefusal) → RefusesTable text refusal → RefusesNaming named text refusal
 unread_table text named (Codec error) refuses = refuses
 unread_table text named (Object fault) refuses = refuses
 unread_table text named (Verifier fault) refuses = refuses
@@ -33,7 +33,7 @@ unread_table text named (Stranger g n) refuses = absurd refuses
 unread_table text named NotText refuses = refuses
 unread_table text named Memory refuses = refuses
 
-pub strange_to_table : (text named : List ℕ) (table : MessageTable) (refusal : Refusal) → table_told text ≡ Ok table → IsStranger table.generals named refusal → RefusesNaming named text refusal
+pub strange_to_table : (text named : List ℕ) (table : MessageTable) (refusal : InputRefusal) → table_told text ≡ Ok table → IsStranger table.generals named refusal → RefusesNaming named text refusal
 strange_to_table text named table (Codec error) is strange = absurd strange
 strange_to_table text named table (Object fault) is strange = absurd strange
 strange_to_table text named table (Verifier fault) is strange = absurd strange
@@ -57,7 +57,7 @@ module _ (text : List ℕ) (general : ℕ) (traitors : List ℕ) where
   pub tree_of_scenario : (s : Campaign) → Tells text s → stranger_to_tree s.generals s.commander general traitors ≡ None → KnowsTree true text general traitors
   tree_of_scenario s tells none = record { generals = s.generals; commander = s.commander; told = (s, tells, refl, refl); known = none }
 
-  pub no_table_to_draw : (refusal : Refusal) → RefusesTable text refusal → RefusesTreeIn false general traitors text refusal
+  pub no_table_to_draw : (refusal : InputRefusal) → RefusesTable text refusal → RefusesTreeIn false general traitors text refusal
   no_table_to_draw (Codec error) refuses = refuses
   no_table_to_draw (Object fault) refuses = refuses
   no_table_to_draw (Verifier fault) refuses = refuses
@@ -72,7 +72,7 @@ module _ (text : List ℕ) (general : ℕ) (traitors : List ℕ) where
   no_table_to_draw NotText refuses = refuses
   no_table_to_draw Memory refuses = refuses
 
-  pub no_campaign_to_draw : (refusal : Refusal) → RefusesScenario text refusal → RefusesTreeIn true general traitors text refusal
+  pub no_campaign_to_draw : (refusal : InputRefusal) → RefusesScenario text refusal → RefusesTreeIn true general traitors text refusal
   no_campaign_to_draw (Codec error) refuses = refuses
   no_campaign_to_draw (Object fault) refuses = refuses
   no_campaign_to_draw (Verifier fault) refuses = refuses
@@ -87,7 +87,7 @@ module _ (text : List ℕ) (general : ℕ) (traitors : List ℕ) where
   no_campaign_to_draw NotText refuses = refuses
   no_campaign_to_draw Memory refuses = refuses
 
-  strange_in : (toml : Bool) (generals commander : ℕ) (refusal : Refusal) → HasNumbers toml text generals commander → IsStrangerToTree generals commander general traitors refusal → RefusesTreeIn toml general traitors text refusal
+  strange_in : (toml : Bool) (generals commander : ℕ) (refusal : InputRefusal) → HasNumbers toml text generals commander → IsStrangerToTree generals commander general traitors refusal → RefusesTreeIn toml general traitors text refusal
   strange_in toml generals commander (Codec error) has strange = absurd strange
   strange_in toml generals commander (Object fault) has strange = absurd strange
   strange_in toml generals commander (Verifier fault) has strange = absurd strange
@@ -106,10 +106,10 @@ module _ (text : List ℕ) (general : ℕ) (traitors : List ℕ) where
   strange_in toml generals commander NotText has strange = absurd strange
   strange_in toml generals commander Memory has strange = absurd strange
 
-  pub strange_to_tree : (table : MessageTable) (refusal : Refusal) → table_told text ≡ Ok table → IsStrangerToTree table.generals table.commander general traitors refusal → RefusesTreeIn false general traitors text refusal
+  pub strange_to_tree : (table : MessageTable) (refusal : InputRefusal) → table_told text ≡ Ok table → IsStrangerToTree table.generals table.commander general traitors refusal → RefusesTreeIn false general traitors text refusal
   strange_to_tree table refusal is strange = strange_in false table.generals table.commander refusal (table, is, refl, refl) strange
 
-  pub strange_to_campaign : (s : Campaign) (refusal : Refusal) → Tells text s → IsStrangerToTree s.generals s.commander general traitors refusal → RefusesTreeIn true general traitors text refusal
+  pub strange_to_campaign : (s : Campaign) (refusal : InputRefusal) → Tells text s → IsStrangerToTree s.generals s.commander general traitors refusal → RefusesTreeIn true general traitors text refusal
   strange_to_campaign s refusal tells strange = strange_in true s.generals s.commander refusal (s, tells, refl, refl) strange
 
 -- ---- the liar of a table that is filled in
@@ -117,7 +117,7 @@ module _ (text : List ℕ) (general : ℕ) (traitors : List ℕ) where
 pub of_numbers : (n m c : List ℕ) (liar : Option ℕ) (generals : ℕ) → AreNumbersOf n m c generals → stranger_among generals (liars liar) ≡ None → KnowsLiar n m c liar
 of_numbers n m c liar generals are none = (generals, are, none)
 
-pub unfilled : (n m c : List ℕ) (liar : Option ℕ) (refusal : Refusal) → RefusesForm n m c refusal → RefusesFilled n m c liar refusal
+pub unfilled : (n m c : List ℕ) (liar : Option ℕ) (refusal : InputRefusal) → RefusesForm n m c refusal → RefusesFilled n m c liar refusal
 unfilled n m c liar (Codec error) refuses = refuses
 unfilled n m c liar (Object fault) refuses = refuses
 unfilled n m c liar (Verifier fault) refuses = refuses
@@ -132,7 +132,7 @@ unfilled n m c liar (Stranger g all) refuses = absurd refuses
 unfilled n m c liar NotText refuses = refuses
 unfilled n m c liar Memory refuses = refuses
 
-pub strange_liar : (n m c : List ℕ) (liar : Option ℕ) (generals : ℕ) (refusal : Refusal) → AreNumbersOf n m c generals → IsStranger generals (liars liar) refusal → RefusesFilled n m c liar refusal
+pub strange_liar : (n m c : List ℕ) (liar : Option ℕ) (generals : ℕ) (refusal : InputRefusal) → AreNumbersOf n m c generals → IsStranger generals (liars liar) refusal → RefusesFilled n m c liar refusal
 strange_liar n m c liar generals (Codec error) are strange = absurd strange
 strange_liar n m c liar generals (Object fault) are strange = absurd strange
 strange_liar n m c liar generals (Verifier fault) are strange = absurd strange
@@ -148,7 +148,7 @@ strange_liar n m c liar generals (Stranger g all) are strange =
 strange_liar n m c liar generals NotText are strange = absurd strange
 strange_liar n m c liar generals Memory are strange = absurd strange
 
-pub named_stranger : (generals : ℕ) (named : List ℕ) (refusal : Refusal) → IsStranger generals named refusal → refusal ≢ Memory
+pub named_stranger : (generals : ℕ) (named : List ℕ) (refusal : InputRefusal) → IsStranger generals named refusal → refusal ≢ Memory
 named_stranger generals named (Codec error) strange = absurd strange
 named_stranger generals named (Object fault) strange = absurd strange
 named_stranger generals named (Verifier fault) strange = absurd strange

@@ -9,16 +9,16 @@ use Rattle.semantics.specs.Run.{IsSound}
 use Rattle.codec.specs.Spelling.{program_bytes}
 use Rattle.asm.specs.Program.{program_of}
 use Rattle.asm.specs.Printing.{text_of, unit_lines}
-use Rattle.command_line.specs.declared.tasks.Notation.{Notation}
+use Rattle.cli_words.specs.declared.tasks.Notation.{Notation}
 use Rattle.verify.specs.Judgement.{judged}
 use Rattle.trial.specs.Setting.{Setting, bench, context_in}
 use Rattle.trial.specs.Answers.{IsTried, Tells as TellsSetting}
 use Rattle.trial.specs.Trial.{Ending, trial_in}
-use Rattle.tracing.specs.Slips.{slips_on}
-use Rattle.tracing.specs.Trace.{trace_on}
-use Rattle.program_tasks.specs.Programs.{ArePlaces, HasProgram, IsBehind, if_asked}
-use Rattle.program_tasks.specs.Lines.{checked_lines, hex_line}
-use Rattle.program_tasks.specs.declared.checking.Checked.{Checked}
+use Rattle.trial.specs.Slips.{slips_on}
+use Rattle.trial.specs.Trace.{trace_on}
+use Rattle.cli_tasks.specs.Programs.{ArePlaces, HasProgram, IsBehind, if_asked}
+use Rattle.cli_tasks.specs.Lines.{checked_lines, hex_line}
+use Rattle.cli_tasks.specs.declared.program_check.Checked.{Checked}
 
 -- the verifier accepts the program, which is sound, and its trial on the bench, with a board that begins with zeros,
 -- ended so

@@ -1,12 +1,12 @@
 -- What is printed of a campaign.
 use Rattle.std.specs.Prelude.{ℕ, suc, ◌≡◌, List, [], ◌∷◌, ◌++◌, Option, None, Some, unwrap_or}
 use Rattle.board.specs.Board.{IsLegal}
-use Rattle.command_line.specs.declared.tasks.Account.{Account}
-use Rattle.command_line.specs.declared.tasks.Account.TheVariants as accounts
-use Rattle.command_line.specs.declared.tasks.Lieutenants.{Lieutenants}
-use Rattle.command_line.specs.declared.tasks.Lieutenants.TheVariants as lieutenants
-use Rattle.retold.specs.Retold.{Explains, IsRetold}
-use Rattle.roster.specs.Scenario.{Scenario}
+use Rattle.cli_words.specs.declared.tasks.Account.{Account}
+use Rattle.cli_words.specs.declared.tasks.Account.TheVariants as accounts
+use Rattle.cli_words.specs.declared.tasks.Lieutenants.{Lieutenants}
+use Rattle.cli_words.specs.declared.tasks.Lieutenants.TheVariants as lieutenants
+use Rattle.show_table.specs.Retold.{Explains, IsRetold}
+use Rattle.round.specs.Scenario.{Scenario}
 use Rattle.world.specs.declared.schedule.Repeat.{Repeat}
 use Rattle.world.specs.Chronicle.{Chronicle, chronicle_of}
 use Rattle.world.specs.KindLists as generic
@@ -26,8 +26,8 @@ use Rattle.trace.specs.Laws.{IsSoundText}
 use Rattle.trace.specs.SignedAudit.{IsSoundSignedText, signed_chronicle_told}
 use Rattle.trace.specs.SignedText.{signed_text}
 use Rattle.trace.specs.Text.{chronicle_text}
-use Rattle.campaign_tasks.specs.Lines.{sound_lines}
-use Rattle.inputs.specs.Schedules.{played, signed_played, is_chronicle, TellsCampaign, IsSchedule}
+use Rattle.cli_tasks.specs.AuditLines.{sound_lines}
+use Rattle.cli_tasks.specs.Schedules.{played, signed_played, is_chronicle, TellsCampaign, IsSchedule}
 
 -- the text gives this account of an oral campaign: its chronicle, or the message table that its letters tell, which
 -- decides what the chronicle says

@@ -3,24 +3,24 @@ use Rattle.std.specs.Prelude.{ℕ, ◌≡◌, false, List, [], Option, Ok, unwra
 use Rattle.std.specs.List.{All}
 use Rattle.book.specs.Grammar.{table_told}
 use Rattle.book.specs.Table.{MessageTable}
-use Rattle.command_line.specs.declared.tasks.Course.{Course}
-use Rattle.command_line.specs.declared.tasks.Course.TheVariants.{Scheduled, Recorded}
-use Rattle.diagram.specs.Laws.{BlamesTraitors, IsDrawnHonest}
-use Rattle.diagram.specs.Svg.{svg_text}
-use Rattle.retold.specs.Retold.{table_of}
-use Rattle.roster.specs.Scenario.{is_traitor}
+use Rattle.cli_words.specs.declared.tasks.Course.{Course}
+use Rattle.cli_words.specs.declared.tasks.Course.TheVariants.{Scheduled, Recorded}
+use Rattle.show_diagram.specs.Laws.{BlamesTraitors, IsDrawnHonest}
+use Rattle.show_diagram.specs.Svg.{svg_text}
+use Rattle.show_table.specs.Retold.{table_of}
+use Rattle.round.specs.Scenario.{is_traitor}
 use Rattle.scenario.specs.Reading.{TellsAny}
 use Rattle.scenario.specs.declared.messages.Campaign.{Campaign}
 use Rattle.scenario.specs.declared.messages.Campaign.TheVariants.{Oral, Signed}
-use Rattle.signed_diagram.specs.Strokes.{strokes_of}
-use Rattle.signed_diagram.specs.Svg.{signed_svg}
+use Rattle.show_chains.specs.Strokes.{strokes_of}
+use Rattle.show_chains.specs.Svg.{signed_svg}
 use Rattle.trace.specs.Laws.{IsSoundText}
 use Rattle.trace.specs.Names.{chronicle_told}
 use Rattle.trace.specs.SignedAudit.{IsSoundSignedText, signed_chronicle_told}
 use Rattle.world.specs.declared.schedule.Repeat.{Repeat}
 use Rattle.world.specs.Chronicle.{Chronicle}
-use Rattle.inputs.specs.Schedules.{IsSchedule, played, signed_played}
-use Rattle.picture_tasks.specs.Promises.{KeepsPromises, KeepsSignedPromises}
+use Rattle.cli_tasks.specs.Schedules.{IsSchedule, played, signed_played}
+use Rattle.cli_tasks.specs.Promises.{KeepsPromises, KeepsSignedPromises}
 
 -- the picture is that of the chronicle and of the message table that its own letters tell, and every stroke of a loyal
 -- general is drawn as an honest relay's

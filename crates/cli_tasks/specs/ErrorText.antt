@@ -3,17 +3,17 @@ use Rattle.std.specs.Prelude.{ℕ, List, ◌++◌, codes, decimal}
 use Rattle.asm.specs.ErrorText as asm
 use Rattle.book.specs.ErrorText as book
 use Rattle.codec.specs.ErrorText as codec
-use Rattle.elf.specs.ErrorText as elf
-use Rattle.retracing.specs.ErrorText.{fault_told}
+use Rattle.object.specs.ErrorText as elf
+use Rattle.campaign_schedules.specs.ErrorText.{fault_told}
 use Rattle.scenario.specs.ErrorText as scenario
 use Rattle.threads.specs.ErrorText as threads
 use Rattle.trace.specs.ErrorText as trace
 use Rattle.trial.specs.ErrorText as trial
 use Rattle.verify.specs.ErrorText as verify
-use Rattle.inputs.specs.declared.refusal.Refusal.{Refusal}
-use Rattle.inputs.specs.declared.refusal.Refusal.TheVariants.{Codec, Object, Verifier, Assembly, Table, Scenario, Setting, Trace, Threads, Accesses, Stranger, NotText, Memory}
+use Rattle.cli_tasks.specs.declared.refusal.InputRefusal.{InputRefusal}
+use Rattle.cli_tasks.specs.declared.refusal.InputRefusal.TheVariants.{Codec, Object, Verifier, Assembly, Table, Scenario, Setting, Trace, Threads, Accesses, Stranger, NotText, Memory}
 
-abbrev pub refusal_text : Refusal → List ℕ
+abbrev pub refusal_text : InputRefusal → List ℕ
 refusal_text (Codec error) = codec.told error
 refusal_text (Object fault) = elf.told fault
 refusal_text (Verifier fault) = verify.told fault

@@ -1,10 +1,10 @@
 -- What is printed of a campaign's orders.
 use Rattle.std.specs.Prelude.{ℕ, ◌≡◌, ◌-◌, ◌^◌, List, All, Option, unwrap_or}
-use Rattle.explore.specs.Exploring.{Exploration, Finding, IsExploration}
-use Rattle.explore.specs.Keeping.{IsKept}
-use Rattle.explore.specs.Outcomes.{oral_outcome}
-use Rattle.explore.specs.Text.{exploration_text}
-use Rattle.roster.specs.Scenario.{Scenario}
+use Rattle.campaign_orders.specs.Exploring.{Exploration, Finding, IsExploration}
+use Rattle.campaign_orders.specs.Keeping.{IsKept}
+use Rattle.campaign_orders.specs.Outcomes.{oral_outcome}
+use Rattle.campaign_orders.specs.Text.{exploration_text}
+use Rattle.round.specs.Scenario.{Scenario}
 use Rattle.scenario.specs.Reading.{Tells}
 use Rattle.world.specs.Promises.{AgreeUnderBound}
 use Rattle.world.specs.World.{oral_kind}

@@ -5,38 +5,38 @@ use Rattle.std.specs.Borrow.{Bor}
 use Rattle.std.specs.Fmt.{◌++?◌}
 use Rattle.std.specs.declared.io.ErrorKind.{ErrorKind}
 use Rattle.std.specs.declared.io.ErrorKind.TheVariants.{OutOfMemory}
-use Rattle.inputs.specs.declared.refusal.Refusal.{Refusal}
-use Rattle.inputs.specs.declared.refusal.Refusal.TheVariants as refusal
-use Rattle.faults.specs.declared.failure.Failure.{Failure}
-use Rattle.faults.specs.declared.hint.Hint.{Hint}
-use Rattle.faults.specs.declared.hint.Hint.TheVariants.{Explained}
-use Rattle.faults.specs.declared.failure.Failure.TheVariants.{Read, Text, Refused, Write, Memory}
+use Rattle.cli_tasks.specs.declared.refusal.InputRefusal.{InputRefusal}
+use Rattle.cli_tasks.specs.declared.refusal.InputRefusal.TheVariants as refusal
+use Rattle.cli_tasks.specs.declared.failure.TaskFailure.{TaskFailure}
+use Rattle.cli_tasks.specs.declared.hint.Hint.{Hint}
+use Rattle.cli_tasks.specs.declared.hint.Hint.TheVariants.{Explained}
+use Rattle.cli_tasks.specs.declared.failure.TaskFailure.TheVariants.{Read, Text, Refused, Write, Memory}
 use Rattle.streams.specs.Names.{shown}
-use Rattle.faults.specs.Hints.{hint_behind, seems_behind}
-use Rattle.inputs.specs.ErrorText.{refusal_text}
-use Rattle.faults.specs.Whys.{TellsWhyOf}
-use Rattle.faults.specs.Whys as role
+use Rattle.cli_tasks.specs.Hints.{hint_behind, seems_behind}
+use Rattle.cli_tasks.specs.ErrorText.{refusal_text}
+use Rattle.cli_tasks.specs.Whys.{TellsWhyOf}
+use Rattle.cli_tasks.specs.Whys as role
 
 -- the fault of a file with this name
-abbrev pub fault_of : Refusal → Bor (List ℕ) → Failure
+abbrev pub fault_of : InputRefusal → Bor (List ℕ) → TaskFailure
 fault_of refusal.Memory file = Memory
 fault_of refusal.NotText file = Text file
 fault_of other file = Refused other None
 
 -- the fault of a file with this name and these bytes, which seem to be something else where they spell no program
-abbrev pub fault_of_bytes : Refusal → Bor (List ℕ) → List ℕ → Failure
+abbrev pub fault_of_bytes : InputRefusal → Bor (List ℕ) → List ℕ → TaskFailure
 fault_of_bytes refusal.Memory file bytes = Memory
 fault_of_bytes refusal.NotText file bytes = Text file
 fault_of_bytes other file bytes = Refused other (seems_behind other bytes)
 
 -- the fault of a file with this name, with this text behind its line
-abbrev pub text_fault : Refusal → Bor (List ℕ) → String Global → Failure
+abbrev pub text_fault : InputRefusal → Bor (List ℕ) → String Global → TaskFailure
 text_fault refusal.Memory file text = Memory
 text_fault refusal.NotText file text = Text file
 text_fault other file text = Refused other (Some (Explained text))
 
 -- the fault of a file with this name that is refused so, with a text behind its line of which this holds
-abbrev pub IsTold : Refusal → Bor (List ℕ) → (List ℕ → Type 0) → Failure → Type 0
+abbrev pub IsTold : InputRefusal → Bor (List ℕ) → (List ℕ → Type 0) → TaskFailure → Type 0
 IsTold cause file tells Memory = Unit {0}
 IsTold cause file tells (Text own) = (cause ≡ refusal.NotText) × (own ≡ file)
 IsTold cause file tells (Refused own hint) =
@@ -44,28 +44,28 @@ IsTold cause file tells (Refused own hint) =
 IsTold cause file tells fault = ⊥
 
 -- with such a text, where an explanation is asked for
-abbrev pub IsToldIf : Bool → Refusal → Bor (List ℕ) → (List ℕ → Type 0) → Failure → Type 0
+abbrev pub IsToldIf : Bool → InputRefusal → Bor (List ℕ) → (List ℕ → Type 0) → TaskFailure → Type 0
 IsToldIf false cause file tells fault = fault ≡ fault_of cause file
 IsToldIf true cause file tells fault = IsTold cause file tells fault
 
 -- the fault of a first file with this name that is refused so, as it is told where it is not the verifier that refuses
 -- it: with the report of these bytes, where there is to be one
-abbrev pub IsUnjudged : Bool → Refusal → Bor (List ℕ) → List ℕ → Failure → Type 0
+abbrev pub IsUnjudged : Bool → InputRefusal → Bor (List ℕ) → List ℕ → TaskFailure → Type 0
 IsUnjudged false cause file own fault = fault ≡ fault_of_bytes cause file own
 IsUnjudged true cause file own fault = IsTold cause file (TellsWhyOf cause role.Nothing file.now own) fault
 
 -- the fault of a file with this name whose reading failed with an error of this kind
-abbrev pub unread_by : ErrorKind → Bor (List ℕ) → Failure
+abbrev pub unread_by : ErrorKind → Bor (List ℕ) → TaskFailure
 unread_by OutOfMemory file = Memory
 unread_by _ file = Read file
 
 -- 3 for want of memory, else 1
-abbrev pub status_of : Failure → ℕ
+abbrev pub status_of : TaskFailure → ℕ
 status_of Memory = 3
 status_of _ = 1
 
 -- what is said of a fault: of a refusal its code and place, and on further lines what its bytes seem to be, or why
-abbrev pub fault_text : Failure → Option (List ℕ)
+abbrev pub fault_text : TaskFailure → Option (List ℕ)
 fault_text (Read file) = Some (codes "fault read ") ++? shown file.now
 fault_text (Text file) = Some (codes "fault text ") ++? shown file.now
 fault_text (Refused refusal hint) = Some (codes "refused " ++ refusal_text refusal ++ hint_behind hint)
@@ -74,7 +74,7 @@ fault_text Memory = Some (codes "out of memory")
 
 -- why the file with this name stops a task: its reader failed, it is refused, with more that is said of it, or want of
 -- memory
-abbrev pub Stops : Type 0 → (Refusal → Option Hint → Type 0) → List ℕ → Failure → Type 0
+abbrev pub Stops : Type 0 → (InputRefusal → Option Hint → Type 0) → List ℕ → TaskFailure → Type 0
 Stops unread refused name (Read file) = unread × (file.now ≡ name)
 Stops unread refused name (Text file) = refused refusal.NotText None × (file.now ≡ name)
 Stops unread refused name (Refused cause hint) = (cause ≢ refusal.NotText) × refused cause hint

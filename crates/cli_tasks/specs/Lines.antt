@@ -4,7 +4,7 @@ use Rattle.hex.specs.Hex.{encode_lower}
 use Rattle.insn.specs.declared.insn.Insn.{Insn}
 use Rattle.codec.specs.Spelling.{program_bytes}
 use Rattle.trial.specs.Lines.{first_lines}
-use Rattle.program_tasks.specs.declared.checking.Checked.{Checked}
+use Rattle.cli_tasks.specs.declared.program_check.Checked.{Checked}
 
 -- what a check prints
 abbrev pub checked_lines : Checked → List ℕ

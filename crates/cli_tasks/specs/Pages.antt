@@ -2,24 +2,24 @@
 use Rattle.std.specs.Prelude.{ℕ, ◌≡◌, ◌≤◌, List, [], length, Option, None, Some, Ok, unwrap_or}
 use Rattle.book.specs.Grammar.{table_told}
 use Rattle.book.specs.Table.{MessageTable}
-use Rattle.campaign_page.specs.Account.{page_text}
-use Rattle.campaign_page.specs.Room.{longest_page}
-use Rattle.command_line.specs.declared.tasks.Course.{Course}
-use Rattle.command_line.specs.declared.tasks.Course.TheVariants.{Scheduled, Recorded}
-use Rattle.diagram.specs.Laws.{BlamesTraitors}
-use Rattle.retold.specs.Retold.{table_of}
+use Rattle.show_page.specs.Account.{page_text}
+use Rattle.show_page.specs.Room.{longest_page}
+use Rattle.cli_words.specs.declared.tasks.Course.{Course}
+use Rattle.cli_words.specs.declared.tasks.Course.TheVariants.{Scheduled, Recorded}
+use Rattle.show_diagram.specs.Laws.{BlamesTraitors}
+use Rattle.show_table.specs.Retold.{table_of}
 use Rattle.scenario.specs.Reading.{TellsAny}
 use Rattle.scenario.specs.declared.messages.Campaign.{Campaign}
 use Rattle.scenario.specs.declared.messages.Campaign.TheVariants.{Oral, Signed}
-use Rattle.signed_page.specs.Account.{signed_page_text}
+use Rattle.show_page.specs.SignedAccount.{signed_page_text}
 use Rattle.trace.specs.Laws.{IsSoundText}
 use Rattle.trace.specs.Names.{chronicle_told}
 use Rattle.trace.specs.SignedAudit.{IsSoundSignedText, signed_chronicle_told}
 use Rattle.world.specs.declared.schedule.Repeat.{Repeat}
 use Rattle.world.specs.Chronicle.{Chronicle}
-use Rattle.inputs.specs.Schedules.{IsSchedule, played, signed_played}
-use Rattle.picture_tasks.specs.Diagrams.{BlamesSignedTraitors}
-use Rattle.picture_tasks.specs.Promises.{KeepsPromises, KeepsSignedPromises}
+use Rattle.cli_tasks.specs.Schedules.{IsSchedule, played, signed_played}
+use Rattle.cli_tasks.specs.Diagrams.{BlamesSignedTraitors}
+use Rattle.cli_tasks.specs.Promises.{KeepsPromises, KeepsSignedPromises}
 
 -- the page is that of the chronicle, of the message table that its own letters tell, of the scenario's text, and of the
 -- schedule, if it was played by one; it is no longer than a page may be, and in its picture every stroke of a loyal

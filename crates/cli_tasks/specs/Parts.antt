@@ -1,11 +1,11 @@
 -- What `dis --partial` and `asm --partial` print.
 use Rattle.std.specs.Prelude.{ℕ, ◌≡◌, ◌++◌, List, Ok, codes, option_map, string_bytes}
 use Rattle.hex.specs.Hex.{encode_lower}
-use Rattle.elf.specs.Entry.{entry_of}
-use Rattle.command_line.specs.declared.tasks.Notation.{Notation}
-use Rattle.command_line.specs.declared.tasks.Notation.TheVariants.{Bytecode, Assembly as Texts, Object as Objects}
-use Rattle.partial.specs.Printing.{IsTextOf}
-use Rattle.partial.specs.Reading.{bytes_said}
+use Rattle.object.specs.Entry.{entry_of}
+use Rattle.cli_words.specs.declared.tasks.Notation.{Notation}
+use Rattle.cli_words.specs.declared.tasks.Notation.TheVariants.{Bytecode, Assembly as Texts, Object as Objects}
+use Rattle.asm.specs.PieceText.{IsTextOf}
+use Rattle.asm.specs.Reading.{bytes_said}
 
 -- the text says these bytes, line by line
 abbrev pub AssemblesPartlyRaw : List ℕ → List ℕ → Type 0

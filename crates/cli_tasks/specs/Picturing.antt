@@ -1,24 +1,24 @@
 -- What is drawn of a message table.
 use Rattle.std.specs.Prelude.{ℕ, ◌≡◌, Bool, true, false, List, [], ◌++◌, None, Result, Ok, Err, is_some}
 use Rattle.std.specs.declared.alloc.AllocError.{AllocError}
-use Rattle.command_line.specs.declared.tasks.Drawing.{Drawing}
-use Rattle.command_line.specs.declared.tasks.Drawing.TheVariants as drawings
-use Rattle.drawing.specs.Drawn.{DrawsTable}
-use Rattle.drawing.specs.Shown.{ordered}
-use Rattle.drawing.specs.declared.form.Form.{Form}
-use Rattle.drawing.specs.declared.form.Form.TheVariants.{Lines, Graph, Svg}
-use Rattle.drawing.specs.declared.node.Style.TheVariants.{Ascii, Boxes}
-use Rattle.drawing.specs.declared.node.View.{View}
-use Rattle.retold.specs.Retold.{table_of, traitors_of}
-use Rattle.roster.specs.Scenario.{Scenario}
+use Rattle.cli_words.specs.declared.tasks.Drawing.{Drawing}
+use Rattle.cli_words.specs.declared.tasks.Drawing.TheVariants as drawings
+use Rattle.show_tree.specs.Drawn.{DrawsTable}
+use Rattle.show_tree.specs.Shown.{ordered}
+use Rattle.show_tree.specs.declared.form.TreeForm.{TreeForm}
+use Rattle.show_tree.specs.declared.form.TreeForm.TheVariants.{Lines, Graph, Svg}
+use Rattle.show_tree.specs.declared.node.Style.TheVariants.{Ascii, Boxes}
+use Rattle.show_tree.specs.declared.node.View.{View}
+use Rattle.show_table.specs.Retold.{table_of, traitors_of}
+use Rattle.round.specs.Scenario.{Scenario}
 use Rattle.scenario.specs.Reading.{Tells}
 use Rattle.toml.specs.Errors.{IsMemory}
 use Rattle.toml.specs.Parse.{parse_document}
 use Rattle.toml.specs.declared.de.error.Error.{Error}
-use Rattle.inputs.specs.Schedules.{played}
+use Rattle.cli_tasks.specs.Schedules.{played}
 
 -- the form of a drawing
-abbrev pub form_of : Drawing → Form
+abbrev pub form_of : Drawing → TreeForm
 form_of drawings.Boxes = Lines Boxes
 form_of drawings.Ascii = Lines Ascii
 form_of drawings.Graph = Graph
@@ -37,7 +37,7 @@ TellsWhetherToml _ _ = ⊥
 
 -- what the general was told by a message table, or by the letters of the oral campaign that a text tells, without a
 -- schedule; drawn with these named as traitors, and of a campaign with its own besides, and as one whose order is known
-abbrev pub IsTreeIn : Bool → List ℕ → List ℕ → View → Form → ℕ → List ℕ → Type 0
+abbrev pub IsTreeIn : Bool → List ℕ → List ℕ → View → TreeForm → ℕ → List ℕ → Type 0
 IsTreeIn false text named view form general picture = DrawsTable text named view form general picture
 IsTreeIn true text named view form general picture =
     (s : Scenario) × Tells text s

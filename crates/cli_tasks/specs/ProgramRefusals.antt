@@ -2,22 +2,22 @@
 use Rattle.std.specs.Prelude.{ℕ, ◌≡◌, ◌≢◌, ◌⊎◌, ◌/◌, ◌%◌, List, Option, Some, Ok, Err, length, option_map, string_bytes}
 use Rattle.insn.specs.declared.insn.Insn.{Insn}
 use Rattle.codec.specs.Program.{IsFirstFault, SpellsProgram}
-use Rattle.codec.specs.declared.fault.Fault.TheVariants.{Length}
+use Rattle.codec.specs.declared.fault.CodecFault.TheVariants.{Length}
 use Rattle.codec.specs.declared.fault.CodecError.{CodecError}
 use Rattle.codec.specs.declared.fault.CodecError.TheVariants as codec
-use Rattle.elf.specs.Entry.{entry_of}
-use Rattle.elf.specs.declared.fault.Fault.{Fault}
+use Rattle.object.specs.Entry.{entry_of}
+use Rattle.object.specs.declared.fault.ObjectFault.{ObjectFault}
 use Rattle.asm.specs.Program.{program_of, said}
 use Rattle.toml.specs.Parse.{parse_document}
 use Rattle.trial.specs.Answers as trial
 use Rattle.trial.specs.declared.fault.SettingError.TheVariants as setting
 use Rattle.verify.specs.Judgement.{judged}
-use Rattle.command_line.specs.declared.tasks.Notation.{Notation}
-use Rattle.command_line.specs.declared.tasks.Notation.TheVariants as notation
-use Rattle.partial.specs.Reading.{bytes_said}
-use Rattle.inputs.specs.declared.refusal.Refusal.{Refusal}
-use Rattle.inputs.specs.declared.refusal.Refusal.TheVariants.{Codec, Object, Verifier, Assembly, Setting, Memory}
-use Rattle.inputs.specs.Refusals.{RefusesText}
+use Rattle.cli_words.specs.declared.tasks.Notation.{Notation}
+use Rattle.cli_words.specs.declared.tasks.Notation.TheVariants as notation
+use Rattle.asm.specs.Reading.{bytes_said}
+use Rattle.cli_tasks.specs.declared.refusal.InputRefusal.{InputRefusal}
+use Rattle.cli_tasks.specs.declared.refusal.InputRefusal.TheVariants.{Codec, Object, Verifier, Assembly, Setting, Memory}
+use Rattle.cli_tasks.specs.Refusals.{RefusesText}
 
 -- the bytes spell no program, by this first fault
 abbrev pub RefusesBytes : List ℕ → CodecError → Type 0
@@ -25,32 +25,32 @@ RefusesBytes bytes (codec.At fault unit) = IsFirstFault bytes fault unit
 RefusesBytes bytes codec.Memory = ⊥
 
 -- the verifier refuses the program, by this first fault
-abbrev pub RefusesProgram : List Insn → Refusal → Type 0
+abbrev pub RefusesProgram : List Insn → InputRefusal → Type 0
 RefusesProgram program (Verifier fault) = judged program ≡ Some fault
 RefusesProgram program Memory = Unit {0}
 RefusesProgram program _ = ⊥
 
 -- the bytes spell no program, or the verifier refuses the program that they spell
-abbrev pub RefusesCheck : List ℕ → Refusal → Type 0
+abbrev pub RefusesCheck : List ℕ → InputRefusal → Type 0
 RefusesCheck bytes (Codec error) = RefusesBytes bytes error
 RefusesCheck bytes (Verifier fault) =
     (program : List Insn) × SpellsProgram bytes program × (judged program ≡ Some fault)
 RefusesCheck bytes Memory = Unit {0}
 RefusesCheck bytes _ = ⊥
 
-abbrev pub RefusesDisassembly : List ℕ → Refusal → Type 0
+abbrev pub RefusesDisassembly : List ℕ → InputRefusal → Type 0
 RefusesDisassembly bytes (Codec error) = RefusesBytes bytes error
 RefusesDisassembly bytes Memory = Unit {0}
 RefusesDisassembly bytes _ = ⊥
 
 -- the text says no program, by this first fault
-abbrev pub RefusesAssembly : List ℕ → Refusal → Type 0
+abbrev pub RefusesAssembly : List ℕ → InputRefusal → Type 0
 RefusesAssembly text (Assembly error) = said text ≡ Err error
 RefusesAssembly text Memory = Unit {0}
 RefusesAssembly text _ = ⊥
 
 -- the text says no program, or the verifier refuses the program that it says
-abbrev pub RefusesCheckAssembly : List ℕ → Refusal → Type 0
+abbrev pub RefusesCheckAssembly : List ℕ → InputRefusal → Type 0
 RefusesCheckAssembly text (Assembly error) = said text ≡ Err error
 RefusesCheckAssembly text (Verifier fault) =
     (program : List Insn) × (program_of text ≡ Some program) × (judged program ≡ Some fault)
@@ -58,33 +58,33 @@ RefusesCheckAssembly text Memory = Unit {0}
 RefusesCheckAssembly text _ = ⊥
 
 -- the text tells no setting, by this first fault
-abbrev pub RefusesSetting : List ℕ → Refusal → Type 0
+abbrev pub RefusesSetting : List ℕ → InputRefusal → Type 0
 RefusesSetting text (Setting error) = (error ≢ setting.Memory) × trial.Reads (parse_document text) (Err error)
 RefusesSetting text Memory = Unit {0}
 RefusesSetting text _ = ⊥
 
 -- the object has no code for the entry, by this first fault, or its code is refused
-abbrev pub RefusesObject : (List ℕ → Refusal → Type 0) → Option (List ℕ) → List ℕ → Refusal → Type 0
+abbrev pub RefusesObject : (List ℕ → InputRefusal → Type 0) → Option (List ℕ) → List ℕ → InputRefusal → Type 0
 RefusesObject refuses name object refusal =
-    ((fault : Fault) × (refusal ≡ Object fault) × (entry_of object name ≡ Err fault))
+    ((fault : ObjectFault) × (refusal ≡ Object fault) × (entry_of object name ≡ Err fault))
     ⊎ ((code : List ℕ) × (entry_of object name ≡ Ok code) × refuses code refusal)
 
 -- the file has no program in its notation, or the verifier refuses the program
-abbrev pub RefusesCheckIn : Notation → List ℕ → Refusal → Type 0
+abbrev pub RefusesCheckIn : Notation → List ℕ → InputRefusal → Type 0
 RefusesCheckIn notation.Bytecode bytes refusal = RefusesCheck bytes refusal
 RefusesCheckIn notation.Assembly bytes refusal = RefusesText RefusesCheckAssembly bytes refusal
 RefusesCheckIn (notation.Object entry) bytes refusal =
     RefusesObject RefusesCheck (option_map string_bytes entry) bytes refusal
 
 -- the file has no program in its notation
-abbrev pub RefusesNotation : Notation → List ℕ → Refusal → Type 0
+abbrev pub RefusesNotation : Notation → List ℕ → InputRefusal → Type 0
 RefusesNotation notation.Bytecode bytes refusal = RefusesDisassembly bytes refusal
 RefusesNotation notation.Assembly bytes refusal = RefusesText RefusesAssembly bytes refusal
 RefusesNotation (notation.Object entry) bytes refusal =
     RefusesObject RefusesDisassembly (option_map string_bytes entry) bytes refusal
 
 -- the text says no bytes, by this first fault
-abbrev pub RefusesLines : List ℕ → Refusal → Type 0
+abbrev pub RefusesLines : List ℕ → InputRefusal → Type 0
 RefusesLines text (Assembly error) = bytes_said text ≡ Err error
 RefusesLines text Memory = Unit {0}
 RefusesLines text _ = ⊥
@@ -93,20 +93,20 @@ RefusesLines text _ = ⊥
 abbrev pub AreCut : List ℕ → CodecError → Type 0
 AreCut bytes error = (length bytes % 8 ≢ 0) × (error ≡ codec.At Length (length bytes / 8))
 
-abbrev pub RefusesUnits : List ℕ → Refusal → Type 0
+abbrev pub RefusesUnits : List ℕ → InputRefusal → Type 0
 RefusesUnits bytes (Codec error) = AreCut bytes error
 RefusesUnits bytes Memory = Unit {0}
 RefusesUnits bytes _ = ⊥
 
 -- the text says no bytes, or none that are whole units
-abbrev pub RefusesSaid : List ℕ → Refusal → Type 0
+abbrev pub RefusesSaid : List ℕ → InputRefusal → Type 0
 RefusesSaid text (Assembly error) = bytes_said text ≡ Err error
 RefusesSaid text (Codec error) = (bytes : List ℕ) × (bytes_said text ≡ Ok bytes) × AreCut bytes error
 RefusesSaid text Memory = Unit {0}
 RefusesSaid text _ = ⊥
 
 -- the file has no whole units in its notation
-abbrev pub RefusesParts : Notation → List ℕ → Refusal → Type 0
+abbrev pub RefusesParts : Notation → List ℕ → InputRefusal → Type 0
 RefusesParts notation.Bytecode bytes refusal = RefusesUnits bytes refusal
 RefusesParts notation.Assembly bytes refusal = RefusesText RefusesSaid bytes refusal
 RefusesParts (notation.Object entry) bytes refusal =

@@ -6,12 +6,12 @@ use Rattle.insn.specs.declared.insn.Insn.{Insn}
 use Rattle.asm.specs.Program.{lines_of, nothing, program_of, read_on}
 use Rattle.codec.specs.Program.{SpellsProgram}
 use Rattle.asm.specs.Places.{AreWritten, statements_of}
-use Rattle.elf.specs.Entry.{entry_of, function_of}
-use Rattle.debug_lines.specs.Places.{AreEntryPlaces}
+use Rattle.object.specs.Entry.{entry_of, function_of}
+use Rattle.object.specs.Places.{AreEntryPlaces}
 use Rattle.explain.specs.Explained.{explained_at}
 use Rattle.explain.specs.Units.{in_lists}
-use Rattle.command_line.specs.declared.tasks.Notation.{Notation}
-use Rattle.command_line.specs.declared.tasks.Notation.TheVariants.{Bytecode, Assembly, Object}
+use Rattle.cli_words.specs.declared.tasks.Notation.{Notation}
+use Rattle.cli_words.specs.declared.tasks.Notation.TheVariants.{Bytecode, Assembly, Object}
 
 -- the code of the object's entry, which has this name where it is named, spells the program
 abbrev pub HasEntry : Option (List ℕ) → List ℕ → List Insn → Type 0

@@ -1,8 +1,8 @@
 -- What is promised of the decisions and the verdict that a chronicle tells (TOPLAS 1982, Theorems 1 and 2).
 use Rattle.std.specs.Prelude.{ℕ, ◌≡◌, ◌<◌, false}
 use Rattle.label.specs.Oral.{IsFaithful}
-use Rattle.letter.specs.Letters.{messages}
-use Rattle.roster.specs.Scenario.{Scenario, is_traitor}
+use Rattle.round.specs.Letters.{messages}
+use Rattle.round.specs.Scenario.{Scenario, is_traitor}
 use Rattle.signed.specs.Promises.{AgreeUnderSignedBound, IsSignedVerdictOn}
 use Rattle.world.specs.Chronicle.{Chronicle}
 use Rattle.world.specs.Promises.{AgreeUnderBound, IsVerdictOn, IsWellUnderBound}

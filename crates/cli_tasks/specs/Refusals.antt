@@ -8,8 +8,8 @@ use Rattle.asm.specs.declared.fault.AsmError.TheVariants as asm
 use Rattle.book.specs.declared.fault.TableError.{TableError}
 use Rattle.book.specs.declared.fault.TableError.TheVariants as table
 use Rattle.toml.specs.Parse.{parse_document}
-use Rattle.retracing.specs.declared.fault.AccessesError.{AccessesError}
-use Rattle.retracing.specs.declared.fault.AccessesError.TheVariants as accesses
+use Rattle.campaign_schedules.specs.declared.fault.AccessesError.{AccessesError}
+use Rattle.campaign_schedules.specs.declared.fault.AccessesError.TheVariants as accesses
 use Rattle.scenario.specs.Reading.{Reads, ReadsAny}
 use Rattle.scenario.specs.declared.messages.Campaign.{Campaign}
 use Rattle.scenario.specs.declared.messages.Campaign.TheVariants.{Oral, Signed}
@@ -27,78 +27,78 @@ use Rattle.trace.specs.declared.fault.TraceError.{TraceError}
 use Rattle.trace.specs.declared.fault.TraceError.TheVariants as trace
 use Rattle.verify.specs.declared.error.VerifyError.{VerifyError}
 use Rattle.verify.specs.declared.error.VerifyError.TheVariants as verifier
-use Rattle.inputs.specs.declared.refusal.Refusal.{Refusal}
-use Rattle.inputs.specs.declared.refusal.Refusal.TheVariants.{Codec, Verifier, Assembly, Table, Scenario, Setting, Trace, Threads, Accesses, NotText, Memory}
+use Rattle.cli_tasks.specs.declared.refusal.InputRefusal.{InputRefusal}
+use Rattle.cli_tasks.specs.declared.refusal.InputRefusal.TheVariants.{Codec, Verifier, Assembly, Table, Scenario, Setting, Trace, Threads, Accesses, NotText, Memory}
 
 -- the refusal of each error: want of memory is the same everywhere
-abbrev pub codec_refusal : CodecError → Refusal
+abbrev pub codec_refusal : CodecError → InputRefusal
 codec_refusal codec.Memory = Memory
 codec_refusal error = Codec error
 
-abbrev pub verifier_refusal : VerifyError → Refusal
+abbrev pub verifier_refusal : VerifyError → InputRefusal
 verifier_refusal verifier.Memory = Memory
 verifier_refusal fault = Verifier fault
 
-abbrev pub assembly_refusal : AsmError → Refusal
+abbrev pub assembly_refusal : AsmError → InputRefusal
 assembly_refusal asm.Memory = Memory
 assembly_refusal error = Assembly error
 
-abbrev pub table_refusal : TableError → Refusal
+abbrev pub table_refusal : TableError → InputRefusal
 table_refusal table.Memory = Memory
 table_refusal error = Table error
 
-abbrev pub scenario_refusal : ScenarioError → Refusal
+abbrev pub scenario_refusal : ScenarioError → InputRefusal
 scenario_refusal scenario.Memory = Memory
 scenario_refusal error = Scenario error
 
-abbrev pub setting_refusal : SettingError → Refusal
+abbrev pub setting_refusal : SettingError → InputRefusal
 setting_refusal setting.Memory = Memory
 setting_refusal error = Setting error
 
-abbrev pub trace_refusal : TraceError → Refusal
+abbrev pub trace_refusal : TraceError → InputRefusal
 trace_refusal trace.Memory = Memory
 trace_refusal error = Trace error
 
-abbrev pub muster_refusal : MusterError → Refusal
+abbrev pub muster_refusal : MusterError → InputRefusal
 muster_refusal muster.Memory = Memory
 muster_refusal error = Threads error
 
 -- the text tells no oral campaign, by this first fault
-abbrev pub RefusesScenario : List ℕ → Refusal → Type 0
+abbrev pub RefusesScenario : List ℕ → InputRefusal → Type 0
 RefusesScenario text (Scenario error) = (error ≢ scenario.Memory) × Reads (parse_document text) (Err error)
 RefusesScenario text Memory = Unit {0}
 RefusesScenario text _ = ⊥
 
 -- the text tells no campaign, oral or signed, by this first fault
-abbrev pub RefusesCampaign : List ℕ → Refusal → Type 0
+abbrev pub RefusesCampaign : List ℕ → InputRefusal → Type 0
 RefusesCampaign text (Scenario error) = (error ≢ scenario.Memory) × ReadsAny (parse_document text) (Err error)
 RefusesCampaign text Memory = Unit {0}
 RefusesCampaign text _ = ⊥
 
 -- the text tells no campaign, or no oral one where its message table is asked for
-abbrev pub RefusesAsked : Bool → List ℕ → Refusal → Type 0
+abbrev pub RefusesAsked : Bool → List ℕ → InputRefusal → Type 0
 RefusesAsked true text refusal = RefusesCampaign text refusal
 RefusesAsked false text refusal = RefusesScenario text refusal
 
 -- the text tells no schedule, by this first line
-abbrev pub RefusesSchedule : List ℕ → Refusal → Type 0
+abbrev pub RefusesSchedule : List ℕ → InputRefusal → Type 0
 RefusesSchedule text (Trace error) = schedule_told text ≡ Err error
 RefusesSchedule text Memory = Unit {0}
 RefusesSchedule text _ = ⊥
 
 -- the text is no chronicle of the campaign, by this first line
-abbrev pub RefusesChronicle : Campaign → List ℕ → Refusal → Type 0
+abbrev pub RefusesChronicle : Campaign → List ℕ → InputRefusal → Type 0
 RefusesChronicle (Oral s) text (Trace error) = (IsSoundText s text → ⊥) × IsFaultOf s text error
 RefusesChronicle (Signed s) text (Trace error) = (IsSoundSignedText s text → ⊥) × IsSignedFaultOf s text error
 RefusesChronicle c text Memory = Unit {0}
 RefusesChronicle c text _ = ⊥
 
 -- the error of listed accesses
-abbrev pub accesses_refusal : AccessesError → Refusal
+abbrev pub accesses_refusal : AccessesError → InputRefusal
 accesses_refusal accesses.Memory = Memory
 accesses_refusal (accesses.At fault) = Accesses fault
 
 -- the bytes are no text, or the text is refused
-abbrev pub RefusesText : (List ℕ → Refusal → Type 0) → List ℕ → Refusal → Type 0
+abbrev pub RefusesText : (List ℕ → InputRefusal → Type 0) → List ℕ → InputRefusal → Type 0
 RefusesText refuses bytes NotText = IsUtf8 bytes → ⊥
 RefusesText refuses bytes refusal = refuses bytes refusal

@@ -1,8 +1,8 @@
 -- What is printed of a chronicle as a schedule.
 use Rattle.std.specs.Prelude.{ℕ, List, [], Option, unwrap_or}
-use Rattle.retracing.specs.Arranged.{IsArranged}
-use Rattle.retracing.specs.Retraced.{IsRetraced}
-use Rattle.roster.specs.Scenario.{Scenario}
+use Rattle.campaign_schedules.specs.Arranged.{IsArranged}
+use Rattle.campaign_schedules.specs.Retraced.{IsRetraced}
+use Rattle.round.specs.Scenario.{Scenario}
 use Rattle.scenario.specs.Reading.{Tells}
 use Rattle.trace.specs.Laws.{IsSoundText}
 

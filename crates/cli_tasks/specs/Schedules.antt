@@ -1,8 +1,8 @@
 -- The campaign and the schedule that two files tell, and the chronicle that these have.
 use Rattle.std.specs.Prelude.{ℕ, ◌≡◌, Bool, true, false, List, [], Option, None, Some, Ok}
-use Rattle.command_line.specs.declared.tasks.Account.{Account}
-use Rattle.command_line.specs.declared.tasks.Account.TheVariants as accounts
-use Rattle.roster.specs.Scenario.{Scenario}
+use Rattle.cli_words.specs.declared.tasks.Account.{Account}
+use Rattle.cli_words.specs.declared.tasks.Account.TheVariants as accounts
+use Rattle.round.specs.Scenario.{Scenario}
 use Rattle.world.specs.declared.schedule.Repeat.{Repeat}
 use Rattle.world.specs.Chronicle.{Chronicle, chronicle_of}
 use Rattle.world.specs.Lists.{listed}

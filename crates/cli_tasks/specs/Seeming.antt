@@ -2,10 +2,10 @@
 use Rattle.std.specs.Prelude.{ℕ, Bool, ◌||◌, ◌==◌, nat_eq, List, ◌∷◌, length, take, Option, None, Some, codes, if◌then◌else◌}
 use Rattle.std.specs.List.{list_all, starts_with}
 use Rattle.std.specs.Char.{is_ascii_graphic, is_ascii_hexdigit, is_ascii_whitespace}
-use Rattle.faults.specs.declared.seeming.Likeness.{Likeness}
-use Rattle.inputs.specs.declared.refusal.Refusal.{Refusal}
-use Rattle.inputs.specs.declared.refusal.Refusal.TheVariants.{Codec}
-use Rattle.faults.specs.declared.seeming.Likeness.TheVariants.{Hex, Object, Text}
+use Rattle.cli_tasks.specs.declared.likeness.Likeness.{Likeness}
+use Rattle.cli_tasks.specs.declared.refusal.InputRefusal.{InputRefusal}
+use Rattle.cli_tasks.specs.declared.refusal.InputRefusal.TheVariants.{Codec}
+use Rattle.cli_tasks.specs.declared.likeness.Likeness.TheVariants.{Hex, Object, Text}
 
 -- a digit in hex, or white space
 abbrev pub is_of_hex : ℕ → Bool
@@ -33,7 +33,7 @@ unfoldable pub seems_at_first : List ℕ → Option Likeness
 seems_at_first bytes = seems_of (take 32768 bytes)
 
 -- what bytes seem to be that are refused so: only such as spell no program seem to be anything
-abbrev pub likeness_of : Refusal → List ℕ → Option Likeness
+abbrev pub likeness_of : InputRefusal → List ℕ → Option Likeness
 likeness_of (Codec error) bytes = seems_at_first bytes
 likeness_of _ bytes = None
 

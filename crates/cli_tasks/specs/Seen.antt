@@ -4,12 +4,12 @@ use Rattle.std.specs.Str.{IsUtf8}
 use Rattle.std.specs.List.{AllZip}
 use Rattle.toml.specs.Data.{Members}
 use Rattle.toml.specs.Parse.{parse_document}
-use Rattle.command_line.specs.declared.tasks.Task.{Task}
-use Rattle.command_line.specs.declared.tasks.Task.TheVariants.{Play, Muster, Audit, Explore, Tree, Draw, Page, Retrace}
-use Rattle.references.specs.Names.{File}
-use Rattle.references.specs.Resolved.{Resolves}
-use Rattle.references.specs.Asking.{asked}
-use Rattle.neighbours.specs.Taken.{IsBeside}
+use Rattle.cli_words.specs.declared.tasks.Task.{Task}
+use Rattle.cli_words.specs.declared.tasks.Task.TheVariants.{Play, Muster, Audit, Explore, Tree, Draw, Page, Retrace}
+use Rattle.scenario.specs.ReferenceNames.{File}
+use Rattle.scenario.specs.Resolved.{Resolves}
+use Rattle.scenario.specs.Asking.{asked}
+use Rattle.cli_tasks.specs.Taken.{IsBeside}
 
 -- the task's first file is a scenario, or may be one
 abbrev pub reads_scenario : Task → Bool

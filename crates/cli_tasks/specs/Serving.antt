@@ -1,40 +1,40 @@
 -- How a task on its files ends. What a file has and what a stream holds are given where they are known.
 use Rattle.std.specs.Prelude.{ℕ, ◌≡◌, ◌≢◌, ◌⊎◌, Bool, true, false, List, [], ◌∷◌, ◌++◌, Option, None, Some, IfSome, IsSomeAnd, codes, option_map, unwrap_or}
 use Rattle.std.specs.Io.KnownBytes.{Appends}
-use Rattle.command_line.specs.Tasks.{file_of, second_of}
-use Rattle.command_line.specs.declared.tasks.Account.{Account}
-use Rattle.command_line.specs.declared.tasks.Lieutenants.{Lieutenants}
-use Rattle.command_line.specs.declared.tasks.Notation.{Notation}
-use Rattle.command_line.specs.declared.tasks.Task.{Task}
+use Rattle.cli_words.specs.Tasks.{file_of, second_of}
+use Rattle.cli_words.specs.declared.tasks.Account.{Account}
+use Rattle.cli_words.specs.declared.tasks.Lieutenants.{Lieutenants}
+use Rattle.cli_words.specs.declared.tasks.Notation.{Notation}
+use Rattle.cli_words.specs.declared.tasks.Task.{Task}
 use Rattle.insn.specs.declared.insn.Insn.{Insn}
 use Rattle.label.specs.declared.shape.Shape.{Shape}
-use Rattle.roster.specs.Scenario.{Scenario}
+use Rattle.round.specs.Scenario.{Scenario}
 use Rattle.scenario.specs.declared.messages.Campaign.{Campaign}
 use Rattle.scenario.specs.declared.messages.Campaign.TheVariants.{Oral}
 use Rattle.world.specs.declared.schedule.Repeat.{Repeat}
-use Rattle.inputs.specs.declared.refusal.Refusal.{Refusal}
-use Rattle.inputs.specs.declared.refusal.Refusal.TheVariants.{NotText, Memory}
-use Rattle.lab.specs.declared.first_answer.FirstAnswer.{FirstAnswer}
-use Rattle.lab.specs.declared.first_answer.FirstAnswer.TheVariants as answer
-use Rattle.lab.specs.Answers.{GoesOn, IsPlace, Prints}
-use Rattle.program_tasks.specs.Answers.{IsTriedAt, IsTriedBy}
-use Rattle.campaign_tasks.specs.Campaigns.{IsAudited, IsPlayed}
-use Rattle.inputs.specs.Schedules.{IsSchedule}
-use Rattle.picture_tasks.specs.Diagrams.{IsCampaignDrawn, IsRecordDrawn}
-use Rattle.picture_tasks.specs.Pages.{IsCampaignPaged, IsRecordTold}
-use Rattle.campaign_tasks.specs.Retracing.{IsScheduleFor}
+use Rattle.cli_tasks.specs.declared.refusal.InputRefusal.{InputRefusal}
+use Rattle.cli_tasks.specs.declared.refusal.InputRefusal.TheVariants.{NotText, Memory}
+use Rattle.cli_tasks.specs.declared.first_answer.FirstAnswer.{FirstAnswer}
+use Rattle.cli_tasks.specs.declared.first_answer.FirstAnswer.TheVariants as answer
+use Rattle.cli_tasks.specs.TaskAnswers.{GoesOn, IsPlace, Prints}
+use Rattle.cli_tasks.specs.Answers.{IsTriedAt, IsTriedBy}
+use Rattle.cli_tasks.specs.Campaigns.{IsAudited, IsPlayed}
+use Rattle.cli_tasks.specs.Schedules.{IsSchedule}
+use Rattle.cli_tasks.specs.Diagrams.{IsCampaignDrawn, IsRecordDrawn}
+use Rattle.cli_tasks.specs.Pages.{IsCampaignPaged, IsRecordTold}
+use Rattle.cli_tasks.specs.Retracing.{IsScheduleFor}
 use Rattle.streams.specs.Names.{shown}
 use Rattle.streams.specs.Reading.{AreBytes}
-use Rattle.faults.specs.Hints.{hint_behind}
-use Rattle.lab.specs.Hints.{IsHint}
-use Rattle.faults.specs.declared.hint.Hint.{Hint}
-use Rattle.inputs.specs.ErrorText.{refusal_text}
-use Rattle.faults.specs.Whys.{Role, TellsWhyOf, is_explained}
-use Rattle.faults.specs.Whys as role
-use Rattle.lab.specs.Refusals.{Refuses}
-use Rattle.inputs.specs.Refusals.{RefusesChronicle, RefusesSchedule, RefusesText}
-use Rattle.campaign_tasks.specs.Refusals.{RefusesMuster}
-use Rattle.program_tasks.specs.Refusals.{RefusesSetting}
+use Rattle.cli_tasks.specs.Hints.{hint_behind}
+use Rattle.cli_tasks.specs.TaskHints.{IsHint}
+use Rattle.cli_tasks.specs.declared.hint.Hint.{Hint}
+use Rattle.cli_tasks.specs.ErrorText.{refusal_text}
+use Rattle.cli_tasks.specs.Whys.{Role, TellsWhyOf, is_explained}
+use Rattle.cli_tasks.specs.Whys as role
+use Rattle.cli_tasks.specs.TaskRefusals.{Refuses}
+use Rattle.cli_tasks.specs.Refusals.{RefusesChronicle, RefusesSchedule, RefusesText}
+use Rattle.cli_tasks.specs.CampaignRefusals.{RefusesMuster}
+use Rattle.cli_tasks.specs.ProgramRefusals.{RefusesSetting}
 
 -- the only or first file's bytes, and the second's where there is one
 pub record Files : Type 0 where
@@ -130,7 +130,7 @@ abbrev pub IsPrinted : Task → Files → Option (List ℕ) → Option (List ℕ
 IsPrinted task files old new = (text : List ℕ) × IsAnswer task files text × Appends old new text
 
 -- the task refuses its only or first file so, and not for want of memory; and this is said behind it
-abbrev pub IsRefused : Task → Option (List ℕ) → Refusal → Option Hint → Type 0
+abbrev pub IsRefused : Task → Option (List ℕ) → InputRefusal → Option Hint → Type 0
 IsRefused task known refusal hint =
     (refusal ≢ Memory) × ((bytes : List ℕ) × AreBytes known bytes × Refuses task bytes refusal)
     × IfSome known (λ all. IsHint refusal task all hint)
@@ -140,27 +140,27 @@ abbrev pub IsTaken : Task → Option (List ℕ) → FirstAnswer → Type 0
 IsTaken task known more = (bytes : List ℕ) × AreBytes known bytes × GoesOn task bytes more
 
 -- the second file is refused so as a setting, and not for want of memory
-abbrev pub IsSettingRefused : Option (Option (List ℕ)) → Refusal → Type 0
+abbrev pub IsSettingRefused : Option (Option (List ℕ)) → InputRefusal → Type 0
 IsSettingRefused known refusal =
     (refusal ≢ Memory) × ((bytes : List ℕ) × AreSecondBytes known bytes × RefusesText RefusesSetting bytes refusal)
 
 -- the second file is there and refused so as a schedule, and not for want of memory
-abbrev pub IsScheduleRefused : Option (Option (List ℕ)) → Refusal → Type 0
+abbrev pub IsScheduleRefused : Option (Option (List ℕ)) → InputRefusal → Type 0
 IsScheduleRefused known refusal =
     (refusal ≢ Memory) × ((bytes : List ℕ) × AreSecond known (Some bytes) × RefusesText RefusesSchedule bytes refusal)
 
 -- the second file is refused so as a chronicle of the campaign, and not for want of memory
-abbrev pub IsChronicleRefused : Campaign → Option (Option (List ℕ)) → Refusal → Type 0
+abbrev pub IsChronicleRefused : Campaign → Option (Option (List ℕ)) → InputRefusal → Type 0
 IsChronicleRefused c known refusal =
     (refusal ≢ Memory) × ((bytes : List ℕ) × AreSecondBytes known bytes
     × RefusesText (RefusesChronicle c) bytes refusal)
 
 -- the threads gave no chronicle so, and not for want of memory
-abbrev pub IsUnmustered : Refusal → Type 0
+abbrev pub IsUnmustered : InputRefusal → Type 0
 IsUnmustered refusal = (refusal ≢ Memory) × RefusesMuster refusal
 
 -- behind a first file with which a task goes on so, it refuses so
-abbrev pub IsRefusedLater : FirstAnswer → Option (Option (List ℕ)) → Refusal → Type 0
+abbrev pub IsRefusedLater : FirstAnswer → Option (Option (List ℕ)) → InputRefusal → Type 0
 IsRefusedLater (answer.Trial program told) known refusal = IsSettingRefused known refusal
 IsRefusedLater (answer.Play c account explained) known refusal = IsScheduleRefused known refusal
 IsRefusedLater (answer.Muster s explained) known refusal = IsUnmustered refusal
@@ -179,7 +179,7 @@ IfKnown (Some known) P = IfSome known P
 
 -- what is said behind this refusal of a second file with this name: nothing or, where an explanation is asked for, the
 -- report
-abbrev pub IsHintLater : Bool → List ℕ → Option (Option (List ℕ)) → Role → Refusal → Option Hint → Type 0
+abbrev pub IsHintLater : Bool → List ℕ → Option (Option (List ℕ)) → Role → InputRefusal → Option Hint → Type 0
 IsHintLater false name known of refusal hint = hint ≡ None
 IsHintLater true name known of refusal hint = IfKnown known (λ all. TellsWhyOf refusal of name all (hint_behind hint))
 
@@ -192,12 +192,12 @@ role_behind (answer.Page c text) = role.Schedule
 role_behind _ = role.Nothing
 
 -- behind such a first file it refuses so, and this is said behind it
-abbrev pub IsToldLater : Bool → List ℕ → Option (Option (List ℕ)) → FirstAnswer → Refusal → Option Hint → Type 0
+abbrev pub IsToldLater : Bool → List ℕ → Option (Option (List ℕ)) → FirstAnswer → InputRefusal → Option Hint → Type 0
 IsToldLater explained name known more refusal hint =
     IsRefusedLater more known refusal × IsHintLater explained name known (role_behind more) refusal hint
 
 -- the second file is refused so as a schedule, and this is said behind it
-abbrev pub IsScheduleTold : Bool → List ℕ → Option (Option (List ℕ)) → Refusal → Option Hint → Type 0
+abbrev pub IsScheduleTold : Bool → List ℕ → Option (Option (List ℕ)) → InputRefusal → Option Hint → Type 0
 IsScheduleTold explained name known refusal hint =
     IsScheduleRefused known refusal × IsHintLater explained name known role.Schedule refusal hint
 
@@ -212,15 +212,15 @@ TellsName tells words name = IfSome (shown name) (λ told. tells (words ++ told)
 
 -- the lines that tell of a refusal of the file with this name: its code and its place, and behind them what the file
 -- seems to be, or why it is refused
-abbrev pub TellsRefusal : List ℕ → (List ℕ → Type 0) → Refusal → Option Hint → Type 0
+abbrev pub TellsRefusal : List ℕ → (List ℕ → Type 0) → InputRefusal → Option Hint → Type 0
 TellsRefusal name tells NotText hint = TellsName tells (codes "fault text ") name
 TellsRefusal name tells refusal hint = tells (codes "refused " ++ refusal_text refusal ++ hint_behind hint)
 
 -- the file with this name was not read, since its reader failed, or a refusal has come; and a line says so
-abbrev pub IsTurnedDown : Type 0 → (Refusal → Option Hint → Type 0) → List ℕ → (List ℕ → Type 0) → Type 0
+abbrev pub IsTurnedDown : Type 0 → (InputRefusal → Option Hint → Type 0) → List ℕ → (List ℕ → Type 0) → Type 0
 IsTurnedDown unread refused name tells =
     (unread × TellsName tells (codes "fault read ") name)
-    ⊎ ((refusal : Refusal) × ((hint : Option Hint) × refused refusal hint × TellsRefusal name tells refusal hint))
+    ⊎ ((refusal : InputRefusal) × ((hint : Option Hint) × refused refusal hint × TellsRefusal name tells refusal hint))
 
 -- the output failed on the task's answer, of which so much was written, and a line says so
 abbrev pub IsUnwritten : Type 0 → (List ℕ → Type 0) → Task → Files → (List ℕ → Type 0) → Type 0

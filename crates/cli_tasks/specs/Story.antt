@@ -1,7 +1,7 @@
 -- The story of a scenario: the comments and blank lines at its head (own; TOML 1.0, "Comment").
 use Rattle.std.specs.Prelude.{ℕ, ◌==◌, Bool, true, false, ◌||◌, ◌&&◌, not, if◌then◌else◌, List, [], ◌∷◌, ◌++◌, bytes_eq}
-use Rattle.command_line.specs.declared.tasks.Task.{Task}
-use Rattle.command_line.specs.declared.tasks.Task.TheVariants.{Page}
+use Rattle.cli_words.specs.declared.tasks.Task.{Task}
+use Rattle.cli_words.specs.declared.tasks.Task.TheVariants.{Page}
 
 -- a blank, a tab, or what ends a line
 abbrev pub is_blank : ℕ → Bool

@@ -2,11 +2,11 @@
 use Rattle.std.specs.Prelude.{ℕ, ◌≡◌, ◌==◌, ◌||◌, Bool, true, false, if◌then◌else◌, nat_le, List, [], ◌∷◌, Option, None, Some, Ok, find}
 use Rattle.book.specs.Grammar.{table_told}
 use Rattle.book.specs.Table.{MessageTable}
-use Rattle.roster.specs.Scenario.{Scenario}
+use Rattle.round.specs.Scenario.{Scenario}
 use Rattle.scenario.specs.Reading.{Tells}
-use Rattle.tables.specs.Numbers.{HasGenerals as AreNumbersOf}
-use Rattle.inputs.specs.declared.refusal.Refusal.{Refusal}
-use Rattle.inputs.specs.declared.refusal.Refusal.TheVariants.{Stranger}
+use Rattle.book.specs.Numbers.{HasGenerals as AreNumbersOf}
+use Rattle.cli_tasks.specs.declared.refusal.InputRefusal.{InputRefusal}
+use Rattle.cli_tasks.specs.declared.refusal.InputRefusal.TheVariants.{Stranger}
 
 -- the first of those who are named and are none of so many generals
 abbrev pub stranger_among : ℕ → List ℕ → Option ℕ
@@ -49,15 +49,15 @@ abbrev pub KnowsLiar : List ℕ → List ℕ → List ℕ → Option ℕ → Typ
 KnowsLiar n m c liar = (generals : ℕ) × AreNumbersOf n m c generals × (stranger_among generals (liars liar) ≡ None)
 
 -- the refusal tells this one, and of how many he is to be
-abbrev pub IsOf : ℕ → Option ℕ → Refusal → Type 0
+abbrev pub IsOf : ℕ → Option ℕ → InputRefusal → Type 0
 IsOf generals one (Stranger general all) = (all ≡ generals) × (one ≡ Some general)
 IsOf generals one _ = ⊥
 
 -- the refusal tells the first who is named and is none of so many
-abbrev pub IsStranger : ℕ → List ℕ → Refusal → Type 0
+abbrev pub IsStranger : ℕ → List ℕ → InputRefusal → Type 0
 IsStranger generals named refusal = IsOf generals (stranger_among generals named) refusal
 
 -- it tells who is no lieutenant whose tree is to be drawn, or no traitor who is marked in it
-abbrev pub IsStrangerToTree : ℕ → ℕ → ℕ → List ℕ → Refusal → Type 0
+abbrev pub IsStrangerToTree : ℕ → ℕ → ℕ → List ℕ → InputRefusal → Type 0
 IsStrangerToTree generals commander general traitors refusal =
     IsOf generals (stranger_to_tree generals commander general traitors) refusal

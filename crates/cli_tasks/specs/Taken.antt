@@ -5,27 +5,27 @@ use Rattle.std.specs.Fmt.{decimal}
 use Rattle.std.specs.declared.io.ErrorKind.{ErrorKind}
 use Rattle.std.specs.declared.io.ErrorKind.TheVariants.{OutOfMemory}
 use Rattle.hex.specs.Hex.{encode_lower}
-use Rattle.elf.specs.declared.fault.Fault.{Fault}
-use Rattle.elf.specs.Entry.{entry_of}
-use Rattle.elf.specs.Sentences.{sentence_of}
-use Rattle.elf.specs.ErrorText.{told}
+use Rattle.object.specs.declared.fault.ObjectFault.{ObjectFault}
+use Rattle.object.specs.Entry.{entry_of}
+use Rattle.object.specs.Sentences.{sentence_of}
+use Rattle.object.specs.ErrorText.{told}
 use Rattle.streams.specs.Names.{shown}
-use Rattle.references.specs.declared.key.Key.{Key}
-use Rattle.references.specs.declared.key.Key.TheVariants.{Assembly, Bytecode, Object}
-use Rattle.references.specs.Asking.{Asked}
-use Rattle.references.specs.Names.{File, reference_of}
-use Rattle.neighbours.specs.declared.naming.Untaken.{Untaken}
-use Rattle.neighbours.specs.declared.naming.Untaken.TheVariants.{Told, Memory}
+use Rattle.scenario.specs.declared.reference_key.ReferenceKey.{ReferenceKey}
+use Rattle.scenario.specs.declared.reference_key.ReferenceKey.TheVariants.{Assembly, Bytecode, Object}
+use Rattle.scenario.specs.Asking.{Asked}
+use Rattle.scenario.specs.ReferenceNames.{File, reference_of}
+use Rattle.cli_tasks.specs.declared.named_files.FileProblem.{FileProblem}
+use Rattle.cli_tasks.specs.declared.named_files.FileProblem.TheVariants.{Told, Memory}
 
 -- what stands in the place of a file of these bytes: its text where it is assembly, else bytecode in hex, of an object
 -- that of its function
-abbrev pub IsTextOf : Key → Option (List ℕ) → List ℕ → List ℕ → Type 0
+abbrev pub IsTextOf : ReferenceKey → Option (List ℕ) → List ℕ → List ℕ → Type 0
 IsTextOf Assembly function bytes text = text ≡ bytes
 IsTextOf Bytecode function bytes text = text ≡ encode_lower bytes
 IsTextOf Object function bytes text = (code : List ℕ) × (entry_of bytes function ≡ Ok code) × (text ≡ encode_lower code)
 
 -- which function is asked for: of an object alone
-abbrev pub function_in : Key → Option (List ℕ) → Option (List ℕ)
+abbrev pub function_in : ReferenceKey → Option (List ℕ) → Option (List ℕ)
 function_in Object function = function
 function_in key function = None
 
@@ -45,7 +45,7 @@ abbrev pub IsBeside : (List ℕ → Option (List ℕ)) → Asked → File → Ty
 IsBeside known a f = (bytes : List ℕ) × AreBytes known a.name bytes × IsFile a bytes f
 
 -- what is told of a file of this name, as it is shown: that it cannot be read, or is no text
-abbrev pub fault_lines : ℕ → Key → List ℕ → List ℕ → List ℕ
+abbrev pub fault_lines : ℕ → ReferenceKey → List ℕ → List ℕ → List ℕ
 fault_lines index key fault name =
     codes "fault " ++ fault ++ codes " " ++ name ++ codes "\nit is named by traitor[" ++ decimal index ++ codes "]."
     ++ reference_of key
@@ -54,13 +54,13 @@ abbrev pub fault_told : Asked → List ℕ → List ℕ → List ℕ
 fault_told a fault name = fault_lines a.index a.key fault name
 
 -- that an object has this fault
-abbrev pub refused_lines : ℕ → Key → Fault → List ℕ → List ℕ
+abbrev pub refused_lines : ℕ → ReferenceKey → ObjectFault → List ℕ → List ℕ
 refused_lines index key fault name =
     codes "refused " ++ told fault ++ codes "\n" ++ sentence_of fault ++ codes "\n" ++ name
     ++ codes " is named by traitor["
     ++ decimal index ++ codes "]." ++ reference_of key
 
-abbrev pub refused_told : Asked → Fault → List ℕ → List ℕ
+abbrev pub refused_told : Asked → ObjectFault → List ℕ → List ℕ
 refused_told a fault name = refused_lines a.index a.key fault name
 
 -- the lines, with the file's name as it is shown; of such a name past ASCII nothing is said
@@ -71,7 +71,7 @@ IsNamed a lines text = IfSome (shown a.name) (λ name. text ≡ lines name)
 abbrev pub IsFaultIn : Asked → List ℕ → List ℕ → Type 0
 IsFaultIn a bytes text =
     ((a.key ≡ Assembly) × (IsUtf8 bytes → ⊥) × IsNamed a (fault_told a (codes "text")) text)
-    ⊎ ((fault : Fault) × (a.key ≡ Object) × (entry_of bytes a.function ≡ Err fault)
+    ⊎ ((fault : ObjectFault) × (a.key ≡ Object) × (entry_of bytes a.function ≡ Err fault)
     × IsNamed a (refused_told a fault) text)
 
 -- of a file whose read failed so, or of one that has such bytes
@@ -81,22 +81,22 @@ IsFaultOf known fails a text (Some kind) = fails a.name kind × IsNamed a (fault
 IsFaultOf known fails a text None = (bytes : List ℕ) × AreBytes known a.name bytes × IsFaultIn a bytes text
 
 -- it is not taken, and this is told of it; or want of memory
-abbrev pub IsUntakenOf : (List ℕ → Option (List ℕ)) → (List ℕ → ErrorKind → Type 0) → Asked → Untaken → Type 0
+abbrev pub IsUntakenOf : (List ℕ → Option (List ℕ)) → (List ℕ → ErrorKind → Type 0) → Asked → FileProblem → Type 0
 IsUntakenOf known fails a (Told lines kind) = IsFaultOf known fails a (string_bytes lines) kind
 IsUntakenOf known fails a Memory = Unit {0}
 
 -- the same of a read that failed so, which is want of memory only where it failed for that; and of these bytes
-abbrev pub IsUnread : Asked → ErrorKind → Untaken → Type 0
+abbrev pub IsUnread : Asked → ErrorKind → FileProblem → Type 0
 IsUnread a failed (Told lines kind) =
     (kind ≡ Some failed) × IsNamed a (fault_told a (codes "read")) (string_bytes lines)
 IsUnread a failed Memory = failed ≡ OutOfMemory
 
-abbrev pub IsUntakenIn : Asked → List ℕ → Untaken → Type 0
+abbrev pub IsUntakenIn : Asked → List ℕ → FileProblem → Type 0
 IsUntakenIn a bytes (Told lines kind) = (kind ≡ None) × IsFaultIn a bytes (string_bytes lines)
 IsUntakenIn a bytes Memory = Unit {0}
 
 -- the same of the first of those that are asked for which is not taken: the files before it are
-abbrev pub IsUntaken : (List ℕ → Option (List ℕ)) → (List ℕ → ErrorKind → Type 0) → List Asked → Untaken → Type 0
+abbrev pub IsUntaken : (List ℕ → Option (List ℕ)) → (List ℕ → ErrorKind → Type 0) → List Asked → FileProblem → Type 0
 IsUntaken known fails asked (Told lines kind) =
     (before : List Asked) × (a : Asked) × (rest : List Asked) × (files : List File) × (asked ≡ before ++ a ∷ rest)
     × AllZip (IsBeside known) before files × IsFaultOf known fails a (string_bytes lines) kind

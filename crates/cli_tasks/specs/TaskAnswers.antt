@@ -2,30 +2,30 @@
 use Rattle.std.specs.Prelude.{ℕ, ◌≡◌, Bool, List, [], Option, None, Some, string_bytes, unwrap_or}
 use Rattle.label.specs.declared.shape.Shape.{Shape}
 use Rattle.semantics.specs.Run.{IsSound}
-use Rattle.command_line.specs.declared.tasks.Notation.{Notation}
-use Rattle.command_line.specs.declared.tasks.Spelling.TheVariants.{Hex, Raw}
-use Rattle.command_line.specs.declared.tasks.Task.{Task}
-use Rattle.command_line.specs.declared.tasks.Task.TheVariants.{Check, Assemble, AssemblePartly, Disassemble, DisassemblePartly, Book, ExplainDecisions, Form, Play, Muster, Audit, Explore, Tree, Draw, Page, Retrace}
-use Rattle.command_line.specs.declared.tasks.Accesses.TheVariants.{OfChronicle, Listed}
-use Rattle.command_line.specs.declared.tasks.Course.TheVariants.{Scheduled, Recorded}
+use Rattle.cli_words.specs.declared.tasks.Notation.{Notation}
+use Rattle.cli_words.specs.declared.tasks.Spelling.TheVariants.{Hex, Raw}
+use Rattle.cli_words.specs.declared.tasks.Task.{Task}
+use Rattle.cli_words.specs.declared.tasks.Task.TheVariants.{Check, Assemble, AssemblePartly, Disassemble, DisassemblePartly, Book, ExplainDecisions, Form, Play, Muster, Audit, Explore, Tree, Draw, Page, Retrace}
+use Rattle.cli_words.specs.declared.tasks.Accesses.TheVariants.{OfChronicle, Listed}
+use Rattle.cli_words.specs.declared.tasks.Course.TheVariants.{Scheduled, Recorded}
 use Rattle.scenario.specs.Reading.{Tells, TellsAny}
-use Rattle.tables.specs.Answers.{DecidesTable, ExplainsTable, IsFilled, IsFormOf}
+use Rattle.book.specs.Answers.{DecidesTable, ExplainsTable, IsFilled, IsFormOf}
 use Rattle.verify.specs.Judgement.{judged}
 use Rattle.trial.specs.Setting.{Setting}
 use Rattle.trial.specs.Answers.{Tells as TellsSetting}
-use Rattle.campaign_tasks.specs.Exploring.{Explores}
-use Rattle.program_tasks.specs.Programs.{HasProgram}
-use Rattle.campaign_tasks.specs.Campaigns.{Audits, Musters, Plays}
-use Rattle.inputs.specs.Schedules.{TellsCampaign, is_chronicle}
-use Rattle.picture_tasks.specs.Diagrams.{Draws}
-use Rattle.program_tasks.specs.Parts.{AssemblesPartly, AssemblesPartlyRaw, DisassemblesPartly}
-use Rattle.table_tasks.specs.Picturing.{Pictures, is_toml}
-use Rattle.picture_tasks.specs.Pages.{TellsPage}
-use Rattle.campaign_tasks.specs.Retracing.{Arranges, Retraces}
-use Rattle.table_tasks.specs.Strangers.{KnowsAll, KnowsLiar, KnowsTree}
-use Rattle.lab.specs.declared.first_answer.FirstAnswer.{FirstAnswer}
-use Rattle.lab.specs.declared.first_answer.FirstAnswer.TheVariants as answer
-use Rattle.program_tasks.specs.Answers.{IsChecked, Tries, AssemblesRaw, Assembles, Disassembles}
+use Rattle.cli_tasks.specs.Exploring.{Explores}
+use Rattle.cli_tasks.specs.Programs.{HasProgram}
+use Rattle.cli_tasks.specs.Campaigns.{Audits, Musters, Plays}
+use Rattle.cli_tasks.specs.Schedules.{TellsCampaign, is_chronicle}
+use Rattle.cli_tasks.specs.Diagrams.{Draws}
+use Rattle.cli_tasks.specs.Parts.{AssemblesPartly, AssemblesPartlyRaw, DisassemblesPartly}
+use Rattle.cli_tasks.specs.Picturing.{Pictures, is_toml}
+use Rattle.cli_tasks.specs.Pages.{TellsPage}
+use Rattle.cli_tasks.specs.Retracing.{Arranges, Retraces}
+use Rattle.cli_tasks.specs.Strangers.{KnowsAll, KnowsLiar, KnowsTree}
+use Rattle.cli_tasks.specs.declared.first_answer.FirstAnswer.{FirstAnswer}
+use Rattle.cli_tasks.specs.declared.first_answer.FirstAnswer.TheVariants as answer
+use Rattle.cli_tasks.specs.Answers.{IsChecked, Tries, AssemblesRaw, Assembles, Disassembles}
 
 -- the task prints this text on files of these bytes
 abbrev pub Prints : Task → List ℕ → Option (List ℕ) → List ℕ → Type 0

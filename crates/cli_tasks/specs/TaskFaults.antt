@@ -1,21 +1,21 @@
 -- Why a task is not done.
 use Rattle.std.specs.Prelude.{ℕ, ◌⊎◌, List, Option}
-use Rattle.command_line.specs.declared.tasks.Task.{Task}
-use Rattle.lab.specs.declared.first_answer.FirstAnswer.{FirstAnswer}
-use Rattle.faults.specs.declared.failure.Failure.{Failure}
-use Rattle.faults.specs.declared.failure.Failure.TheVariants.{Write}
-use Rattle.faults.specs.Whys.{is_explained}
-use Rattle.lab.specs.Serving.{Files, HasAnswer, IsRefused, IsTaken, IsToldLater, first_name, second_name}
+use Rattle.cli_words.specs.declared.tasks.Task.{Task}
+use Rattle.cli_tasks.specs.declared.first_answer.FirstAnswer.{FirstAnswer}
+use Rattle.cli_tasks.specs.declared.failure.TaskFailure.{TaskFailure}
+use Rattle.cli_tasks.specs.declared.failure.TaskFailure.TheVariants.{Write}
+use Rattle.cli_tasks.specs.Whys.{is_explained}
+use Rattle.cli_tasks.specs.Serving.{Files, HasAnswer, IsRefused, IsTaken, IsToldLater, first_name, second_name}
 use Rattle.streams.specs.Reading.{AreBytes}
-use Rattle.faults.specs.Faults.{Stops}
+use Rattle.cli_tasks.specs.Faults.{Stops}
 
 -- why a first file with these bytes stops a task: not since its reader failed
-abbrev pub StopsFirst : Task → List ℕ → Failure → Type 0
+abbrev pub StopsFirst : Task → List ℕ → TaskFailure → Type 0
 StopsFirst task bytes fault =
     (known : Option (List ℕ)) → AreBytes known bytes → Stops ⊥ (IsRefused task known) (first_name task) fault
 
 -- why a task has no answer: its first file stops it, or what comes behind one that is taken
-abbrev pub Prevents : Type 0 → Type 0 → Task → Files → Failure → Type 0
+abbrev pub Prevents : Type 0 → Type 0 → Task → Files → TaskFailure → Type 0
 Prevents unread second_unread task files fault =
     Stops unread (IsRefused task files.first) (first_name task) fault
     ⊎ ((more : FirstAnswer) × IsTaken task files.first more
@@ -24,6 +24,6 @@ Prevents unread second_unread task files fault =
 
 -- why a task is not done: it has no answer, or the output failed on its answer, of which at most a beginning was
 -- written
-abbrev pub Undoes : Type 0 → Type 0 → Type 0 → (List ℕ → Type 0) → Task → Files → Failure → Type 0
+abbrev pub Undoes : Type 0 → Type 0 → Type 0 → (List ℕ → Type 0) → Task → Files → TaskFailure → Type 0
 Undoes unread second_unread unwritten begun task files Write = unwritten × HasAnswer begun task files
 Undoes unread second_unread unwritten begun task files fault = Prevents unread second_unread task files fault

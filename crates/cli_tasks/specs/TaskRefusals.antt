@@ -1,17 +1,17 @@
 -- Why a task does not take a file of some bytes.
 use Rattle.std.specs.Prelude.{ℕ, List, Some, None, string_bytes}
-use Rattle.command_line.specs.declared.tasks.Accesses.TheVariants.{OfChronicle, Listed}
-use Rattle.command_line.specs.declared.tasks.Task.{Task}
-use Rattle.command_line.specs.declared.tasks.Task.TheVariants.{Check, Assemble, AssemblePartly, Disassemble, DisassemblePartly, Book, ExplainDecisions, Form, Play, Muster, Audit, Explore, Tree, Draw, Page, Retrace}
-use Rattle.inputs.specs.Schedules.{is_chronicle}
-use Rattle.inputs.specs.declared.refusal.Refusal.{Refusal}
-use Rattle.program_tasks.specs.Refusals.{RefusesAssembly, RefusesCheckIn, RefusesNotation, RefusesLines, RefusesParts}
-use Rattle.table_tasks.specs.Refusals.{RefusesForm, RefusesFilled, RefusesTable, RefusesNaming, RefusesTree}
-use Rattle.inputs.specs.Refusals.{RefusesScenario, RefusesCampaign, RefusesAsked, RefusesText}
-use Rattle.campaign_tasks.specs.Refusals.{RefusesListed}
+use Rattle.cli_words.specs.declared.tasks.Accesses.TheVariants.{OfChronicle, Listed}
+use Rattle.cli_words.specs.declared.tasks.Task.{Task}
+use Rattle.cli_words.specs.declared.tasks.Task.TheVariants.{Check, Assemble, AssemblePartly, Disassemble, DisassemblePartly, Book, ExplainDecisions, Form, Play, Muster, Audit, Explore, Tree, Draw, Page, Retrace}
+use Rattle.cli_tasks.specs.Schedules.{is_chronicle}
+use Rattle.cli_tasks.specs.declared.refusal.InputRefusal.{InputRefusal}
+use Rattle.cli_tasks.specs.ProgramRefusals.{RefusesAssembly, RefusesCheckIn, RefusesNotation, RefusesLines, RefusesParts}
+use Rattle.cli_tasks.specs.TableRefusals.{RefusesForm, RefusesFilled, RefusesTable, RefusesNaming, RefusesTree}
+use Rattle.cli_tasks.specs.Refusals.{RefusesScenario, RefusesCampaign, RefusesAsked, RefusesText}
+use Rattle.cli_tasks.specs.CampaignRefusals.{RefusesListed}
 
 -- the task does not take an only or first file of these bytes
-abbrev pub Refuses : Task → List ℕ → Refusal → Type 0
+abbrev pub Refuses : Task → List ℕ → InputRefusal → Type 0
 Refuses (Check file notation context explained traced) bytes refusal = RefusesCheckIn notation bytes refusal
 Refuses (Assemble file spelling target explained) bytes refusal = RefusesText RefusesAssembly bytes refusal
 Refuses (AssemblePartly file spelling target explained) bytes refusal = RefusesText RefusesLines bytes refusal

@@ -1,28 +1,28 @@
 -- What is said behind the line of a refusal where an explanation is asked for: the report of crate `why`, by the file's
 -- name and bytes.
 use Rattle.std.specs.Prelude.{ℕ, ◌≡◌, Bool, true, false, List, [], ◌++◌, Option, None, Some, IfSome, codes, is_some}
-use Rattle.command_line.specs.declared.tasks.Task.{Task}
-use Rattle.command_line.specs.declared.tasks.Task.TheVariants.{Assemble, AssemblePartly, Audit, Check, Disassemble, DisassemblePartly, ExplainDecisions, Muster, Play}
+use Rattle.cli_words.specs.declared.tasks.Task.{Task}
+use Rattle.cli_words.specs.declared.tasks.Task.TheVariants.{Assemble, AssemblePartly, Audit, Check, Disassemble, DisassemblePartly, ExplainDecisions, Muster, Play}
 use Rattle.asm.specs.declared.fault.AsmError.TheVariants as asm
 use Rattle.book.specs.declared.fault.TableError.TheVariants as book
 use Rattle.codec.specs.declared.fault.CodecError.TheVariants as codec
 use Rattle.trace.specs.declared.fault.TraceError.TheVariants as trace
 use Rattle.streams.specs.Names.{shown}
-use Rattle.why.specs.Assembly.{assembly_told}
-use Rattle.why.specs.Bytecode.{bytecode_told}
-use Rattle.why.specs.Chronicles.{replayed_told, schedule_told}
-use Rattle.why.specs.Errors.{TellsScenario, TellsSetting}
-use Rattle.why.specs.Messages.{stranger_told, table_told}
-use Rattle.faults.specs.Seeming.{seems_at_first, seems_text}
-use Rattle.inputs.specs.declared.refusal.Refusal.{Refusal}
-use Rattle.inputs.specs.declared.refusal.Refusal.TheVariants.{Codec, Assembly, Table, Scenario, Setting, Trace, Threads, Stranger}
-use Rattle.faults.specs.declared.seeming.Likeness.{Likeness}
-use Rattle.faults.specs.declared.whys.Traced.{Traced}
-use Rattle.faults.specs.declared.whys.Traced.TheVariants as traced
+use Rattle.cli_report.specs.Assembly.{assembly_told}
+use Rattle.cli_report.specs.Bytecode.{bytecode_told}
+use Rattle.cli_report.specs.Chronicles.{replayed_told, schedule_told}
+use Rattle.cli_report.specs.Errors.{TellsScenario, TellsSetting}
+use Rattle.cli_report.specs.Messages.{stranger_told, table_told}
+use Rattle.cli_tasks.specs.Seeming.{seems_at_first, seems_text}
+use Rattle.cli_tasks.specs.declared.refusal.InputRefusal.{InputRefusal}
+use Rattle.cli_tasks.specs.declared.refusal.InputRefusal.TheVariants.{Codec, Assembly, Table, Scenario, Setting, Trace, Threads, Stranger}
+use Rattle.cli_tasks.specs.declared.likeness.Likeness.{Likeness}
+use Rattle.cli_tasks.specs.declared.whys.FileRole.{FileRole}
+use Rattle.cli_tasks.specs.declared.whys.FileRole.TheVariants as traced
 use Rattle.scenario.specs.declared.messages.Campaign.{Campaign}
 use Rattle.scenario.specs.declared.messages.Campaign.TheVariants as campaigns
 use Rattle.trace.specs.Again.{signed_told_again, told_again}
-use Rattle.why.specs.Musters.{muster_told}
+use Rattle.cli_report.specs.Musters.{muster_told}
 
 -- the task is to explain what it refuses
 abbrev pub is_explained : Task → Bool
@@ -49,7 +49,7 @@ pub data Role : Type 0 where
   Nothing : Role
 
 -- the code's own role, seen so
-abbrev pub role_view : Traced → Role
+abbrev pub role_view : FileRole → Role
 role_view traced.Schedule = Schedule
 role_view (traced.Chronicle campaign) = Chronicle campaign.now
 role_view traced.Nothing = Nothing
@@ -60,7 +60,7 @@ campaign_again (campaigns.Oral s) text = told_again s text
 campaign_again (campaigns.Signed s) text = signed_told_again s text
 
 -- this text stands behind the line of a refusal of a file with this name, which is to be shown so, and these bytes
-abbrev pub TellsWhy : Refusal → Role → List ℕ → List ℕ → List ℕ → Type 0
+abbrev pub TellsWhy : InputRefusal → Role → List ℕ → List ℕ → List ℕ → Type 0
 TellsWhy (Trace (trace.At fault line)) Schedule name bytes told = told ≡ schedule_told name bytes line
 TellsWhy (Trace (trace.At fault line)) (Chronicle c) name bytes told =
     told ≡ replayed_told name bytes fault line (campaign_again c bytes)
@@ -75,5 +75,5 @@ TellsWhy (Stranger general generals) of name bytes told = told ≡ stranger_told
 TellsWhy _ of name bytes told = told ≡ []
 
 -- the same of the file's name as it is given; of one past ASCII with a control character nothing is said
-abbrev pub TellsWhyOf : Refusal → Role → List ℕ → List ℕ → List ℕ → Type 0
+abbrev pub TellsWhyOf : InputRefusal → Role → List ℕ → List ℕ → List ℕ → Type 0
 TellsWhyOf refusal of file bytes told = IfSome (shown file) (λ name. TellsWhy refusal of name bytes told)

@@ -1,12 +1,12 @@
 ghost use Rattle.std.specs.Prelude.{◌≡◌, IfOk, IfErr, string_bytes};
-ghost use Rattle.program_tasks.specs.Answers.{Assembles, AssemblesRaw, Disassembles, listing};
-ghost use Rattle.program_tasks.specs.Refusals.{RefusesAssembly, RefusesNotation};
+ghost use Rattle.cli_tasks.specs.Answers.{Assembles, AssemblesRaw, Disassembles, listing};
+ghost use Rattle.cli_tasks.specs.ProgramRefusals.{RefusesAssembly, RefusesNotation};
 
 use crate::programs::program_in;
+use crate::refusal::InputRefusal;
 use asm::{assemble, disassemble, disassemble_units};
+use cli_words::Notation;
 use codec::encode;
-use command_line::Notation;
-use inputs::Refusal;
 use insn::Program;
 use std::alloc::{AllocError, Global};
 
@@ -15,7 +15,7 @@ use std::alloc::{AllocError, Global};
 /// # Errors
 ///
 /// What the assembler refuses, or want of memory.
-pub fn assembled(alloc: Global, text: &str) -> Result<String, Refusal>
+pub fn assembled(alloc: Global, text: &str) -> Result<String, InputRefusal>
     ensures assembled { IfOk result (λ line. Assembles text.now (string_bytes line)) }
     ensures refused { IfErr result (RefusesAssembly text.now) }
 {
@@ -31,7 +31,7 @@ pub fn assembled(alloc: Global, text: &str) -> Result<String, Refusal>
 /// # Errors
 ///
 /// What the assembler refuses, or want of memory.
-pub fn assembled_raw(alloc: Global, text: &str) -> Result<Vec<u8>, Refusal>
+pub fn assembled_raw(alloc: Global, text: &str) -> Result<Vec<u8>, InputRefusal>
     ensures assembled { IfOk result (λ bytes. AssemblesRaw text.now bytes.items) }
     ensures refused { IfErr result (RefusesAssembly text.now) }
 {
@@ -49,7 +49,7 @@ pub fn disassembled(
     notation: &Notation,
     units: bool,
     bytes: &[u8],
-) -> Result<String, Refusal>
+) -> Result<String, InputRefusal>
     ensures disassembled { IfOk result (λ text. Disassembles notation.now units bytes.now (string_bytes text)) }
     ensures refused { IfErr result (RefusesNotation notation.now bytes.now) }
 {

@@ -1,13 +1,14 @@
 ghost use Rattle.std.specs.Prelude.{◌≡◌, IfOk, IfErr};
 ghost use Rattle.scenario.specs.declared.messages.Campaign.TheVariants.{Oral, Signed};
-ghost use Rattle.campaign_tasks.specs.Campaigns.{IsAudited, IsSignedAudited};
-ghost use Rattle.campaign_tasks.specs.Lines.{sound_lines};
-ghost use Rattle.inputs.specs.Refusals.{RefusesChronicle, RefusesText};
+ghost use Rattle.cli_tasks.specs.Campaigns.{IsAudited, IsSignedAudited};
+ghost use Rattle.cli_tasks.specs.AuditLines.{sound_lines};
+ghost use Rattle.cli_tasks.specs.Refusals.{RefusesChronicle, RefusesText};
 
 use crate::chronicle::{with_decisions, with_signed_decisions};
-use command_line::Lieutenants;
-use inputs::{Refusal, sound_chronicle, sound_signed_chronicle};
-use roster::Scenario;
+use crate::refusal::InputRefusal;
+use crate::sound_chronicles::{sound_chronicle, sound_signed_chronicle};
+use cli_words::Lieutenants;
+use round::Scenario;
 use scenario::Campaign;
 use std::alloc::{AllocError, Global};
 use trace::{Latch, write_verdict};
@@ -24,7 +25,7 @@ pub fn audited(
     campaign: &Campaign,
     bytes: &[u8],
     explained: Option<Lieutenants>,
-) -> Result<Vec<u8>, Refusal>
+) -> Result<Vec<u8>, InputRefusal>
     ensures audited { IfOk result (λ text. IsAudited campaign.now explained bytes.now text.items) }
     ensures refused { IfErr result (RefusesText (RefusesChronicle campaign.now) bytes.now) }
 {
@@ -41,7 +42,7 @@ fn oral_audited(
     scenario: &Scenario,
     bytes: &[u8],
     explained: Option<Lieutenants>,
-) -> Result<Vec<u8>, Refusal>
+) -> Result<Vec<u8>, InputRefusal>
     ensures audited { IfOk result (λ text. IsAudited (Oral scenario.now) explained bytes.now text.items) }
     ensures refused { IfErr result (RefusesText (RefusesChronicle (Oral scenario.now)) bytes.now) }
 {
@@ -58,7 +59,7 @@ fn signed_audited(
     scenario: &Scenario,
     bytes: &[u8],
     explained: Option<Lieutenants>,
-) -> Result<Vec<u8>, Refusal>
+) -> Result<Vec<u8>, InputRefusal>
     ensures audited { IfOk result (λ text. IsSignedAudited scenario.now explained bytes.now text.items) }
     ensures refused { IfErr result (RefusesText (RefusesChronicle (Signed scenario.now)) bytes.now) }
 {

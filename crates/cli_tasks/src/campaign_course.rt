@@ -1,16 +1,18 @@
 //! What comes behind a first file with which `draw`, `page` and `schedule` go on: the campaign's course is in the
 //! second one.
 ghost use Rattle.std.specs.Prelude.{IfErr, IfOk, IsSomeAnd, option_map, string_bytes};
-ghost use Rattle.faults.specs.Faults.{Stops};
-ghost use Rattle.lab.specs.Serving.{IsDrawnAs, IsDrawnBy, IsPagedAs, IsPagedBy, IsRetracedBy, IsToldLater};
-ghost use Rattle.lab.specs.declared.first_answer.FirstAnswer.TheVariants.{Draw, DrawRecorded, Page, PageRecorded, Retrace};
+ghost use Rattle.cli_tasks.specs.Faults.{Stops};
+ghost use Rattle.cli_tasks.specs.Serving.{IsDrawnAs, IsDrawnBy, IsPagedAs, IsPagedBy, IsRetracedBy, IsToldLater};
+ghost use Rattle.cli_tasks.specs.declared.first_answer.FirstAnswer.TheVariants.{Draw, DrawRecorded, Page, PageRecorded, Retrace};
 
-use crate::reading::read_second;
-use crate::serving::scheduled;
-use campaign_tasks::retraced;
-use faults::{Failure, Traced, later};
-use picture_tasks::{diagrammed, paged, record_diagrammed, record_paged};
-use roster::Scenario;
+use crate::diagrams::{diagrammed, record_diagrammed};
+use crate::failure::TaskFailure;
+use crate::pages::{paged, record_paged};
+use crate::reader::read_second;
+use crate::schedules::retraced;
+use crate::service::scheduled;
+use crate::whys::{FileRole, later};
+use round::Scenario;
 use scenario::Campaign;
 use std::alloc::Global;
 use streams::Source;
@@ -22,7 +24,7 @@ pub(crate) fn draw_by<'a, R: Source>(
     reported: bool,
     file: &'a str,
     second: Option<R>,
-) -> Result<Vec<u8>, Failure<'a>>
+) -> Result<Vec<u8>, TaskFailure<'a>>
     ensures drawn { IfOk result (λ text. IsDrawnBy (option_map R.bytes second) campaign text.items) }
     ensures fault { IfErr result
         (Stops (IsSomeAnd second R.fails)
@@ -31,7 +33,7 @@ pub(crate) fn draw_by<'a, R: Source>(
     let schedule = scheduled(alloc, reported, file, second)?;
     match diagrammed(alloc, campaign, &schedule) {
         Ok(picture) => Ok(picture),
-        Err(_) => Err(Failure::Memory),
+        Err(_) => Err(TaskFailure::Memory),
     }
 }
 
@@ -42,7 +44,7 @@ pub(crate) fn draw_record<'a, R: Source>(
     reported: bool,
     file: &'a str,
     second: Option<R>,
-) -> Result<Vec<u8>, Failure<'a>>
+) -> Result<Vec<u8>, TaskFailure<'a>>
     ensures drawn { IfOk result (λ text. IsDrawnAs (option_map R.bytes second) campaign.now text.items) }
     ensures fault { IfErr result
         (Stops (IsSomeAnd second R.fails)
@@ -56,7 +58,7 @@ pub(crate) fn draw_record<'a, R: Source>(
             Err(later(
                 alloc,
                 reported,
-                Traced::Nothing,
+                FileRole::Nothing,
                 refusal,
                 file,
                 bytes.as_slice(),
@@ -73,7 +75,7 @@ pub(crate) fn page_by<'a, R: Source>(
     reported: bool,
     file: &'a str,
     second: Option<R>,
-) -> Result<Vec<u8>, Failure<'a>>
+) -> Result<Vec<u8>, TaskFailure<'a>>
     ensures told { IfOk result (λ page. IsPagedBy (option_map R.bytes second) campaign (string_bytes text) page.items) }
     ensures fault { IfErr result
         (Stops (IsSomeAnd second R.fails)
@@ -82,7 +84,7 @@ pub(crate) fn page_by<'a, R: Source>(
     let schedule = scheduled(alloc, reported, file, second)?;
     match paged(alloc, text.as_str(), campaign, &schedule) {
         Ok(page) => Ok(page),
-        Err(_) => Err(Failure::Memory),
+        Err(_) => Err(TaskFailure::Memory),
     }
 }
 
@@ -94,7 +96,7 @@ pub(crate) fn page_record<'a, R: Source>(
     reported: bool,
     file: &'a str,
     second: Option<R>,
-) -> Result<Vec<u8>, Failure<'a>>
+) -> Result<Vec<u8>, TaskFailure<'a>>
     ensures told { IfOk result (λ page. IsPagedAs (option_map R.bytes second) campaign (string_bytes text) page.items) }
     ensures fault { IfErr result
         (Stops (IsSomeAnd second R.fails)
@@ -108,7 +110,7 @@ pub(crate) fn page_record<'a, R: Source>(
             Err(later(
                 alloc,
                 reported,
-                Traced::Nothing,
+                FileRole::Nothing,
                 refusal,
                 file,
                 bytes.as_slice(),
@@ -124,7 +126,7 @@ pub(crate) fn retrace_of<'a, R: Source>(
     reported: bool,
     file: &'a str,
     second: Option<R>,
-) -> Result<Vec<u8>, Failure<'a>>
+) -> Result<Vec<u8>, TaskFailure<'a>>
     ensures retraced { IfOk result (λ text. IsRetracedBy (option_map R.bytes second) scenario.now text.items) }
     ensures fault { IfErr result
         (Stops (IsSomeAnd second R.fails)
@@ -137,7 +139,7 @@ pub(crate) fn retrace_of<'a, R: Source>(
             Err(later(
                 alloc,
                 reported,
-                Traced::Nothing,
+                FileRole::Nothing,
                 refusal,
                 file,
                 bytes.as_slice(),

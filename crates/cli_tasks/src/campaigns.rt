@@ -3,21 +3,21 @@ ghost use Rattle.std.specs.Prelude.{◌≡◌, ◌≢◌, ◌<◌, ◌≤◌, �
 ghost use Rattle.std.specs.Str.{IsUtf8};
 ghost use Rattle.scenario.specs.Reading.{Tells, TellsAny};
 ghost use Rattle.trace.specs.Schedules.{schedule_told};
-ghost use Rattle.inputs.specs.Schedules.{TellsCampaign, is_chronicle};
+ghost use Rattle.cli_tasks.specs.Schedules.{TellsCampaign, is_chronicle};
 ghost use Rattle.streams.specs.Reading.{IsFront, MayBeginText};
-ghost use Rattle.inputs.specs.Refusals.{RefusesAsked, RefusesCampaign, RefusesScenario, RefusesSchedule, RefusesText};
-ghost use Rattle.inputs.specs.declared.refusal.Refusal.TheVariants.{Memory, NotText, Trace};
-ghost use Rattle.trace.specs.declared.fault.Fault.TheVariants.{Line};
+ghost use Rattle.cli_tasks.specs.Refusals.{RefusesAsked, RefusesCampaign, RefusesScenario, RefusesSchedule, RefusesText};
+ghost use Rattle.cli_tasks.specs.declared.refusal.InputRefusal.TheVariants.{Memory, NotText, Trace};
+ghost use Rattle.trace.specs.declared.fault.TraceFault.TheVariants.{Line};
 ghost use Rattle.trace.specs.declared.fault.TraceError.TheVariants.{At};
 
-use crate::refusal::Refusal;
+use crate::refusal::InputRefusal;
 use crate::texts::as_text;
-use command_line::Account;
-use roster::Scenario;
+use cli_words::Account;
+use round::Scenario;
 use scenario::Campaign;
 use std::alloc::Global;
 use streams::may_begin_text;
-use trace::{Fault, MOST_SCHEDULE_BYTES, TraceError, read_schedule};
+use trace::{MOST_SCHEDULE_BYTES, TraceError, TraceFault, read_schedule};
 use world::Schedule;
 
 /// The campaign that the bytes tell, be it oral or signed.
@@ -25,7 +25,7 @@ use world::Schedule;
 /// # Errors
 ///
 /// The first fault of the scenario, or want of memory.
-pub fn any_campaign(alloc: Global, bytes: &[u8]) -> Result<Campaign, Refusal>
+pub fn any_campaign(alloc: Global, bytes: &[u8]) -> Result<Campaign, InputRefusal>
     ensures told { IfOk result (TellsAny bytes.now) }
     ensures refused { IfErr result (RefusesText RefusesCampaign bytes.now) }
     ensures none { IfErr result (λ refusal. (IsUtf8 bytes.now → ⊥) → refusal ≡ NotText) }
@@ -38,7 +38,7 @@ pub fn any_campaign(alloc: Global, bytes: &[u8]) -> Result<Campaign, Refusal>
 /// # Errors
 ///
 /// The first fault of the scenario, or want of memory.
-pub fn campaign(alloc: Global, bytes: &[u8]) -> Result<Scenario, Refusal>
+pub fn campaign(alloc: Global, bytes: &[u8]) -> Result<Scenario, InputRefusal>
     ensures told { IfOk result (Tells bytes.now) }
     ensures refused { IfErr result (RefusesText RefusesScenario bytes.now) }
     ensures none { IfErr result (λ refusal. (IsUtf8 bytes.now → ⊥) → refusal ≡ NotText) }
@@ -52,7 +52,11 @@ pub fn campaign(alloc: Global, bytes: &[u8]) -> Result<Scenario, Refusal>
 /// # Errors
 ///
 /// The first fault of the scenario, or want of memory.
-pub fn asked_campaign(alloc: Global, bytes: &[u8], account: Account) -> Result<Campaign, Refusal>
+pub fn asked_campaign(
+    alloc: Global,
+    bytes: &[u8],
+    account: Account,
+) -> Result<Campaign, InputRefusal>
     ensures told { IfOk result (TellsCampaign (is_chronicle account) bytes.now) }
     ensures refused { IfErr result (RefusesText (RefusesAsked (is_chronicle account)) bytes.now) }
     ensures none { IfErr result (λ refusal. (IsUtf8 bytes.now → ⊥) → refusal ≡ NotText) }
@@ -68,7 +72,7 @@ pub fn asked_campaign(alloc: Global, bytes: &[u8], account: Account) -> Result<C
 /// # Errors
 ///
 /// The first line that is none, or want of memory.
-pub fn schedule(alloc: Global, bytes: &[u8]) -> Result<Schedule, Refusal>
+pub fn schedule(alloc: Global, bytes: &[u8]) -> Result<Schedule, InputRefusal>
     ensures told { IfOk result (λ schedule. schedule_told bytes.now ≡ Ok schedule) }
     ensures refused { IfErr result (RefusesText RefusesSchedule bytes.now) }
     ensures none { IfErr result (λ refusal. (IsUtf8 bytes.now → ⊥) → refusal ≡ NotText) }
@@ -82,7 +86,7 @@ pub fn schedule(alloc: Global, bytes: &[u8]) -> Result<Schedule, Refusal>
 /// # Errors
 ///
 /// The first line that is none, or want of memory.
-pub fn schedule_of(alloc: Global, front: &[u8]) -> Result<Schedule, Refusal>
+pub fn schedule_of(alloc: Global, front: &[u8]) -> Result<Schedule, InputRefusal>
     ensures told { IfOk result (λ schedule. (all : List ℕ) → IsFront 1048576 (Some all) front.now →
         schedule_told all ≡ Ok schedule) }
     ensures refused { IfErr result (λ refusal. (all : List ℕ) → IsFront 1048576 (Some all) front.now →
@@ -101,7 +105,7 @@ pub fn schedule_of(alloc: Global, front: &[u8]) -> Result<Schedule, Refusal>
 }
 
 /// Why there is no schedule in a file that begins with these bytes, which are more than a schedule has.
-fn too_long(front: &[u8]) -> Refusal
+fn too_long(front: &[u8]) -> InputRefusal
     requires { 1048576 < length front.now }
     ensures told { result ≢ Memory }
     ensures text { MayBeginText front.now → result ≡ Trace (At Line 1) }
@@ -109,9 +113,9 @@ fn too_long(front: &[u8]) -> Refusal
     ensures refused { (all : List ℕ) → IsFront 1048576 (Some all) front.now → RefusesText RefusesSchedule all result }
 {
     if !may_begin_text(front) {
-        return Refusal::NotText;
+        return InputRefusal::NotText;
     }
-    Refusal::Trace(TraceError::At(Fault::Line, 1))
+    InputRefusal::Trace(TraceError::At(TraceFault::Line, 1))
 }
 
 /// The campaign that the bytes tell, be it oral or signed, and their text.
@@ -119,7 +123,7 @@ fn too_long(front: &[u8]) -> Refusal
 /// # Errors
 ///
 /// The first fault of the scenario, or want of memory.
-pub fn campaign_with_text(alloc: Global, bytes: &[u8]) -> Result<(Campaign, String), Refusal>
+pub fn campaign_with_text(alloc: Global, bytes: &[u8]) -> Result<(Campaign, String), InputRefusal>
     ensures told { IfOk result (λ both. TellsAny bytes.now both.0 × (string_bytes both.1 ≡ bytes.now)) }
     ensures refused { IfErr result (RefusesText RefusesCampaign bytes.now) }
     ensures none { IfErr result (λ refusal. (IsUtf8 bytes.now → ⊥) → refusal ≡ NotText) }

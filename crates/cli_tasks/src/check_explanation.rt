@@ -1,14 +1,16 @@
 //! What `check --explain` says of a program behind what `check` says of it.
 ghost use Rattle.std.specs.Prelude.{◌≡◌, ◌≢◌, false, option_map};
-ghost use Rattle.faults.specs.Hints.{is_reported};
-ghost use Rattle.lab.specs.Faults.{StopsFirst};
-ghost use Rattle.lab.specs.Hints.{asked_of, bytecode_in, explained_in};
-ghost use Rattle.lab.specs.Refusals.{Refuses};
+ghost use Rattle.cli_tasks.specs.Hints.{is_reported};
+ghost use Rattle.cli_tasks.specs.TaskFaults.{StopsFirst};
+ghost use Rattle.cli_tasks.specs.TaskHints.{asked_of, bytecode_in, explained_in};
+ghost use Rattle.cli_tasks.specs.TaskRefusals.{Refuses};
 
-use command_line::{Notation, Task};
-use faults::{Failure, Hint, unjudged};
-use inputs::Refusal;
-use program_tasks::explanation;
+use crate::failure::TaskFailure;
+use crate::hint::Hint;
+use crate::program_explanation::explanation;
+use crate::refusal::InputRefusal;
+use crate::whys::unjudged;
+use cli_words::{Notation, Task};
 use std::alloc::Global;
 
 /// The notation of the program that the task is to explain, where it is to explain one.
@@ -48,11 +50,11 @@ fn bytecode_in<'a>(task: &Task, bytes: &'a [u8]) -> &'a [u8]
 
 /// The notation in which a refused program is read once more: that of the task, where the verifier refused it and an
 /// explanation is asked for.
-fn asked_of<'a>(refusal: &Refusal, task: &'a Task) -> Option<&'a Notation>
+fn asked_of<'a>(refusal: &InputRefusal, task: &'a Task) -> Option<&'a Notation>
     ensures { option_map (λ notation. notation.now) result ≡ asked_of refusal.now task.now }
 {
     match refusal {
-        Refusal::Verifier(_) => explained_in(task),
+        InputRefusal::Verifier(_) => explained_in(task),
         _ => None,
     }
 }
@@ -62,9 +64,9 @@ fn asked_of<'a>(refusal: &Refusal, task: &'a Task) -> Option<&'a Notation>
 pub(crate) fn refused<'a>(
     alloc: Global,
     task: &'a Task,
-    refusal: Refusal,
+    refusal: InputRefusal,
     bytes: &[u8],
-) -> Failure<'a>
+) -> TaskFailure<'a>
     requires { Refuses task.now bytes.now refusal }
     ensures stops { StopsFirst task.entry.now bytes.now result }
     ensures quiet { is_reported task.entry.now refusal ≡ false → refusal ≢ Refusal.Memory → result ≢ Failure.Memory }
@@ -75,7 +77,7 @@ pub(crate) fn refused<'a>(
         return unjudged(alloc, task, refusal, file, own);
     };
     match explanation(alloc, notation, bytes) {
-        Ok(text) => Failure::Refused(refusal, Some(Hint::Explained(text))),
+        Ok(text) => TaskFailure::Refused(refusal, Some(Hint::Explained(text))),
         // It was read before, so this is want of memory.
         Err(unread) => unjudged(alloc, task, unread, file, own),
     }

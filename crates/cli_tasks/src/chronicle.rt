@@ -2,13 +2,13 @@
 ghost use Rattle.std.specs.Prelude.{◌≡◌, ◌++◌, ◌∷◌, IfOk};
 ghost use Rattle.trace.specs.SignedText.{signed_text};
 ghost use Rattle.trace.specs.Text.{chronicle_text};
-ghost use Rattle.retold.specs.Retold.{IsWhole};
-ghost use Rattle.campaign_tasks.specs.Campaigns.{IsAccount, IsFollowed, IsOralPlayed, IsPlayed, IsSignedPlayed, asked, signed_behind};
+ghost use Rattle.show_table.specs.Retold.{IsWhole};
+ghost use Rattle.cli_tasks.specs.Campaigns.{IsAccount, IsFollowed, IsOralPlayed, IsPlayed, IsSignedPlayed, asked, signed_behind};
 
-use command_line::{Account, Lieutenants};
-use retold::table;
-use roster::Scenario;
+use cli_words::{Account, Lieutenants};
+use round::Scenario;
 use scenario::Campaign;
+use show_table::table;
 use signed::{SignedChronicle, explain_signed, play_signed};
 use std::alloc::{AllocError, Global};
 use trace::{Latch, write_chronicle, write_signed};
@@ -117,7 +117,7 @@ pub(crate) fn with_decisions(
     let Some(who) = explained else {
         return Ok(front);
     };
-    let lines = retold::explained(alloc, chronicle, asked(who))?;
+    let lines = show_table::explained(alloc, chronicle, asked(who))?;
     with_lines(front, lines.as_str())
 }
 

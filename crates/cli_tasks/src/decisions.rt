@@ -1,12 +1,12 @@
 ghost use Rattle.std.specs.Prelude.{◌≡◌, IfOk, IfErr, Ok, OnOk, string_bytes};
 ghost use Rattle.book.specs.Grammar.{table_told};
-ghost use Rattle.tables.specs.Answers.{DecidesTable, ExplainsTable};
-ghost use Rattle.table_tasks.specs.Refusals.{RefusesNaming, RefusesTable};
-ghost use Rattle.table_tasks.specs.Strangers.{KnowsAll};
+ghost use Rattle.book.specs.Answers.{DecidesTable, ExplainsTable};
+ghost use Rattle.cli_tasks.specs.TableRefusals.{RefusesNaming, RefusesTable};
+ghost use Rattle.cli_tasks.specs.Strangers.{KnowsAll};
 
+use crate::refusal::InputRefusal;
 use crate::strangers::know_all;
 use book::{Table, explain, read_table};
-use inputs::Refusal;
 use std::alloc::Global;
 
 /// What the lieutenants of the message table decide.
@@ -14,11 +14,11 @@ use std::alloc::Global;
 /// # Errors
 ///
 /// What the table refuses, or want of memory.
-pub fn decided(alloc: Global, text: &str) -> Result<String, Refusal>
+pub fn decided(alloc: Global, text: &str) -> Result<String, InputRefusal>
     ensures decided { IfOk result (λ lines. DecidesTable text.now (string_bytes lines)) }
     ensures refused { IfErr result (RefusesTable text.now) }
 {
-    Ok(tables::decided(alloc, text)?)
+    Ok(book::decided(alloc, text)?)
 }
 
 /// How the decisions of the message table come about, where these generals are named as traitors.
@@ -27,7 +27,7 @@ pub fn decided(alloc: Global, text: &str) -> Result<String, Refusal>
 ///
 /// What the table refuses; the first who is named and is none of its generals; or want of memory.
 #[tactic(auto, using(crate::proofs::StrangerLemmas::table_explained))]
-pub fn explained(alloc: Global, text: &str, traitors: &[u8]) -> Result<String, Refusal>
+pub fn explained(alloc: Global, text: &str, traitors: &[u8]) -> Result<String, InputRefusal>
     ensures known { OnOk result (KnowsAll text.now traitors.now) }
     ensures explained { IfOk result (λ lines. ExplainsTable text.now traitors.now (string_bytes lines)) }
     ensures refused { IfErr result (RefusesNaming traitors.now text.now) }
@@ -38,7 +38,7 @@ pub fn explained(alloc: Global, text: &str, traitors: &[u8]) -> Result<String, R
 }
 
 /// The message table that the text tells.
-pub(crate) fn table_in(alloc: Global, text: &str) -> Result<Table, Refusal>
+pub(crate) fn table_in(alloc: Global, text: &str) -> Result<Table, InputRefusal>
     ensures told { IfOk result (λ table. table_told text.now ≡ Ok table) }
     ensures refused { IfErr result (RefusesTable text.now) }
 {

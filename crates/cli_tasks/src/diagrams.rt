@@ -1,21 +1,22 @@
 //! Campaigns as pictures.
 ghost use Rattle.std.specs.Prelude.{◌≡◌, IfErr, IfOk};
-ghost use Rattle.picture_tasks.specs.Diagrams.{IsCampaignDrawn, IsDiagram, IsRecordDrawn};
-ghost use Rattle.picture_tasks.specs.Promises.{AreFaithful};
-ghost use Rattle.inputs.specs.Refusals.{RefusesChronicle, RefusesText};
-ghost use Rattle.retold.specs.Retold.{IsWhole};
+ghost use Rattle.cli_tasks.specs.Diagrams.{IsCampaignDrawn, IsDiagram, IsRecordDrawn};
+ghost use Rattle.cli_tasks.specs.Promises.{AreFaithful};
+ghost use Rattle.cli_tasks.specs.Refusals.{RefusesChronicle, RefusesText};
+ghost use Rattle.show_table.specs.Retold.{IsWhole};
 ghost use Rattle.scenario.specs.declared.messages.Campaign.TheVariants.{Oral, Signed};
-ghost use Rattle.signed_diagram.specs.Svg.{signed_svg};
+ghost use Rattle.show_chains.specs.Svg.{signed_svg};
 
-use diagram::campaign_svg;
-use inputs::{Refusal, sound_chronicle, sound_signed_chronicle};
-use retold::{hearing, told_table};
-use roster::Scenario;
+use crate::refusal::InputRefusal;
+use crate::sound_chronicles::{sound_chronicle, sound_signed_chronicle};
+use book::recall_orders;
+use round::Scenario;
 use scenario::Campaign;
+use show_chains::signed_campaign_svg;
+use show_diagram::campaign_svg;
+use show_table::{hearing, told_table};
 use signed::{SignedChronicle, play_signed};
-use signed_diagram::signed_campaign_svg;
 use std::alloc::{AllocError, Global};
-use tables::recall_orders;
 use world::{Chronicle, Schedule, play};
 
 /// The campaign by this schedule, as a space-time diagram in SVG.
@@ -72,7 +73,7 @@ pub fn record_diagrammed(
     alloc: Global,
     campaign: &Campaign,
     bytes: &[u8],
-) -> Result<Vec<u8>, Refusal>
+) -> Result<Vec<u8>, InputRefusal>
     ensures drawn { IfOk result (λ picture. IsRecordDrawn campaign.now bytes.now picture.items) }
     ensures refused { IfErr result (RefusesText (RefusesChronicle campaign.now) bytes.now) }
 {
@@ -88,7 +89,7 @@ fn oral_record_diagrammed(
     alloc: Global,
     scenario: &Scenario,
     bytes: &[u8],
-) -> Result<Vec<u8>, Refusal>
+) -> Result<Vec<u8>, InputRefusal>
     ensures drawn { IfOk result (λ picture. IsRecordDrawn (Oral scenario.now) bytes.now picture.items) }
     ensures refused { IfErr result (RefusesText (RefusesChronicle (Oral scenario.now)) bytes.now) }
 {
@@ -102,7 +103,7 @@ fn signed_record_diagrammed(
     alloc: Global,
     scenario: &Scenario,
     bytes: &[u8],
-) -> Result<Vec<u8>, Refusal>
+) -> Result<Vec<u8>, InputRefusal>
     ensures drawn { IfOk result (λ picture. IsRecordDrawn (Signed scenario.now) bytes.now picture.items) }
     ensures refused { IfErr result (RefusesText (RefusesChronicle (Signed scenario.now)) bytes.now) }
 {

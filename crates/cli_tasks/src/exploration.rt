@@ -1,10 +1,11 @@
 ghost use Rattle.std.specs.Prelude.{IfErr, IfOk, map, string_bytes};
-ghost use Rattle.campaign_tasks.specs.Exploring.{IsExplored, KeepsOrders, limit};
-ghost use Rattle.inputs.specs.Refusals.{RefusesScenario, RefusesText};
+ghost use Rattle.cli_tasks.specs.Exploring.{IsExplored, KeepsOrders, limit};
+ghost use Rattle.cli_tasks.specs.Refusals.{RefusesScenario, RefusesText};
 
-use explore::findings_agree;
-use inputs::{Refusal, campaign};
-use roster::Scenario;
+use crate::campaigns::campaign;
+use crate::refusal::InputRefusal;
+use campaign_orders::findings_agree;
+use round::Scenario;
 use std::alloc::{AllocError, Global};
 
 /// What an oral campaign comes to in all orders of its accesses or, where there are more, in the `most` least ones.
@@ -18,7 +19,7 @@ pub fn explored(alloc: Global, scenario: &Scenario, most: Option<u64>) -> Result
 {
     scenario.recall();
     findings_agree();
-    explore::explored(alloc, scenario, most.unwrap_or(u64::MAX))
+    campaign_orders::explored(alloc, scenario, most.unwrap_or(u64::MAX))
 }
 
 /// What `explore` prints on a file of these bytes, and the texts of a schedule for each outcome, in the same order.
@@ -31,11 +32,11 @@ pub fn with_schedules(
     alloc: Global,
     bytes: &[u8],
     most: Option<u64>,
-) -> Result<(String, Vec<String>), Refusal>
+) -> Result<(String, Vec<String>), InputRefusal>
     ensures kept { IfOk result
         (λ kept. KeepsOrders most bytes.now (string_bytes kept.0) (map string_bytes kept.1.items)) }
     ensures refused { IfErr result (RefusesText RefusesScenario bytes.now) }
 {
     let scenario = campaign(alloc, bytes)?;
-    Ok(explore::explored_with_schedules(alloc, &scenario, most.unwrap_or(u64::MAX))?)
+    Ok(campaign_orders::explored_with_schedules(alloc, &scenario, most.unwrap_or(u64::MAX))?)
 }

@@ -1,5 +1,5 @@
-use command_line::{Account, Lieutenants};
-use roster::Scenario;
+use cli_words::{Account, Lieutenants};
+use round::Scenario;
 use scenario::Campaign;
 use verify::Verified;
 

@@ -1,12 +1,12 @@
 ghost use Rattle.std.specs.Prelude.{◌≢◌, IfOk, IfErr, OnOk, string_bytes};
-ghost use Rattle.tables.specs.Answers.{IsFilled, IsFormOf};
-ghost use Rattle.table_tasks.specs.Refusals.{RefusesFilled, RefusesForm};
-ghost use Rattle.table_tasks.specs.Strangers.{KnowsLiar};
-ghost use Rattle.inputs.specs.declared.refusal.Refusal.TheVariants.{Memory};
+ghost use Rattle.book.specs.Answers.{IsFilled, IsFormOf};
+ghost use Rattle.cli_tasks.specs.TableRefusals.{RefusesFilled, RefusesForm};
+ghost use Rattle.cli_tasks.specs.Strangers.{KnowsLiar};
+ghost use Rattle.cli_tasks.specs.declared.refusal.InputRefusal.TheVariants.{Memory};
 
+use crate::refusal::InputRefusal;
 use crate::strangers::know_all;
-use command_line::Filling;
-use inputs::Refusal;
+use cli_words::Filling;
 use std::alloc::Global;
 
 /// The message table to fill in, of a campaign with these numbers.
@@ -19,11 +19,11 @@ pub fn formed(
     generals: &str,
     bound: &str,
     commander: &str,
-) -> Result<String, Refusal>
+) -> Result<String, InputRefusal>
     ensures formed { IfOk result (λ text. IsFormOf generals.now bound.now commander.now (string_bytes text)) }
     ensures refused { IfErr result (RefusesForm generals.now bound.now commander.now) }
 {
-    Ok(tables::formed(alloc, generals, bound, commander)?)
+    Ok(book::formed(alloc, generals, bound, commander)?)
 }
 
 /// The message table of a campaign with these numbers, filled in as loyal generals would.
@@ -38,7 +38,7 @@ pub fn filled(
     bound: &str,
     commander: &str,
     filling: Filling,
-) -> Result<String, Refusal>
+) -> Result<String, InputRefusal>
     ensures known { OnOk result (KnowsLiar generals.now bound.now commander.now filling.liar) }
     ensures filled { IfOk result
         (λ text. IsFilled generals.now bound.now commander.now filling.order filling.liar (string_bytes text)) }
@@ -46,17 +46,22 @@ pub fn filled(
 {
     let Filling { order, liar } = filling;
     know_liar(generals, bound, commander, liar)?;
-    Ok(tables::filled(alloc, generals, bound, commander, order, liar)?)
+    Ok(book::filled(alloc, generals, bound, commander, order, liar)?)
 }
 
 /// Makes sure that the words are numbers of a campaign, and the liar one of its generals.
 #[tactic(auto, using(crate::proofs::StrangerLemmas::liar_known))]
-fn know_liar(generals: &str, bound: &str, commander: &str, liar: Option<u8>) -> Result<(), Refusal>
+fn know_liar(
+    generals: &str,
+    bound: &str,
+    commander: &str,
+    liar: Option<u8>,
+) -> Result<(), InputRefusal>
     ensures known { OnOk result (KnowsLiar generals.now bound.now commander.now liar) }
     ensures refused { IfErr result (RefusesFilled generals.now bound.now commander.now liar) }
     ensures memory { IfErr result (λ refusal. refusal ≢ Memory) }
 {
-    let all = tables::generals_in(generals, bound, commander)?;
+    let all = book::generals_in(generals, bound, commander)?;
     match liar {
         Some(liar) => know_all(all, &[liar]),
         None => know_all(all, &[]),

@@ -1,4 +1,4 @@
-use crate::seeming::{Likeness, seems};
+use crate::likeness::{Likeness, seems};
 use std::fmt;
 
 /// What is said behind the line of a refusal.
@@ -7,14 +7,14 @@ pub enum Hint {
     /// What the bytes seem to be.
     Seems(Likeness),
     /// Why an object has no code for the entry.
-    Fault(elf::Fault),
+    Fault(object::ObjectFault),
     /// Why the program is refused: its explanation.
     Explained(String),
 }
 
 impl fmt::Display for Hint {
     ghost use Rattle.std.specs.Prelude.{Some};
-    ghost use Rattle.faults.specs.Hints.{hint_text};
+    ghost use Rattle.cli_tasks.specs.Hints.{hint_text};
 
     ghost output = { λ hint. Some (hint_text hint) };
 
@@ -23,7 +23,7 @@ impl fmt::Display for Hint {
             Hint::Seems(likeness) => write!(f, "\n{likeness}"),
             Hint::Fault(fault) => {
                 f.write_str("\n")?;
-                f.write_str(elf::sentence(*fault))
+                f.write_str(object::sentence(*fault))
             }
             Hint::Explained(text) => f.write_str(text.as_str()),
         }
@@ -32,8 +32,8 @@ impl fmt::Display for Hint {
 
 impl Hint {
     ghost use Rattle.std.specs.Prelude.{◌≡◌, option_map};
-    ghost use Rattle.faults.specs.Seeming.{seems_at_first};
-    ghost use Rattle.faults.specs.declared.hint.Hint.TheVariants.{Seems};
+    ghost use Rattle.cli_tasks.specs.Seeming.{seems_at_first};
+    ghost use Rattle.cli_tasks.specs.declared.hint.Hint.TheVariants.{Seems};
 
     /// What bytes seem to be that spell no program.
     pub(crate) fn of_bytes(bytes: &[u8]) -> Option<Hint>

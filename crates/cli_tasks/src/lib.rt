@@ -1,19 +1,85 @@
+//! What files tell to a task, and why they are refused: the refusal of each error, campaigns and schedules.
+//! The files beside a scenario, which it names.
+//! Why a task is not done, and what is said of it: a line, and the report behind it.
+//! What is printed of a program: assembly, a check, a trial, an explanation.
+//! What is printed of a message table: decisions, a form to fill in, a tree.
+//! What is printed of a campaign: its chronicle, the audit of one, its orders, a schedule.
+//! What is drawn of a campaign: its diagram and its page.
 //! What the laboratory's subcommands answer and print.
 #![tactic(auto)]
 
-mod answering;
-mod behind;
-mod explaining;
+mod assembly;
+mod audit;
+mod campaign_course;
+mod campaigns;
+mod check_explanation;
+mod chronicle;
+mod decisions;
+mod diagrams;
+mod exploration;
+mod failure;
 mod first_answer;
-mod placing;
-mod reading;
-mod serving;
+mod folder;
+mod forms;
+mod hint;
+mod likeness;
+mod muster;
+mod named_files;
+mod pages;
+mod parts;
+mod placed_answer;
+mod prepared_scenario;
+mod program_check;
+mod program_explanation;
+mod programs;
+mod reader;
+mod reasons;
+mod refusal;
+mod schedules;
+mod service;
+mod sound_chronicles;
+mod steps;
+mod story;
+mod strangers;
+mod task_answer;
+mod texts;
+mod tree_pictures;
+mod trials;
+mod unit_places;
+mod whys;
 
-pub use answering::answer;
-pub use campaign_tasks::with_schedules;
-pub use faults::{Failure, is_explained, reason};
+pub use assembly::{assembled, assembled_raw, disassembled};
+pub use audit::audited;
+pub use campaigns::{
+    any_campaign, asked_campaign, campaign, campaign_with_text, schedule, schedule_of,
+};
+pub use chronicle::played;
+pub use decisions::{decided, explained};
+pub use diagrams::{diagrammed, record_diagrammed};
+pub use exploration::{explored, with_schedules};
+pub use failure::TaskFailure;
 pub use first_answer::FirstAnswer;
-pub use inputs::Refusal;
-pub use placing::{Answer, placed};
-pub use serving::{answered, serve};
+pub use folder::Folder;
+pub use forms::{filled, formed};
+pub use hint::Hint;
+pub use likeness::{Likeness, seems};
+pub use muster::mustered;
+pub use named_files::FileProblem;
+pub use pages::{paged, record_paged};
+pub use parts::{assembled_partly, assembled_partly_raw, disassembled_partly};
+pub use placed_answer::{Answer, placed};
+pub use prepared_scenario::{reads_scenario, with_files};
+pub use program_check::{Checked, accepted, accepted_in, accepted_text, check};
+pub use program_explanation::explanation;
+pub use reasons::reason;
+pub use refusal::InputRefusal;
+pub use schedules::{arranged, retraced};
+pub use service::{answered, serve};
+pub use sound_chronicles::{sound_chronicle, sound_signed_chronicle};
+pub use story::with_story;
 pub use streams::{FileName, Output, Source, Within};
+pub use task_answer::answer;
+pub use texts::as_text;
+pub use tree_pictures::pictured;
+pub use trials::{checked_in, tried_by};
+pub use whys::{FileRole, is_explained, later, unjudged};

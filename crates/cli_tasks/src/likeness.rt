@@ -1,6 +1,6 @@
 ghost use Rattle.std.specs.Prelude.{◌≡◌};
 ghost use Rattle.std.specs.List.{list_all};
-ghost use Rattle.faults.specs.Seeming.{is_of_hex, is_of_text, seems_at_first, seems_of};
+ghost use Rattle.cli_tasks.specs.Seeming.{is_of_hex, is_of_text, seems_at_first, seems_of};
 
 use insn::Program;
 use std::fmt;
@@ -18,7 +18,7 @@ pub enum Likeness {
 
 impl fmt::Display for Likeness {
     ghost use Rattle.std.specs.Prelude.{Some};
-    ghost use Rattle.faults.specs.Seeming.{seems_text};
+    ghost use Rattle.cli_tasks.specs.Seeming.{seems_text};
 
     ghost output = { λ likeness. Some (seems_text likeness) };
 

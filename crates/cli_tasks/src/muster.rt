@@ -1,11 +1,11 @@
 ghost use Rattle.std.specs.Prelude.{IfOk, IfErr};
-ghost use Rattle.campaign_tasks.specs.Campaigns.{IsMustered};
-ghost use Rattle.campaign_tasks.specs.Refusals.{RefusesMuster};
+ghost use Rattle.cli_tasks.specs.Campaigns.{IsMustered};
+ghost use Rattle.cli_tasks.specs.CampaignRefusals.{RefusesMuster};
 
 use crate::chronicle::{chronicle_text, with_decisions};
-use command_line::Lieutenants;
-use inputs::Refusal;
-use roster::Scenario;
+use crate::refusal::InputRefusal;
+use cli_words::Lieutenants;
+use round::Scenario;
 use std::alloc::Global;
 use std::sync::Wait;
 use std::thread::Threads;
@@ -23,7 +23,7 @@ pub fn mustered<T: Threads + Wait + Sync>(
     alloc: Global,
     scenario: Scenario,
     explained: Option<Lieutenants>,
-) -> Result<Vec<u8>, Refusal>
+) -> Result<Vec<u8>, InputRefusal>
     ensures mustered { IfOk result (λ text. IsMustered scenario explained text.items) }
     ensures refused { IfErr result RefusesMuster }
 {

@@ -1,23 +1,23 @@
 //! Files that a scenario names.
 ghost use Rattle.std.specs.Prelude.{◌≡◌, Ok, Err, IfErr, IfOk, IfSome, MatchResult, string_bytes};
 ghost use Rattle.std.specs.IoError.{error_kind};
-ghost use Rattle.elf.specs.Entry.{entry_of};
-ghost use Rattle.elf.specs.Symbol.{asked};
-ghost use Rattle.references.specs.declared.key.Key.TheVariants.{Assembly, Object};
+ghost use Rattle.object.specs.Entry.{entry_of};
+ghost use Rattle.object.specs.Symbol.{asked};
+ghost use Rattle.scenario.specs.declared.reference_key.ReferenceKey.TheVariants.{Assembly, Object};
 ghost use Rattle.streams.specs.Names.{shown};
-ghost use Rattle.neighbours.specs.Taken.{IsBeside, IsFile, IsNamed, IsUnread, IsUntakenIn, IsUntakenOf, fault_lines, fault_told, refused_lines, refused_told};
-ghost use Rattle.neighbours.specs.declared.naming.Untaken.TheVariants.{Memory};
+ghost use Rattle.cli_tasks.specs.Taken.{IsBeside, IsFile, IsNamed, IsUnread, IsUntakenIn, IsUntakenOf, fault_lines, fault_told, refused_lines, refused_told};
+ghost use Rattle.cli_tasks.specs.declared.named_files.FileProblem.TheVariants.{Memory};
 
 use crate::folder::Folder;
-use elf::{Fault, entry, sentence};
-use references::{Beside, Key, Reference};
+use object::{ObjectFault, entry, sentence};
+use scenario::{LoadedFile, Reference, ReferenceKey};
 use std::alloc::{AllocError, Global};
 use std::io::{self, ErrorKind};
 use streams::FileName;
 
 /// Why a file that a scenario names is not taken.
 #[derive(Drop)]
-pub enum Untaken {
+pub enum FileProblem {
     /// It is not read, or has a fault.
     Told {
         /// What is told of it: the fault, of an object also what that means, and by which key the file is named, each a
@@ -30,11 +30,11 @@ pub enum Untaken {
     Memory,
 }
 
-impl From<AllocError> for Untaken {
+impl From<AllocError> for FileProblem {
     ghost from_gives = { λ _ untaken. untaken ≡ Memory };
 
-    fn from(_error: AllocError) -> Untaken {
-        Untaken::Memory
+    fn from(_error: AllocError) -> FileProblem {
+        FileProblem::Memory
     }
 }
 
@@ -43,7 +43,7 @@ pub(crate) fn beside<D: Folder>(
     alloc: Global,
     folder: &D,
     named: &Reference,
-) -> Result<Beside, Untaken>
+) -> Result<LoadedFile, FileProblem>
     ensures file { IfOk result (IsBeside (D.bytes folder.now) named.now) }
     ensures untaken { IfErr result (IsUntakenOf (D.bytes folder.now) (D.fails folder.now) named.now) }
 {
@@ -52,22 +52,26 @@ pub(crate) fn beside<D: Folder>(
         Err(error) => return Err(unread(alloc, &error, named)?),
     };
     match named.key {
-        Key::Assembly => assembly(alloc, named, bytes),
-        Key::Bytecode => Ok(Beside::bytecode(alloc, named.name.clone()?, bytes.as_slice())?),
-        Key::Object => object(alloc, named, bytes.as_slice()),
+        ReferenceKey::Assembly => assembly(alloc, named, bytes),
+        ReferenceKey::Bytecode => Ok(LoadedFile::bytecode(
+            alloc,
+            named.name.clone()?,
+            bytes.as_slice(),
+        )?),
+        ReferenceKey::Object => object(alloc, named, bytes.as_slice()),
     }
 }
 
 /// A file of assembly, whose bytes are its text.
-fn assembly(alloc: Global, named: &Reference, bytes: Vec<u8>) -> Result<Beside, Untaken>
+fn assembly(alloc: Global, named: &Reference, bytes: Vec<u8>) -> Result<LoadedFile, FileProblem>
     requires { named.now.key ≡ Assembly }
     ensures file { IfOk result (IsFile named.now bytes.items) }
     ensures untaken { IfErr result (IsUntakenIn named.now bytes.items) }
 {
     let name = named.name.clone()?;
     match String::from_utf8(bytes) {
-        Ok(text) => Ok(Beside::assembly(name, text)),
-        Err(_) => Err(Untaken::Told {
+        Ok(text) => Ok(LoadedFile::assembly(name, text)),
+        Err(_) => Err(FileProblem::Told {
             lines: told(alloc, "text", named)?,
             kind: None,
         }),
@@ -75,7 +79,7 @@ fn assembly(alloc: Global, named: &Reference, bytes: Vec<u8>) -> Result<Beside, 
 }
 
 /// The function of an object that is named.
-fn object(alloc: Global, named: &Reference, bytes: &[u8]) -> Result<Beside, Untaken>
+fn object(alloc: Global, named: &Reference, bytes: &[u8]) -> Result<LoadedFile, FileProblem>
     requires { named.now.key ≡ Object }
     ensures file { IfOk result (IsFile named.now bytes.now) }
     ensures untaken { IfErr result (IsUntakenIn named.now bytes.now) }
@@ -83,8 +87,8 @@ fn object(alloc: Global, named: &Reference, bytes: &[u8]) -> Result<Beside, Unta
     let name = named.name.clone()?;
     let function = named.function.as_deref();
     match code_in(bytes, function) {
-        Ok(code) => Ok(Beside::object(alloc, name, function, code)?),
-        Err(fault) => Err(Untaken::Told {
+        Ok(code) => Ok(LoadedFile::object(alloc, name, function, code)?),
+        Err(fault) => Err(FileProblem::Told {
             lines: refused(alloc, fault, named)?,
             kind: None,
         }),
@@ -92,7 +96,7 @@ fn object(alloc: Global, named: &Reference, bytes: &[u8]) -> Result<Beside, Unta
 }
 
 /// The code of an object's function.
-fn code_in<'a>(object: &'a [u8], function: Option<&str>) -> Result<&'a [u8], Fault>
+fn code_in<'a>(object: &'a [u8], function: Option<&str>) -> Result<&'a [u8], ObjectFault>
     ensures { MatchResult result (λ code. entry_of object.now (asked function.entry) ≡ Ok code.now)
         (λ fault. entry_of object.now (asked function.entry) ≡ Err fault) }
 {
@@ -103,12 +107,12 @@ fn code_in<'a>(object: &'a [u8], function: Option<&str>) -> Result<&'a [u8], Fau
 }
 
 /// Why a file is not taken whose reading failed so.
-fn unread(alloc: Global, error: &io::Error, named: &Reference) -> Result<Untaken, AllocError>
+fn unread(alloc: Global, error: &io::Error, named: &Reference) -> Result<FileProblem, AllocError>
     ensures { IfOk result (IsUnread named.now (error_kind error.now)) }
 {
     match error.kind() {
-        ErrorKind::OutOfMemory => Ok(Untaken::Memory),
-        kind => Ok(Untaken::Told {
+        ErrorKind::OutOfMemory => Ok(FileProblem::Memory),
+        kind => Ok(FileProblem::Told {
             lines: told(alloc, "read", named)?,
             kind: Some(kind),
         }),
@@ -131,7 +135,7 @@ fn told(alloc: Global, fault: &str, named: &Reference) -> Result<String, AllocEr
 }
 
 /// The lines of a fault of an object that is named so.
-fn refused(alloc: Global, fault: Fault, named: &Reference) -> Result<String, AllocError>
+fn refused(alloc: Global, fault: ObjectFault, named: &Reference) -> Result<String, AllocError>
     ensures { IfOk result (λ text. IsNamed named.now (refused_told named.now fault) (string_bytes text)) }
 {
     let name = shown(alloc, named.name.as_str())?;
@@ -144,7 +148,7 @@ fn fault_lines(
     fault: &str,
     name: &str,
     index: usize,
-    key: Key,
+    key: ReferenceKey,
 ) -> Result<String, AllocError>
     ensures { IfOk result (λ text. string_bytes text ≡ fault_lines index key fault.now name.now) }
 {
@@ -155,10 +159,10 @@ fn fault_lines(
 /// That the object of this name has this fault.
 fn refused_lines(
     alloc: Global,
-    fault: Fault,
+    fault: ObjectFault,
     name: &str,
     index: usize,
-    key: Key,
+    key: ReferenceKey,
 ) -> Result<String, AllocError>
     ensures { IfOk result (λ text. string_bytes text ≡ refused_lines index key fault name.now) }
 {

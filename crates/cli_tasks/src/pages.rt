@@ -1,21 +1,21 @@
 //! Campaigns as pages.
 ghost use Rattle.std.specs.Prelude.{◌≡◌, IfErr, IfOk, None, Some, option_map};
-ghost use Rattle.picture_tasks.specs.Pages.{IsCampaignPaged, IsPage, IsRecordTold};
-ghost use Rattle.picture_tasks.specs.Promises.{AreFaithful};
-ghost use Rattle.inputs.specs.Refusals.{RefusesChronicle, RefusesText};
-ghost use Rattle.retold.specs.Retold.{IsWhole};
+ghost use Rattle.cli_tasks.specs.Pages.{IsCampaignPaged, IsPage, IsRecordTold};
+ghost use Rattle.cli_tasks.specs.Promises.{AreFaithful};
+ghost use Rattle.cli_tasks.specs.Refusals.{RefusesChronicle, RefusesText};
+ghost use Rattle.show_table.specs.Retold.{IsWhole};
 ghost use Rattle.scenario.specs.declared.messages.Campaign.TheVariants.{Oral, Signed};
-ghost use Rattle.signed_page.specs.Account.{signed_page_text};
+ghost use Rattle.show_page.specs.SignedAccount.{signed_page_text};
 
-use campaign_page::page_text;
-use inputs::{Refusal, sound_chronicle, sound_signed_chronicle};
-use retold::{hearing, told_table};
-use roster::Scenario;
+use crate::refusal::InputRefusal;
+use crate::sound_chronicles::{sound_chronicle, sound_signed_chronicle};
+use book::recall_orders;
+use round::Scenario;
 use scenario::Campaign;
+use show_page::{page_text, signed_page_text};
+use show_table::{hearing, told_table};
 use signed::{SignedChronicle, play_signed};
-use signed_page::signed_page_text;
 use std::alloc::{AllocError, Global};
-use tables::recall_orders;
 use world::{Chronicle, Schedule, play};
 
 /// The campaign by this schedule, whose scenario this text tells, as a page of HTML.
@@ -76,7 +76,7 @@ pub fn record_paged(
     text: &str,
     campaign: &Campaign,
     bytes: &[u8],
-) -> Result<Vec<u8>, Refusal>
+) -> Result<Vec<u8>, InputRefusal>
     ensures told { IfOk result (λ page. IsRecordTold campaign.now text.now bytes.now page.items) }
     ensures refused { IfErr result (RefusesText (RefusesChronicle campaign.now) bytes.now) }
 {
@@ -93,7 +93,7 @@ fn oral_record_paged(
     text: &str,
     scenario: &Scenario,
     bytes: &[u8],
-) -> Result<Vec<u8>, Refusal>
+) -> Result<Vec<u8>, InputRefusal>
     ensures told { IfOk result (λ page. IsRecordTold (Oral scenario.now) text.now bytes.now page.items) }
     ensures refused { IfErr result (RefusesText (RefusesChronicle (Oral scenario.now)) bytes.now) }
 {
@@ -108,7 +108,7 @@ fn signed_record_paged(
     text: &str,
     scenario: &Scenario,
     bytes: &[u8],
-) -> Result<Vec<u8>, Refusal>
+) -> Result<Vec<u8>, InputRefusal>
     ensures told { IfOk result (λ page. IsRecordTold (Signed scenario.now) text.now bytes.now page.items) }
     ensures refused { IfErr result (RefusesText (RefusesChronicle (Signed scenario.now)) bytes.now) }
 {

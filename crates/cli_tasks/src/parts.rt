@@ -1,17 +1,18 @@
 //! Bytecode of which not all can be decoded.
 ghost use Rattle.std.specs.Prelude.{◌≡◌, ℕ, List, IfOk, IfErr, Ok, string_bytes};
-ghost use Rattle.command_line.specs.declared.tasks.Notation.TheVariants.{Assembly as Texts};
-ghost use Rattle.elf.specs.Entry.{entry_of};
-ghost use Rattle.elf.specs.Symbol.{asked};
-ghost use Rattle.partial.specs.Printing.{IsTextOf};
-ghost use Rattle.partial.specs.Reading.{bytes_said};
-ghost use Rattle.program_tasks.specs.Parts.{AssemblesPartly, AssemblesPartlyRaw, DisassemblesPartly};
-ghost use Rattle.program_tasks.specs.Refusals.{RefusesLines, RefusesObject, RefusesParts, RefusesSaid, RefusesUnits};
+ghost use Rattle.cli_words.specs.declared.tasks.Notation.TheVariants.{Assembly as Texts};
+ghost use Rattle.object.specs.Entry.{entry_of};
+ghost use Rattle.object.specs.Symbol.{asked};
+ghost use Rattle.asm.specs.PieceText.{IsTextOf};
+ghost use Rattle.asm.specs.Reading.{bytes_said};
+ghost use Rattle.cli_tasks.specs.Parts.{AssemblesPartly, AssemblesPartlyRaw, DisassemblesPartly};
+ghost use Rattle.cli_tasks.specs.ProgramRefusals.{RefusesLines, RefusesObject, RefusesParts, RefusesSaid, RefusesUnits};
 
 use crate::programs::code_in;
-use command_line::Notation;
-use inputs::{Refusal, as_text};
-use partial::{assemble, disassemble};
+use crate::refusal::InputRefusal;
+use crate::texts::as_text;
+use asm::partial::{assemble, disassemble};
+use cli_words::Notation;
 use std::alloc::Global;
 
 /// The bytes that the text says line by line, of units as bytes too, in lower-case hex on one line.
@@ -19,7 +20,7 @@ use std::alloc::Global;
 /// # Errors
 ///
 /// The fault of the first line that has one, or want of memory.
-pub fn assembled_partly(alloc: Global, text: &str) -> Result<String, Refusal>
+pub fn assembled_partly(alloc: Global, text: &str) -> Result<String, InputRefusal>
     ensures assembled { IfOk result (λ line. AssemblesPartly text.now (string_bytes line)) }
     ensures refused { IfErr result (RefusesLines text.now) }
 {
@@ -34,7 +35,7 @@ pub fn assembled_partly(alloc: Global, text: &str) -> Result<String, Refusal>
 /// # Errors
 ///
 /// The fault of the first line that has one, or want of memory.
-pub fn assembled_partly_raw(alloc: Global, text: &str) -> Result<Vec<u8>, Refusal>
+pub fn assembled_partly_raw(alloc: Global, text: &str) -> Result<Vec<u8>, InputRefusal>
     ensures assembled { IfOk result (λ bytes. AssemblesPartlyRaw text.now bytes.items) }
     ensures refused { IfErr result (RefusesLines text.now) }
 {
@@ -51,7 +52,7 @@ pub fn disassembled_partly(
     alloc: Global,
     notation: &Notation,
     bytes: &[u8],
-) -> Result<String, Refusal>
+) -> Result<String, InputRefusal>
     ensures disassembled { IfOk result (λ text. DisassemblesPartly notation.now bytes.now (string_bytes text)) }
     ensures refused { IfErr result (RefusesParts notation.now bytes.now) }
 {
@@ -63,7 +64,7 @@ pub fn disassembled_partly(
 }
 
 /// The text of these bytes.
-fn of_code(alloc: Global, bytes: &[u8]) -> Result<String, Refusal>
+fn of_code(alloc: Global, bytes: &[u8]) -> Result<String, InputRefusal>
     ensures text { IfOk result (λ text. IsTextOf bytes.now (string_bytes text)) }
     ensures again { IfOk result (λ text. bytes_said (string_bytes text) ≡ Ok bytes.now) }
     ensures refused { IfErr result (RefusesUnits bytes.now) }
@@ -73,7 +74,7 @@ fn of_code(alloc: Global, bytes: &[u8]) -> Result<String, Refusal>
 
 /// That of the bytes that a text says.
 #[tactic(auto, using(crate::proofs::PartLemmas::cut_said))]
-fn of_text(alloc: Global, text: &str) -> Result<String, Refusal>
+fn of_text(alloc: Global, text: &str) -> Result<String, InputRefusal>
     ensures text { IfOk result (λ own. DisassemblesPartly Texts text.now (string_bytes own)) }
     ensures refused { IfErr result (RefusesSaid text.now) }
 {
@@ -82,13 +83,13 @@ fn of_text(alloc: Global, text: &str) -> Result<String, Refusal>
 }
 
 /// That of the code of an object's entry.
-fn of_object(alloc: Global, object: &[u8], entry: Option<&str>) -> Result<String, Refusal>
+fn of_object(alloc: Global, object: &[u8], entry: Option<&str>) -> Result<String, InputRefusal>
     ensures text { IfOk result (λ text. (code : List ℕ) × (entry_of object.now (asked entry.entry) ≡ Ok code)
         × IsTextOf code (string_bytes text) × (bytes_said (string_bytes text) ≡ Ok code)) }
     ensures refused { IfErr result (RefusesObject RefusesUnits (asked entry.entry) object.now) }
 {
     match code_in(object, entry) {
         Ok(code) => of_code(alloc, code),
-        Err(fault) => Err(Refusal::Object(fault)),
+        Err(fault) => Err(InputRefusal::Object(fault)),
     }
 }

@@ -1,21 +1,23 @@
 //! What a task prints and, where that tells of a program's trial in the setting of a second file, whose relay it was
 //! there.
 ghost use Rattle.std.specs.Prelude.{◌≡◌, IfErr, IfOk, IsSomeAnd, MatchResult, None, Ok, Err, Some, option_map};
-ghost use Rattle.lab.specs.Answers.{trial_of};
-ghost use Rattle.lab.specs.Faults.{Prevents};
-ghost use Rattle.faults.specs.Faults.{Stops};
-ghost use Rattle.lab.specs.Hints.{explained_in};
-ghost use Rattle.lab.specs.Serving.{IsPlacedAnswer, IsToldLater, IsTrialAt, files};
-ghost use Rattle.faults.specs.Whys.{is_explained};
-ghost use Rattle.lab.specs.declared.first_answer.FirstAnswer.TheVariants.{Trial};
+ghost use Rattle.cli_tasks.specs.TaskAnswers.{trial_of};
+ghost use Rattle.cli_tasks.specs.TaskFaults.{Prevents};
+ghost use Rattle.cli_tasks.specs.Faults.{Stops};
+ghost use Rattle.cli_tasks.specs.TaskHints.{explained_in};
+ghost use Rattle.cli_tasks.specs.Serving.{IsPlacedAnswer, IsToldLater, IsTrialAt, files};
+ghost use Rattle.cli_tasks.specs.Whys.{is_explained};
+ghost use Rattle.cli_tasks.specs.declared.first_answer.FirstAnswer.TheVariants.{Trial};
 
-use crate::explaining::{explained_in, refused};
-use crate::reading::{read_first, read_second};
-use crate::serving::answered;
-use command_line::{Notation, Task};
-use faults::{Failure, Traced, is_explained, later};
+use crate::check_explanation::{explained_in, refused};
+use crate::failure::TaskFailure;
+use crate::program_check::accepted_in;
+use crate::reader::{read_first, read_second};
+use crate::service::answered;
+use crate::trials::tried_by;
+use crate::whys::{FileRole, is_explained, later};
+use cli_words::{Notation, Task};
 use label::Shape;
-use program_tasks::{accepted_in, tried_by};
 use std::alloc::Global;
 use std::sync::Wait;
 use std::thread::Threads;
@@ -57,7 +59,7 @@ pub fn placed<'a, T, R>(
     task: &'a Task,
     first: R,
     second: Option<R>,
-) -> Result<Answer, Failure<'a>>
+) -> Result<Answer, TaskFailure<'a>>
 where
     T: Threads + Wait + Sync,
     R: Source,
@@ -83,7 +85,7 @@ fn trial_placed<'a, R: Source>(
     traced: bool,
     first: R,
     second: Option<R>,
-) -> Result<Answer, Failure<'a>>
+) -> Result<Answer, TaskFailure<'a>>
     requires { trial_of task.now ≡ Some (notation.now, traced) }
     ensures answer { IfOk result
         (λ answer. IsPlacedAnswer task.entry.now (files R.bytes first second) answer.text.items answer.place) }
@@ -115,7 +117,7 @@ pub(crate) fn trial_at<'a, R: Source>(
     traced: bool,
     file: &'a str,
     second: Option<R>,
-) -> Result<Answer, Failure<'a>>
+) -> Result<Answer, TaskFailure<'a>>
     ensures tried { IfOk result
         (λ answer. IsTrialAt (option_map R.bytes second) traced
         (explained_in task.now) first.now program.now answer.text.items answer.place) }
@@ -140,7 +142,7 @@ pub(crate) fn trial_at<'a, R: Source>(
         Err(refusal) => Err(later(
             alloc,
             is_explained(task),
-            Traced::Nothing,
+            FileRole::Nothing,
             refusal,
             file,
             bytes.as_slice(),

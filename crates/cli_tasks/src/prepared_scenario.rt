@@ -2,14 +2,14 @@
 ghost use Rattle.std.specs.Prelude.{◌≡◌, ◌++◌, ◌∷◌, [], IfErr, IfOk, OnOk, option_map, string_bytes};
 ghost use Rattle.std.specs.List.{AllZip};
 ghost use Rattle.toml.specs.Parse.{parse_document};
-ghost use Rattle.references.specs.Asking.{asked};
-ghost use Rattle.neighbours.specs.Seen.{Sees, SeesIn, reads_scenario};
-ghost use Rattle.neighbours.specs.Taken.{IsBeside, IsUntaken};
+ghost use Rattle.scenario.specs.Asking.{asked};
+ghost use Rattle.cli_tasks.specs.Seen.{Sees, SeesIn, reads_scenario};
+ghost use Rattle.cli_tasks.specs.Taken.{IsBeside, IsUntaken};
 
 use crate::folder::Folder;
-use crate::naming::{Untaken, beside};
-use command_line::Task;
-use references::{Beside, Reference, asked, resolved};
+use crate::named_files::{FileProblem, beside};
+use cli_words::Task;
+use scenario::{LoadedFile, Reference, asked, resolved};
 use std::alloc::{AllocError, Global};
 
 /// Whether the task's first file is a scenario, or may be one.
@@ -42,7 +42,11 @@ pub fn reads_scenario(task: &Task) -> bool
 /// # Errors
 ///
 /// A file that is named is not taken, or want of memory.
-pub fn with_files<D: Folder>(alloc: Global, bytes: Vec<u8>, folder: &D) -> Result<Vec<u8>, Untaken>
+pub fn with_files<D: Folder>(
+    alloc: Global,
+    bytes: Vec<u8>,
+    folder: &D,
+) -> Result<Vec<u8>, FileProblem>
     ensures seen { IfOk result (λ new. Sees (D.bytes folder.now) bytes.items new.items) }
     ensures untaken { IfErr result
         (IsUntaken (D.bytes folder.now) (D.fails folder.now) (asked (parse_document bytes.items))) }
@@ -57,7 +61,11 @@ pub fn with_files<D: Folder>(alloc: Global, bytes: Vec<u8>, folder: &D) -> Resul
 }
 
 /// The text in which the files stand that it names, if it names some.
-fn with_named<D: Folder>(alloc: Global, text: &str, folder: &D) -> Result<Option<String>, Untaken>
+fn with_named<D: Folder>(
+    alloc: Global,
+    text: &str,
+    folder: &D,
+) -> Result<Option<String>, FileProblem>
     ensures seen { IfOk result
         (λ new. SeesIn (D.bytes folder.now) (parse_document text.now) (option_map string_bytes new)) }
     ensures untaken { IfErr result
@@ -73,7 +81,7 @@ fn read_all<D: Folder>(
     alloc: Global,
     named: &[Reference],
     folder: &D,
-) -> Result<Vec<Beside>, Untaken>
+) -> Result<Vec<LoadedFile>, FileProblem>
     ensures files { IfOk result (λ files. AllZip (IsBeside (D.bytes folder.now)) named.now files.items) }
     ensures untaken { IfErr result (IsUntaken (D.bytes folder.now) (D.fails folder.now) named.now) }
 {
@@ -85,7 +93,7 @@ fn read_all<D: Folder>(
 }
 
 /// Pushes a file.
-fn push(files: &mut Vec<Beside>, file: Beside) -> Result<(), AllocError>
+fn push(files: &mut Vec<LoadedFile>, file: LoadedFile) -> Result<(), AllocError>
     ensures { OnOk result (files.new.items ≡ files.old.items ++ file ∷ []) }
 {
     Ok(files.push(file)?)

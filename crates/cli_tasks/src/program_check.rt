@@ -3,18 +3,19 @@ ghost use Rattle.asm.specs.Program.{program_of};
 ghost use Rattle.codec.specs.Program.{SpellsProgram};
 ghost use Rattle.semantics.specs.Run.{IsSound};
 ghost use Rattle.verify.specs.Judgement.{judged};
-ghost use Rattle.program_tasks.specs.Answers.{IsRun};
-ghost use Rattle.elf.specs.Symbol.{asked};
-ghost use Rattle.program_tasks.specs.Programs.{HasEntry, HasProgram};
-ghost use Rattle.program_tasks.specs.Lines.{checked_lines};
-ghost use Rattle.program_tasks.specs.Refusals.{RefusesCheck, RefusesCheckAssembly, RefusesCheckIn, RefusesObject, RefusesProgram};
-ghost use Rattle.inputs.specs.Refusals.{verifier_refusal};
+ghost use Rattle.cli_tasks.specs.Answers.{IsRun};
+ghost use Rattle.object.specs.Symbol.{asked};
+ghost use Rattle.cli_tasks.specs.Programs.{HasEntry, HasProgram};
+ghost use Rattle.cli_tasks.specs.Lines.{checked_lines};
+ghost use Rattle.cli_tasks.specs.ProgramRefusals.{RefusesCheck, RefusesCheckAssembly, RefusesCheckIn, RefusesObject, RefusesProgram};
+ghost use Rattle.cli_tasks.specs.Refusals.{verifier_refusal};
 
 use crate::programs::code_in;
+use crate::refusal::InputRefusal;
+use crate::texts::as_text;
 use asm::assemble;
+use cli_words::Notation;
 use codec::decode;
-use command_line::Notation;
-use inputs::{Refusal, as_text};
 use insn::Program;
 use std::alloc::{AllocError, Global};
 use trial::{Setting, first_lines, run_in};
@@ -42,7 +43,7 @@ pub fn check(
     alloc: Global,
     notation: &Notation,
     bytes: &[u8],
-) -> Result<(Verified, Checked), Refusal>
+) -> Result<(Verified, Checked), InputRefusal>
     ensures program { IfOk result (λ c. HasProgram notation.now bytes.now c.0) }
     ensures run { IfOk result (λ c. IsRun c.0 c.1) }
     ensures refused { IfErr result (RefusesCheckIn notation.now bytes.now) }
@@ -57,7 +58,11 @@ pub fn check(
 /// # Errors
 ///
 /// What the codec, the assembler or the verifier refuses, what of an object is refused, or want of memory.
-pub fn accepted_in(alloc: Global, notation: &Notation, bytes: &[u8]) -> Result<Verified, Refusal>
+pub fn accepted_in(
+    alloc: Global,
+    notation: &Notation,
+    bytes: &[u8],
+) -> Result<Verified, InputRefusal>
     ensures program { IfOk result (λ program. HasProgram notation.now bytes.now program) }
     ensures accepted { IfOk result (λ program. judged program ≡ None) }
     ensures sound { IfOk result (λ program. IsSound program) }
@@ -71,7 +76,11 @@ pub fn accepted_in(alloc: Global, notation: &Notation, bytes: &[u8]) -> Result<V
 }
 
 /// Verifies the program that an object's entry has.
-fn accepted_object(alloc: Global, object: &[u8], entry: Option<&str>) -> Result<Verified, Refusal>
+fn accepted_object(
+    alloc: Global,
+    object: &[u8],
+    entry: Option<&str>,
+) -> Result<Verified, InputRefusal>
     ensures program { IfOk result (λ program. HasEntry (asked entry.entry) object.now program) }
     ensures accepted { IfOk result (λ program. judged program ≡ None) }
     ensures sound { IfOk result (λ program. IsSound program) }
@@ -79,7 +88,7 @@ fn accepted_object(alloc: Global, object: &[u8], entry: Option<&str>) -> Result<
 {
     match code_in(object, entry) {
         Ok(code) => accepted(alloc, code),
-        Err(fault) => Err(Refusal::Object(fault)),
+        Err(fault) => Err(InputRefusal::Object(fault)),
     }
 }
 
@@ -88,7 +97,7 @@ fn accepted_object(alloc: Global, object: &[u8], entry: Option<&str>) -> Result<
 /// # Errors
 ///
 /// What the codec or the verifier refuses, or want of memory.
-pub fn accepted(alloc: Global, bytes: &[u8]) -> Result<Verified, Refusal>
+pub fn accepted(alloc: Global, bytes: &[u8]) -> Result<Verified, InputRefusal>
     ensures spelt { IfOk result (λ program. SpellsProgram bytes.now program) }
     ensures accepted { IfOk result (λ program. judged program ≡ None) }
     ensures sound { IfOk result (λ program. IsSound program) }
@@ -103,7 +112,7 @@ pub fn accepted(alloc: Global, bytes: &[u8]) -> Result<Verified, Refusal>
 /// # Errors
 ///
 /// What the assembler or the verifier refuses, or want of memory.
-pub fn accepted_text(alloc: Global, text: &str) -> Result<Verified, Refusal>
+pub fn accepted_text(alloc: Global, text: &str) -> Result<Verified, InputRefusal>
     ensures said { IfOk result (λ program. program_of text.now ≡ Some program) }
     ensures accepted { IfOk result (λ program. judged program ≡ None) }
     ensures sound { IfOk result (λ program. IsSound program) }
@@ -114,7 +123,7 @@ pub fn accepted_text(alloc: Global, text: &str) -> Result<Verified, Refusal>
 }
 
 /// Verifies a program.
-fn accepted_program(alloc: Global, program: Program) -> Result<Verified, Refusal>
+fn accepted_program(alloc: Global, program: Program) -> Result<Verified, InputRefusal>
     ensures same { IfOk result (λ verified. verified ≡ program) }
     ensures accepted { IfOk result (λ verified. judged verified ≡ None) }
     ensures sound { IfOk result (λ verified. IsSound verified) }
@@ -124,13 +133,13 @@ fn accepted_program(alloc: Global, program: Program) -> Result<Verified, Refusal
 }
 
 /// The verified program, or why it is refused.
-fn accepted_by(judgement: Result<Verified, Refused>) -> Result<Verified, Refusal>
+fn accepted_by(judgement: Result<Verified, Refused>) -> Result<Verified, InputRefusal>
     ensures { MatchResult judgement (λ verified. result ≡ Ok verified)
         (λ refused. result ≡ Err (verifier_refusal refused.fault)) }
 {
     match judgement {
         Ok(verified) => Ok(verified),
-        Err(refused) => Err(Refusal::from(refused.fault)),
+        Err(refused) => Err(InputRefusal::from(refused.fault)),
     }
 }
 

@@ -1,13 +1,13 @@
 //! How a program is explained.
 ghost use Rattle.std.specs.Prelude.{IfOk, IfErr, option_map, string_bytes};
-ghost use Rattle.program_tasks.specs.Programs.{Explains, IsBehind, IsWhy};
-ghost use Rattle.program_tasks.specs.Refusals.{RefusesNotation};
+ghost use Rattle.cli_tasks.specs.Programs.{Explains, IsBehind, IsWhy};
+ghost use Rattle.cli_tasks.specs.ProgramRefusals.{RefusesNotation};
 
 use crate::programs::program_in;
-use crate::written::{statements_in, written_in};
-use command_line::Notation;
-use explain::{Written, explanation_at};
-use inputs::Refusal;
+use crate::refusal::InputRefusal;
+use crate::unit_places::{statements_in, written_in};
+use cli_words::Notation;
+use explain::{UnitTexts, explanation_at};
 use insn::Program;
 use std::alloc::{AllocError, Global};
 
@@ -22,7 +22,7 @@ fn told(
 {
     let places = written_in(alloc, notation, bytes)?;
     let statements = statements_in(alloc, notation, bytes)?;
-    let written = Written {
+    let written = UnitTexts {
         places: places.as_slice(),
         statements: statements.as_slice(),
     };
@@ -56,7 +56,7 @@ pub(crate) fn with_explanation(
 /// # Errors
 ///
 /// What of the file is refused, or want of memory.
-pub fn explanation(alloc: Global, notation: &Notation, bytes: &[u8]) -> Result<String, Refusal>
+pub fn explanation(alloc: Global, notation: &Notation, bytes: &[u8]) -> Result<String, InputRefusal>
     ensures why { IfOk result (λ text. IsWhy notation.now bytes.now (string_bytes text)) }
     ensures refused { IfErr result (RefusesNotation notation.now bytes.now) }
 {

@@ -2,17 +2,18 @@
 ghost use Rattle.std.specs.Prelude.{◌≡◌, IfOk, IfErr, MatchResult, Ok, Err, Some};
 ghost use Rattle.asm.specs.Program.{program_of};
 ghost use Rattle.codec.specs.Program.{SpellsProgram};
-ghost use Rattle.elf.specs.Entry.{entry_of};
-ghost use Rattle.elf.specs.Symbol.{asked};
-ghost use Rattle.program_tasks.specs.Programs.{HasEntry, HasProgram};
-ghost use Rattle.program_tasks.specs.Refusals.{RefusesAssembly, RefusesDisassembly, RefusesNotation, RefusesObject};
+ghost use Rattle.object.specs.Entry.{entry_of};
+ghost use Rattle.object.specs.Symbol.{asked};
+ghost use Rattle.cli_tasks.specs.Programs.{HasEntry, HasProgram};
+ghost use Rattle.cli_tasks.specs.ProgramRefusals.{RefusesAssembly, RefusesDisassembly, RefusesNotation, RefusesObject};
 
+use crate::refusal::InputRefusal;
+use crate::texts::as_text;
 use asm::assemble;
+use cli_words::Notation;
 use codec::decode;
-use command_line::Notation;
-use elf::Fault;
-use inputs::{Refusal, as_text};
 use insn::Program;
+use object::ObjectFault;
 use std::alloc::Global;
 
 /// The program in this notation that a file of these bytes has.
@@ -20,7 +21,7 @@ pub(crate) fn program_in(
     alloc: Global,
     notation: &Notation,
     bytes: &[u8],
-) -> Result<Program, Refusal>
+) -> Result<Program, InputRefusal>
     ensures program { IfOk result (λ program. HasProgram notation.now bytes.now program) }
     ensures refused { IfErr result (RefusesNotation notation.now bytes.now) }
 {
@@ -32,7 +33,7 @@ pub(crate) fn program_in(
 }
 
 /// The program that the bytes spell.
-fn of_bytes(alloc: Global, bytes: &[u8]) -> Result<Program, Refusal>
+fn of_bytes(alloc: Global, bytes: &[u8]) -> Result<Program, InputRefusal>
     ensures program { IfOk result (λ program. SpellsProgram bytes.now program) }
     ensures refused { IfErr result (RefusesDisassembly bytes.now) }
 {
@@ -40,7 +41,7 @@ fn of_bytes(alloc: Global, bytes: &[u8]) -> Result<Program, Refusal>
 }
 
 /// That which the assembly says.
-fn of_text(alloc: Global, text: &str) -> Result<Program, Refusal>
+fn of_text(alloc: Global, text: &str) -> Result<Program, InputRefusal>
     ensures program { IfOk result (λ program. program_of text.now ≡ Some program) }
     ensures refused { IfErr result (RefusesAssembly text.now) }
 {
@@ -48,23 +49,23 @@ fn of_text(alloc: Global, text: &str) -> Result<Program, Refusal>
 }
 
 /// That of an object's entry.
-fn of_object(alloc: Global, object: &[u8], entry: Option<&str>) -> Result<Program, Refusal>
+fn of_object(alloc: Global, object: &[u8], entry: Option<&str>) -> Result<Program, InputRefusal>
     ensures program { IfOk result (λ program. HasEntry (asked entry.entry) object.now program) }
     ensures refused { IfErr result (RefusesObject RefusesDisassembly (asked entry.entry) object.now) }
 {
     match code_in(object, entry) {
         Ok(code) => of_bytes(alloc, code),
-        Err(fault) => Err(Refusal::Object(fault)),
+        Err(fault) => Err(InputRefusal::Object(fault)),
     }
 }
 
 /// The code of an object's entry.
-pub(crate) fn code_in<'a>(object: &'a [u8], entry: Option<&str>) -> Result<&'a [u8], Fault>
+pub(crate) fn code_in<'a>(object: &'a [u8], entry: Option<&str>) -> Result<&'a [u8], ObjectFault>
     ensures { MatchResult result (λ code. entry_of object.now (asked entry.entry) ≡ Ok code.now)
         (λ fault. entry_of object.now (asked entry.entry) ≡ Err fault) }
 {
     match entry {
-        None => elf::entry(object, None),
-        Some(name) => elf::entry(object, Some(name.as_bytes())),
+        None => object::entry(object, None),
+        Some(name) => object::entry(object, Some(name.as_bytes())),
     }
 }

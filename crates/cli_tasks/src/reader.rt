@@ -1,16 +1,17 @@
 //! A task's files are read here, no further than their bytes can matter.
 ghost use Rattle.std.specs.Prelude.{◌≡◌, ◌<◌, ◌*◌, ℕ, List, length, IfOk, IfErr, IsSomeAnd, option_map};
 ghost use Rattle.std.specs.IoError.{error_kind};
-ghost use Rattle.faults.specs.Faults.{Stops, unread_by};
-ghost use Rattle.lab.specs.Reading.{IsTooLong};
+ghost use Rattle.cli_tasks.specs.Faults.{Stops, unread_by};
+ghost use Rattle.cli_tasks.specs.Reading.{IsTooLong};
 ghost use Rattle.streams.specs.Reading.{IsFront, AreBytes};
-ghost use Rattle.program_tasks.specs.Refusals.{RefusesBytes};
-ghost use Rattle.lab.specs.Serving.{AreSecondBytes, IsRefused, first_name};
+ghost use Rattle.cli_tasks.specs.ProgramRefusals.{RefusesBytes};
+ghost use Rattle.cli_tasks.specs.Serving.{AreSecondBytes, IsRefused, first_name};
 
-use codec::{CodecError, Fault as CodecFault};
-use command_line::{Notation, Task};
-use faults::{Failure, unjudged};
-use inputs::Refusal;
+use crate::failure::TaskFailure;
+use crate::refusal::InputRefusal;
+use crate::whys::unjudged;
+use cli_words::{Notation, Task};
+use codec::{CodecError, CodecFault as CodecFault};
 use insn::Program;
 use std::alloc::Global;
 use std::io::{self, ErrorKind};
@@ -25,7 +26,7 @@ pub(crate) fn read_first<'a, R: Source>(
     alloc: Global,
     task: &'a Task,
     first: R,
-) -> Result<Vec<u8>, Failure<'a>>
+) -> Result<Vec<u8>, TaskFailure<'a>>
     ensures whole { IfOk result (λ all. AreBytes (R.bytes first) all.items) }
     ensures fault { IfErr result
         (Stops (R.fails first) (IsRefused task.entry.now (R.bytes first)) (first_name task.entry.now)) }
@@ -51,7 +52,7 @@ fn read_program<'a, R: Source>(
     task: &'a Task,
     file: &'a str,
     source: R,
-) -> Result<Vec<u8>, Failure<'a>>
+) -> Result<Vec<u8>, TaskFailure<'a>>
     requires { file.now ≡ first_name task.now }
     ensures whole { IfOk result (λ all. AreBytes (R.bytes source) all.items) }
     ensures fault { IfErr result (Stops (R.fails source) (IsTooLong task.entry.now (R.bytes source)) file.entry.now) }
@@ -59,7 +60,7 @@ fn read_program<'a, R: Source>(
     match source.read_within(alloc, MOST_OF_A_PROGRAM) {
         Ok(Within::Whole(bytes)) => Ok(bytes),
         Ok(Within::Longer { front, number }) => {
-            let refusal = Refusal::Codec(too_long(number));
+            let refusal = InputRefusal::Codec(too_long(number));
             Err(unjudged(alloc, task, refusal, file, front.as_slice()))
         }
         Err(error) => Err(unread(&error, file)),
@@ -83,7 +84,7 @@ pub(crate) fn read_schedule<'a, R: Source>(
     alloc: Global,
     file: &'a str,
     source: R,
-) -> Result<Vec<u8>, Failure<'a>>
+) -> Result<Vec<u8>, TaskFailure<'a>>
     ensures front { IfOk result (λ front. IsFront 1048576 (R.bytes source) front.items) }
     ensures fault { IfErr result (Stops (R.fails source) (λ _ _. ⊥) file.entry.now) }
 {
@@ -98,7 +99,7 @@ pub(crate) fn read_second<'a, R: Source>(
     alloc: Global,
     file: &'a str,
     second: Option<R>,
-) -> Result<Vec<u8>, Failure<'a>>
+) -> Result<Vec<u8>, TaskFailure<'a>>
     ensures whole { IfOk result (λ all. AreSecondBytes (option_map R.bytes second) all.items) }
     ensures fault { IfErr result (Stops (IsSomeAnd second R.fails) (λ _ _. ⊥) file.entry.now) }
 {
@@ -109,7 +110,7 @@ pub(crate) fn read_second<'a, R: Source>(
 }
 
 /// All bytes of the file with this name.
-fn read<'a, R: Source>(alloc: Global, file: &'a str, source: R) -> Result<Vec<u8>, Failure<'a>>
+fn read<'a, R: Source>(alloc: Global, file: &'a str, source: R) -> Result<Vec<u8>, TaskFailure<'a>>
     ensures whole { IfOk result (λ all. AreBytes (R.bytes source) all.items) }
     ensures fault { IfErr result (Stops (R.fails source) (λ _ _. ⊥) file.entry.now) }
 {
@@ -120,12 +121,12 @@ fn read<'a, R: Source>(alloc: Global, file: &'a str, source: R) -> Result<Vec<u8
 }
 
 /// The fault of a file with this name whose reading failed so.
-fn unread<'a>(error: &io::Error, file: &'a str) -> Failure<'a>
+fn unread<'a>(error: &io::Error, file: &'a str) -> TaskFailure<'a>
     ensures kind { result ≡ unread_by (error_kind error.now) file.entry }
     ensures stops { Stops (Unit {0}) (λ _ _. ⊥) file.entry.now result }
 {
     match error.kind() {
-        ErrorKind::OutOfMemory => Failure::Memory,
-        _ => Failure::Read(file),
+        ErrorKind::OutOfMemory => TaskFailure::Memory,
+        _ => TaskFailure::Read(file),
     }
 }

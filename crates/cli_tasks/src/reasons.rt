@@ -1,6 +1,6 @@
 //! Why a file is not read or written, as the system says.
 ghost use Rattle.std.specs.Prelude.{◌≡◌};
-ghost use Rattle.faults.specs.Reasons.{reason_text};
+ghost use Rattle.cli_tasks.specs.Reasons.{reason_text};
 
 use std::io::ErrorKind;
 

@@ -1,7 +1,7 @@
 use asm::AsmError;
 use book::TableError;
+use campaign_schedules::{AccessFault, AccessesError};
 use codec::CodecError;
-use retracing::{AccessFault, AccessesError};
 use scenario::ScenarioError;
 use std::alloc::AllocError;
 use std::error::Error;
@@ -13,11 +13,11 @@ use verify::VerifyError;
 
 /// Why a task does not take a file's bytes: what is refused, with its code and place.
 #[derive(Debug, Drop)]
-pub enum Refusal {
+pub enum InputRefusal {
     /// The bytes spell no program.
     Codec(CodecError),
     /// The object has no code for the entry.
-    Object(elf::Fault),
+    Object(object::ObjectFault),
     /// The program is not accepted.
     Verifier(VerifyError),
     /// The text says no program.
@@ -42,177 +42,177 @@ pub enum Refusal {
     Memory,
 }
 
-impl fmt::Display for Refusal {
+impl fmt::Display for InputRefusal {
     ghost use Rattle.std.specs.Prelude.{Some};
-    ghost use Rattle.inputs.specs.ErrorText.{refusal_text};
+    ghost use Rattle.cli_tasks.specs.ErrorText.{refusal_text};
 
     ghost output = { λ refusal. Some (refusal_text refusal) };
 
     fn fmt<W: fmt::Write>(&self, f: &mut fmt::Formatter<W>) -> fmt::Result {
         match self {
-            Refusal::Codec(error) => write!(f, "{error}"),
-            Refusal::Object(fault) => write!(f, "{fault}"),
-            Refusal::Verifier(fault) => write!(f, "{fault}"),
-            Refusal::Assembly(error) => write!(f, "{error}"),
-            Refusal::Table(error) => write!(f, "{error}"),
-            Refusal::Scenario(error) => write!(f, "{error}"),
-            Refusal::Setting(error) => write!(f, "{error}"),
-            Refusal::Trace(error) => write!(f, "{error}"),
-            Refusal::Threads(error) => write!(f, "{error}"),
-            Refusal::Accesses(fault) => write!(f, "{fault}"),
-            Refusal::Stranger { general, .. } => write!(f, "G1 general {general}"),
-            Refusal::NotText => f.write_str("not UTF-8"),
-            Refusal::Memory => f.write_str("out of memory"),
+            InputRefusal::Codec(error) => write!(f, "{error}"),
+            InputRefusal::Object(fault) => write!(f, "{fault}"),
+            InputRefusal::Verifier(fault) => write!(f, "{fault}"),
+            InputRefusal::Assembly(error) => write!(f, "{error}"),
+            InputRefusal::Table(error) => write!(f, "{error}"),
+            InputRefusal::Scenario(error) => write!(f, "{error}"),
+            InputRefusal::Setting(error) => write!(f, "{error}"),
+            InputRefusal::Trace(error) => write!(f, "{error}"),
+            InputRefusal::Threads(error) => write!(f, "{error}"),
+            InputRefusal::Accesses(fault) => write!(f, "{fault}"),
+            InputRefusal::Stranger { general, .. } => write!(f, "G1 general {general}"),
+            InputRefusal::NotText => f.write_str("not UTF-8"),
+            InputRefusal::Memory => f.write_str("out of memory"),
         }
     }
 }
 
-impl Error for Refusal {}
+impl Error for InputRefusal {}
 
-impl From<AllocError> for Refusal {
+impl From<AllocError> for InputRefusal {
     ghost use Rattle.std.specs.Prelude.{◌≡◌};
-    ghost use Rattle.inputs.specs.declared.refusal.Refusal.TheVariants.{Memory};
+    ghost use Rattle.cli_tasks.specs.declared.refusal.InputRefusal.TheVariants.{Memory};
 
     ghost from_gives = { λ _ refusal. refusal ≡ Memory };
 
-    fn from(_error: AllocError) -> Refusal {
-        Refusal::Memory
+    fn from(_error: AllocError) -> InputRefusal {
+        InputRefusal::Memory
     }
 }
 
-impl From<CodecError> for Refusal {
+impl From<CodecError> for InputRefusal {
     ghost use Rattle.std.specs.Prelude.{◌≡◌};
-    ghost use Rattle.inputs.specs.Refusals.{codec_refusal};
+    ghost use Rattle.cli_tasks.specs.Refusals.{codec_refusal};
 
     ghost from_gives = { λ error refusal. refusal ≡ codec_refusal error };
 
-    fn from(error: CodecError) -> Refusal {
+    fn from(error: CodecError) -> InputRefusal {
         match error {
-            CodecError::Memory => Refusal::Memory,
-            error => Refusal::Codec(error),
+            CodecError::Memory => InputRefusal::Memory,
+            error => InputRefusal::Codec(error),
         }
     }
 }
 
-impl From<elf::Fault> for Refusal {
+impl From<object::ObjectFault> for InputRefusal {
     ghost use Rattle.std.specs.Prelude.{◌≡◌};
-    ghost use Rattle.inputs.specs.declared.refusal.Refusal.TheVariants.{Object};
+    ghost use Rattle.cli_tasks.specs.declared.refusal.InputRefusal.TheVariants.{Object};
 
     ghost from_gives = { λ fault refusal. refusal ≡ Object fault };
 
-    fn from(fault: elf::Fault) -> Refusal {
-        Refusal::Object(fault)
+    fn from(fault: object::ObjectFault) -> InputRefusal {
+        InputRefusal::Object(fault)
     }
 }
 
-impl From<VerifyError> for Refusal {
+impl From<VerifyError> for InputRefusal {
     ghost use Rattle.std.specs.Prelude.{◌≡◌};
-    ghost use Rattle.inputs.specs.Refusals.{verifier_refusal};
+    ghost use Rattle.cli_tasks.specs.Refusals.{verifier_refusal};
 
     ghost from_gives = { λ fault refusal. refusal ≡ verifier_refusal fault };
 
-    fn from(fault: VerifyError) -> Refusal {
+    fn from(fault: VerifyError) -> InputRefusal {
         match fault {
-            VerifyError::Memory => Refusal::Memory,
-            fault => Refusal::Verifier(fault),
+            VerifyError::Memory => InputRefusal::Memory,
+            fault => InputRefusal::Verifier(fault),
         }
     }
 }
 
-impl From<AsmError> for Refusal {
+impl From<AsmError> for InputRefusal {
     ghost use Rattle.std.specs.Prelude.{◌≡◌};
-    ghost use Rattle.inputs.specs.Refusals.{assembly_refusal};
+    ghost use Rattle.cli_tasks.specs.Refusals.{assembly_refusal};
 
     ghost from_gives = { λ error refusal. refusal ≡ assembly_refusal error };
 
-    fn from(error: AsmError) -> Refusal {
+    fn from(error: AsmError) -> InputRefusal {
         match error {
-            AsmError::Memory => Refusal::Memory,
-            error => Refusal::Assembly(error),
+            AsmError::Memory => InputRefusal::Memory,
+            error => InputRefusal::Assembly(error),
         }
     }
 }
 
-impl From<TableError> for Refusal {
+impl From<TableError> for InputRefusal {
     ghost use Rattle.std.specs.Prelude.{◌≡◌};
-    ghost use Rattle.inputs.specs.Refusals.{table_refusal};
+    ghost use Rattle.cli_tasks.specs.Refusals.{table_refusal};
 
     ghost from_gives = { λ error refusal. refusal ≡ table_refusal error };
 
-    fn from(error: TableError) -> Refusal {
+    fn from(error: TableError) -> InputRefusal {
         match error {
-            TableError::Memory => Refusal::Memory,
-            error => Refusal::Table(error),
+            TableError::Memory => InputRefusal::Memory,
+            error => InputRefusal::Table(error),
         }
     }
 }
 
-impl From<ScenarioError> for Refusal {
+impl From<ScenarioError> for InputRefusal {
     ghost use Rattle.std.specs.Prelude.{◌≡◌};
-    ghost use Rattle.inputs.specs.Refusals.{scenario_refusal};
+    ghost use Rattle.cli_tasks.specs.Refusals.{scenario_refusal};
 
     ghost from_gives = { λ error refusal. refusal ≡ scenario_refusal error };
 
-    fn from(error: ScenarioError) -> Refusal {
+    fn from(error: ScenarioError) -> InputRefusal {
         match error {
-            ScenarioError::Memory => Refusal::Memory,
-            error => Refusal::Scenario(error),
+            ScenarioError::Memory => InputRefusal::Memory,
+            error => InputRefusal::Scenario(error),
         }
     }
 }
 
-impl From<SettingError> for Refusal {
+impl From<SettingError> for InputRefusal {
     ghost use Rattle.std.specs.Prelude.{◌≡◌};
-    ghost use Rattle.inputs.specs.Refusals.{setting_refusal};
+    ghost use Rattle.cli_tasks.specs.Refusals.{setting_refusal};
 
     ghost from_gives = { λ error refusal. refusal ≡ setting_refusal error };
 
-    fn from(error: SettingError) -> Refusal {
+    fn from(error: SettingError) -> InputRefusal {
         match error {
-            SettingError::Memory => Refusal::Memory,
-            error => Refusal::Setting(error),
+            SettingError::Memory => InputRefusal::Memory,
+            error => InputRefusal::Setting(error),
         }
     }
 }
 
-impl From<TraceError> for Refusal {
+impl From<TraceError> for InputRefusal {
     ghost use Rattle.std.specs.Prelude.{◌≡◌};
-    ghost use Rattle.inputs.specs.Refusals.{trace_refusal};
+    ghost use Rattle.cli_tasks.specs.Refusals.{trace_refusal};
 
     ghost from_gives = { λ error refusal. refusal ≡ trace_refusal error };
 
-    fn from(error: TraceError) -> Refusal {
+    fn from(error: TraceError) -> InputRefusal {
         match error {
-            TraceError::Memory => Refusal::Memory,
-            error => Refusal::Trace(error),
+            TraceError::Memory => InputRefusal::Memory,
+            error => InputRefusal::Trace(error),
         }
     }
 }
 
-impl From<MusterError> for Refusal {
+impl From<MusterError> for InputRefusal {
     ghost use Rattle.std.specs.Prelude.{◌≡◌};
-    ghost use Rattle.inputs.specs.Refusals.{muster_refusal};
+    ghost use Rattle.cli_tasks.specs.Refusals.{muster_refusal};
 
     ghost from_gives = { λ error refusal. refusal ≡ muster_refusal error };
 
-    fn from(error: MusterError) -> Refusal {
+    fn from(error: MusterError) -> InputRefusal {
         match error {
-            MusterError::Memory => Refusal::Memory,
-            error => Refusal::Threads(error),
+            MusterError::Memory => InputRefusal::Memory,
+            error => InputRefusal::Threads(error),
         }
     }
 }
 
-impl From<AccessesError> for Refusal {
+impl From<AccessesError> for InputRefusal {
     ghost use Rattle.std.specs.Prelude.{◌≡◌};
-    ghost use Rattle.inputs.specs.Refusals.{accesses_refusal};
+    ghost use Rattle.cli_tasks.specs.Refusals.{accesses_refusal};
 
     ghost from_gives = { λ error refusal. refusal ≡ accesses_refusal error };
 
-    fn from(error: AccessesError) -> Refusal {
+    fn from(error: AccessesError) -> InputRefusal {
         match error {
-            AccessesError::At(fault) => Refusal::Accesses(fault),
-            AccessesError::Memory => Refusal::Memory,
+            AccessesError::At(fault) => InputRefusal::Accesses(fault),
+            AccessesError::Memory => InputRefusal::Memory,
         }
     }
 }

@@ -1,25 +1,29 @@
 ghost use Rattle.std.specs.Prelude.{◌≡◌, ◌≢◌, ◌⊎◌, [], Ok, Err, IfOk, IfErr, IfSome, IsErrAnd, IsSomeAnd, MatchResult, OnOk, codes, option_map};
 ghost use Rattle.std.specs.Fmt.{with_newline};
 ghost use Rattle.std.specs.Io.KnownBytes.{Appends};
-ghost use Rattle.faults.specs.Faults.{IsToldIf, Stops, fault_text, status_of};
-ghost use Rattle.lab.specs.Faults.{Undoes, Prevents};
-ghost use Rattle.lab.specs.Hints.{explained_in};
-ghost use Rattle.faults.specs.Whys.{Nothing, TellsWhyOf, is_explained};
-ghost use Rattle.lab.specs.Serving.{IsAnswer, IsAuditOf, IsFault, IsPlayedBy, IsPrinted, IsScheduleOf, IsScheduleTold, IsToldLater, IsTrialOf, Tells, files, second_name};
-ghost use Rattle.lab.specs.declared.first_answer.FirstAnswer.TheVariants.{Trial, Play, Audit};
-ghost use Rattle.faults.specs.declared.failure.Failure.TheVariants.{Write as unwritten};
+ghost use Rattle.cli_tasks.specs.Faults.{IsToldIf, Stops, fault_text, status_of};
+ghost use Rattle.cli_tasks.specs.TaskFaults.{Undoes, Prevents};
+ghost use Rattle.cli_tasks.specs.TaskHints.{explained_in};
+ghost use Rattle.cli_tasks.specs.Whys.{Nothing, TellsWhyOf, is_explained};
+ghost use Rattle.cli_tasks.specs.Serving.{IsAnswer, IsAuditOf, IsFault, IsPlayedBy, IsPrinted, IsScheduleOf, IsScheduleTold, IsToldLater, IsTrialOf, Tells, files, second_name};
+ghost use Rattle.cli_tasks.specs.declared.first_answer.FirstAnswer.TheVariants.{Trial, Play, Audit};
+ghost use Rattle.cli_tasks.specs.declared.failure.TaskFailure.TheVariants.{Write as unwritten};
 ghost use Rattle.streams.specs.Writing.{AppendsFront};
 
-use crate::answering::answer;
-use crate::behind::{draw_by, draw_record, page_by, page_record, retrace_of};
-use crate::explaining::refused;
+use crate::audit::audited;
+use crate::campaign_course::{draw_by, draw_record, page_by, page_record, retrace_of};
+use crate::campaigns::schedule_of;
+use crate::check_explanation::refused;
+use crate::chronicle::played;
+use crate::failure::TaskFailure;
 use crate::first_answer::FirstAnswer;
-use crate::placing::trial_at;
-use crate::reading::{read_first, read_schedule, read_second};
-use campaign_tasks::{audited, mustered, played};
-use command_line::{Account, Lieutenants, Task};
-use faults::{Failure, Traced, is_explained, later};
-use inputs::{Refusal, schedule_of};
+use crate::muster::mustered;
+use crate::placed_answer::trial_at;
+use crate::reader::{read_first, read_schedule, read_second};
+use crate::refusal::InputRefusal;
+use crate::task_answer::answer;
+use crate::whys::{FileRole, is_explained, later};
+use cli_words::{Account, Lieutenants, Task};
 use scenario::Campaign;
 use std::alloc::Global;
 use std::sync::Wait;
@@ -68,7 +72,7 @@ where
 }
 
 /// Says why a task is not done. The result is the exit status.
-fn ended<F: Output>(failure: &Failure<'_>, fault: &mut F) -> u8
+fn ended<F: Output>(failure: &TaskFailure<'_>, fault: &mut F) -> u8
     ensures status { result ≡ status_of failure.now }
     ensures told { F.fails fault.old ⊎ IfSome (with_newline (fault_text failure.now))
         (Appends (F.contents fault.old) (F.contents fault.new)) }
@@ -86,7 +90,7 @@ fn print<'a, T, R, O>(
     first: R,
     second: Option<R>,
     out: &mut O,
-) -> Result<(), Failure<'a>>
+) -> Result<(), TaskFailure<'a>>
 where
     T: Threads + Wait + Sync,
     R: Source,
@@ -101,7 +105,7 @@ where
     let text = answered(rt, alloc, task, first, second)?;
     match out.put(text.as_slice()) {
         Ok(()) => Ok(()),
-        Err(_) => Err(Failure::Write),
+        Err(_) => Err(TaskFailure::Write),
     }
 }
 
@@ -116,7 +120,7 @@ pub fn answered<'a, T, R>(
     task: &'a Task,
     first: R,
     second: Option<R>,
-) -> Result<Vec<u8>, Failure<'a>>
+) -> Result<Vec<u8>, TaskFailure<'a>>
 where
     T: Threads + Wait + Sync,
     R: Source,
@@ -164,17 +168,17 @@ where
 /// The text of a muster, or the fault of a campaign that is not mustered, whose second file has this name.
 fn mustered_text<'a>(
     alloc: Global,
-    text: Result<Vec<u8>, Refusal>,
+    text: Result<Vec<u8>, InputRefusal>,
     explained: bool,
     file: &'a str,
-) -> Result<Vec<u8>, Failure<'a>>
+) -> Result<Vec<u8>, TaskFailure<'a>>
     ensures { MatchResult text (λ own. result ≡ Ok own)
         (λ refusal. IsErrAnd result
         (IsToldIf explained refusal file.entry (TellsWhyOf refusal Nothing file.entry.now []))) }
 {
     match text {
         Ok(text) => Ok(text),
-        Err(unmustered) => Err(later(alloc, explained, Traced::Nothing, unmustered, file, &[])),
+        Err(unmustered) => Err(later(alloc, explained, FileRole::Nothing, unmustered, file, &[])),
     }
 }
 
@@ -188,7 +192,7 @@ fn trial_of<'a, R: Source>(
     traced: bool,
     file: &'a str,
     second: Option<R>,
-) -> Result<Vec<u8>, Failure<'a>>
+) -> Result<Vec<u8>, TaskFailure<'a>>
     ensures tried { IfOk result
         (λ text. IsTrialOf (option_map R.bytes second) traced
         (explained_in task.now) first.now program text.items) }
@@ -212,7 +216,7 @@ fn play_by<'a, R: Source>(
     reported: bool,
     file: &'a str,
     second: Option<R>,
-) -> Result<Vec<u8>, Failure<'a>>
+) -> Result<Vec<u8>, TaskFailure<'a>>
     ensures played { IfOk result
         (λ text. IsPlayedBy (option_map R.bytes second) campaign account explained text.items) }
     ensures fault { IfErr result
@@ -223,7 +227,7 @@ fn play_by<'a, R: Source>(
     let schedule = scheduled(alloc, reported, file, second)?;
     match played(alloc, campaign, &schedule, account, explained) {
         Ok(text) => Ok(text),
-        Err(_) => Err(Failure::Memory),
+        Err(_) => Err(TaskFailure::Memory),
     }
 }
 
@@ -233,7 +237,7 @@ pub(crate) fn scheduled<'a, R: Source>(
     reported: bool,
     file: &'a str,
     second: Option<R>,
-) -> Result<Schedule, Failure<'a>>
+) -> Result<Schedule, TaskFailure<'a>>
     ensures told { IfOk result (λ schedule. IsScheduleOf (option_map R.bytes second) schedule) }
     ensures fault { IfErr result
         (Stops (IsSomeAnd second R.fails)
@@ -251,7 +255,7 @@ pub(crate) fn scheduled<'a, R: Source>(
             Err(later(
                 alloc,
                 reported,
-                Traced::Schedule,
+                FileRole::Schedule,
                 refusal,
                 file,
                 front.as_slice(),
@@ -268,7 +272,7 @@ fn audit_of<'a, R: Source>(
     reported: bool,
     file: &'a str,
     second: Option<R>,
-) -> Result<Vec<u8>, Failure<'a>>
+) -> Result<Vec<u8>, TaskFailure<'a>>
     ensures audited { IfOk result (λ text. IsAuditOf (option_map R.bytes second) campaign.now explained text.items) }
     ensures fault { IfErr result
         (Stops (IsSomeAnd second R.fails)
@@ -282,7 +286,7 @@ fn audit_of<'a, R: Source>(
             Err(later(
                 alloc,
                 reported,
-                Traced::Chronicle(campaign),
+                FileRole::Chronicle(campaign),
                 refusal,
                 file,
                 bytes.as_slice(),

@@ -6,12 +6,12 @@ ghost use Rattle.trace.specs.Audit.{version_named};
 ghost use Rattle.trace.specs.Laws.{IsSoundText};
 ghost use Rattle.trace.specs.Names.{chronicle_told};
 ghost use Rattle.trace.specs.SignedAudit.{IsSoundSignedText, is_third_version, signed_chronicle_told};
-ghost use Rattle.inputs.specs.declared.refusal.Refusal.TheVariants.{Memory, NotText};
-ghost use Rattle.inputs.specs.Refusals.{RefusesChronicle, RefusesText};
+ghost use Rattle.cli_tasks.specs.declared.refusal.InputRefusal.TheVariants.{Memory, NotText};
+ghost use Rattle.cli_tasks.specs.Refusals.{RefusesChronicle, RefusesText};
 
-use crate::refusal::Refusal;
+use crate::refusal::InputRefusal;
 use crate::texts::as_text;
-use roster::Scenario;
+use round::Scenario;
 use signed::SignedChronicle;
 use std::alloc::Global;
 use world::Chronicle;
@@ -26,7 +26,7 @@ pub fn sound_chronicle(
     alloc: Global,
     scenario: &Scenario,
     bytes: &[u8],
-) -> Result<Chronicle, Refusal>
+) -> Result<Chronicle, InputRefusal>
     ensures sound { IfOk result (λ _. IsSoundText scenario.now bytes.now) }
     ensures chronicle { IfOk result (λ chronicle. chronicle ≡ chronicle_told scenario.now bytes.now) }
     ensures refused { IfErr result (RefusesText (RefusesChronicle (Oral scenario.now)) bytes.now) }
@@ -37,7 +37,7 @@ pub fn sound_chronicle(
         Ok(chronicle) => Ok(chronicle),
         Err(error) => {
             as_text(bytes)?;
-            Err(Refusal::from(error))
+            Err(InputRefusal::from(error))
         }
     }
 }
@@ -51,7 +51,7 @@ pub fn sound_signed_chronicle(
     alloc: Global,
     scenario: &Scenario,
     bytes: &[u8],
-) -> Result<SignedChronicle, Refusal>
+) -> Result<SignedChronicle, InputRefusal>
     ensures sound { IfOk result (λ _. IsSoundSignedText scenario.now bytes.now) }
     ensures chronicle { IfOk result (λ chronicle. chronicle ≡ signed_chronicle_told scenario.now bytes.now) }
     ensures refused { IfErr result (RefusesText (RefusesChronicle (Signed scenario.now)) bytes.now) }
@@ -62,7 +62,7 @@ pub fn sound_signed_chronicle(
         Ok(chronicle) => Ok(chronicle),
         Err(error) => {
             as_text(bytes)?;
-            Err(Refusal::from(error))
+            Err(InputRefusal::from(error))
         }
     }
 }

@@ -1,10 +1,10 @@
 //! What is told of a run: by `check --trace` its steps, and by `check --explain` in a setting its calls that put
 //! nothing.
 ghost use Rattle.std.specs.Prelude.{◌≡◌, ◌++◌, IfOk, option_map, string_bytes};
-ghost use Rattle.program_tasks.specs.Answers.{AreSlipsBehind, steps_behind};
+ghost use Rattle.cli_tasks.specs.Answers.{AreSlipsBehind, steps_behind};
 
-use crate::written::written_in;
-use command_line::Notation;
+use crate::unit_places::written_in;
+use cli_words::Notation;
 use mem::Context;
 use std::alloc::{AllocError, Global};
 use trial::Setting;
@@ -31,7 +31,7 @@ pub(crate) fn with_steps(
     }
     let bytes = setting.context(alloc)?;
     let context = Context::new(bytes.as_slice());
-    let steps = tracing::traced(alloc, program, &context, setting.shape(), setting.board())?;
+    let steps = trial::traced(alloc, program, &context, setting.shape(), setting.board())?;
     let mut text = lines;
     text.push_str("\n")?;
     text.push_str(steps.as_str())?;
@@ -63,7 +63,7 @@ pub(crate) fn with_slips(
     let places = written_in(alloc, notation, file)?;
     let bytes = setting.context(alloc)?;
     let context = Context::new(bytes.as_slice());
-    let slips = tracing::slips(
+    let slips = trial::slips(
         alloc,
         program,
         &context,

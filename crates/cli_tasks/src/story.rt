@@ -1,8 +1,8 @@
 //! The story at a scenario's head, which a page shows.
 ghost use Rattle.std.specs.Prelude.{◌≡◌, ◌++◌, IfOk, OnOk};
-ghost use Rattle.neighbours.specs.Story.{is_blank, is_page, story, story_on, with_story};
+ghost use Rattle.cli_tasks.specs.Story.{is_blank, is_page, story, story_on, with_story};
 
-use command_line::Task;
+use cli_words::Task;
 use std::alloc::{AllocError, Global};
 
 /// The bytes that are read of a scenario of these own bytes, in which the files stand that it names: for a page, its

@@ -1,8 +1,8 @@
 //! Generals whom the words name, and who may be none of a table's or a campaign's.
 ghost use Rattle.std.specs.Prelude.{◌≡◌, nat_le, None, IfErr, OnOk};
-ghost use Rattle.table_tasks.specs.Strangers.{IsStranger, IsStrangerToTree, stranger_among, stranger_to_tree};
+ghost use Rattle.cli_tasks.specs.Strangers.{IsStranger, IsStrangerToTree, stranger_among, stranger_to_tree};
 
-use inputs::Refusal;
+use crate::refusal::InputRefusal;
 
 /// Whether this is the number of none of so many generals.
 fn is_stranger(generals: u8, general: u8) -> bool
@@ -28,13 +28,13 @@ fn stranger_among(generals: u8, named: &[u8]) -> Option<u8>
 /// # Errors
 ///
 /// The first who is none of them.
-pub(crate) fn know_all(generals: u8, named: &[u8]) -> Result<(), Refusal>
+pub(crate) fn know_all(generals: u8, named: &[u8]) -> Result<(), InputRefusal>
     ensures known { OnOk result (stranger_among generals named.now ≡ None) }
     ensures refused { IfErr result (IsStranger generals named.now) }
 {
     match stranger_among(generals, named) {
         None => Ok(()),
-        Some(general) => Err(Refusal::Stranger { general, generals }),
+        Some(general) => Err(InputRefusal::Stranger { general, generals }),
     }
 }
 
@@ -49,12 +49,12 @@ pub(crate) fn know_tree(
     commander: u8,
     general: u8,
     traitors: &[u8],
-) -> Result<(), Refusal>
+) -> Result<(), InputRefusal>
     ensures known { OnOk result (stranger_to_tree generals commander general traitors.now ≡ None) }
     ensures refused { IfErr result (IsStrangerToTree generals commander general traitors.now) }
 {
     if is_stranger(generals, general) || general == commander {
-        return Err(Refusal::Stranger { general, generals });
+        return Err(InputRefusal::Stranger { general, generals });
     }
     know_all(generals, traitors)
 }

@@ -1,25 +1,30 @@
 ghost use Rattle.std.specs.Prelude.{IfOk, IfErr, None};
-ghost use Rattle.lab.specs.Answers.{ComesTo};
-ghost use Rattle.lab.specs.Refusals.{Refuses};
+ghost use Rattle.cli_tasks.specs.TaskAnswers.{ComesTo};
+ghost use Rattle.cli_tasks.specs.TaskRefusals.{Refuses};
 
+use crate::assembly::{assembled, assembled_raw, disassembled};
+use crate::campaigns::{any_campaign, asked_campaign, campaign, campaign_with_text};
+use crate::decisions::{decided, explained};
+use crate::exploration::explored as orders_of;
 use crate::first_answer::FirstAnswer;
-use campaign_tasks::{arranged, explored as orders_of};
-use command_line::{Accesses, Course, Spelling, Task};
-use drawing::View;
-use inputs::{Refusal, any_campaign, as_text, asked_campaign, campaign, campaign_with_text};
-use program_tasks::{
-    accepted_in, assembled, assembled_partly, assembled_partly_raw, assembled_raw, checked_in,
-    disassembled, disassembled_partly,
-};
+use crate::forms::{filled, formed};
+use crate::parts::{assembled_partly, assembled_partly_raw, disassembled_partly};
+use crate::program_check::accepted_in;
+use crate::refusal::InputRefusal;
+use crate::schedules::arranged;
+use crate::texts::as_text;
+use crate::tree_pictures::pictured;
+use crate::trials::checked_in;
+use cli_words::{Accesses, Course, Spelling, Task};
+use show_tree::View;
 use std::alloc::Global;
-use table_tasks::{decided, explained, filled, formed, pictured};
 
 /// What the task comes to on an only or first file of these bytes.
 ///
 /// # Errors
 ///
 /// What is refused, or want of memory.
-pub fn answer(alloc: Global, task: &Task, bytes: &[u8]) -> Result<FirstAnswer, Refusal>
+pub fn answer(alloc: Global, task: &Task, bytes: &[u8]) -> Result<FirstAnswer, InputRefusal>
     ensures answered { IfOk result (ComesTo task.now bytes.now) }
     ensures refused { IfErr result (Refuses task.now bytes.now) }
 {

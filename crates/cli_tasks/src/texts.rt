@@ -1,21 +1,21 @@
 ghost use Rattle.std.specs.Prelude.{◌≡◌, IfOk, IfErr};
 ghost use Rattle.std.specs.Str.{IsUtf8};
-ghost use Rattle.inputs.specs.declared.refusal.Refusal.TheVariants.{NotText};
+ghost use Rattle.cli_tasks.specs.declared.refusal.InputRefusal.TheVariants.{NotText};
 
-use crate::refusal::Refusal;
+use crate::refusal::InputRefusal;
 
 /// The bytes as a text in UTF-8.
 ///
 /// # Errors
 ///
 /// That they are none.
-pub fn as_text(bytes: &[u8]) -> Result<&str, Refusal>
+pub fn as_text(bytes: &[u8]) -> Result<&str, InputRefusal>
     ensures text { IfOk result (λ text. text.now ≡ bytes.now) }
     ensures utf8 { IfOk result (λ _. IsUtf8 bytes.now) }
     ensures none { IfErr result (λ refusal. (refusal ≡ NotText) × (IsUtf8 bytes.now → ⊥)) }
 {
     match str::from_utf8(bytes) {
         Ok(text) => Ok(text),
-        Err(_) => Err(Refusal::NotText),
+        Err(_) => Err(InputRefusal::NotText),
     }
 }

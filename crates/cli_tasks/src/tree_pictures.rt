@@ -1,22 +1,22 @@
 //! Message tables and campaigns as trees.
 ghost use Rattle.std.specs.Prelude.{◌≡◌, ◌++◌, [], true, false, IfErr, IfOk, OnOk, string_bytes};
-ghost use Rattle.drawing.specs.Drawn.{DrawsTable};
-ghost use Rattle.drawing.specs.Shown.{ordered};
-ghost use Rattle.inputs.specs.Schedules.{played};
-ghost use Rattle.table_tasks.specs.Picturing.{IsTreeIn, TellsWhetherToml, form_of, is_toml};
-ghost use Rattle.inputs.specs.Refusals.{RefusesScenario};
-ghost use Rattle.table_tasks.specs.Refusals.{RefusesTree, RefusesTreeIn};
-ghost use Rattle.table_tasks.specs.Strangers.{KnowsTree};
-ghost use Rattle.retold.specs.Retold.{IsWhole, table_of, traitors_of};
+ghost use Rattle.show_tree.specs.Drawn.{DrawsTable};
+ghost use Rattle.show_tree.specs.Shown.{ordered};
+ghost use Rattle.cli_tasks.specs.Schedules.{played};
+ghost use Rattle.cli_tasks.specs.Picturing.{IsTreeIn, TellsWhetherToml, form_of, is_toml};
+ghost use Rattle.cli_tasks.specs.Refusals.{RefusesScenario};
+ghost use Rattle.cli_tasks.specs.TableRefusals.{RefusesTree, RefusesTreeIn};
+ghost use Rattle.cli_tasks.specs.Strangers.{KnowsTree};
+ghost use Rattle.show_table.specs.Retold.{IsWhole, table_of, traitors_of};
 ghost use Rattle.scenario.specs.Reading.{Tells};
 
-use crate::deciding::table_in;
+use crate::decisions::table_in;
+use crate::refusal::InputRefusal;
 use crate::strangers::know_tree;
-use command_line::Drawing;
-use drawing::{Form, Style, View, drawn, ordered, tree_drawn};
-use inputs::Refusal;
-use retold::{hearing, told_table, traitors};
-use roster::Scenario;
+use cli_words::Drawing;
+use round::Scenario;
+use show_table::{hearing, told_table, traitors};
+use show_tree::{Style, TreeForm, View, drawn, ordered, tree_drawn};
 use std::alloc::{AllocError, Global};
 use toml::Table;
 use toml::de::Error;
@@ -37,7 +37,7 @@ pub fn pictured(
     traitors: &[u8],
     drawing: Drawing,
     view: View,
-) -> Result<String, Refusal>
+) -> Result<String, InputRefusal>
     ensures known { OnOk result (KnowsTree (is_toml text.now) text.now general traitors.now) }
     ensures drawn { IfOk result
         (λ picture. IsTreeIn (is_toml text.now) text.now traitors.now view (form_of drawing) general
@@ -59,9 +59,9 @@ fn table_pictured(
     text: &str,
     traitors: &[u8],
     view: View,
-    form: Form,
+    form: TreeForm,
     general: u8,
-) -> Result<String, Refusal>
+) -> Result<String, InputRefusal>
     ensures known { OnOk result (KnowsTree false text.now general traitors.now) }
     ensures drawn { IfOk result (λ picture. DrawsTable text.now traitors.now view form general (string_bytes picture)) }
     ensures refused { IfErr result (RefusesTreeIn false general traitors.now text.now) }
@@ -78,7 +78,7 @@ fn known_scenario(
     text: &str,
     general: u8,
     traitors: &[u8],
-) -> Result<Scenario, Refusal>
+) -> Result<Scenario, InputRefusal>
     ensures known { OnOk result (KnowsTree true text.now general traitors.now) }
     ensures told { IfOk result (Tells text.now) }
     ensures refused { IfErr result (RefusesTreeIn true general traitors.now text.now) }
@@ -89,7 +89,7 @@ fn known_scenario(
 }
 
 /// The oral campaign that the text tells.
-fn scenario_in(alloc: Global, text: &str) -> Result<Scenario, Refusal>
+fn scenario_in(alloc: Global, text: &str) -> Result<Scenario, InputRefusal>
     ensures told { IfOk result (Tells text.now) }
     ensures refused { IfErr result (RefusesScenario text.now) }
 {
@@ -121,7 +121,7 @@ fn campaign_pictured(
     scenario: Scenario,
     named: &[u8],
     view: View,
-    form: Form,
+    form: TreeForm,
     general: u8,
 ) -> Result<String, AllocError>
     ensures { IfOk result (λ picture. DrawsTable (table_of (played scenario []))
@@ -145,7 +145,7 @@ fn chronicle_pictured(
     chronicle: &Chronicle,
     traitors: &[u8],
     view: View,
-    form: Form,
+    form: TreeForm,
     general: u8,
 ) -> Result<String, AllocError>
     requires { IsWhole chronicle.now }
@@ -158,13 +158,13 @@ fn chronicle_pictured(
 }
 
 /// The form of a drawing.
-fn form(drawing: Drawing) -> Form
+fn form(drawing: Drawing) -> TreeForm
     ensures { result ≡ form_of drawing }
 {
     match drawing {
-        Drawing::Boxes => Form::Lines(Style::Boxes),
-        Drawing::Ascii => Form::Lines(Style::Ascii),
-        Drawing::Graph => Form::Graph,
-        Drawing::Svg => Form::Svg,
+        Drawing::Boxes => TreeForm::Lines(Style::Boxes),
+        Drawing::Ascii => TreeForm::Lines(Style::Ascii),
+        Drawing::Graph => TreeForm::Graph,
+        Drawing::Svg => TreeForm::Svg,
     }
 }

@@ -1,13 +1,14 @@
 ghost use Rattle.std.specs.Prelude.{IfOk, IfErr, option_map, string_bytes, None};
-ghost use Rattle.program_tasks.specs.Answers.{IsTriedAt, IsChecked};
-ghost use Rattle.program_tasks.specs.Refusals.{RefusesSetting, RefusesCheckIn};
-ghost use Rattle.inputs.specs.Refusals.{RefusesText};
+ghost use Rattle.cli_tasks.specs.Answers.{IsTriedAt, IsChecked};
+ghost use Rattle.cli_tasks.specs.ProgramRefusals.{RefusesSetting, RefusesCheckIn};
+ghost use Rattle.cli_tasks.specs.Refusals.{RefusesText};
 
-use crate::checking::{check, checked_text};
-use crate::explaining::with_explanation;
+use crate::program_check::{check, checked_text};
+use crate::program_explanation::with_explanation;
+use crate::refusal::InputRefusal;
 use crate::steps::{with_slips, with_steps};
-use command_line::Notation;
-use inputs::{Refusal, as_text};
+use crate::texts::as_text;
+use cli_words::Notation;
 use label::Shape;
 use std::alloc::Global;
 use trial::{Setting, read, tried};
@@ -24,7 +25,7 @@ pub fn checked_in(
     explained: bool,
     traced: bool,
     bytes: &[u8],
-) -> Result<String, Refusal>
+) -> Result<String, InputRefusal>
     ensures checked { IfOk result (λ text. IsChecked notation.now explained traced bytes.now (string_bytes text)) }
     ensures refused { IfErr result (RefusesCheckIn notation.now bytes.now) }
 {
@@ -49,7 +50,7 @@ pub fn tried_by(
     asked: Option<&Notation>,
     first: &[u8],
     second: &[u8],
-) -> Result<(String, Shape), Refusal>
+) -> Result<(String, Shape), InputRefusal>
     ensures tried { IfOk result
         (λ told. IsTriedAt told.1 traced
         (option_map (λ notation. notation.now) asked.entry) first.now second.now program.now (string_bytes told.0)) }

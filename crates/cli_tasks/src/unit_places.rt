@@ -3,13 +3,13 @@ ghost use Rattle.std.specs.Prelude.{◌≡◌, IfOk, map, string_bytes};
 ghost use Rattle.std.specs.Str.{IsUtf8};
 ghost use Rattle.asm.specs.Places.{AreWritten, statements_of};
 ghost use Rattle.asm.specs.Program.{lines_of, nothing, read_on};
-ghost use Rattle.debug_lines.specs.Places.{AreEntryPlaces};
-ghost use Rattle.elf.specs.Entry.{function_of};
-ghost use Rattle.elf.specs.Symbol.{asked};
-ghost use Rattle.program_tasks.specs.Programs.{ArePlaces, AreStatements};
+ghost use Rattle.object.specs.Places.{AreEntryPlaces};
+ghost use Rattle.object.specs.Entry.{function_of};
+ghost use Rattle.object.specs.Symbol.{asked};
+ghost use Rattle.cli_tasks.specs.Programs.{ArePlaces, AreStatements};
 
-use command_line::Notation;
-use debug_lines::entry_places;
+use cli_words::Notation;
+use object::entry_places;
 use std::alloc::{AllocError, Global};
 
 /// Where each unit of the program that a file of these bytes has in this notation is written: of assembly on which

@@ -1,21 +1,21 @@
 //! What is said behind the line of a refusal where an explanation is asked for.
 ghost use Rattle.std.specs.Prelude.{◌≡◌, ◌++◌, IfOk, IfSome, string_bytes};
 ghost use Rattle.streams.specs.Names.{shown};
-ghost use Rattle.why.specs.Bytecode.{bytecode_told};
-ghost use Rattle.faults.specs.Faults.{IsTold, IsToldIf, IsUnjudged, text_fault};
-ghost use Rattle.faults.specs.Hints.{is_reported};
-ghost use Rattle.faults.specs.Seeming.{seems_at_first};
-ghost use Rattle.inputs.specs.declared.refusal.Refusal.TheVariants.{Trace};
-ghost use Rattle.faults.specs.Whys.{TellsWhy, TellsWhyOf, campaign_again, is_explained, role_view, seems_line};
+ghost use Rattle.cli_report.specs.Bytecode.{bytecode_told};
+ghost use Rattle.cli_tasks.specs.Faults.{IsTold, IsToldIf, IsUnjudged, text_fault};
+ghost use Rattle.cli_tasks.specs.Hints.{is_reported};
+ghost use Rattle.cli_tasks.specs.Seeming.{seems_at_first};
+ghost use Rattle.cli_tasks.specs.declared.refusal.InputRefusal.TheVariants.{Trace};
+ghost use Rattle.cli_tasks.specs.Whys.{TellsWhy, TellsWhyOf, campaign_again, is_explained, role_view, seems_line};
 
-use crate::failure::Failure;
+use crate::failure::TaskFailure;
 use crate::hint::Hint;
-use crate::seeming::seems;
+use crate::likeness::seems;
+use crate::refusal::InputRefusal;
 use asm::AsmError;
 use book::TableError;
+use cli_words::Task;
 use codec::CodecError;
-use command_line::Task;
-use inputs::Refusal;
 use scenario::Campaign;
 use std::alloc::{AllocError, Global};
 use streams::FileName;
@@ -23,7 +23,7 @@ use trace::{TraceError, signed_told_again, told_again};
 
 /// What a file is in which a line is at fault: a schedule, a chronicle of this campaign, or none of these.
 #[derive(Clone, Copy)]
-pub enum Traced<'a> {
+pub enum FileRole<'a> {
     Schedule,
     Chronicle(&'a Campaign),
     Nothing,
@@ -65,13 +65,13 @@ fn bytecode_told(
     alloc: Global,
     name: &str,
     bytes: &[u8],
-    fault: codec::Fault,
+    fault: codec::CodecFault,
     unit: usize,
 ) -> Result<String, AllocError>
     ensures { IfOk result (λ told. string_bytes told ≡ seems_line (seems_at_first bytes.now)
         ++ bytecode_told name.now bytes.now fault unit) }
 {
-    let why = why::of_bytecode(alloc, name, bytes, fault, unit)?;
+    let why = cli_report::of_bytecode(alloc, name, bytes, fault, unit)?;
     match seems(bytes) {
         Some(likeness) => {
             let why = why.as_str();
@@ -94,7 +94,7 @@ fn campaign_again(alloc: Global, campaign: &Campaign, text: &[u8]) -> Result<Vec
 /// Of a schedule or a chronicle: why a line is refused.
 fn trace_told(
     alloc: Global,
-    of: Traced<'_>,
+    of: FileRole<'_>,
     error: &TraceError,
     name: &str,
     bytes: &[u8],
@@ -103,14 +103,14 @@ fn trace_told(
         (string_bytes told)) }
 {
     match (error, of) {
-        (TraceError::At(_, line), Traced::Schedule) => {
-            why::of_schedule(alloc, name, bytes, *line)
+        (TraceError::At(_, line), FileRole::Schedule) => {
+            cli_report::of_schedule(alloc, name, bytes, *line)
         }
-        (TraceError::At(fault, line), Traced::Chronicle(campaign)) => {
+        (TraceError::At(fault, line), FileRole::Chronicle(campaign)) => {
             let again = campaign_again(alloc, campaign, bytes)?;
-            why::of_chronicle(alloc, name, bytes, *fault, *line, again.as_slice())
+            cli_report::of_chronicle(alloc, name, bytes, *fault, *line, again.as_slice())
         }
-        (TraceError::At(..), Traced::Nothing) => Ok(String::new(alloc)),
+        (TraceError::At(..), FileRole::Nothing) => Ok(String::new(alloc)),
         (TraceError::Write, _) => Ok(String::new(alloc)),
         (TraceError::Memory, _) => Ok(String::new(alloc)),
     }
@@ -119,75 +119,77 @@ fn trace_told(
 /// What stands behind the line of a refusal of a file with this name and these bytes.
 fn told_by(
     alloc: Global,
-    of: Traced<'_>,
-    refusal: &Refusal,
+    of: FileRole<'_>,
+    refusal: &InputRefusal,
     name: &str,
     bytes: &[u8],
 ) -> Result<String, AllocError>
     ensures { IfOk result (λ told. TellsWhy refusal.now (role_view of.entry) name.now bytes.now (string_bytes told)) }
 {
     match refusal {
-        Refusal::Codec(CodecError::At(fault, unit)) => {
+        InputRefusal::Codec(CodecError::At(fault, unit)) => {
             bytecode_told(alloc, name, bytes, *fault, *unit)
         }
-        Refusal::Assembly(AsmError::At(fault, line)) => {
-            why::of_assembly(alloc, name, bytes, *fault, *line)
+        InputRefusal::Assembly(AsmError::At(fault, line)) => {
+            cli_report::of_assembly(alloc, name, bytes, *fault, *line)
         }
-        Refusal::Table(TableError::At(fault, line)) => {
-            why::of_table(alloc, name, bytes, *fault, *line)
+        InputRefusal::Table(TableError::At(fault, line)) => {
+            cli_report::of_table(alloc, name, bytes, *fault, *line)
         }
-        Refusal::Scenario(error) => why::of_scenario(alloc, name, bytes, error),
-        Refusal::Setting(error) => why::of_setting(alloc, name, bytes, error),
-        Refusal::Trace(error) => trace_told(alloc, of, error, name, bytes),
-        Refusal::Codec(CodecError::Memory) => Ok(String::new(alloc)),
-        Refusal::Assembly(AsmError::Memory) => Ok(String::new(alloc)),
-        Refusal::Table(TableError::Memory) => Ok(String::new(alloc)),
-        Refusal::Object(_) => Ok(String::new(alloc)),
-        Refusal::Verifier(_) => Ok(String::new(alloc)),
-        Refusal::Threads(error) => why::of_muster(alloc, *error),
-        Refusal::Accesses(_) => Ok(String::new(alloc)),
-        Refusal::Stranger { generals, .. } => why::of_stranger(alloc, name, bytes, *generals),
-        Refusal::NotText => Ok(String::new(alloc)),
-        Refusal::Memory => Ok(String::new(alloc)),
+        InputRefusal::Scenario(error) => cli_report::of_scenario(alloc, name, bytes, error),
+        InputRefusal::Setting(error) => cli_report::of_setting(alloc, name, bytes, error),
+        InputRefusal::Trace(error) => trace_told(alloc, of, error, name, bytes),
+        InputRefusal::Codec(CodecError::Memory) => Ok(String::new(alloc)),
+        InputRefusal::Assembly(AsmError::Memory) => Ok(String::new(alloc)),
+        InputRefusal::Table(TableError::Memory) => Ok(String::new(alloc)),
+        InputRefusal::Object(_) => Ok(String::new(alloc)),
+        InputRefusal::Verifier(_) => Ok(String::new(alloc)),
+        InputRefusal::Threads(error) => cli_report::of_muster(alloc, *error),
+        InputRefusal::Accesses(_) => Ok(String::new(alloc)),
+        InputRefusal::Stranger { generals, .. } => cli_report::of_stranger(
+            alloc, name, bytes, *generals,
+        ),
+        InputRefusal::NotText => Ok(String::new(alloc)),
+        InputRefusal::Memory => Ok(String::new(alloc)),
     }
 }
 
 /// The fault of a file with this name, with this text behind its line.
-fn with_text<'a>(refusal: Refusal, file: &'a str, text: String) -> Failure<'a>
+fn with_text<'a>(refusal: InputRefusal, file: &'a str, text: String) -> TaskFailure<'a>
     ensures { result ≡ text_fault refusal file.entry text }
 {
     match refusal {
-        Refusal::Memory => Failure::Memory,
-        Refusal::NotText => Failure::Text(file),
-        refusal => Failure::Refused(refusal, Some(Hint::Explained(text))),
+        InputRefusal::Memory => TaskFailure::Memory,
+        InputRefusal::NotText => TaskFailure::Text(file),
+        refusal => TaskFailure::Refused(refusal, Some(Hint::Explained(text))),
     }
 }
 
 /// The fault of a file with this name and these bytes, with what is said behind its line.
 fn told<'a>(
     alloc: Global,
-    of: Traced<'_>,
-    refusal: Refusal,
+    of: FileRole<'_>,
+    refusal: InputRefusal,
     file: &'a str,
     bytes: &[u8],
-) -> Failure<'a>
+) -> TaskFailure<'a>
     ensures { IsTold refusal file.entry (TellsWhyOf refusal (role_view of.entry) file.entry.now bytes.now) result }
 {
     let Ok(name) = shown_name(alloc, file) else {
-        return Failure::Memory;
+        return TaskFailure::Memory;
     };
     match told_by(alloc, of, &refusal, name.as_str(), bytes) {
         Ok(text) => with_text(refusal, file, text),
-        Err(_) => Failure::Memory,
+        Err(_) => TaskFailure::Memory,
     }
 }
 
 /// Whether more is said of a refusal than what is said of it always: of an object's fault there is no more.
-fn is_reported(task: &Task, refusal: &Refusal) -> bool
+fn is_reported(task: &Task, refusal: &InputRefusal) -> bool
     ensures { result ≡ is_reported task.now refusal.now }
 {
     match refusal {
-        Refusal::Object(_) => false,
+        InputRefusal::Object(_) => false,
         _ => is_explained(task),
     }
 }
@@ -197,16 +199,16 @@ fn is_reported(task: &Task, refusal: &Refusal) -> bool
 pub fn unjudged<'a>(
     alloc: Global,
     task: &Task,
-    refusal: Refusal,
+    refusal: InputRefusal,
     file: &'a str,
     own: &[u8],
-) -> Failure<'a>
+) -> TaskFailure<'a>
     ensures { IsUnjudged (is_reported task.now refusal) refusal file.entry own.now result }
 {
     if is_reported(task, &refusal) {
-        told(alloc, Traced::Nothing, refusal, file, own)
+        told(alloc, FileRole::Nothing, refusal, file, own)
     } else {
-        Failure::of_bytes(refusal, file, own)
+        TaskFailure::of_bytes(refusal, file, own)
     }
 }
 
@@ -215,17 +217,17 @@ pub fn unjudged<'a>(
 pub fn later<'a>(
     alloc: Global,
     explained: bool,
-    of: Traced<'_>,
-    refusal: Refusal,
+    of: FileRole<'_>,
+    refusal: InputRefusal,
     file: &'a str,
     bytes: &[u8],
-) -> Failure<'a>
+) -> TaskFailure<'a>
     ensures { IsToldIf explained refusal file.entry
         (TellsWhyOf refusal (role_view of.entry) file.entry.now bytes.now) result }
 {
     if explained {
         told(alloc, of, refusal, file, bytes)
     } else {
-        Failure::of(refusal, file)
+        TaskFailure::of(refusal, file)
     }
 }

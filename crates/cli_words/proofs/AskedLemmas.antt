@@ -14,19 +14,19 @@ use Rattle.clap.specs.Faults.{built_fault, check_fault, defaults_fault, entered_
 use Rattle.clap.specs.Words.{subcommand_of}
 use Rattle.clap.proofs.FaultLemmas.{stopped_fault}
 use Rattle.clap.proofs.OnLiterals.{clap_on_literals}
-use Rattle.command_line.specs.Asked.{spelt, told_in}
-use Rattle.command_line.specs.Lab.{app_before, app_for, app_with, lab_app, shape, task_met, usages_for}
-use Rattle.command_line.specs.Met.{has_places}
-use Rattle.command_line.specs.Tasks.{Told, has}
-use Rattle.command_line.specs.Usage.{Look, Usage, end_of_flags, long, look_of, plain, short, taken_in, value_at}
-use Rattle.command_line.specs.Usages.{usages}
-use Rattle.command_line.proofs.FlagLemmas.{none_long_fails, none_short_fails, version_long_fails, version_short_fails}
-use Rattle.command_line.proofs.LevelLemmas.{Agrees, built_shape}
-use Rattle.command_line.proofs.PlaceLemmas.{lacks_place}
-use Rattle.command_line.proofs.ReadLemmas.{taken_agrees}
-use Rattle.command_line.proofs.RowLemmas.{Met}
-use Rattle.command_line.proofs.RuleLemmas.{find_among, ids, is_clear, is_distinct, past, takers, takers_filled}
-use Rattle.command_line.proofs.WordLemmas.{Fails, Looks, dashes_pass, fails_as, fold_stopped, long_fails, looks, or_else-first, plain_turn, short_fails, trailing_in, turn_fails}
+use Rattle.cli_words.specs.Asked.{spelt, told_in}
+use Rattle.cli_words.specs.Lab.{app_before, app_for, app_with, lab_app, shape, task_met, usages_for}
+use Rattle.cli_words.specs.Met.{has_places}
+use Rattle.cli_words.specs.Tasks.{Told, has}
+use Rattle.cli_words.specs.Usage.{Look, Usage, end_of_flags, long, look_of, plain, short, taken_in, value_at}
+use Rattle.cli_words.specs.Usages.{usages}
+use Rattle.cli_words.proofs.FlagLemmas.{none_long_fails, none_short_fails, version_long_fails, version_short_fails}
+use Rattle.cli_words.proofs.LevelLemmas.{Agrees, built_shape}
+use Rattle.cli_words.proofs.PlaceLemmas.{lacks_place}
+use Rattle.cli_words.proofs.ReadLemmas.{taken_agrees}
+use Rattle.cli_words.proofs.RowLemmas.{Met}
+use Rattle.cli_words.proofs.RuleLemmas.{find_among, ids, is_clear, is_distinct, past, takers, takers_filled}
+use Rattle.cli_words.proofs.WordLemmas.{Fails, Looks, dashes_pass, fails_as, fold_stopped, long_fails, looks, or_else-first, plain_turn, short_fails, trailing_in, turn_fails}
 
 -- ---- what is built of the program
 

@@ -5,16 +5,16 @@ use Rattle.clap.specs.declared.error.Error.{Error}
 use Rattle.clap.specs.declared.error.kind.ErrorKind.{ErrorKind}
 use Rattle.clap.specs.declared.error.kind.ErrorKind.TheVariants.{OutOfMemory}
 use Rattle.clap.proofs.OnLiterals.{clap_on_literals}
-use Rattle.command_line.specs.Asked.{asked, is_meant, spelt}
-use Rattle.command_line.specs.Lab.{app_for, app_with, lab_app, task_met}
-use Rattle.command_line.specs.Met.{has_places}
-use Rattle.command_line.specs.Tasks.{Asks, IfMisuse, IfRefused, IfWords, IsErrorOf, IsMisused, IsToldBy, Told}
-use Rattle.command_line.specs.declared.tasks.Request.{Request}
-use Rattle.command_line.specs.declared.errors.Misuse.{Misuse as MisuseOf}
-use Rattle.command_line.specs.declared.errors.TaskError.{TaskError}
-use Rattle.command_line.specs.declared.errors.TaskError.TheVariants.{Words, Misuse, Memory}
-use Rattle.command_line.proofs.AskedLemmas.{LabAgrees, rule_agrees, same_for, true_for}
-use Rattle.command_line.proofs.MeantLemmas.{misused_not_meant, says_meant}
+use Rattle.cli_words.specs.Asked.{asked, is_meant, spelt}
+use Rattle.cli_words.specs.Lab.{app_for, app_with, lab_app, task_met}
+use Rattle.cli_words.specs.Met.{has_places}
+use Rattle.cli_words.specs.Tasks.{Asks, IfMisuse, IfRefused, IfWords, IsErrorOf, IsMisused, IsToldBy, Told}
+use Rattle.cli_words.specs.declared.tasks.TaskRequest.{TaskRequest}
+use Rattle.cli_words.specs.declared.errors.Misuse.{Misuse as MisuseOf}
+use Rattle.cli_words.specs.declared.errors.TaskError.{TaskError}
+use Rattle.cli_words.specs.declared.errors.TaskError.TheVariants.{Words, Misuse, Memory}
+use Rattle.cli_words.proofs.AskedLemmas.{LabAgrees, rule_agrees, same_for, true_for}
+use Rattle.cli_words.proofs.MeantLemmas.{misused_not_meant, says_meant}
 
 simple_for : (words : List Text) → is_simple (app_for words) ≡ true
 unfolding clap_on_literals
@@ -114,7 +114,7 @@ module _ (words : List Text) (told : Told) (is : spelt words ≡ Some told) wher
   none_asked : is_meant told ≡ false → asked words ≡ None
   none_asked other = rw (is, other) refl
 
-  pub request_is_asked : (r : Result Request TaskError) → IfOk r (Asks told) → IfOk r (λ request. IsSomeAnd (asked words) (λ t. Asks t request))
+  pub request_is_asked : (r : Result TaskRequest TaskError) → IfOk r (Asks told) → IfOk r (λ request. IsSomeAnd (asked words) (λ t. Asks t request))
   request_is_asked (Ok request) asks = subst (λ (o : Option Told). IsSomeAnd o (λ t. Asks t request)) (sym (asked_is (says_meant told request.task asks.0))) asks
   request_is_asked (Err error) asks = tt
 
@@ -123,11 +123,11 @@ module _ (words : List Text) (told : Told) (is : spelt words ≡ Some told) wher
   refused (Misuse misuse) is_error = none_asked (misused_not_meant told misuse is_error)
   refused Memory is_error = tt
 
-  pub error_is_refused : (r : Result Request TaskError) → IfErr r (IsErrorOf told) → IfErr r (λ error. IfRefused error (asked words ≡ None))
+  pub error_is_refused : (r : Result TaskRequest TaskError) → IfErr r (IsErrorOf told) → IfErr r (λ error. IfRefused error (asked words ≡ None))
   error_is_refused (Ok task) is_error = tt
   error_is_refused (Err error) is_error = refused error is_error
 
-  pub misuse_is_told : (r : Result Request TaskError) → IfErr r (IsErrorOf told)
+  pub misuse_is_told : (r : Result TaskRequest TaskError) → IfErr r (IsErrorOf told)
       → IfErr r (λ error. IfMisuse error (λ misuse. IsSomeAnd (spelt words) (λ t. IsMisused t misuse)))
   misuse_is_told (Ok task) is_error = tt
   misuse_is_told (Err (Words error)) is_error = tt

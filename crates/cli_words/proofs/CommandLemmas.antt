@@ -5,13 +5,13 @@ use Rattle.std.specs.Option.{option_map_or}
 use Rattle.std.specs.Prelude.{if◌then◌else◌}
 use Rattle.std.specs.Str.{bytes_eq}
 use Rattle.clap.specs.Words.{App, Rule, Shape, new_app, with_rule, with_subcommand}
-use Rattle.command_line.specs.Lab.{app_for, app_with, described, flag_rule, named_in, place_rule, shape, usages_for}
-use Rattle.command_line.specs.Subcommand.{flag_of, rule_for, shape_for, usage_of, with_subcommands}
-use Rattle.command_line.specs.Usage.{Text, Usage}
-use Rattle.command_line.specs.Usages.{usage_named, usages}
-use Rattle.command_line.specs.declared.subcommand.Flag.{Flag}
-use Rattle.command_line.specs.declared.subcommand.Place.{Place}
-use Rattle.command_line.specs.declared.subcommand.Subcommand.{Subcommand}
+use Rattle.cli_words.specs.Lab.{app_for, app_with, described, flag_rule, named_in, place_rule, shape, usages_for}
+use Rattle.cli_words.specs.Subcommand.{flag_of, rule_for, shape_for, usage_of, with_subcommands}
+use Rattle.cli_words.specs.Usage.{Text, Usage}
+use Rattle.cli_words.specs.Usages.{usage_named, usages}
+use Rattle.cli_words.specs.declared.subcommand.Flag.{Flag}
+use Rattle.cli_words.specs.declared.subcommand.Place.{Place}
+use Rattle.cli_words.specs.declared.subcommand.Subcommand.{Subcommand}
 
 abbrev pub with_places : App → List Place → App
 with_places app [] = app

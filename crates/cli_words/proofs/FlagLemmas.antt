@@ -4,8 +4,8 @@ use Rattle.clap.specs.Kinds.{Kinds}
 use Rattle.clap.specs.Walk.{Held, Rule, Text, settled, takes_values}
 use Rattle.clap.specs.Simple.{filled, version_rule}
 use Rattle.clap.specs.Faults.{long_fault, option_fault, react_fault, settle_fault, short_fault, use_fault}
-use Rattle.command_line.proofs.RuleLemmas.{help_taker, rule_or_help}
-use Rattle.command_line.proofs.WordLemmas.{Fails, or_else-first, or_else-second}
+use Rattle.cli_words.proofs.RuleLemmas.{help_taker, rule_or_help}
+use Rattle.cli_words.proofs.WordLemmas.{Fails, or_else-first, or_else-second}
 
 module _ (c : List Rule) (again : Bool) (h : Held) where
   help_fails : Fails (react_fault c again help_taker [] h)

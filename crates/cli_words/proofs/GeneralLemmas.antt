@@ -2,7 +2,7 @@
 use Rattle.std.proofs.Common.{◌≡◌, ℕ, List, [], ◌∷◌, ◌++◌, Option, Some, None, refl}
 use Rattle.std.specs.Prelude.{is_some}
 use Rattle.text.specs.Options.{◌>>=◌}
-use Rattle.command_line.specs.Generals.{general_in, generals_behind}
+use Rattle.cli_words.specs.Generals.{general_in, generals_behind}
 
 pub behind_any : (before other : List ℕ) (parts : List (List ℕ)) → is_some (generals_behind before parts) ≡ is_some (generals_behind other parts)
 behind_any before other [] = refl

@@ -8,13 +8,13 @@ use Rattle.clap.specs.Walk.{Held, Row, Rule, Text, Waiting, Walk, arg_by_index, 
 use Rattle.clap.specs.Walk as clap
 use Rattle.clap.specs.Simple.{Shape, new_shape}
 use Rattle.clap.specs.Faults.{check_fault, defaults_fault, positional_fault, settle_fault, step_fault, stray_fault, turn_fault, walk_fault}
-use Rattle.command_line.specs.Lab.{given}
-use Rattle.command_line.specs.Usage.{Flag, Look, Next, end_of_flags, long, look_of, met_at_end, plain, short, value_at, waits}
-use Rattle.command_line.proofs.FlagLemmas.{unsettled_long, unsettled_short}
-use Rattle.command_line.proofs.PlaceLemmas.{Places, lacks_place, wanting, whole}
-use Rattle.command_line.proofs.RowLemmas.{Met, Stands, explicit_stands, given_stands}
-use Rattle.command_line.proofs.RuleLemmas.{defaults_quiet, missing, place_taker, some_place, takers}
-use Rattle.command_line.proofs.WordLemmas.{Fails, Looks, dashes_pass, fails_as, held, long_fails, looks, or_else-first, plain_turn, short_fails, trailing_in, turn_fails, walk_in}
+use Rattle.cli_words.specs.Lab.{given}
+use Rattle.cli_words.specs.Usage.{Flag, Look, Next, end_of_flags, long, look_of, met_at_end, plain, short, value_at, waits}
+use Rattle.cli_words.proofs.FlagLemmas.{unsettled_long, unsettled_short}
+use Rattle.cli_words.proofs.PlaceLemmas.{Places, lacks_place, wanting, whole}
+use Rattle.cli_words.proofs.RowLemmas.{Met, Stands, explicit_stands, given_stands}
+use Rattle.cli_words.proofs.RuleLemmas.{defaults_quiet, missing, place_taker, some_place, takers}
+use Rattle.cli_words.proofs.WordLemmas.{Fails, Looks, dashes_pass, fails_as, held, long_fails, looks, or_else-first, plain_turn, short_fails, trailing_in, turn_fails, walk_in}
 
 -- a subcommand as it is built
 abbrev pub built_shape : Text → List Text → List Flag → Shape

@@ -4,24 +4,24 @@ use Rattle.std.proofs.lemmas.Bool.{and_from, and_left, and_right, or_right}
 use Rattle.std.specs.Option.{option_map_or}
 use Rattle.text.specs.Options.{◌>>=◌}
 use Rattle.clap.specs.Walk.{Text}
-use Rattle.command_line.specs.Asked.{has_filling, excludes, has_notation, has_tree, has_turns, if_of, is_meant, reads, wants}
-use Rattle.command_line.specs.Generals.{count_in, depth_in, general_in, generals_in, order_in, seed_in}
-use Rattle.command_line.specs.Tasks.{AreExplained, AreTurns, IsCourse, IsDrawing, IsFilling, IsMisused, IsNotation, NamesCount, NamesGeneral, NamesSeed, Says, Told, are_two, campaigns, coursed, has, is_of, levels_in, named, is_text, of_one, of_traitors, programs, word_of}
-use Rattle.command_line.specs.declared.tasks.Course.{Course}
-use Rattle.command_line.specs.declared.tasks.Course.TheVariants.{Scheduled, Recorded}
-use Rattle.command_line.specs.declared.tasks.Drawing.{Drawing}
-use Rattle.command_line.specs.declared.tasks.Drawing.TheVariants.{Boxes, Ascii, Graph, Svg}
-use Rattle.command_line.specs.declared.tasks.Filling.{Filling}
-use Rattle.command_line.specs.declared.tasks.Lieutenants.{Lieutenants}
-use Rattle.command_line.specs.declared.tasks.Lieutenants.TheVariants.{All, One}
-use Rattle.command_line.specs.declared.tasks.Notation.{Notation}
-use Rattle.command_line.specs.declared.tasks.Notation.TheVariants.{Bytecode, Assembly, Object}
-use Rattle.command_line.specs.declared.tasks.Task.{Task}
-use Rattle.command_line.specs.declared.tasks.Task.TheVariants.{Check, Assemble, AssemblePartly, Disassemble, DisassemblePartly, Book, ExplainDecisions, Form, Play, Muster, Audit, Explore, Tree, Draw, Page, Retrace}
-use Rattle.command_line.specs.declared.tasks.Turns.{Turns}
-use Rattle.command_line.specs.declared.tasks.Turns.TheVariants.{OfFile, OfSeed}
-use Rattle.command_line.specs.declared.errors.Misuse.{Misuse}
-use Rattle.command_line.specs.declared.errors.Misuse.TheVariants.{Traitors, Of, Lie, Loyal, Most, Depth, NobodyNamed, TwoDrawings, TwoNotations, UnitsOfParts, TwoCourses, EntryAlone, OfAlone, LieAlone, Seed, TwoSchedules, OutAlone}
+use Rattle.cli_words.specs.Asked.{has_filling, excludes, has_notation, has_tree, has_turns, if_of, is_meant, reads, wants}
+use Rattle.cli_words.specs.Generals.{count_in, depth_in, general_in, generals_in, order_in, seed_in}
+use Rattle.cli_words.specs.Tasks.{AreExplained, AreTurns, IsCourse, IsDrawing, IsFilling, IsMisused, IsNotation, NamesCount, NamesGeneral, NamesSeed, Says, Told, are_two, campaigns, coursed, has, is_of, levels_in, named, is_text, of_one, of_traitors, programs, word_of}
+use Rattle.cli_words.specs.declared.tasks.Course.{Course}
+use Rattle.cli_words.specs.declared.tasks.Course.TheVariants.{Scheduled, Recorded}
+use Rattle.cli_words.specs.declared.tasks.Drawing.{Drawing}
+use Rattle.cli_words.specs.declared.tasks.Drawing.TheVariants.{Boxes, Ascii, Graph, Svg}
+use Rattle.cli_words.specs.declared.tasks.Filling.{Filling}
+use Rattle.cli_words.specs.declared.tasks.Lieutenants.{Lieutenants}
+use Rattle.cli_words.specs.declared.tasks.Lieutenants.TheVariants.{All, One}
+use Rattle.cli_words.specs.declared.tasks.Notation.{Notation}
+use Rattle.cli_words.specs.declared.tasks.Notation.TheVariants.{Bytecode, Assembly, Object}
+use Rattle.cli_words.specs.declared.tasks.Task.{Task}
+use Rattle.cli_words.specs.declared.tasks.Task.TheVariants.{Check, Assemble, AssemblePartly, Disassemble, DisassemblePartly, Book, ExplainDecisions, Form, Play, Muster, Audit, Explore, Tree, Draw, Page, Retrace}
+use Rattle.cli_words.specs.declared.tasks.Turns.{Turns}
+use Rattle.cli_words.specs.declared.tasks.Turns.TheVariants.{OfFile, OfSeed}
+use Rattle.cli_words.specs.declared.errors.Misuse.{Misuse}
+use Rattle.cli_words.specs.declared.errors.Misuse.TheVariants.{Traitors, Of, Lie, Loyal, Most, Depth, NobodyNamed, TwoDrawings, TwoNotations, UnitsOfParts, TwoCourses, EntryAlone, OfAlone, LieAlone, Seed, TwoSchedules, OutAlone}
 
 -- ---- the rules hold
 

@@ -11,9 +11,9 @@ use Rattle.clap.specs.Matches.{matched_of}
 use Rattle.clap.specs.Walk.{Text, row_of, rows_of, texts}
 use Rattle.clap.specs.Words.{first_value}
 use Rattle.clap.proofs.WalkLemmas.{find_row}
-use Rattle.command_line.specs.Lab.{given, given_value, is_given}
-use Rattle.command_line.specs.Met.{has_places}
-use Rattle.command_line.specs.Tasks.{Told}
+use Rattle.cli_words.specs.Lab.{given, given_value, is_given}
+use Rattle.cli_words.specs.Met.{has_places}
+use Rattle.cli_words.specs.Tasks.{Told}
 
 first_text : (vs : List (Bor Text)) → option_map (λ s. s.now) (slice_get vs 0) ≡ slice_get (texts vs) 0
 first_text [] = refl

@@ -8,9 +8,9 @@ use Rattle.std.specs.Option.{option_or}
 use Rattle.std.specs.Prelude.{⊤}
 use Rattle.std.specs.Str.{bytes_eq}
 use Rattle.clap.specs.Walk.{Text}
-use Rattle.command_line.specs.Usage.{Flag, value_at}
-use Rattle.command_line.proofs.RowLemmas.{Met}
-use Rattle.command_line.proofs.RuleLemmas.{Among, among_flags, among_ids, apart, ids, is_distinct, name_of, same_text}
+use Rattle.cli_words.specs.Usage.{Flag, value_at}
+use Rattle.cli_words.proofs.RowLemmas.{Met}
+use Rattle.cli_words.proofs.RuleLemmas.{Among, among_flags, among_ids, apart, ids, is_distinct, name_of, same_text}
 
 -- each place was filled, or none was
 abbrev pub AllMet : List Text → Met → Type 0

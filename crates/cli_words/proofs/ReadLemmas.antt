@@ -10,13 +10,13 @@ use Rattle.clap.specs.Walk.{Held, Row, Rule, Text, Waiting, Walk, after_flag, af
 use Rattle.clap.specs.Walk as clap
 use Rattle.clap.specs.Faults.{long_fault, option_fault, positional_fault, settle_fault, step_fault, stray_fault, turn_fault, use_fault}
 use Rattle.clap.specs.declared.parser.matches.ValueSource.TheVariants.{CommandLine}
-use Rattle.command_line.specs.Usage.{Flag, Look, Next, State, anything, end_of_flags, flag_met, is_long, is_short, letter, long, look_of, met_at_end, met_once, option, placed_in, plain, read_from, read_on, short, switch, value_at, value_of, valued, only_places}
-use Rattle.command_line.proofs.FlagLemmas.{none_long_fails, none_short_fails}
-use Rattle.command_line.proofs.LevelLemmas.{AgreesFrom, Holds, ended, level_from, now, s, stepped, stuck_dashes, stuck_end, stuck_idle, stuck_long, stuck_short, turn_stops}
-use Rattle.command_line.proofs.PlaceLemmas.{AllApart, AllFree, Places, flag_apart, place_apart, places_more, places_next}
-use Rattle.command_line.proofs.RowLemmas.{Met, Stands, first_use, lacks, row_stands, stands_more}
-use Rattle.command_line.proofs.RuleLemmas.{Among, at_place, by_long, by_short, find_among, ids, is_distinct, name_of, named, no_place, past, past_next, past_within, place_after, place_named, place_taker, rule_or_help, same_text, switch_rule, takers, valued_rule}
-use Rattle.command_line.proofs.WordLemmas.{Fails, Looks, dashes_pass, fails_as, held, long_fails, long_turn, looks, plain_turn, short_fails, short_turn, walk_in}
+use Rattle.cli_words.specs.Usage.{Flag, Look, Next, State, anything, end_of_flags, flag_met, is_long, is_short, letter, long, look_of, met_at_end, met_once, option, placed_in, plain, read_from, read_on, short, switch, value_at, value_of, valued, only_places}
+use Rattle.cli_words.proofs.FlagLemmas.{none_long_fails, none_short_fails}
+use Rattle.cli_words.proofs.LevelLemmas.{AgreesFrom, Holds, ended, level_from, now, s, stepped, stuck_dashes, stuck_end, stuck_idle, stuck_long, stuck_short, turn_stops}
+use Rattle.cli_words.proofs.PlaceLemmas.{AllApart, AllFree, Places, flag_apart, place_apart, places_more, places_next}
+use Rattle.cli_words.proofs.RowLemmas.{Met, Stands, first_use, lacks, row_stands, stands_more}
+use Rattle.cli_words.proofs.RuleLemmas.{Among, at_place, by_long, by_short, find_among, ids, is_distinct, name_of, named, no_place, past, past_next, past_within, place_after, place_named, place_taker, rule_or_help, same_text, switch_rule, takers, valued_rule}
+use Rattle.cli_words.proofs.WordLemmas.{Fails, Looks, dashes_pass, fails_as, held, long_fails, long_turn, looks, plain_turn, short_fails, short_turn, walk_in}
 
 abbrev Pending : Type 0
 Pending = Option (Text × List Text)

@@ -10,8 +10,8 @@ use Rattle.clap.specs.Facts.{explicit_source}
 use Rattle.clap.specs.declared.builder.value_parser.Reading.{Reading}
 use Rattle.clap.specs.declared.parser.matches.ValueSource.{ValueSource}
 use Rattle.clap.specs.declared.parser.matches.ValueSource.TheVariants.{CommandLine, DefaultValue}
-use Rattle.command_line.specs.Lab.{given, given_value, is_given}
-use Rattle.command_line.specs.Usage.{value_at}
+use Rattle.cli_words.specs.Lab.{given, given_value, is_given}
+use Rattle.cli_words.specs.Usage.{value_at}
 
 abbrev pub found : Text → List Row → Option Row
 found id rows = find (λ r. bytes_eq r.id id) rows

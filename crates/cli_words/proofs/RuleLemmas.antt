@@ -12,8 +12,8 @@ use Rattle.clap.specs.Kinds.{Kinds, or_else}
 use Rattle.clap.specs.Takes.{is_given}
 use Rattle.clap.specs.declared.builder.action.ArgAction.TheVariants.{Set, SetTrue}
 use Rattle.clap.specs.declared.builder.value_parser.ValueParser.TheVariants as vp
-use Rattle.command_line.specs.Lab.{flag_rule, place_rule}
-use Rattle.command_line.specs.Usage.{Flag, Usage, is_long, is_short, letter, option, switch}
+use Rattle.cli_words.specs.Lab.{flag_rule, place_rule}
+use Rattle.cli_words.specs.Usage.{Flag, Usage, is_long, is_short, letter, option, switch}
 
 -- ---- the rules
 

@@ -3,11 +3,11 @@ use Rattle.std.proofs.Common.{◌≡◌, ◌||◌, suc, Bool, true, false, codes
 use Rattle.std.proofs.lemmas.List.{map-append}
 use Rattle.std.specs.List.{list_any}
 use Rattle.std.specs.Str.{bytes_eq}
-use Rattle.command_line.specs.Asked.{words_of}
-use Rattle.command_line.specs.Several.{Parted, is_flag, is_option, onto, parted, with_file, with_kept}
-use Rattle.command_line.specs.Subcommand.{flag_of}
-use Rattle.command_line.specs.Usage.{Flag, Text}
-use Rattle.command_line.specs.declared.subcommand.Flag as declared
+use Rattle.cli_words.specs.Asked.{words_of}
+use Rattle.cli_words.specs.Several.{Parted, is_flag, is_option, onto, parted, with_file, with_kept}
+use Rattle.cli_words.specs.Subcommand.{flag_of}
+use Rattle.cli_words.specs.Usage.{Flag, Text}
+use Rattle.cli_words.specs.declared.subcommand.Flag as declared
 
 abbrev pub parts : List (Bor Text) → List (Bor Text) → Parted
 parts kept files = record { kept = words_of kept; files = words_of files }

@@ -10,7 +10,7 @@ use Rattle.clap.specs.Walk.{Held, Names, Outcome, Row, Rule, Step, Text, Waiting
 use Rattle.clap.specs.Walk as clap
 use Rattle.clap.specs.Simple.{Shape}
 use Rattle.clap.specs.Faults.{flag_word_fault, flags_fault, long_fault, option_fault, react_fault, short_fault, step_fault, turn_fault, walk_fault}
-use Rattle.command_line.specs.Usage.{Look, end_of_flags, long, look_of, plain, short, short_look}
+use Rattle.cli_words.specs.Usage.{Look, end_of_flags, long, look_of, plain, short, short_look}
 
 -- some error comes
 abbrev pub Fails : Kinds → Type 0

@@ -3,10 +3,10 @@ use Rattle.std.specs.Prelude.{◌&&◌, ◌||◌, not, Bool, true, List, [], ◌
 use Rattle.std.specs.Prelude.{codes, if◌then◌else◌, is_some, map, option_and_then, option_map}
 use Rattle.std.specs.Borrow.{Bor}
 use Rattle.std.specs.Option.{option_map_or}
-use Rattle.command_line.specs.Generals.{count_in, depth_in, general_in, generals_in, order_in, seed_in}
-use Rattle.command_line.specs.Tasks.{Told, are_two, campaigns, coursed, has, is_of, is_text, of_one, of_traitors, programs, word_of}
-use Rattle.command_line.specs.Usage.{Text, Usage, taken_in, value_at}
-use Rattle.command_line.specs.Usages.{usage_named}
+use Rattle.cli_words.specs.Generals.{count_in, depth_in, general_in, generals_in, order_in, seed_in}
+use Rattle.cli_words.specs.Tasks.{Told, are_two, campaigns, coursed, has, is_of, is_text, of_one, of_traitors, programs, word_of}
+use Rattle.cli_words.specs.Usage.{Text, Usage, taken_in, value_at}
+use Rattle.cli_words.specs.Usages.{usage_named}
 
 -- the texts behind the references
 abbrev pub words_of : List (Bor Text) → List Text

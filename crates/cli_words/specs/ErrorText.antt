@@ -1,10 +1,10 @@
 -- What is said of an error: of refused words what `clap` says, of which it promises nothing.
 use Rattle.std.specs.Prelude.{ℕ, ◌++◌, List, Option, Some, None, codes, option_map, string_bytes}
 use Rattle.std.specs.Fmt.{debug_str}
-use Rattle.command_line.specs.declared.errors.TaskError.{TaskError}
-use Rattle.command_line.specs.declared.errors.TaskError.TheVariants as error
-use Rattle.command_line.specs.declared.errors.Misuse.{Misuse}
-use Rattle.command_line.specs.declared.errors.Misuse.TheVariants.{Traitors, Of, Lie, Loyal, Most, Depth, NobodyNamed, TwoDrawings, TwoNotations, UnitsOfParts, TwoCourses, EntryAlone, OfAlone, LieAlone, Seed, TwoSchedules, OutAlone}
+use Rattle.cli_words.specs.declared.errors.TaskError.{TaskError}
+use Rattle.cli_words.specs.declared.errors.TaskError.TheVariants as error
+use Rattle.cli_words.specs.declared.errors.Misuse.{Misuse}
+use Rattle.cli_words.specs.declared.errors.Misuse.TheVariants.{Traitors, Of, Lie, Loyal, Most, Depth, NobodyNamed, TwoDrawings, TwoNotations, UnitsOfParts, TwoCourses, EntryAlone, OfAlone, LieAlone, Seed, TwoSchedules, OutAlone}
 
 -- the word is none that the option takes, and this is what it takes
 abbrev pub invalid : List ℕ → List ℕ → List ℕ → Option (List ℕ)

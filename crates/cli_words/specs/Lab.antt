@@ -7,9 +7,9 @@ use Rattle.clap.specs.declared.parser.matches.ValueSource.{ValueSource}
 use Rattle.clap.specs.declared.parser.matches.ValueSource.TheVariants.{CommandLine, DefaultValue}
 use Rattle.clap.specs.Words.{App, Row, Rule, Shape, new_app, new_rule}
 use Rattle.clap.specs.Simple.{new_shape}
-use Rattle.command_line.specs.Tasks.{Told}
-use Rattle.command_line.specs.Usage.{Flag, Text, Usage, letter, option, switch}
-use Rattle.command_line.specs.Usages.{usages}
+use Rattle.cli_words.specs.Tasks.{Told}
+use Rattle.cli_words.specs.Usage.{Flag, Text, Usage, letter, option, switch}
+use Rattle.cli_words.specs.Usages.{usages}
 
 -- a place, which has to be filled
 abbrev pub place_rule : Text → Rule

@@ -3,12 +3,12 @@ use Rattle.std.specs.Prelude.{Bool, false}
 use Rattle.std.specs.List.{list_all}
 use Rattle.std.specs.Option.{option_map_or}
 use Rattle.clap.specs.Words.{found_of, rows_of}
-use Rattle.command_line.specs.Lab.{told_of}
-use Rattle.command_line.specs.Tasks.{Told, has}
-use Rattle.command_line.specs.Usages.{usage_named}
-use Rattle.command_line.specs.declared.met.Met.{Met}
+use Rattle.cli_words.specs.Lab.{told_of}
+use Rattle.cli_words.specs.Tasks.{Told, has}
+use Rattle.cli_words.specs.Usages.{usage_named}
+use Rattle.cli_words.specs.declared.matches.ParsedWords.{ParsedWords}
 
-abbrev pub told_by : Met → Told
+abbrev pub told_by : ParsedWords → Told
 told_by met = told_of (met.name.now, rows_of (found_of met.found.now))
 
 -- all places of the subcommand were filled

@@ -3,10 +3,10 @@ use Rattle.std.specs.Prelude.{ℕ, ◌==◌, ◌%◌, ◌&&◌, ◌||◌, ◌++�
 use Rattle.std.specs.List.{list_any}
 use Rattle.std.specs.Option.{option_map_or}
 use Rattle.std.specs.Str.{bytes_eq}
-use Rattle.command_line.specs.Asked.{words_of}
-use Rattle.command_line.specs.Usage.{Flag, Text, Usage, letter, option, switch}
-use Rattle.command_line.specs.Usages.{audit, check, play}
-use Rattle.command_line.specs.declared.several.Parts.{Parts}
+use Rattle.cli_words.specs.Asked.{words_of}
+use Rattle.cli_words.specs.Usage.{Flag, Text, Usage, letter, option, switch}
+use Rattle.cli_words.specs.Usages.{audit, check, play}
+use Rattle.cli_words.specs.declared.file_words.Parts.{Parts}
 
 -- the subcommand of this name, where it is one that prints verdicts
 abbrev pub judging : Text → Option Usage

@@ -2,11 +2,11 @@
 use Rattle.std.specs.Prelude.{ℕ, List, [], ◌∷◌, map}
 use Rattle.std.specs.Borrow.{Bor}
 use Rattle.clap.specs.Words.{App, Rule, Shape, with_subcommand}
-use Rattle.command_line.specs.Lab.{flag_rule, shape}
-use Rattle.command_line.specs.Usage.{Flag, Usage, letter, option, switch}
-use Rattle.command_line.specs.declared.subcommand.Flag as declared
-use Rattle.command_line.specs.declared.subcommand.Flag.TheVariants as variant
-use Rattle.command_line.specs.declared.subcommand.Subcommand.{Subcommand}
+use Rattle.cli_words.specs.Lab.{flag_rule, shape}
+use Rattle.cli_words.specs.Usage.{Flag, Usage, letter, option, switch}
+use Rattle.cli_words.specs.declared.subcommand.Flag as declared
+use Rattle.cli_words.specs.declared.subcommand.Flag.TheVariants as variant
+use Rattle.cli_words.specs.declared.subcommand.Subcommand.{Subcommand}
 
 abbrev pub flag_of : declared.Flag → Flag
 flag_of (variant.Switch name help) = switch name.now

@@ -7,32 +7,32 @@ use Rattle.text.specs.Options.{◌>>=◌}
 use Rattle.clap.specs.Words.{kind_of}
 use Rattle.clap.specs.declared.error.Error.{Error}
 use Rattle.clap.specs.declared.error.kind.ErrorKind.TheVariants.{OutOfMemory}
-use Rattle.command_line.specs.Generals.{count_in, depth_in, general_in, generals_in, order_in, seed_in}
-use Rattle.command_line.specs.Usage.{Text}
-use Rattle.command_line.specs.declared.tasks.Accesses.{Accesses}
-use Rattle.command_line.specs.declared.tasks.Accesses.TheVariants.{OfChronicle, Listed}
-use Rattle.command_line.specs.declared.tasks.Account.{Account}
-use Rattle.command_line.specs.declared.tasks.Account.TheVariants.{Chronicle, Table}
-use Rattle.command_line.specs.declared.tasks.Course.{Course}
-use Rattle.command_line.specs.declared.tasks.Course.TheVariants.{Scheduled, Recorded}
-use Rattle.command_line.specs.declared.tasks.Drawing.{Drawing}
-use Rattle.command_line.specs.declared.tasks.Drawing.TheVariants.{Boxes, Ascii, Graph, Svg}
-use Rattle.command_line.specs.declared.tasks.Filling.{Filling}
-use Rattle.command_line.specs.declared.tasks.Lieutenants.{Lieutenants}
-use Rattle.command_line.specs.declared.tasks.Lieutenants.TheVariants.{All, One}
-use Rattle.command_line.specs.declared.tasks.Notation.{Notation}
-use Rattle.command_line.specs.declared.tasks.Notation.TheVariants.{Bytecode, Assembly, Object}
-use Rattle.command_line.specs.declared.tasks.Request.{Request}
-use Rattle.command_line.specs.declared.tasks.Spelling.{Spelling}
-use Rattle.command_line.specs.declared.tasks.Spelling.TheVariants.{Hex, Raw}
-use Rattle.command_line.specs.declared.tasks.Task.{Task}
-use Rattle.command_line.specs.declared.tasks.Task.TheVariants.{Check, Assemble, AssemblePartly, Disassemble, DisassemblePartly, Book, ExplainDecisions, Form, Play, Muster, Audit, Explore, Tree, Draw, Page, Retrace}
-use Rattle.command_line.specs.declared.tasks.Turns.{Turns}
-use Rattle.command_line.specs.declared.tasks.Turns.TheVariants.{OfFile, OfSeed}
-use Rattle.command_line.specs.declared.errors.Misuse.{Misuse}
-use Rattle.command_line.specs.declared.errors.Misuse.TheVariants.{Traitors, Of, Lie, Loyal, Most, Depth, NobodyNamed, TwoDrawings, TwoNotations, UnitsOfParts, TwoCourses, EntryAlone, OfAlone, LieAlone, Seed, TwoSchedules, OutAlone}
-use Rattle.command_line.specs.declared.errors.TaskError.{TaskError}
-use Rattle.command_line.specs.declared.errors.TaskError.TheVariants as error
+use Rattle.cli_words.specs.Generals.{count_in, depth_in, general_in, generals_in, order_in, seed_in}
+use Rattle.cli_words.specs.Usage.{Text}
+use Rattle.cli_words.specs.declared.tasks.Accesses.{Accesses}
+use Rattle.cli_words.specs.declared.tasks.Accesses.TheVariants.{OfChronicle, Listed}
+use Rattle.cli_words.specs.declared.tasks.Account.{Account}
+use Rattle.cli_words.specs.declared.tasks.Account.TheVariants.{Chronicle, Table}
+use Rattle.cli_words.specs.declared.tasks.Course.{Course}
+use Rattle.cli_words.specs.declared.tasks.Course.TheVariants.{Scheduled, Recorded}
+use Rattle.cli_words.specs.declared.tasks.Drawing.{Drawing}
+use Rattle.cli_words.specs.declared.tasks.Drawing.TheVariants.{Boxes, Ascii, Graph, Svg}
+use Rattle.cli_words.specs.declared.tasks.Filling.{Filling}
+use Rattle.cli_words.specs.declared.tasks.Lieutenants.{Lieutenants}
+use Rattle.cli_words.specs.declared.tasks.Lieutenants.TheVariants.{All, One}
+use Rattle.cli_words.specs.declared.tasks.Notation.{Notation}
+use Rattle.cli_words.specs.declared.tasks.Notation.TheVariants.{Bytecode, Assembly, Object}
+use Rattle.cli_words.specs.declared.tasks.TaskRequest.{TaskRequest}
+use Rattle.cli_words.specs.declared.tasks.Spelling.{Spelling}
+use Rattle.cli_words.specs.declared.tasks.Spelling.TheVariants.{Hex, Raw}
+use Rattle.cli_words.specs.declared.tasks.Task.{Task}
+use Rattle.cli_words.specs.declared.tasks.Task.TheVariants.{Check, Assemble, AssemblePartly, Disassemble, DisassemblePartly, Book, ExplainDecisions, Form, Play, Muster, Audit, Explore, Tree, Draw, Page, Retrace}
+use Rattle.cli_words.specs.declared.tasks.Turns.{Turns}
+use Rattle.cli_words.specs.declared.tasks.Turns.TheVariants.{OfFile, OfSeed}
+use Rattle.cli_words.specs.declared.errors.Misuse.{Misuse}
+use Rattle.cli_words.specs.declared.errors.Misuse.TheVariants.{Traitors, Of, Lie, Loyal, Most, Depth, NobodyNamed, TwoDrawings, TwoNotations, UnitsOfParts, TwoCourses, EntryAlone, OfAlone, LieAlone, Seed, TwoSchedules, OutAlone}
+use Rattle.cli_words.specs.declared.errors.TaskError.{TaskError}
+use Rattle.cli_words.specs.declared.errors.TaskError.TheVariants as error
 
 -- a subcommand's name, and what was met behind it by each name: the word at a place, the value of an option, `true` of
 -- a switch
@@ -210,7 +210,7 @@ Says told (Retrace scenario accesses) = (told.name ≡ codes "schedule")
     × (word_of (codes "SCENARIO") told ≡ Some (string_bytes scenario)) × AreAccesses told accesses
 
 -- the words ask for this: the task, and whether its answer is to be JSON, or one line
-abbrev pub Asks : Told → Request → Type 0
+abbrev pub Asks : Told → TaskRequest → Type 0
 Asks told request =
     Says told request.task × (has (codes "json") told ≡ request.json) × (has (codes "verdicts") told ≡ request.verdicts)
 

@@ -1,7 +1,7 @@
 -- The subcommands, a row each.
 use Rattle.std.specs.Prelude.{List, [], ◌∷◌, Option, codes, find}
 use Rattle.std.specs.Str.{bytes_eq}
-use Rattle.command_line.specs.Usage.{Text, Usage, letter, option, switch}
+use Rattle.cli_words.specs.Usage.{Text, Usage, letter, option, switch}
 
 abbrev pub check : Usage
 check = record {

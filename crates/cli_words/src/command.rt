@@ -1,9 +1,9 @@
 ghost use Rattle.std.specs.Prelude.{◌≡◌, IfOk, IsSomeAnd, Some, codes, option_map, string_bytes};
 ghost use Rattle.clap.specs.Words.{app_of};
 ghost use Rattle.clap.specs.declared.builder.command.Command.TheViews.{out-Command};
-ghost use Rattle.command_line.specs.Asked.{words_of};
-ghost use Rattle.command_line.specs.Lab.{app_for, described, lab_about, lab_version};
-ghost use Rattle.command_line.specs.Subcommand.{with_subcommands};
+ghost use Rattle.cli_words.specs.Asked.{words_of};
+ghost use Rattle.cli_words.specs.Lab.{app_for, described, lab_about, lab_version};
+ghost use Rattle.cli_words.specs.Subcommand.{with_subcommands};
 
 use crate::subcommand::Subcommand;
 use crate::subcommands::subcommands_for;

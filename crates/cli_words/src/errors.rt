@@ -53,7 +53,7 @@ pub enum Misuse {
 }
 
 impl fmt::Display for TaskError {
-    ghost use Rattle.command_line.specs.ErrorText.{error_text};
+    ghost use Rattle.cli_words.specs.ErrorText.{error_text};
 
     ghost output = { error_text };
 
@@ -69,7 +69,7 @@ impl fmt::Display for TaskError {
 impl error::Error for TaskError {}
 
 impl fmt::Display for Misuse {
-    ghost use Rattle.command_line.specs.ErrorText.{misuse_text};
+    ghost use Rattle.cli_words.specs.ErrorText.{misuse_text};
 
     ghost output = { misuse_text };
 
@@ -137,7 +137,7 @@ impl fmt::Display for Misuse {
 
 impl From<AllocError> for TaskError {
     ghost use Rattle.std.specs.Prelude.{◌≡◌};
-    ghost use Rattle.command_line.specs.declared.errors.TaskError.TheVariants.{Memory};
+    ghost use Rattle.cli_words.specs.declared.errors.TaskError.TheVariants.{Memory};
 
     ghost from_gives = { λ _ e. e ≡ Memory };
 

@@ -2,10 +2,10 @@
 ghost use Rattle.std.specs.Prelude.{◌≡◌, ◌∷◌, IfOk, List, [], codes, false, map, option_map};
 ghost use Rattle.std.specs.List.{list_any};
 ghost use Rattle.std.specs.Str.{bytes_eq};
-ghost use Rattle.command_line.specs.Asked.{words_of};
-ghost use Rattle.command_line.specs.Several.{are_several, is_flag, is_option, judging, onto, pairs, parted, parted_of, request_of, requests_of, singles};
-ghost use Rattle.command_line.specs.Subcommand.{flag_of, usage_of};
-ghost use Rattle.command_line.specs.Usage.{Text};
+ghost use Rattle.cli_words.specs.Asked.{words_of};
+ghost use Rattle.cli_words.specs.Several.{are_several, is_flag, is_option, judging, onto, pairs, parted, parted_of, request_of, requests_of, singles};
+ghost use Rattle.cli_words.specs.Subcommand.{flag_of, usage_of};
+ghost use Rattle.cli_words.specs.Usage.{Text};
 
 use crate::subcommand::{Flag, Subcommand};
 use crate::subcommands::{AUDIT, CHECK, PLAY};

@@ -1,6 +1,6 @@
 ghost use Rattle.std.specs.Prelude.{◌≡◌, ◌≢◌, Ok, Err, IfOk, IfErr, Some, None, is_some, true};
-ghost use Rattle.command_line.specs.Generals.{count_in, depth_in, general_in, generals_in, order_in, seed_in};
-ghost use Rattle.command_line.specs.declared.generals.GeneralsError.TheVariants.{NoGeneral, Memory};
+ghost use Rattle.cli_words.specs.Generals.{count_in, depth_in, general_in, generals_in, order_in, seed_in};
+ghost use Rattle.cli_words.specs.declared.generals.GeneralsError.TheVariants.{NoGeneral, Memory};
 
 use std::alloc::{AllocError, Global};
 use text::{Stop, decimal, piece};

@@ -3,18 +3,18 @@
 
 mod command;
 mod errors;
+mod file_words;
 mod generals;
-mod met;
-mod reading;
-mod several;
+mod matches;
+mod request_reader;
 mod subcommand;
 mod subcommands;
 mod tasks;
 
 pub use errors::{Misuse, TaskError};
-pub use reading::request;
-pub use several::each;
+pub use file_words::each;
+pub use request_reader::request;
 pub use tasks::{
-    Accesses, Account, Course, Drawing, Filling, Lieutenants, Notation, Request, Spelling, Task,
-    Turns,
+    Accesses, Account, Course, Drawing, Filling, Lieutenants, Notation, Spelling, Task,
+    TaskRequest, Turns,
 };

@@ -1,15 +1,15 @@
 ghost use Rattle.std.specs.Prelude.{◌≡◌, ◌≢◌, if◌then◌else◌, IfOk, IfErr, IsSome, None, Some, [], ◌∷◌, codes, is_some, option_map, string_bytes, true, false};
 ghost use Rattle.clap.specs.Words.{subcommand_rows_of};
-ghost use Rattle.command_line.specs.Lab.{is_given, task_met};
-ghost use Rattle.command_line.specs.Tasks.{IsDrawing, levels_in, named};
-ghost use Rattle.command_line.specs.Met.{has_places, told_by};
-ghost use Rattle.command_line.specs.Tasks.{AreExplained, AreTurns, Asks, IsCourse, IsErrorOf, IsFilling, IsNotation, NamesCount, NamesGeneral, NamesSeed, Says, campaigns, coursed, has, is_of, is_raw, is_table, programs, word_of};
+ghost use Rattle.cli_words.specs.Lab.{is_given, task_met};
+ghost use Rattle.cli_words.specs.Tasks.{IsDrawing, levels_in, named};
+ghost use Rattle.cli_words.specs.Met.{has_places, told_by};
+ghost use Rattle.cli_words.specs.Tasks.{AreExplained, AreTurns, Asks, IsCourse, IsErrorOf, IsFilling, IsNotation, NamesCount, NamesGeneral, NamesSeed, Says, campaigns, coursed, has, is_of, is_raw, is_table, programs, word_of};
 
 use crate::errors::{Misuse, TaskError};
 use crate::generals::{GeneralsError, count, depth, general, generals, order, seed};
 use crate::tasks::{
-    Accesses, Account, Course, Drawing, Filling, Lieutenants, Notation, Request, Spelling, Task,
-    Turns,
+    Accesses, Account, Course, Drawing, Filling, Lieutenants, Notation, Spelling, Task,
+    TaskRequest, Turns,
 };
 use clap::ArgMatches;
 use clap::parser::ValueSource;
@@ -17,21 +17,21 @@ use std::alloc::{AllocError, Global};
 
 /// A subcommand that was met, and what was met behind it.
 #[derive(Clone, Copy)]
-pub(crate) struct Met<'m, 'a> {
+pub(crate) struct ParsedWords<'m, 'a> {
     name: &'a str,
     found: &'m ArgMatches<'a>,
 }
 
-impl<'m, 'a> Met<'m, 'a> {
+impl<'m, 'a> ParsedWords<'m, 'a> {
     /// The subcommand that was met.
-    pub(crate) fn of(matches: &'m ArgMatches<'a>) -> Met<'m, 'a>
+    pub(crate) fn of(matches: &'m ArgMatches<'a>) -> ParsedWords<'m, 'a>
         requires { IsSome (subcommand_rows_of matches.now) }
         ensures { Some (told_by result) ≡ task_met (subcommand_rows_of matches.now) }
     {
         let Some((name, found)) = matches.subcommand() else {
             unreachable!();
         };
-        Met { name, found }
+        ParsedWords { name, found }
     }
 
     /// The word at the place of this name, the value of the option, `true` of the switch.
@@ -70,12 +70,12 @@ impl<'m, 'a> Met<'m, 'a> {
     }
 
     /// What is asked for.
-    pub(crate) fn request(self, alloc: Global) -> Result<Request, TaskError>
+    pub(crate) fn request(self, alloc: Global) -> Result<TaskRequest, TaskError>
         requires { has_places (told_by self) ≡ true }
         ensures request { IfOk result (Asks (told_by self.entry)) }
         ensures refused { IfErr result (IsErrorOf (told_by self.entry)) }
     {
-        Ok(Request {
+        Ok(TaskRequest {
             json: self.has("json"),
             verdicts: self.has("verdicts"),
             task: self.task(alloc)?,

@@ -1,13 +1,13 @@
 ghost use Rattle.std.specs.Prelude.{◌≡◌, ◌≢◌, IfOk, IfErr, IsSomeAnd, None};
 ghost use Rattle.clap.specs.Words.{IsAmong, fault_of, kind_of};
-ghost use Rattle.command_line.specs.Asked.{asked, spelt, words_of};
-ghost use Rattle.command_line.specs.Lab.{lab_app};
-ghost use Rattle.command_line.specs.Tasks.{Asks, IfMisuse, IfRefused, IfWords, IsMisused, IsToldBy};
+ghost use Rattle.cli_words.specs.Asked.{asked, spelt, words_of};
+ghost use Rattle.cli_words.specs.Lab.{lab_app};
+ghost use Rattle.cli_words.specs.Tasks.{Asks, IfMisuse, IfRefused, IfWords, IsMisused, IsToldBy};
 
 use crate::command::lab_command;
 use crate::errors::TaskError;
-use crate::met::Met;
-use crate::tasks::Request;
+use crate::matches::ParsedWords;
+use crate::tasks::TaskRequest;
 use clap::Error;
 use clap::error::ErrorKind;
 use std::alloc::Global;
@@ -23,7 +23,7 @@ fn refused(error: Error) -> TaskError
 }
 
 /// Reads the words behind the program's name.
-pub fn request(alloc: Global, words: &[&str]) -> Result<Request, TaskError>
+pub fn request(alloc: Global, words: &[&str]) -> Result<TaskRequest, TaskError>
     ensures found { IfOk result (λ request. IsSomeAnd (asked (words_of words.now)) (λ told. Asks told request)) }
     ensures refused { IfErr result (λ error. IfRefused error (asked (words_of words.now) ≡ None)) }
 
@@ -37,7 +37,7 @@ pub fn request(alloc: Global, words: &[&str]) -> Result<Request, TaskError>
 {
     let lab = lab_command(alloc, words)?;
     match lab.try_get_matches_from(words) {
-        Ok(matches) => Met::of(&matches).request(alloc),
+        Ok(matches) => ParsedWords::of(&matches).request(alloc),
         Err(error) => Err(refused(error)),
     }
 }

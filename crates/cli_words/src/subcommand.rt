@@ -1,8 +1,8 @@
 ghost use Rattle.std.specs.Prelude.{◌≡◌, IfOk, Some, false};
 ghost use Rattle.clap.specs.Words.{rule_of, shape_of};
 ghost use Rattle.clap.specs.declared.builder.command.Command.TheViews.{out-Command};
-ghost use Rattle.command_line.specs.Lab.{place_rule};
-ghost use Rattle.command_line.specs.Subcommand.{help_of, rule_for, shape_for};
+ghost use Rattle.cli_words.specs.Lab.{place_rule};
+ghost use Rattle.cli_words.specs.Subcommand.{help_of, rule_for, shape_for};
 
 use clap::{Arg, ArgAction, Command};
 use std::alloc::{AllocError, Global};

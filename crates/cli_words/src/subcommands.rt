@@ -1,9 +1,9 @@
 //! The subcommands, a row each.
 ghost use Rattle.std.specs.Prelude.{◌≡◌, map};
-ghost use Rattle.command_line.specs.Asked.{words_of};
-ghost use Rattle.command_line.specs.Lab.{named_in, usages_for};
-ghost use Rattle.command_line.specs.Subcommand.{usage_of};
-ghost use Rattle.command_line.specs.Usages.{usages};
+ghost use Rattle.cli_words.specs.Asked.{words_of};
+ghost use Rattle.cli_words.specs.Lab.{named_in, usages_for};
+ghost use Rattle.cli_words.specs.Subcommand.{usage_of};
+ghost use Rattle.cli_words.specs.Usages.{usages};
 
 use crate::subcommand::{Flag, Place, Subcommand};
 use std::slice;

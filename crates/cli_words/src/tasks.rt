@@ -1,6 +1,6 @@
 /// What the words ask for: a task, and how its answer is printed.
 #[derive(Drop)]
-pub struct Request {
+pub struct TaskRequest {
     pub task: Task,
     /// As JSON Lines, an object for each line.
     pub json: bool,
@@ -203,7 +203,7 @@ pub enum Lieutenants {
 
 impl Course {
     ghost use Rattle.std.specs.Prelude.{◌≡◌, option_map};
-    ghost use Rattle.command_line.specs.Tasks.{course_file};
+    ghost use Rattle.cli_words.specs.Tasks.{course_file};
 
     /// The name of the file that tells the course, where there is one.
     fn file(&self) -> Option<&str>
@@ -218,7 +218,7 @@ impl Course {
 
 impl Turns {
     ghost use Rattle.std.specs.Prelude.{◌≡◌, option_map};
-    ghost use Rattle.command_line.specs.Tasks.{seed_target, turns_file, turns_seed};
+    ghost use Rattle.cli_words.specs.Tasks.{seed_target, turns_file, turns_seed};
 
     /// The name of the file that the schedule stands in, where there is one.
     fn file(&self) -> Option<&str>
@@ -253,7 +253,7 @@ impl Turns {
 
 impl Accesses {
     ghost use Rattle.std.specs.Prelude.{◌≡◌, option_map};
-    ghost use Rattle.command_line.specs.Tasks.{accesses_file};
+    ghost use Rattle.cli_words.specs.Tasks.{accesses_file};
 
     /// The name of the file that tells the accesses, where there is one.
     fn file(&self) -> Option<&str>
@@ -268,7 +268,7 @@ impl Accesses {
 
 impl Task {
     ghost use Rattle.std.specs.Prelude.{◌≡◌, option_map};
-    ghost use Rattle.command_line.specs.Tasks.{file_of, schedule_target_of, second_of, seed_of, target_of};
+    ghost use Rattle.cli_words.specs.Tasks.{file_of, schedule_target_of, second_of, seed_of, target_of};
 
     /// The name of the only file, or of the first; none where the task reads no file.
     pub fn file(&self) -> Option<&str>

@@ -13,8 +13,8 @@ use Rattle.insn.specs.declared.insn.Insn.TheVariants as i
 use Rattle.insn.specs.declared.insn.Operand.TheVariants.{Register, Immediate}
 use Rattle.insn.specs.declared.insn.Size.TheVariants as size
 use Rattle.insn.specs.Insn.{IsInsn}
-use Rattle.codec.specs.declared.fault.Fault.{Fault}
-use Rattle.codec.specs.declared.fault.Fault.TheVariants as faults
+use Rattle.codec.specs.declared.fault.CodecFault.{CodecFault}
+use Rattle.codec.specs.declared.fault.CodecFault.TheVariants as faults
 use Rattle.codec.specs.declared.fields.Fields.{Fields}
 use Rattle.codec.specs.Spelling.{spelling}
 use Rattle.codec.specs.Reading.{is_past, first_fault, is_reserved_set, fault_in, AreUnits}
@@ -25,7 +25,7 @@ none_past r le = le-ltb 10 r le
 along : (f g : Fields) (behind : List ℕ) → f ≡ g → fault_in f behind ≡ None → fault_in g behind ≡ None
 along f g behind same none = subst (λ (h : Fields). fault_in h behind ≡ None) same none
 
-abbrev second_half : Fields → Option Fault
+abbrev second_half : Fields → Option CodecFault
 second_half g = first_fault ((is_reserved_set g, faults.Reserved) ∷ [])
 
 pub no_fault : (insn : Insn) (f : Fields) (behind : List ℕ) → IsInsn insn → AreUnits (spelling insn) f behind → fault_in f behind ≡ None

@@ -13,8 +13,8 @@ use Rattle.word.specs.declared.Width.{Width}
 use Rattle.word.specs.declared.Width.TheVariants.{W32, W64}
 use Rattle.codec.specs.declared.form.Form.{Form}
 use Rattle.codec.specs.declared.form.Form.TheVariants as forms
-use Rattle.codec.specs.declared.fault.Fault.{Fault}
-use Rattle.codec.specs.declared.fault.Fault.TheVariants as faults
+use Rattle.codec.specs.declared.fault.CodecFault.{CodecFault}
+use Rattle.codec.specs.declared.fault.CodecFault.TheVariants as faults
 use Rattle.codec.specs.declared.fields.Fields.{Fields}
 use Rattle.codec.specs.Spelling.{alu_class, jump_class, spelling, instruction_bytes}
 use Rattle.codec.specs.Reading.{fields_of, is_set, is_past, is_reserved_set, checks_of, first_fault, fault_in, fault_at, AreUnits}
@@ -216,22 +216,22 @@ form_left n =
 
 -- ---- faults
 
-here_none : (is : Fault → Bool) (g fault : Fault) (rest : Option Fault) (more t here : Bool) → is g ≡ true → is fault ≡ here → here || more ≡ false → (more ≡ false → rest ≡ Some g → ⊥)
+here_none : (is : CodecFault → Bool) (g fault : CodecFault) (rest : Option CodecFault) (more t here : Bool) → is g ≡ true → is fault ≡ here → here || more ≡ false → (more ≡ false → rest ≡ Some g → ⊥)
     → (if t then Some fault else rest) ≡ Some g → ⊥
 here_none is g fault rest more t true named same bad behind e = absurd cc
 here_none is g fault rest more true false named same none behind e = let first : fault ≡ g = cc in let absent : true ≡ false = sym named ∙ sym (ap is first) ∙ same in absurd cc
 here_none is g fault rest more false false named same none behind e = behind none e
 
 -- a fault that absent check names is not the first
-none_of : (is : Fault → Bool) (g : Fault) (checks : List (Bool × Fault)) → is g ≡ true → list_any (λ (c : Bool × Fault). is c.1) checks ≡ false → first_fault checks ≡ Some g → ⊥
+none_of : (is : CodecFault → Bool) (g : CodecFault) (checks : List (Bool × CodecFault)) → is g ≡ true → list_any (λ (c : Bool × CodecFault). is c.1) checks ≡ false → first_fault checks ≡ Some g → ⊥
 none_of is g [] named absent e = absurd cc
-none_of is g (c ∷ checks) named absent e = here_none is g c.1 (first_fault checks) (list_any (λ (d : Bool × Fault). is d.1) checks) c.0 (is c.1) named refl absent (λ rest more. none_of is g checks named rest more) e
+none_of is g (c ∷ checks) named absent e = here_none is g c.1 (first_fault checks) (list_any (λ (d : Bool × CodecFault). is d.1) checks) c.0 (is c.1) named refl absent (λ rest more. none_of is g checks named rest more) e
 
-abbrev is_opcode_fault : Fault → Bool
+abbrev is_opcode_fault : CodecFault → Bool
 is_opcode_fault faults.Opcode = true
 is_opcode_fault _ = false
 
-abbrev is_left_fault : Fault → Bool
+abbrev is_left_fault : CodecFault → Bool
 is_left_fault faults.LeftOut = true
 is_left_fault _ = false
 
@@ -353,7 +353,7 @@ left_form forms.Exit e = absurd cc
 left_form forms.LeftOut e = refl
 left_form forms.Unknown e = absurd cc
 
-abbrev fault_by : Form → Fields → List ℕ → Option Fault
+abbrev fault_by : Form → Fields → List ℕ → Option CodecFault
 fault_by form f behind = first_fault (checks_of form f behind)
 
 left_back : (f : Fields) (behind : List ℕ) → IsLeftOut f → fault_in f behind ≡ Some faults.LeftOut
@@ -363,13 +363,13 @@ left_back f behind (inr (inl number)) =
     ∙ (ap (λ t. if t then Some faults.Register else if is_set f.src then Some faults.LeftOut else number_rest) (none_past f.dst number.1)
     ∙ ap (λ t. if t then Some faults.LeftOut else number_rest) (source_set f.src number.2))
   where
-    number_rest : Option Fault
+    number_rest : Option CodecFault
     number_rest = first_fault ((is_set f.offset, faults.Reserved) ∷ (nat_lt (length behind) 8, faults.WideCut) ∷ (is_reserved_set (fields_of behind), faults.Reserved) ∷ [])
 left_back f behind (inr (inr call)) =
     ap (λ n. fault_by (form_of n) f behind) call.0
     ∙ ap (λ t. if t then Some faults.LeftOut else call_rest) (source_set f.src call.1)
   where
-    call_rest : Option Fault
+    call_rest : Option CodecFault
     call_rest = first_fault ((is_set f.dst, faults.Reserved) ∷ (is_set f.offset, faults.Reserved) ∷ [])
 
 pub opcodes_told : OpcodesAreTold

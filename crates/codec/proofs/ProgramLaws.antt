@@ -6,7 +6,7 @@ use Rattle.std.proofs.lemmas.Bool.{cases_lt}
 use Rattle.std.specs.List.{AllByRecursion}
 use Rattle.insn.specs.declared.insn.Insn.{Insn}
 use Rattle.insn.specs.Insn.{IsInsn}
-use Rattle.codec.specs.declared.fault.Fault.{Fault}
+use Rattle.codec.specs.declared.fault.CodecFault.{CodecFault}
 use Rattle.codec.specs.declared.fault.CodecError.{CodecError}
 use Rattle.codec.specs.declared.fault.CodecError.TheVariants as errors
 use Rattle.codec.specs.Spelling.{instruction_bytes, program_bytes}
@@ -23,7 +23,7 @@ none_here i rest p = no_fault i (fields_of (instruction_bytes i ++ rest)) (drop 
 some_bytes : (i : Insn) (rest : List ℕ) → 0 < length (instruction_bytes i ++ rest)
 some_bytes i rest = omega (arith, length-append (instruction_bytes i) rest, length-instruction_bytes i, units_few i)
 
-not_here : (i : Insn) (rest bytes : List ℕ) (fault : Fault) → IsInsn i → bytes ≡ instruction_bytes i ++ rest → fault_at bytes ≡ Some fault → ⊥
+not_here : (i : Insn) (rest bytes : List ℕ) (fault : CodecFault) → IsInsn i → bytes ≡ instruction_bytes i ++ rest → fault_at bytes ≡ Some fault → ⊥
 not_here i rest bytes fault p same found =
     let none : fault_at bytes ≡ None = ap fault_at same ∙ none_here i rest p in
     let bad : None ≡ Some fault = sym none ∙ found in cc
@@ -39,7 +39,7 @@ same_program (i ∷ is) (j ∷ js) p q e =
     cc
 
 -- no fault stands between the instructions of a program
-none_between : (ps before : List Insn) (rest : List ℕ) (fault : Fault) → AllByRecursion IsInsn ps → AllByRecursion IsInsn before → program_bytes ps ≡ program_bytes before ++ rest →
+none_between : (ps before : List Insn) (rest : List ℕ) (fault : CodecFault) → AllByRecursion IsInsn ps → AllByRecursion IsInsn before → program_bytes ps ≡ program_bytes before ++ rest →
     0 < length rest → fault_at rest ≡ Some fault → ⊥
 none_between [] [] rest fault p q e some found = omega (arith, ap length e)
 none_between (i ∷ is) [] rest fault p q e some found = not_here i (program_bytes is) rest fault p.0 (sym e) found
@@ -55,7 +55,7 @@ split : (bytes : List ℕ) (n : ℕ) (before : List Insn) → take n bytes ≡ p
 split bytes n before e = sym (take-append-drop n bytes) ∙ ap (λ (b : List ℕ). b ++ drop n bytes) e
 
 -- a program's bytes have no first fault
-pub no_first_fault : (bytes : List ℕ) (program : List Insn) (fault : Fault) (unit : ℕ) → SpellsProgram bytes program → IsFirstFault bytes fault unit → ⊥
+pub no_first_fault : (bytes : List ℕ) (program : List Insn) (fault : CodecFault) (unit : ℕ) → SpellsProgram bytes program → IsFirstFault bytes fault unit → ⊥
 no_first_fault bytes program fault unit s f =
     let even : length bytes % 8 ≡ 0 = omega (arith, ap length s.spelled, length-program_bytes program) in
     let found = f.by_instruction even s.some s.bound in
@@ -63,11 +63,11 @@ no_first_fault bytes program fault unit s f =
     (omega (arith, found.1.inside, length-drop (8 * unit) bytes)) found.1.found
 
 -- the fault and what stands before it
-record AreSame (before after : List Insn) (f g : Fault) : Type 0 where
+record AreSame (before after : List Insn) (f g : CodecFault) : Type 0 where
   faults : f ≡ g
   places : program_bytes before ≡ program_bytes after
 
-same_fault : (ps qs : List Insn) (xs ys : List ℕ) (f g : Fault) → AllByRecursion IsInsn ps → AllByRecursion IsInsn qs → program_bytes ps ++ xs ≡ program_bytes qs ++ ys →
+same_fault : (ps qs : List Insn) (xs ys : List ℕ) (f g : CodecFault) → AllByRecursion IsInsn ps → AllByRecursion IsInsn qs → program_bytes ps ++ xs ≡ program_bytes qs ++ ys →
     fault_at xs ≡ Some f → fault_at ys ≡ Some g → AreSame ps qs f g
 same_fault [] [] xs ys f g p q e a b =
     let both : Some f ≡ Some g = sym a ∙ (ap fault_at e ∙ b) in
@@ -81,7 +81,7 @@ same_fault (i ∷ is) (j ∷ js) xs ys f g p q e a b =
     let tail = same_fault is js xs ys f g p.1 q.1 (same_behind i j (program_bytes is ++ xs) (program_bytes js ++ ys) head whole) a b in
     record { faults = tail.faults; places = ap (λ (i : Insn). instruction_bytes i ++ program_bytes is) head ∙ ap (λ (b : List ℕ). instruction_bytes j ++ b) tail.places }
 
-same_place : (bytes : List ℕ) (f g : Fault) (u v : ℕ) (before after : List Insn) → IsFaultAt bytes f u before → IsFaultAt bytes g v after → (f ≡ g) × (u ≡ v)
+same_place : (bytes : List ℕ) (f g : CodecFault) (u v : ℕ) (before after : List Insn) → IsFaultAt bytes f u before → IsFaultAt bytes g v after → (f ≡ g) × (u ≡ v)
 same_place bytes f g u v before after a b =
     let same = same_fault before after (drop (8 * u) bytes) (drop (8 * v) bytes) f g a.well_formed b.well_formed
     (sym (split bytes (8 * u) before a.spelled) ∙ split bytes (8 * v) after b.spelled) a.found b.found in
@@ -90,7 +90,7 @@ same_place bytes f g u v before after a b =
     let right : length (take (8 * v) bytes) ≡ 8 * v = length-take-le (8 * v) bytes (omega (arith, b.inside)) in
     (same.faults, omega (arith, ap length fronts, left, right))
 
-one_fault_in : (bytes : List ℕ) (f g : Fault) (u v : ℕ) → IsFirstFault bytes f u → IsFirstFault bytes g v → length bytes % 8 ≡ 0 → (f ≡ g) × (u ≡ v)
+one_fault_in : (bytes : List ℕ) (f g : CodecFault) (u v : ℕ) → IsFirstFault bytes f u → IsFirstFault bytes g v → length bytes % 8 ≡ 0 → (f ≡ g) × (u ≡ v)
 one_fault_in bytes f g u v a b even = elim (cases_lt 0 (length bytes)) [
   | inl some ↦ elim (cases_lt (8 * 4096) (length bytes)) [
     | inl much ↦
@@ -109,7 +109,7 @@ one_fault_in bytes f g u v a b even = elim (cases_lt 0 (length bytes)) [
 ]
 
 -- bytes have one first fault at most
-pub one_first_fault : (bytes : List ℕ) (f g : Fault) (u v : ℕ) → IsFirstFault bytes f u → IsFirstFault bytes g v → (f ≡ g) × (u ≡ v)
+pub one_first_fault : (bytes : List ℕ) (f g : CodecFault) (u v : ℕ) → IsFirstFault bytes f u → IsFirstFault bytes g v → (f ≡ g) × (u ≡ v)
 one_first_fault bytes f g u v a b = elim (cases_lt 0 (length bytes % 8)) [
   | inl odd ↦
       let left = a.by_length (λ even. omega (arith, even, odd)) in

@@ -9,7 +9,7 @@ use Rattle.insn.specs.Insn.{IsInsn, units_of}
 use Rattle.insn.specs.Program.{slots_of}
 use Rattle.insn.proofs.WellLemmas.{all_push}
 use Rattle.insn.proofs.SlotLemmas.{length-slots_of-push, length-slots_of-cons}
-use Rattle.codec.specs.declared.fault.Fault.{Fault}
+use Rattle.codec.specs.declared.fault.CodecFault.{CodecFault}
 use Rattle.codec.specs.Spelling.{instruction_bytes, program_bytes}
 use Rattle.codec.specs.Reading.{fault_at}
 use Rattle.codec.specs.Program.{SpellsProgram, IsFirstFault}
@@ -86,7 +86,7 @@ read_all bytes is unit units whole some few done r = record {
 }
 
 -- a fault at the unit that comes next
-pub first_fault_here : (bytes : List ℕ) (is : List Insn) (unit units : ℕ) (tail : List ℕ) (fault : Fault) → length bytes ≡ 8 * units → 0 < units → units ≤ 4096 → unit < units → IsReadTo bytes is unit units →
+pub first_fault_here : (bytes : List ℕ) (is : List Insn) (unit units : ℕ) (tail : List ℕ) (fault : CodecFault) → length bytes ≡ 8 * units → 0 < units → units ≤ 4096 → unit < units → IsReadTo bytes is unit units →
     tail ≡ take (length bytes - 8 * unit) (drop (8 * unit) bytes) → fault_at tail ≡ Some fault → IsFirstFault bytes fault unit
 first_fault_here bytes is unit units tail fault whole some few more r tail-is e = record {
   by_length = λ odd. absurd (odd (omega arith));

@@ -1,12 +1,12 @@
 -- What is said of a fault.
 use Rattle.std.specs.Prelude.{ℕ, List, ◌++◌, codes}
 use Rattle.std.specs.Fmt.{decimal}
-use Rattle.codec.specs.declared.fault.Fault.{Fault}
-use Rattle.codec.specs.declared.fault.Fault.TheVariants.{Length, Opcode, Reserved, WideCut, Register, LeftOut, Operand, Count}
+use Rattle.codec.specs.declared.fault.CodecFault.{CodecFault}
+use Rattle.codec.specs.declared.fault.CodecFault.TheVariants.{Length, Opcode, Reserved, WideCut, Register, LeftOut, Operand, Count}
 use Rattle.codec.specs.declared.fault.CodecError.{CodecError}
 use Rattle.codec.specs.declared.fault.CodecError.TheVariants.{At, Memory}
 
-abbrev pub code_of : Fault → List ℕ
+abbrev pub code_of : CodecFault → List ℕ
 code_of Length = codes "C1"
 code_of Opcode = codes "C2"
 code_of Reserved = codes "C3"

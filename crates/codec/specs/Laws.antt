@@ -2,7 +2,7 @@
 use Rattle.std.specs.Prelude.{ℕ, ◌≡◌, List}
 use Rattle.insn.specs.declared.insn.Insn.{Insn}
 use Rattle.insn.specs.Insn.{IsInsn}
-use Rattle.codec.specs.declared.fault.Fault.{Fault}
+use Rattle.codec.specs.declared.fault.CodecFault.{CodecFault}
 use Rattle.codec.specs.Spelling.{spelling}
 use Rattle.codec.specs.Program.{SpellsProgram, IsFirstFault}
 
@@ -21,9 +21,9 @@ OneSpelling = (a b : List ℕ) (program : List Insn) → SpellsProgram a program
 -- no bytes have two first faults
 abbrev pub OneFirstFault : Type 0
 OneFirstFault =
-    (bytes : List ℕ) (f g : Fault) (u v : ℕ) → IsFirstFault bytes f u → IsFirstFault bytes g v → (f ≡ g) × (u ≡ v)
+    (bytes : List ℕ) (f g : CodecFault) (u v : ℕ) → IsFirstFault bytes f u → IsFirstFault bytes g v → (f ≡ g) × (u ≡ v)
 
 -- a program's bytes have no first fault
 abbrev pub NoFaultInPrograms : Type 0
-NoFaultInPrograms = (bytes : List ℕ) (program : List Insn) (fault : Fault) (unit : ℕ) → SpellsProgram bytes program →
+NoFaultInPrograms = (bytes : List ℕ) (program : List Insn) (fault : CodecFault) (unit : ℕ) → SpellsProgram bytes program →
     IsFirstFault bytes fault unit → ⊥

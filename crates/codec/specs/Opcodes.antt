@@ -3,7 +3,7 @@ use Rattle.std.specs.Prelude.{ℕ, ◌≡◌, ◌≢◌, ◌≤◌, ◌⊎◌, �
 use Rattle.std.specs.List.{list_any}
 use Rattle.insn.specs.declared.insn.Insn.{Insn}
 use Rattle.insn.specs.Insn.{IsInsn}
-use Rattle.codec.specs.declared.fault.Fault.TheVariants as faults
+use Rattle.codec.specs.declared.fault.CodecFault.TheVariants as faults
 use Rattle.codec.specs.declared.fields.Fields.{Fields}
 use Rattle.codec.specs.Spelling.{spelling}
 use Rattle.codec.specs.Reading.{fields_of, fault_at}

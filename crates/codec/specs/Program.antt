@@ -4,8 +4,8 @@ use Rattle.std.specs.List.{AllByRecursion}
 use Rattle.insn.specs.declared.insn.Insn.{Insn}
 use Rattle.insn.specs.Insn.{IsInsn}
 use Rattle.insn.specs.Program.{most_units}
-use Rattle.codec.specs.declared.fault.Fault.{Fault}
-use Rattle.codec.specs.declared.fault.Fault.TheVariants as faults
+use Rattle.codec.specs.declared.fault.CodecFault.{CodecFault}
+use Rattle.codec.specs.declared.fault.CodecFault.TheVariants as faults
 use Rattle.codec.specs.declared.fault.CodecError.{CodecError}
 use Rattle.codec.specs.declared.fault.CodecError.TheVariants as errors
 use Rattle.codec.specs.Spelling.{program_bytes}
@@ -19,14 +19,14 @@ pub record SpellsProgram (bytes : List ℕ) (program : List Insn) : Type 0 where
   pub bound : length bytes ≤ 8 * most_units
 
 -- the first units are well-formed instructions, and the next has this fault
-pub record IsFaultAt (bytes : List ℕ) (fault : Fault) (unit : ℕ) (before : List Insn) : Type 0 where
+pub record IsFaultAt (bytes : List ℕ) (fault : CodecFault) (unit : ℕ) (before : List Insn) : Type 0 where
   pub spelled : take (8 * unit) bytes ≡ program_bytes before
   pub well_formed : AllByRecursion IsInsn before
   pub inside : 8 * unit < length bytes
   pub found : fault_at (drop (8 * unit) bytes) ≡ Some fault
 
 -- the first fault and its unit: the length, then how many units, then the instructions from the front
-pub record IsFirstFault (bytes : List ℕ) (fault : Fault) (unit : ℕ) : Type 0 where
+pub record IsFirstFault (bytes : List ℕ) (fault : CodecFault) (unit : ℕ) : Type 0 where
   pub by_length : length bytes % 8 ≢ 0 → (fault ≡ faults.Length) × (unit ≡ length bytes / 8)
   pub by_count : length bytes % 8 ≡ 0 → (length bytes ≡ 0) ⊎ (8 * most_units < length bytes) →
       (fault ≡ faults.Count) × (unit ≡ 0)

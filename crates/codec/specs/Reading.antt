@@ -3,8 +3,8 @@ use Rattle.std.specs.Prelude.{ℕ, ◌≡◌, ◌≤◌, ◌/◌, ◌%◌, List,
 use Rattle.std.specs.Int.{w16, w32, from_le_bytes}
 use Rattle.word.specs.declared.Width.{Width}
 use Rattle.word.specs.declared.Width.TheVariants.{W32, W64}
-use Rattle.codec.specs.declared.fault.Fault.{Fault}
-use Rattle.codec.specs.declared.fault.Fault.TheVariants as faults
+use Rattle.codec.specs.declared.fault.CodecFault.{CodecFault}
+use Rattle.codec.specs.declared.fault.CodecFault.TheVariants as faults
 use Rattle.codec.specs.declared.fields.Fields.{Fields}
 use Rattle.codec.specs.declared.form.Form.{Form}
 use Rattle.codec.specs.declared.form.Form.TheVariants as forms
@@ -42,7 +42,7 @@ is_reserved_set f = is_set f.opcode || is_set f.dst || is_set f.src || is_set f.
 
 -- the checks of an instruction in their order, behind that of its opcode: used registers, a form that is left out,
 -- operands that choose, unused fields, the second half
-abbrev pub checks_of : Form → Fields → List ℕ → List (Bool × Fault)
+abbrev pub checks_of : Form → Fields → List ℕ → List (Bool × CodecFault)
 checks_of (forms.Immediate width operation) f behind =
     (is_past f.dst, faults.Register) ∷ (is_set f.src, faults.Reserved) ∷ (is_set f.offset, faults.Reserved) ∷ []
 checks_of (forms.Register width operation) f behind =
@@ -90,16 +90,16 @@ checks_of forms.LeftOut f behind = (true, faults.LeftOut) ∷ []
 checks_of forms.Unknown f behind = (true, faults.Opcode) ∷ []
 
 -- the first of the checks that finds something
-abbrev pub first_fault : List (Bool × Fault) → Option Fault
+abbrev pub first_fault : List (Bool × CodecFault) → Option CodecFault
 first_fault [] = None
 first_fault (check ∷ checks) = if check.0 then Some check.1 else first_fault checks
 
 -- the first fault of an instruction's fields, and of what stands behind them
-abbrev pub fault_in : Fields → List ℕ → Option Fault
+abbrev pub fault_in : Fields → List ℕ → Option CodecFault
 fault_in f behind = first_fault (checks_of (form_of f.opcode) f behind)
 
 -- the first fault of the instruction that the bytes begin with
-abbrev pub fault_at : List ℕ → Option Fault
+abbrev pub fault_at : List ℕ → Option CodecFault
 fault_at bytes = fault_in (fields_of bytes) (drop 8 bytes)
 
 -- the units are these fields and, of a wide instruction, those behind them

@@ -6,14 +6,14 @@ ghost use Rattle.codec.specs.Spelling.{spelling, alu_class, operation_code, oper
 ghost use Rattle.codec.specs.Form.{divided, IsMoved};
 ghost use Rattle.codec.specs.Reading.{checks_of, first_fault, is_no_part, is_no_swap};
 
-use crate::fault::Fault;
+use crate::fault::CodecFault;
 use crate::fields::{Fields, alone, used};
 use crate::form::Division;
 use insn::{Insn, Operand};
 use word::{ByteOrder, Narrow, Operation, SwapSize, Width};
 
 /// Arithmetic with a number.
-pub fn immediate(width: Width, operation: Operation, fields: Fields) -> Result<Insn, Fault>
+pub fn immediate(width: Width, operation: Operation, fields: Fields) -> Result<Insn, CodecFault>
     requires opcode { fields.opcode ≡ operation_code operation + alu_class width }
     requires offset { operation_offset operation ≡ 0 }
     ensures found { IfOk result (λ i. IsInsn i × (spelling i ≡ fields ∷ [])) }
@@ -22,7 +22,7 @@ pub fn immediate(width: Width, operation: Operation, fields: Fields) -> Result<I
 {
     let dst = alone(fields)?;
     if fields.offset != 0 {
-        return Err(Fault::Reserved);
+        return Err(CodecFault::Reserved);
     }
     Ok(Insn::Arithmetic {
         width,
@@ -33,7 +33,7 @@ pub fn immediate(width: Width, operation: Operation, fields: Fields) -> Result<I
 }
 
 /// Arithmetic with a register.
-pub fn register(width: Width, operation: Operation, fields: Fields) -> Result<Insn, Fault>
+pub fn register(width: Width, operation: Operation, fields: Fields) -> Result<Insn, CodecFault>
     requires opcode { fields.opcode ≡ operation_code operation + 8 + alu_class width }
     requires offset { operation_offset operation ≡ 0 }
     ensures found { IfOk result (λ i. IsInsn i × (spelling i ≡ fields ∷ [])) }
@@ -43,7 +43,7 @@ pub fn register(width: Width, operation: Operation, fields: Fields) -> Result<In
     let dst = used(fields.dst)?;
     let src = used(fields.src)?;
     if fields.offset != 0 || fields.imm != 0 {
-        return Err(Fault::Reserved);
+        return Err(CodecFault::Reserved);
     }
     Ok(Insn::Arithmetic {
         width,
@@ -54,7 +54,7 @@ pub fn register(width: Width, operation: Operation, fields: Fields) -> Result<In
 }
 
 /// The operation that the offset chooses: unsigned where it is 0, signed where it is 1 (section 4.1).
-fn chosen(division: Division, offset: u16) -> Result<Operation, Fault>
+fn chosen(division: Division, offset: u16) -> Result<Operation, CodecFault>
     ensures found { IfOk result (λ o. (offset ≤ 1) × (o ≡ divided division offset)) }
     ensures fault { IfErr result (λ e. (e ≡ Fault.Operand) × (1 < offset)) }
 {
@@ -67,12 +67,16 @@ fn chosen(division: Division, offset: u16) -> Result<Operation, Fault>
             Division::Quotient => Operation::SignedDiv,
             Division::Remainder => Operation::SignedMod,
         }),
-        _ => Err(Fault::Operand),
+        _ => Err(CodecFault::Operand),
     }
 }
 
 /// Division by a number.
-pub fn divide_immediate(width: Width, division: Division, fields: Fields) -> Result<Insn, Fault>
+pub fn divide_immediate(
+    width: Width,
+    division: Division,
+    fields: Fields,
+) -> Result<Insn, CodecFault>
     requires opcode { fields.opcode ≡ operation_code (divided division 0) + alu_class width }
     ensures found { IfOk result (λ i. IsInsn i × (spelling i ≡ fields ∷ [])) }
     ensures fault { (behind : List ℕ) →
@@ -81,7 +85,7 @@ pub fn divide_immediate(width: Width, division: Division, fields: Fields) -> Res
     let dst = used(fields.dst)?;
     let operation = chosen(division, fields.offset)?;
     if fields.src != 0 {
-        return Err(Fault::Reserved);
+        return Err(CodecFault::Reserved);
     }
     Ok(Insn::Arithmetic {
         width,
@@ -92,7 +96,7 @@ pub fn divide_immediate(width: Width, division: Division, fields: Fields) -> Res
 }
 
 /// Division by a register.
-pub fn divide_register(width: Width, division: Division, fields: Fields) -> Result<Insn, Fault>
+pub fn divide_register(width: Width, division: Division, fields: Fields) -> Result<Insn, CodecFault>
     requires opcode { fields.opcode ≡ operation_code (divided division 0) + 8 + alu_class width }
     ensures found { IfOk result (λ i. IsInsn i × (spelling i ≡ fields ∷ [])) }
     ensures fault { (behind : List ℕ) →
@@ -102,7 +106,7 @@ pub fn divide_register(width: Width, division: Division, fields: Fields) -> Resu
     let src = used(fields.src)?;
     let operation = chosen(division, fields.offset)?;
     if fields.imm != 0 {
-        return Err(Fault::Reserved);
+        return Err(CodecFault::Reserved);
     }
     Ok(Insn::Arithmetic {
         width,
@@ -113,7 +117,7 @@ pub fn divide_register(width: Width, division: Division, fields: Fields) -> Resu
 }
 
 /// The part of the source whose sign is extended, which the offset chooses; none where all of it is moved.
-fn part(width: Width, offset: u16) -> Result<Option<Narrow>, Fault>
+fn part(width: Width, offset: u16) -> Result<Option<Narrow>, CodecFault>
     ensures found { IfOk result (λ p. (is_no_part width offset ≡ false) × IsMoved width p offset) }
     ensures fault { IfErr result (λ e. (e ≡ Fault.Operand) × (is_no_part width offset ≡ true)) }
 {
@@ -122,15 +126,15 @@ fn part(width: Width, offset: u16) -> Result<Option<Narrow>, Fault>
         8 => Ok(Some(Narrow::Byte)),
         16 => Ok(Some(Narrow::Half)),
         32 => match width {
-            Width::W32 => Err(Fault::Operand),
+            Width::W32 => Err(CodecFault::Operand),
             Width::W64 => Ok(Some(Narrow::Word)),
         },
-        _ => Err(Fault::Operand),
+        _ => Err(CodecFault::Operand),
     }
 }
 
 /// A move of a register, or one that extends the sign of a part of it.
-pub fn move_register(width: Width, fields: Fields) -> Result<Insn, Fault>
+pub fn move_register(width: Width, fields: Fields) -> Result<Insn, CodecFault>
     requires opcode { fields.opcode ≡ 0xb8 + alu_class width }
     ensures found { IfOk result (λ i. IsInsn i × (spelling i ≡ fields ∷ [])) }
     ensures fault { (behind : List ℕ) →
@@ -140,7 +144,7 @@ pub fn move_register(width: Width, fields: Fields) -> Result<Insn, Fault>
     let src = used(fields.src)?;
     let part = part(width, fields.offset)?;
     if fields.imm != 0 {
-        return Err(Fault::Reserved);
+        return Err(CodecFault::Reserved);
     }
     Ok(match part {
         None => Insn::Arithmetic {
@@ -159,7 +163,7 @@ pub fn move_register(width: Width, fields: Fields) -> Result<Insn, Fault>
 }
 
 /// The negative of a register.
-pub fn negate(width: Width, fields: Fields) -> Result<Insn, Fault>
+pub fn negate(width: Width, fields: Fields) -> Result<Insn, CodecFault>
     requires opcode { fields.opcode ≡ 0x80 + alu_class width }
     ensures found { IfOk result (λ i. IsInsn i × (spelling i ≡ fields ∷ [])) }
     ensures fault { (behind : List ℕ) →
@@ -167,13 +171,13 @@ pub fn negate(width: Width, fields: Fields) -> Result<Insn, Fault>
 {
     let dst = alone(fields)?;
     if fields.imm != 0 || fields.offset != 0 {
-        return Err(Fault::Reserved);
+        return Err(CodecFault::Reserved);
     }
     Ok(Insn::Negate { width, dst })
 }
 
 /// How many bits are swapped, which imm chooses (section 4.2).
-fn swap_size(bits: u32) -> Result<SwapSize, Fault>
+fn swap_size(bits: u32) -> Result<SwapSize, CodecFault>
     ensures found { IfOk result (λ s. (is_no_swap bits ≡ false) × (bits ≡ 8 * swapped_bytes s)) }
     ensures fault { IfErr result (λ e. (e ≡ Fault.Operand) × (is_no_swap bits ≡ true)) }
 {
@@ -181,12 +185,12 @@ fn swap_size(bits: u32) -> Result<SwapSize, Fault>
         16 => Ok(SwapSize::Half),
         32 => Ok(SwapSize::Word),
         64 => Ok(SwapSize::Double),
-        _ => Err(Fault::Operand),
+        _ => Err(CodecFault::Operand),
     }
 }
 
 /// The bytes of a register in another order.
-pub fn swap(order: ByteOrder, fields: Fields) -> Result<Insn, Fault>
+pub fn swap(order: ByteOrder, fields: Fields) -> Result<Insn, CodecFault>
     requires opcode { fields.opcode ≡ swap_code order }
     ensures found { IfOk result (λ i. IsInsn i × (spelling i ≡ fields ∷ [])) }
     ensures fault { (behind : List ℕ) →
@@ -195,7 +199,7 @@ pub fn swap(order: ByteOrder, fields: Fields) -> Result<Insn, Fault>
     let dst = used(fields.dst)?;
     let size = swap_size(fields.imm)?;
     if fields.src != 0 || fields.offset != 0 {
-        return Err(Fault::Reserved);
+        return Err(CodecFault::Reserved);
     }
     Ok(Insn::Swap { order, size, dst })
 }

@@ -6,7 +6,7 @@ ghost use Rattle.codec.specs.Spelling.{spelling, instruction_bytes};
 ghost use Rattle.codec.specs.Reading.{fields_of, fault_at, AreUnits};
 ghost use Rattle.codec.specs.Program.{SpellsProgram, IsFirstFault, IsAnswered};
 
-use crate::fault::{CodecError, Fault};
+use crate::fault::{CodecError, CodecFault};
 use crate::fields::read_fields;
 use crate::form::{Form, form_at};
 use crate::{arithmetic, jump, memory};
@@ -17,7 +17,7 @@ use word::{Operation, Width};
 /// Puts the instruction that was read into the place, and gives how many units it takes; none is put where there is a
 /// fault.
 #[inline(always)]
-fn put(place: &mut Insn, read: Result<Insn, Fault>) -> Result<u16, Fault>
+fn put(place: &mut Insn, read: Result<Insn, CodecFault>) -> Result<u16, CodecFault>
     ensures { MatchResult result (λ n. (read ≡ Ok place.new) × (n ≡ units_of place.new)) (λ e. read ≡ Err e) }
 {
     match read {
@@ -32,7 +32,7 @@ fn put(place: &mut Insn, read: Result<Insn, Fault>) -> Result<u16, Fault>
 /// Puts the instruction that the bytes begin with into the place, and gives how many units it takes. The fields are
 /// read in each case, so that none is read where it is not used.
 #[inline(always)]
-fn meaning(place: &mut Insn, bytes: &[u8]) -> Result<u16, Fault>
+fn meaning(place: &mut Insn, bytes: &[u8]) -> Result<u16, CodecFault>
     requires { 8 ≤ length bytes.now }
     ensures found { IfOk result (λ n. (n ≡ units_of place.new)
         × IsInsn place.new × AreUnits (spelling place.new) (fields_of bytes.now) (drop 8 bytes.now)) }
@@ -81,15 +81,15 @@ fn meaning(place: &mut Insn, bytes: &[u8]) -> Result<u16, Fault>
         Form::StoreRegister(size) => put(place, memory::store_register(size, read_fields(bytes))),
         Form::Call => put(place, jump::call(read_fields(bytes))),
         Form::Exit => put(place, jump::exit(read_fields(bytes))),
-        Form::LeftOut => Err(Fault::LeftOut),
-        Form::Unknown => Err(Fault::Opcode),
+        Form::LeftOut => Err(CodecFault::LeftOut),
+        Form::Unknown => Err(CodecFault::Opcode),
     }
 }
 
 /// Puts the instruction that the bytes begin with into the place, whatever stands behind it, and gives how many units
 /// it takes.
 #[inline(always)]
-fn read(place: &mut Insn, bytes: &[u8]) -> Result<u16, Fault>
+fn read(place: &mut Insn, bytes: &[u8]) -> Result<u16, CodecFault>
     requires { 8 ≤ length bytes.now }
     ensures units { IfOk result (λ n. n ≡ units_of place.new) }
     ensures well_formed { IfOk result (λ _. IsInsn place.new) }
@@ -105,7 +105,7 @@ fn read(place: &mut Insn, bytes: &[u8]) -> Result<u16, Fault>
 /// # Errors
 ///
 /// The first fault of their first unit, or of the wide instruction that begins there.
-pub fn instruction(bytes: &[u8]) -> Result<Insn, Fault>
+pub fn instruction(bytes: &[u8]) -> Result<Insn, CodecFault>
     requires { 8 ≤ length bytes.now }
     ensures well_formed { IfOk result (λ i. IsInsn i) }
     ensures inside { IfOk result (λ i. 8 * units_of i ≤ length bytes.now) }
@@ -191,32 +191,32 @@ pub fn decode(alloc: Global, bytes: &[u8]) -> Result<Program, CodecError>
 {
     let units = bytes.len() / 8;
     if bytes.len() % 8 != 0 {
-        return Err(CodecError::At(Fault::Length, units));
+        return Err(CodecError::At(CodecFault::Length, units));
     }
     if units == 0 || units > Program::MOST_UNITS {
-        return Err(CodecError::At(Fault::Count, 0));
+        return Err(CodecError::At(CodecFault::Count, 0));
     }
     Ok(Program::of_units(alloc, instructions(alloc, bytes, units)?, units)?)
 }
 
 /// The first fault of the bytes with its unit, as `decode` tells it; none exactly where they spell a program. So every
 /// list of bytes spells a program or has a first fault. It takes no memory.
-pub fn first_fault(bytes: &[u8]) -> Option<(Fault, usize)>
+pub fn first_fault(bytes: &[u8]) -> Option<(CodecFault, usize)>
     ensures { MatchOption result ((p : List InsnValue)
         × SpellsProgram bytes.now p) (λ found. IsFirstFault bytes.now found.0 found.1) }
 {
     let units = bytes.len() / 8;
     if bytes.len() % 8 != 0 {
-        return Some((Fault::Length, units));
+        return Some((CodecFault::Length, units));
     }
     if units == 0 || Program::MOST_UNITS < units {
-        return Some((Fault::Count, 0));
+        return Some((CodecFault::Count, 0));
     }
     first_fault_of(bytes, units)
 }
 
 /// The first fault of the instructions of so many units, with its unit.
-fn first_fault_of(bytes: &[u8], units: usize) -> Option<(Fault, usize)>
+fn first_fault_of(bytes: &[u8], units: usize) -> Option<(CodecFault, usize)>
     requires whole { length bytes.now ≡ 8 * units }
     requires some { 0 < units }
     requires bound { units ≤ 4096 }

@@ -7,7 +7,7 @@ use std::fmt;
 
 /// What is wrong with the bytes of an instruction, or with how many there are.
 #[derive(Clone, Copy, Debug, PartialEq, Eq, Drop)]
-pub enum Fault {
+pub enum CodecFault {
     /// C1: the length is no multiple of 8.
     Length,
     /// C2: no instruction has this opcode.
@@ -26,7 +26,7 @@ pub enum Fault {
     Count,
 }
 
-impl fmt::Display for Fault {
+impl fmt::Display for CodecFault {
     ghost use Rattle.std.specs.Prelude.{Some};
     ghost use Rattle.codec.specs.ErrorText.{code_of};
 
@@ -34,25 +34,25 @@ impl fmt::Display for Fault {
 
     fn fmt<W: fmt::Write>(&self, f: &mut fmt::Formatter<W>) -> fmt::Result {
         f.write_str(match self {
-            Fault::Length => "C1",
-            Fault::Opcode => "C2",
-            Fault::Reserved => "C3",
-            Fault::WideCut => "C4",
-            Fault::Register => "C5",
-            Fault::LeftOut => "C6",
-            Fault::Operand => "C7",
-            Fault::Count => "C8",
+            CodecFault::Length => "C1",
+            CodecFault::Opcode => "C2",
+            CodecFault::Reserved => "C3",
+            CodecFault::WideCut => "C4",
+            CodecFault::Register => "C5",
+            CodecFault::LeftOut => "C6",
+            CodecFault::Operand => "C7",
+            CodecFault::Count => "C8",
         })
     }
 }
 
-impl Error for Fault {}
+impl Error for CodecFault {}
 
 /// The first fault with its unit, or want of memory.
 #[derive(Clone, Copy, Debug, PartialEq, Eq, Drop)]
 pub enum CodecError {
     /// A fault at an instruction's first unit; for a length it is the unit that is cut, for a count 0.
-    At(Fault, usize),
+    At(CodecFault, usize),
     Memory,
 }
 

@@ -4,19 +4,19 @@ ghost use Rattle.codec.specs.declared.form.Form.TheVariants as forms;
 ghost use Rattle.codec.specs.Spelling.{spelling, jump_class, condition_code};
 ghost use Rattle.codec.specs.Reading.{checks_of, first_fault};
 
-use crate::fault::Fault;
+use crate::fault::CodecFault;
 use crate::fields::{Fields, alone, used};
 use insn::{Insn, Operand};
 use word::{Condition, Width};
 
 /// A jump by the offset.
-pub fn near(fields: Fields) -> Result<Insn, Fault>
+pub fn near(fields: Fields) -> Result<Insn, CodecFault>
     requires opcode { fields.opcode ≡ 0x05 }
     ensures found { IfOk result (λ i. IsInsn i × (spelling i ≡ fields ∷ [])) }
     ensures fault { (behind : List ℕ) → IfErr result (λ e. first_fault (checks_of forms.Jump fields behind) ≡ Some e) }
 {
     if fields.dst != 0 || fields.src != 0 || fields.imm != 0 {
-        return Err(Fault::Reserved);
+        return Err(CodecFault::Reserved);
     }
     Ok(Insn::Jump {
         distance: fields.offset.cast_signed(),
@@ -24,14 +24,14 @@ pub fn near(fields: Fields) -> Result<Insn, Fault>
 }
 
 /// A jump by imm.
-pub fn long(fields: Fields) -> Result<Insn, Fault>
+pub fn long(fields: Fields) -> Result<Insn, CodecFault>
     requires opcode { fields.opcode ≡ 0x06 }
     ensures found { IfOk result (λ i. IsInsn i × (spelling i ≡ fields ∷ [])) }
     ensures fault { (behind : List ℕ) →
         IfErr result (λ e. first_fault (checks_of forms.LongJump fields behind) ≡ Some e) }
 {
     if fields.dst != 0 || fields.src != 0 || fields.offset != 0 {
-        return Err(Fault::Reserved);
+        return Err(CodecFault::Reserved);
     }
     Ok(Insn::LongJump {
         distance: fields.imm.cast_signed(),
@@ -39,7 +39,11 @@ pub fn long(fields: Fields) -> Result<Insn, Fault>
 }
 
 /// A jump on a condition of a register and a number.
-pub fn branch_immediate(width: Width, condition: Condition, fields: Fields) -> Result<Insn, Fault>
+pub fn branch_immediate(
+    width: Width,
+    condition: Condition,
+    fields: Fields,
+) -> Result<Insn, CodecFault>
     requires opcode { fields.opcode ≡ condition_code condition + jump_class width }
     ensures found { IfOk result (λ i. IsInsn i × (spelling i ≡ fields ∷ [])) }
     ensures fault { (behind : List ℕ) →
@@ -56,7 +60,11 @@ pub fn branch_immediate(width: Width, condition: Condition, fields: Fields) -> R
 }
 
 /// A jump on a condition of two registers.
-pub fn branch_register(width: Width, condition: Condition, fields: Fields) -> Result<Insn, Fault>
+pub fn branch_register(
+    width: Width,
+    condition: Condition,
+    fields: Fields,
+) -> Result<Insn, CodecFault>
     requires opcode { fields.opcode ≡ condition_code condition + 8 + jump_class width }
     ensures found { IfOk result (λ i. IsInsn i × (spelling i ≡ fields ∷ [])) }
     ensures fault { (behind : List ℕ) →
@@ -65,7 +73,7 @@ pub fn branch_register(width: Width, condition: Condition, fields: Fields) -> Re
     let dst = used(fields.dst)?;
     let src = used(fields.src)?;
     if fields.imm != 0 {
-        return Err(Fault::Reserved);
+        return Err(CodecFault::Reserved);
     }
     Ok(Insn::Branch {
         width,
@@ -77,16 +85,16 @@ pub fn branch_register(width: Width, condition: Condition, fields: Fields) -> Re
 }
 
 /// A call of a helper; another src asks for a call of another kind, which is left out.
-pub fn call(fields: Fields) -> Result<Insn, Fault>
+pub fn call(fields: Fields) -> Result<Insn, CodecFault>
     requires opcode { fields.opcode ≡ 0x85 }
     ensures found { IfOk result (λ i. IsInsn i × (spelling i ≡ fields ∷ [])) }
     ensures fault { (behind : List ℕ) → IfErr result (λ e. first_fault (checks_of forms.Call fields behind) ≡ Some e) }
 {
     if fields.src != 0 {
-        return Err(Fault::LeftOut);
+        return Err(CodecFault::LeftOut);
     }
     if fields.dst != 0 || fields.offset != 0 {
-        return Err(Fault::Reserved);
+        return Err(CodecFault::Reserved);
     }
     Ok(Insn::Call {
         helper: fields.imm.cast_signed(),
@@ -94,13 +102,13 @@ pub fn call(fields: Fields) -> Result<Insn, Fault>
 }
 
 /// The end of the program.
-pub fn exit(fields: Fields) -> Result<Insn, Fault>
+pub fn exit(fields: Fields) -> Result<Insn, CodecFault>
     requires opcode { fields.opcode ≡ 0x95 }
     ensures found { IfOk result (λ i. IsInsn i × (spelling i ≡ fields ∷ [])) }
     ensures fault { (behind : List ℕ) → IfErr result (λ e. first_fault (checks_of forms.Exit fields behind) ≡ Some e) }
 {
     if fields.dst != 0 || fields.src != 0 || fields.offset != 0 || fields.imm != 0 {
-        return Err(Fault::Reserved);
+        return Err(CodecFault::Reserved);
     }
     Ok(Insn::Exit)
 }

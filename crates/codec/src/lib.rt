@@ -14,7 +14,7 @@ mod spelling;
 
 pub use decoder::{decode, first_fault, instruction};
 pub use encoder::encode;
-pub use fault::{CodecError, Fault};
+pub use fault::{CodecError, CodecFault};
 pub use laws::{
     no_fault_in_programs, one_first_fault, one_instruction, one_program, one_spelling,
     opcodes_are_told,

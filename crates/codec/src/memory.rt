@@ -4,13 +4,13 @@ ghost use Rattle.codec.specs.declared.form.Form.TheVariants as forms;
 ghost use Rattle.codec.specs.Spelling.{spelling, size_code, part_code};
 ghost use Rattle.codec.specs.Reading.{checks_of, first_fault, fields_of};
 
-use crate::fault::Fault;
+use crate::fault::CodecFault;
 use crate::fields::{Fields, alone, read_fields, used};
 use insn::{Insn, Operand, Size};
 use word::Narrow;
 
 /// A load of an unsigned number.
-pub fn load(size: Size, fields: Fields) -> Result<Insn, Fault>
+pub fn load(size: Size, fields: Fields) -> Result<Insn, CodecFault>
     requires opcode { fields.opcode ≡ 0x61 + size_code size }
     ensures found { IfOk result (λ i. IsInsn i × (spelling i ≡ fields ∷ [])) }
     ensures fault { (behind : List ℕ) →
@@ -19,7 +19,7 @@ pub fn load(size: Size, fields: Fields) -> Result<Insn, Fault>
     let dst = used(fields.dst)?;
     let base = used(fields.src)?;
     if fields.imm != 0 {
-        return Err(Fault::Reserved);
+        return Err(CodecFault::Reserved);
     }
     Ok(Insn::Load {
         size,
@@ -30,7 +30,7 @@ pub fn load(size: Size, fields: Fields) -> Result<Insn, Fault>
 }
 
 /// A load of a signed number.
-pub fn load_signed(part: Narrow, fields: Fields) -> Result<Insn, Fault>
+pub fn load_signed(part: Narrow, fields: Fields) -> Result<Insn, CodecFault>
     requires opcode { fields.opcode ≡ 0x81 + part_code part }
     ensures found { IfOk result (λ i. IsInsn i × (spelling i ≡ fields ∷ [])) }
     ensures fault { (behind : List ℕ) →
@@ -39,7 +39,7 @@ pub fn load_signed(part: Narrow, fields: Fields) -> Result<Insn, Fault>
     let dst = used(fields.dst)?;
     let base = used(fields.src)?;
     if fields.imm != 0 {
-        return Err(Fault::Reserved);
+        return Err(CodecFault::Reserved);
     }
     Ok(Insn::LoadSigned {
         part,
@@ -50,7 +50,7 @@ pub fn load_signed(part: Narrow, fields: Fields) -> Result<Insn, Fault>
 }
 
 /// A store of a number.
-pub fn store_immediate(size: Size, fields: Fields) -> Result<Insn, Fault>
+pub fn store_immediate(size: Size, fields: Fields) -> Result<Insn, CodecFault>
     requires opcode { fields.opcode ≡ 0x62 + size_code size }
     ensures found { IfOk result (λ i. IsInsn i × (spelling i ≡ fields ∷ [])) }
     ensures fault { (behind : List ℕ) →
@@ -66,7 +66,7 @@ pub fn store_immediate(size: Size, fields: Fields) -> Result<Insn, Fault>
 }
 
 /// A store of a register.
-pub fn store_register(size: Size, fields: Fields) -> Result<Insn, Fault>
+pub fn store_register(size: Size, fields: Fields) -> Result<Insn, CodecFault>
     requires opcode { fields.opcode ≡ 0x63 + size_code size }
     ensures found { IfOk result (λ i. IsInsn i × (spelling i ≡ fields ∷ [])) }
     ensures fault { (behind : List ℕ) →
@@ -75,7 +75,7 @@ pub fn store_register(size: Size, fields: Fields) -> Result<Insn, Fault>
     let base = used(fields.dst)?;
     let src = used(fields.src)?;
     if fields.imm != 0 {
-        return Err(Fault::Reserved);
+        return Err(CodecFault::Reserved);
     }
     Ok(Insn::Store {
         size,
@@ -86,7 +86,7 @@ pub fn store_register(size: Size, fields: Fields) -> Result<Insn, Fault>
 }
 
 /// The wide instruction, whose second half stands behind the fields (section 3.2).
-pub fn load_immediate(fields: Fields, behind: &[u8]) -> Result<Insn, Fault>
+pub fn load_immediate(fields: Fields, behind: &[u8]) -> Result<Insn, CodecFault>
     requires opcode { fields.opcode ≡ 0x18 }
     ensures found { IfOk result (λ i. IsInsn i × (8 ≤ length behind.now)
         × (spelling i ≡ fields ∷ fields_of behind.now ∷ [])) }
@@ -94,17 +94,17 @@ pub fn load_immediate(fields: Fields, behind: &[u8]) -> Result<Insn, Fault>
 {
     let dst = used(fields.dst)?;
     if fields.src != 0 {
-        return Err(Fault::LeftOut);
+        return Err(CodecFault::LeftOut);
     }
     if fields.offset != 0 {
-        return Err(Fault::Reserved);
+        return Err(CodecFault::Reserved);
     }
     if behind.len() < 8 {
-        return Err(Fault::WideCut);
+        return Err(CodecFault::WideCut);
     }
     let second = read_fields(behind);
     if second.opcode != 0 || second.dst != 0 || second.src != 0 || second.offset != 0 {
-        return Err(Fault::Reserved);
+        return Err(CodecFault::Reserved);
     }
     Ok(Insn::LoadImmediate {
         dst,

@@ -3,8 +3,8 @@ use Rattle.std.proofs.Common.{ℕ, ◌≡◌, ◌↔◌, Bool, true, refl, sym, 
 use Rattle.std.proofs.lemmas.Slice.Eq.{bytes_eq-Decides}
 use Rattle.std.specs.Prelude.{find}
 use Rattle.std.specs.List.{list_all}
-use Rattle.combine.specs.declared.chosen.Rule.{Rule}
-use Rattle.combine.specs.declared.chosen.Rule.TheVariants.{Majority, Median}
+use Rattle.combine.specs.declared.campaign_rule.Rule.{Rule}
+use Rattle.combine.specs.declared.campaign_rule.Rule.TheVariants.{Majority, Median}
 use Rattle.combine.specs.Rule.{OutcomesCombine, every_rule, is_most, majority, rule_name}
 use Rattle.combine.specs.Names.{NamesAreWords, default_rule, is_default, is_small, rule_named}
 use Rattle.combine.proofs.Found.{find_passes}

@@ -1,8 +1,8 @@
 -- The words that name rules.
 use Rattle.std.specs.Prelude.{ℕ, ◌≡◌, ◌↔◌, ◌&&◌, nat_le, Bool, true, false, List, bytes_eq, codes, count_by, find, Option, Some}
 use Rattle.std.specs.List.{join_by, list_all}
-use Rattle.combine.specs.declared.chosen.Rule.{Rule}
-use Rattle.combine.specs.declared.chosen.Rule.TheVariants.{Majority}
+use Rattle.combine.specs.declared.campaign_rule.Rule.{Rule}
+use Rattle.combine.specs.declared.campaign_rule.Rule.TheVariants.{Majority}
 use Rattle.combine.specs.Rule.{every_rule, rule_name}
 
 -- the rule of a word

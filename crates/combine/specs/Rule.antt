@@ -2,8 +2,8 @@
 use Rattle.std.specs.Prelude.{ℕ, ◌*◌, ◌/◌, ◌<◌, ◌≤◌, ◌≡◌, ◌==◌, nat_lt, nat_le, Bool, ◌&&◌, List, [], ◌∷◌, length, codes, find, count_by, unwrap_or, slice_index}
 use Rattle.std.specs.List.Sorted.{IsPermutation, IsNonDecreasing}
 use Rattle.combine.specs.Outcome.{agreed_or, outcome_order}
-use Rattle.combine.specs.declared.chosen.Rule.{Rule}
-use Rattle.combine.specs.declared.chosen.Rule.TheVariants.{Majority, Median}
+use Rattle.combine.specs.declared.campaign_rule.Rule.{Rule}
+use Rattle.combine.specs.declared.campaign_rule.Rule.TheVariants.{Majority, Median}
 use Rattle.combine.specs.declared.outcome.Outcome.{Outcome}
 use Rattle.combine.specs.declared.outcome.Outcome.TheVariants.{Middle}
 

@@ -1,13 +1,13 @@
 //! Rules by which a list of orders becomes one (TOPLAS 1982, section 3).
 #![tactic(auto)]
 
-mod chosen;
+mod campaign_rule;
 mod laws;
 mod orders;
 mod outcome;
 mod rule;
 
-pub use chosen::{Majority, Median, Rule};
+pub use campaign_rule::{Majority, Median, Rule};
 pub use laws::{median_is_middle, names_are_words, no_majority_is_retreat, outcomes_combine};
 pub use outcome::Outcome;
 pub use rule::Combine;

@@ -3,7 +3,7 @@ ghost use Rattle.std.specs.Prelude.{◌≡◌, find};
 ghost use Rattle.combine.specs.Outcome.{agreed_or, outcome_order, outcome_head};
 ghost use Rattle.combine.specs.Rule.{is_most};
 
-use crate::chosen::most;
+use crate::campaign_rule::most;
 
 /// What a list of orders comes to: its order, and how.
 #[derive(Clone, Copy, Drop)]

@@ -7,11 +7,11 @@ use Rattle.verify.specs.declared.error.VerifyError.{VerifyError}
 use Rattle.verify.specs.declared.error.VerifyError.TheVariants.{At}
 use Rattle.verify.specs.declared.reason.Reason.{Reason}
 use Rattle.verify.specs.declared.state.AbsState.{AbsState}
-use Rattle.causes.specs.declared.mark.Mark.{Mark}
-use Rattle.causes.specs.declared.subject.Subject.{Subject}
-use Rattle.causes.specs.Marks.{KnownByUnit, known_by, marks}
+use Rattle.reaching.specs.declared.mark.UnitMark.{UnitMark}
+use Rattle.reaching.specs.declared.subject.Subject.{Subject}
+use Rattle.reaching.specs.Marks.{KnownByUnit, known_by, marks}
 use Rattle.explain.specs.declared.sentence.Sentence.{Sentence}
-use Rattle.explain.specs.declared.wanted.Choice.{Choice}
+use Rattle.explain.specs.declared.edit_choices.Choice.{Choice}
 use Rattle.explain.specs.Sources.{Holding, same_holding}
 use Rattle.explain.specs.Cells.{ended_text, runs_text}
 use Rattle.explain.specs.Notes.{subject_of, notes_on, number_notes}
@@ -53,13 +53,13 @@ runs_alike out last holds first held next place more less e here alike rest =
 
 -- ---- notes and a help
 
-pub about_so : (written : Writing) (out one two last : List ℕ) (survey : KnownByUnit) (program : List Insn) (unit : ℕ) (i : Insn) (s : Sentence) (asked : Subject) (items shown again : List Mark)
+pub about_so : (written : Writing) (out one two last : List ℕ) (survey : KnownByUnit) (program : List Insn) (unit : ℕ) (i : Insn) (s : Sentence) (asked : Subject) (items shown again : List UnitMark)
     (known : Option AbsState) (number : Option ℕ) (choice : Option (ℕ × Choice)) → Some asked ≡ subject_of s → items ≡ marks program survey asked unit → shown ≡ items → again ≡ items →
     one ≡ out ++ notes_on written program survey asked shown unit → known ≡ known_by (survey unit) → number ≡ other_number i known s → two ≡ one ++ number_notes written program survey unit number →
     choice ≡ wanted program again unit i s → last ≡ two ++ help_on program unit choice → last ≡ out ++ about_text written survey program unit i s (subject_of s)
 about_so written out one two last survey program unit i s asked items shown again known number choice found all same other notes here moving more chosen help =
     let first : shown ≡ marks program survey asked unit = same ∙ all in
-    let best : choice ≡ wanted program (marks program survey asked unit) unit i s = chosen ∙ ap (λ (m : List Mark). wanted program m unit i s) (other ∙ all) in
+    let best : choice ≡ wanted program (marks program survey asked unit) unit i s = chosen ∙ ap (λ (m : List UnitMark). wanted program m unit i s) (other ∙ all) in
     let by : number ≡ other_number i (known_by (survey unit)) s = moving ∙ ap (λ (k : Option AbsState). other_number i k s) here in
     let own : List ℕ = notes_on written program survey asked shown unit in
     let its : List ℕ = number_notes written program survey unit number in

@@ -1,15 +1,15 @@
 -- The last copy of a register, unit by unit.
 use Rattle.std.proofs.Common.{◌≡◌, ℕ, zero, suc, ◌-◌, ◌<◌, List, None, refl, ap, arith}
 use Rattle.insn.specs.declared.insn.Insn.{Insn}
-use Rattle.causes.specs.declared.mark.Mark.{Mark}
+use Rattle.reaching.specs.declared.mark.UnitMark.{UnitMark}
 use Rattle.explain.specs.Helps.{copy_at, or_else, last_copy}
 
-pub no_copy : (program : List Insn) (marks : List Mark) (r unit : ℕ) → unit ≡ 0 → last_copy program marks r unit ≡ None
+pub no_copy : (program : List Insn) (marks : List UnitMark) (r unit : ℕ) → unit ≡ 0 → last_copy program marks r unit ≡ None
 unfolding last_copy
 no_copy program marks r zero e = refl
 no_copy program marks r (suc n) e = absurd (omega arith)
 
-pub copy_so : (program : List Insn) (marks : List Mark) (r unit : ℕ) → 0 < unit →
+pub copy_so : (program : List Insn) (marks : List UnitMark) (r unit : ℕ) → 0 < unit →
     last_copy program marks r unit ≡ or_else (copy_at program marks r (unit - 1)) (last_copy program marks r (unit - 1))
 unfolding last_copy
 copy_so program marks r zero e = absurd (omega arith)

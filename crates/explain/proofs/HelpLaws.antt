@@ -8,10 +8,10 @@ use Rattle.verify.specs.declared.error.VerifyError.{VerifyError}
 use Rattle.verify.specs.declared.error.VerifyError.TheVariants.{At, Memory}
 use Rattle.verify.specs.declared.reason.Reason.{Reason}
 use Rattle.verify.specs.Judgement.{judged}
-use Rattle.causes.specs.declared.mends.Edit.{Edit}
-use Rattle.causes.specs.declared.mends.Trial.{Trial}
-use Rattle.causes.specs.declared.mends.Trial.TheVariants.{Refused, Passes, Accepted}
-use Rattle.causes.specs.Mends.{grown, mended, comes, tried_with, tried}
+use Rattle.reaching.specs.declared.edits.Edit.{Edit}
+use Rattle.reaching.specs.declared.edits.Trial.{Trial}
+use Rattle.reaching.specs.declared.edits.Trial.TheVariants.{Refused, Passes, Accepted}
+use Rattle.reaching.specs.Mends.{grown, mended, comes, tried_with, tried}
 use Rattle.explain.specs.Helps.{Help, better, best}
 use Rattle.explain.specs.Laws.{Mends, HelpsMend}
 

@@ -5,16 +5,16 @@ use Rattle.insn.specs.declared.insn.Insn.{Insn}
 use Rattle.insn.specs.Program.{slots_of, instruction_at}
 use Rattle.verify.specs.declared.state.AbsState.{AbsState}
 use Rattle.verify.proofs.Edges.{start_inside}
-use Rattle.causes.specs.declared.mark.Mark.{Mark}
-use Rattle.causes.specs.declared.subject.Subject.{Subject}
-use Rattle.causes.specs.declared.subject.Subject.TheVariants.{Register}
-use Rattle.causes.specs.Marks.{KnownByUnit, known_by, marks}
+use Rattle.reaching.specs.declared.mark.UnitMark.{UnitMark}
+use Rattle.reaching.specs.declared.subject.Subject.{Subject}
+use Rattle.reaching.specs.declared.subject.Subject.TheVariants.{Register}
+use Rattle.reaching.specs.Marks.{KnownByUnit, known_by, marks}
 use Rattle.explain.specs.Units.{Writing}
 use Rattle.explain.specs.Notes.{note_text, notes_below, origin_notes}
 use Rattle.explain.specs.Origins.{origin_of, from_origin}
 
 -- one more note
-pub notes_more : (written : Writing) (before out new : List ℕ) (program : List Insn) (survey : KnownByUnit) (asked : Subject) (marked : List Mark) (n : ℕ) (insn : Option Insn) (known : Option AbsState) (mark : Option Mark) →
+pub notes_more : (written : Writing) (before out new : List ℕ) (program : List Insn) (survey : KnownByUnit) (asked : Subject) (marked : List UnitMark) (n : ℕ) (insn : Option Insn) (known : Option AbsState) (mark : Option UnitMark) →
     insn ≡ instruction_at program n → known ≡ known_by (survey n) → mark ≡ slice_get marked n → out ≡ before ++ notes_below written program survey asked marked n → new ≡ out ++ note_text written asked n insn known mark →
     new ≡ before ++ notes_below written program survey asked marked (n + 1)
 notes_more written before out new program survey asked marked n insn known mark at here so so_far more =
@@ -28,7 +28,7 @@ starts_within program unit i at = start_inside program unit (subst (λ (o : Opti
 
 -- ---- of what it was computed
 
-pub no_origin : (written : Writing) (program : List Insn) (survey : KnownByUnit) (marked : List Mark) (unit most : ℕ) → most ≡ 0 → origin_notes most written program survey marked unit ≡ []
+pub no_origin : (written : Writing) (program : List Insn) (survey : KnownByUnit) (marked : List UnitMark) (unit most : ℕ) → most ≡ 0 → origin_notes most written program survey marked unit ≡ []
 unfolding origin_notes
 no_origin written program survey marked unit zero e = refl
 no_origin written program survey marked unit (suc n) e = absurd (omega arith)
@@ -38,7 +38,7 @@ deeper most written program survey r place =
     origin_notes most written program survey (marks program survey (Register r) place) place
     ++ notes_below written program survey (Register r) (marks program survey (Register r) place) place
 
-pub origin_so : (written : Writing) (program : List Insn) (survey : KnownByUnit) (marked : List Mark) (unit most : ℕ) → 0 < most →
+pub origin_so : (written : Writing) (program : List Insn) (survey : KnownByUnit) (marked : List UnitMark) (unit most : ℕ) → 0 < most →
     origin_notes most written program survey marked unit ≡ from_origin (λ r place. deeper (most - 1) written program survey r place) (origin_of program survey marked unit)
 unfolding origin_notes
 origin_so written program survey marked unit zero e = absurd (omega arith)
@@ -46,17 +46,17 @@ origin_so written program survey marked unit (suc n) e =
     let same : n ≡ suc n - 1 = omega arith in
     ap (λ (k : ℕ). from_origin (λ r place. deeper k written program survey r place) (origin_of program survey marked unit)) same
 
-pub none_noted : (written : Writing) (out : List ℕ) (program : List Insn) (survey : KnownByUnit) (marked : List Mark) (unit most : ℕ) → most ≡ 0 → out ≡ out ++ origin_notes most written program survey marked unit
+pub none_noted : (written : Writing) (out : List ℕ) (program : List Insn) (survey : KnownByUnit) (marked : List UnitMark) (unit most : ℕ) → most ≡ 0 → out ≡ out ++ origin_notes most written program survey marked unit
 none_noted written out program survey marked unit most e = sym (append-nil out) ∙ ap (λ (l : List ℕ). out ++ l) (sym (no_origin written program survey marked unit most e))
 
-pub nothing_more : (written : Writing) (out : List ℕ) (program : List Insn) (survey : KnownByUnit) (marked : List Mark) (unit most : ℕ) → 0 < most → None ≡ origin_of program survey marked unit →
+pub nothing_more : (written : Writing) (out : List ℕ) (program : List Insn) (survey : KnownByUnit) (marked : List UnitMark) (unit most : ℕ) → 0 < most → None ≡ origin_of program survey marked unit →
     out ≡ out ++ origin_notes most written program survey marked unit
 nothing_more written out program survey marked unit most some none =
     let ends : origin_notes most written program survey marked unit ≡ [] =
     origin_so written program survey marked unit most some ∙ ap (λ (o : Option (ℕ × ℕ)). from_origin (λ r place. deeper (most - 1) written program survey r place) o) (sym none) in
     sym (append-nil out) ∙ ap (λ (l : List ℕ). out ++ l) (sym ends)
 
-pub origins_more : (written : Writing) (out middle last : List ℕ) (program : List Insn) (survey : KnownByUnit) (marked items shown : List Mark) (unit : ℕ) (origin : ℕ × ℕ) (most : ℕ) → 0 < most →
+pub origins_more : (written : Writing) (out middle last : List ℕ) (program : List Insn) (survey : KnownByUnit) (marked items shown : List UnitMark) (unit : ℕ) (origin : ℕ × ℕ) (most : ℕ) → 0 < most →
     Some origin ≡ origin_of program survey marked unit → items ≡ marks program survey (Register origin.0) origin.1 → shown ≡ items → middle ≡ out ++ origin_notes (most - 1) written program survey shown origin.1 →
     last ≡ middle ++ notes_below written program survey (Register origin.0) shown origin.1 → last ≡ out ++ origin_notes most written program survey marked unit
 origins_more written out middle last program survey marked items shown unit origin most some found all same before more =

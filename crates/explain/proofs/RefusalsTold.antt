@@ -14,7 +14,7 @@ use Rattle.verify.specs.Judgement.{KnownSoFar, reached_at, passed_to, judged}
 use Rattle.verify.specs.KnownAtUnits.{known_before}
 use Rattle.verify.specs.Passes.{reason_at, IsStopped, IsFirstFault}
 use Rattle.verify.proofs.PassLaws.{structural_judged, judged_first}
-use Rattle.causes.specs.Marks.{known_by}
+use Rattle.reaching.specs.Marks.{known_by}
 use Rattle.explain.specs.Explained.{sentence_of}
 use Rattle.explain.specs.Shortfalls.{shortfall}
 use Rattle.explain.specs.Laws.{RefusalsAreTold}

@@ -8,7 +8,7 @@ use Rattle.insn.specs.Program.{slots_of}
 use Rattle.verify.specs.declared.error.VerifyError.{VerifyError}
 use Rattle.verify.specs.declared.state.AbsState.{AbsState}
 use Rattle.verify.specs.KnownAtUnits.{known_before, IsSurvey}
-use Rattle.causes.specs.Marks.{KnownByUnit}
+use Rattle.reaching.specs.Marks.{KnownByUnit}
 use Rattle.explain.specs.Units.{Writing}
 use Rattle.explain.specs.Explained.{known_lines, refused_text, lines_by, known_in, explained_at}
 

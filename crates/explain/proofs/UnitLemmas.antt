@@ -7,7 +7,7 @@ use Rattle.insn.specs.Program.{slots_of}
 use Rattle.insn.proofs.SlotLemmas.{length-slots_of-cons}
 use Rattle.std.specs.Prelude.{Option}
 use Rattle.verify.specs.declared.error.VerifyError.{VerifyError}
-use Rattle.causes.specs.Marks.{KnownByUnit}
+use Rattle.reaching.specs.Marks.{KnownByUnit}
 use Rattle.explain.specs.Units.{Writing}
 use Rattle.explain.specs.Explained.{line_if, known_lines}
 

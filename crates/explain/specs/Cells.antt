@@ -14,14 +14,14 @@ use Rattle.absval.specs.declared.value.AbsVal.TheVariants.{Pointer}
 use Rattle.absval.specs.declared.windows.Window.{Window}
 use Rattle.absval.specs.Windows.{window_known}
 use Rattle.verify.specs.Registers.{known_at}
-use Rattle.causes.specs.declared.cells.Content.{Content}
-use Rattle.causes.specs.declared.cells.Content.TheVariants.{Unset, Byte, Piece}
+use Rattle.reaching.specs.declared.cells.CellContent.{CellContent}
+use Rattle.reaching.specs.declared.cells.CellContent.TheVariants.{Unset, Byte, Piece}
 use Rattle.explain.specs.declared.reach.Reach.{Reach}
 use Rattle.explain.specs.Values.{region_text}
 use Rattle.explain.specs.Shortfalls.{reach_of}
 use Rattle.explain.specs.Sources.{Holding, same_holding, from_text}
 
-abbrev pub content_text : Content → List ℕ
+abbrev pub content_text : CellContent → List ℕ
 content_text Unset = codes "perhaps unset"
 content_text Byte = codes "bytes"
 content_text (Piece region offset) = codes "pointer: " ++ region_text region ++ codes " " ++ signed_decimal offset
@@ -34,7 +34,7 @@ unfoldable pub cells_text : ℤ → ℤ → List ℕ
 cells_text first last = codes "[" ++ signed_decimal first ++ last_text first last
 
 -- the cells from one place up to another
-abbrev pub run_text : ℕ → ℕ → Content → List ℕ
+abbrev pub run_text : ℕ → ℕ → CellContent → List ℕ
 run_text first end held = cells_text (pos first -ℤ pos 512) (pos end -ℤ pos 513) ++ codes " " ++ content_text held
 
 -- and from which units

@@ -26,9 +26,9 @@ use Rattle.explain.specs.Units.{Writing, in_lists, insn_at}
 use Rattle.explain.specs.Origins.{other_number}
 use Rattle.explain.specs.Notes.{subject_of, notes_on, number_notes}
 use Rattle.explain.specs.Helps.{wanted, help_on}
-use Rattle.causes.specs.declared.subject.Subject.{Subject}
-use Rattle.causes.specs.Left.{left, result_of}
-use Rattle.causes.specs.Marks.{KnownByUnit, known_by, marks}
+use Rattle.reaching.specs.declared.subject.Subject.{Subject}
+use Rattle.reaching.specs.Left.{left, result_of}
+use Rattle.reaching.specs.Marks.{KnownByUnit, known_by, marks}
 
 -- ---- what is known at a unit
 

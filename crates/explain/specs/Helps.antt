@@ -10,24 +10,24 @@ use Rattle.insn.specs.Program.{instruction_at}
 use Rattle.asm.specs.Printing.{insn_text}
 use Rattle.absval.specs.declared.value.AbsVal.{AbsVal}
 use Rattle.absval.specs.declared.value.AbsVal.TheVariants.{Number}
-use Rattle.causes.specs.declared.mark.Mark.{Mark}
-use Rattle.causes.specs.declared.mends.Edit.{Edit}
-use Rattle.causes.specs.declared.mends.Edit.TheVariants.{Before, Instead, Moved}
-use Rattle.causes.specs.declared.mends.Trial.{Trial}
-use Rattle.causes.specs.declared.mends.Trial.TheVariants.{Refused, Passes, Accepted}
-use Rattle.causes.specs.Marks.{is_open}
-use Rattle.causes.specs.Mends.{grown, wide, tried}
+use Rattle.reaching.specs.declared.mark.UnitMark.{UnitMark}
+use Rattle.reaching.specs.declared.edits.Edit.{Edit}
+use Rattle.reaching.specs.declared.edits.Edit.TheVariants.{Before, Instead, Moved}
+use Rattle.reaching.specs.declared.edits.Trial.{Trial}
+use Rattle.reaching.specs.declared.edits.Trial.TheVariants.{Refused, Passes, Accepted}
+use Rattle.reaching.specs.Marks.{is_open}
+use Rattle.reaching.specs.Mends.{grown, wide, tried}
 use Rattle.explain.specs.declared.sentence.Sentence.{Sentence}
 use Rattle.explain.specs.declared.sentence.Sentence.TheVariants as sentence
-use Rattle.explain.specs.declared.sentence.Misuse.{Misuse}
-use Rattle.explain.specs.declared.sentence.Misuse.TheVariants as misuse
-use Rattle.explain.specs.declared.sentence.Access.{Access}
-use Rattle.explain.specs.declared.sentence.Access.TheVariants as access
+use Rattle.explain.specs.declared.sentence.RegisterMisuse.{RegisterMisuse}
+use Rattle.explain.specs.declared.sentence.RegisterMisuse.TheVariants as misuse
+use Rattle.explain.specs.declared.sentence.AccessMisuse.{AccessMisuse}
+use Rattle.explain.specs.declared.sentence.AccessMisuse.TheVariants as access
 use Rattle.explain.specs.declared.sentence.Misfit.{Misfit}
 use Rattle.explain.specs.declared.sentence.Misfit.TheVariants as misfit
 use Rattle.explain.specs.Origins.{last_set}
-use Rattle.explain.specs.declared.wanted.Choice.{Choice}
-use Rattle.explain.specs.declared.wanted.Choice.TheVariants.{Mask, One, Either, Exchanged}
+use Rattle.explain.specs.declared.edit_choices.Choice.{Choice}
+use Rattle.explain.specs.declared.edit_choices.Choice.TheVariants.{Mask, One, Either, Exchanged}
 
 -- ---- what is to be tried for a sentence, and before which unit
 
@@ -50,7 +50,7 @@ copy_of r (Arithmetic W64 Move dst (Register src)) = if src == r then Some dst e
 copy_of r i = None
 
 -- the copy that the instruction of a unit makes, if a way leads from there on which nothing sets the register
-abbrev pub copy_at : List Insn → List Mark → ℕ → ℕ → Option ℕ
+abbrev pub copy_at : List Insn → List UnitMark → ℕ → ℕ → Option ℕ
 copy_at program marks r unit =
     if is_open (slice_get marks unit) then option_and_then (copy_of r) (instruction_at program unit) else None
 
@@ -59,7 +59,7 @@ or_else (Some copy) other = Some copy
 or_else None other = other
 
 -- the last such copy that the units below one make
-unfoldable pub last_copy : List Insn → List Mark → ℕ → ℕ → Option ℕ
+unfoldable pub last_copy : List Insn → List UnitMark → ℕ → ℕ → Option ℕ
 last_copy program marks r zero = None
 last_copy program marks r (suc n) = or_else (copy_at program marks r n) (last_copy program marks r n)
 
@@ -70,7 +70,7 @@ by_copy unit (Arithmetic w operation dst operand) r (Some copy) =
     Some (unit, Either (Instead operation dst (Register copy)) r)
 by_copy unit i r copy = mask_at unit r
 
-abbrev pub for_misuse : List Insn → List Mark → ℕ → Insn → Misuse → Option (ℕ × Choice)
+abbrev pub for_misuse : List Insn → List UnitMark → ℕ → Insn → RegisterMisuse → Option (ℕ × Choice)
 for_misuse program marks unit i (misuse.EitherSign r value) = by_copy unit i r (last_copy program marks r unit)
 for_misuse program marks unit i (misuse.Far r region span) = moving_mask unit i
 for_misuse program marks unit i (misuse.Computed r value) = exchanged unit i
@@ -89,11 +89,11 @@ abbrev pub moved_at : List Insn → ℕ → Option (ℕ × Choice)
 moved_at program unit = option_and_then (moving_mask unit) (instruction_at program unit)
 
 -- a pointer leads too far: the number that moved it last
-abbrev pub for_access : List Insn → List Mark → ℕ → Access → Option (ℕ × Choice)
+abbrev pub for_access : List Insn → List UnitMark → ℕ → AccessMisuse → Option (ℕ × Choice)
 for_access program marks unit (access.Outside r region span) = option_and_then (moved_at program) (last_set marks unit)
 for_access program marks unit a = None
 
-abbrev pub wanted : List Insn → List Mark → ℕ → Insn → Sentence → Option (ℕ × Choice)
+abbrev pub wanted : List Insn → List UnitMark → ℕ → Insn → Sentence → Option (ℕ × Choice)
 wanted program marks unit i (sentence.Structure s) = None
 wanted program marks unit i (sentence.Register m) = for_misuse program marks unit i m
 wanted program marks unit i (sentence.Memory a) = for_access program marks unit a

@@ -1,8 +1,8 @@
 -- What a cell holds where a unit stands, in a program that the verifier went over (own).
 use Rattle.std.specs.Prelude.{ℕ, ◌<◌, ◌≤◌, Bool, length, slice_get}
 use Rattle.insn.specs.Program.{slots_of}
-use Rattle.causes.specs.Marks.{KnownByUnit}
-use Rattle.causes.specs.Columns.{AreColumns}
+use Rattle.reaching.specs.Marks.{KnownByUnit}
+use Rattle.reaching.specs.Columns.{AreColumns}
 use Rattle.explain.specs.declared.sources.Surveyed.{Surveyed}
 use Rattle.explain.specs.declared.sources.Here.{Here}
 use Rattle.explain.specs.declared.sources.Held.{Held}

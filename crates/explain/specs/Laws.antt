@@ -9,11 +9,11 @@ use Rattle.verify.specs.declared.error.VerifyError.TheVariants.{At}
 use Rattle.verify.specs.declared.reason.Reason.{Reason}
 use Rattle.verify.specs.Judgement.{judged}
 use Rattle.verify.specs.KnownAtUnits.{known_before}
-use Rattle.causes.specs.Marks.{known_by}
-use Rattle.causes.specs.declared.mends.Edit.{Edit}
-use Rattle.causes.specs.declared.mends.Trial.{Trial}
-use Rattle.causes.specs.declared.mends.Trial.TheVariants.{Accepted}
-use Rattle.causes.specs.Mends.{grown, mended}
+use Rattle.reaching.specs.Marks.{known_by}
+use Rattle.reaching.specs.declared.edits.Edit.{Edit}
+use Rattle.reaching.specs.declared.edits.Trial.{Trial}
+use Rattle.reaching.specs.declared.edits.Trial.TheVariants.{Accepted}
+use Rattle.reaching.specs.Mends.{grown, mended}
 use Rattle.explain.specs.Helps.{best}
 use Rattle.explain.specs.Names.{helper_name}
 use Rattle.explain.specs.Explained.{sentence_of}

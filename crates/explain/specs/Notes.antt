@@ -5,19 +5,19 @@ use Rattle.insn.specs.declared.insn.Insn.{Insn}
 use Rattle.insn.specs.Program.{instruction_at}
 use Rattle.verify.specs.declared.state.AbsState.{AbsState}
 use Rattle.verify.specs.Registers.{known_at}
-use Rattle.causes.specs.declared.mark.Mark.{Mark}
-use Rattle.causes.specs.declared.mark.Mark.TheVariants.{Open, Sets}
-use Rattle.causes.specs.declared.subject.Subject.{Subject}
-use Rattle.causes.specs.declared.subject.Subject.TheVariants as subject
-use Rattle.causes.specs.Contents.{held_at}
-use Rattle.causes.specs.Left.{left}
-use Rattle.causes.specs.Marks.{KnownByUnit, known_by, marks}
+use Rattle.reaching.specs.declared.mark.UnitMark.{UnitMark}
+use Rattle.reaching.specs.declared.mark.UnitMark.TheVariants.{Open, Sets}
+use Rattle.reaching.specs.declared.subject.Subject.{Subject}
+use Rattle.reaching.specs.declared.subject.Subject.TheVariants as subject
+use Rattle.reaching.specs.Contents.{held_at}
+use Rattle.reaching.specs.Left.{left}
+use Rattle.reaching.specs.Marks.{KnownByUnit, known_by, marks}
 use Rattle.explain.specs.declared.sentence.Sentence.{Sentence}
 use Rattle.explain.specs.declared.sentence.Sentence.TheVariants as sentence
-use Rattle.explain.specs.declared.sentence.Misuse.{Misuse}
-use Rattle.explain.specs.declared.sentence.Misuse.TheVariants as misuse
-use Rattle.explain.specs.declared.sentence.Access.{Access}
-use Rattle.explain.specs.declared.sentence.Access.TheVariants as access
+use Rattle.explain.specs.declared.sentence.RegisterMisuse.{RegisterMisuse}
+use Rattle.explain.specs.declared.sentence.RegisterMisuse.TheVariants as misuse
+use Rattle.explain.specs.declared.sentence.AccessMisuse.{AccessMisuse}
+use Rattle.explain.specs.declared.sentence.AccessMisuse.TheVariants as access
 use Rattle.explain.specs.declared.sentence.Misfit.{Misfit}
 use Rattle.explain.specs.declared.sentence.Misfit.TheVariants as misfit
 use Rattle.explain.specs.Sentences.{named_text}
@@ -29,7 +29,7 @@ use Rattle.explain.specs.Origins.{origin_of, from_origin}
 
 -- ---- what a sentence is about
 
-abbrev pub of_misuse : Misuse → Option Subject
+abbrev pub of_misuse : RegisterMisuse → Option Subject
 of_misuse (misuse.Unset r) = Some (subject.Register r)
 of_misuse misuse.Frame = None
 of_misuse (misuse.Far r region span) = Some (subject.Register r)
@@ -40,7 +40,7 @@ of_misuse (misuse.Stored r value base at) = Some (subject.Register r)
 of_misuse (misuse.NoBase r value) = Some (subject.Register r)
 of_misuse (misuse.Exit value) = Some (subject.Register 0)
 
-abbrev pub of_access : Access → Option Subject
+abbrev pub of_access : AccessMisuse → Option Subject
 of_access (access.Outside r region span) = Some (subject.Register r)
 of_access (access.Empty r span cell) = Some (subject.Cell cell)
 of_access (access.Context r value) = Some (subject.Register r)
@@ -85,22 +85,22 @@ abbrev pub passing_note : Writing → Subject → ℕ → Insn → AbsState → 
 passing_note written (subject.Register r) unit i a = noted_if written unit i (passed_by r i (known_at a.registers r))
 passing_note written (subject.Cell place) unit i a = []
 
-abbrev pub note_by : Writing → Subject → ℕ → Insn → AbsState → Option Mark → List ℕ
+abbrev pub note_by : Writing → Subject → ℕ → Insn → AbsState → Option UnitMark → List ℕ
 note_by written asked unit i a (Some Sets) = set_note written asked unit i a
 note_by written asked unit i a (Some Open) = passing_note written asked unit i a
 note_by written asked unit i a _ = []
 
-abbrev pub note_text : Writing → Subject → ℕ → Option Insn → Option AbsState → Option Mark → List ℕ
+abbrev pub note_text : Writing → Subject → ℕ → Option Insn → Option AbsState → Option UnitMark → List ℕ
 note_text written asked unit (Some i) (Some a) mark = note_by written asked unit i a mark
 note_text written asked unit i known mark = []
 
 -- where a way leads from the entry on which nothing sets it
-abbrev pub entry_note : Subject → Option AbsState → Option Mark → List ℕ
+abbrev pub entry_note : Subject → Option AbsState → Option UnitMark → List ℕ
 entry_note asked (Some a) (Some Open) = codes "\nnote: at the entry " ++ found_text asked a
 entry_note asked known mark = []
 
 -- those of the units below one
-abbrev pub notes_below : Writing → List Insn → KnownByUnit → Subject → List Mark → ℕ → List ℕ
+abbrev pub notes_below : Writing → List Insn → KnownByUnit → Subject → List UnitMark → ℕ → List ℕ
 notes_below written program survey asked marked zero = entry_note asked (known_by (survey 0)) (slice_get marked 0)
 notes_below written program survey asked marked (suc n) =
     notes_below written program survey asked marked n
@@ -108,7 +108,7 @@ notes_below written program survey asked marked (suc n) =
 
 -- before them those of what it was computed of, where no rule says why it may be above or below 0, so many times at
 -- most
-unfoldable pub origin_notes : ℕ → Writing → List Insn → KnownByUnit → List Mark → ℕ → List ℕ
+unfoldable pub origin_notes : ℕ → Writing → List Insn → KnownByUnit → List UnitMark → ℕ → List ℕ
 origin_notes zero written program survey marked unit = []
 origin_notes (suc n) written program survey marked unit =
     from_origin (λ r place.
@@ -116,7 +116,7 @@ origin_notes (suc n) written program survey marked unit =
     ++ notes_below written program survey (subject.Register r) (marks program survey (subject.Register r) place) place)
     (origin_of program survey marked unit)
 
-abbrev pub notes_on : Writing → List Insn → KnownByUnit → Subject → List Mark → ℕ → List ℕ
+abbrev pub notes_on : Writing → List Insn → KnownByUnit → Subject → List UnitMark → ℕ → List ℕ
 notes_on written program survey asked marked unit =
     origin_notes 8 written program survey marked unit ++ notes_below written program survey asked marked unit
 

@@ -12,12 +12,12 @@ use Rattle.absval.specs.declared.value.AbsVal.TheVariants.{Number}
 use Rattle.absval.specs.Table.{in_a_row}
 use Rattle.verify.specs.declared.state.AbsState.{AbsState}
 use Rattle.verify.specs.Registers.{known_at}
-use Rattle.causes.specs.declared.mark.Mark.{Mark}
-use Rattle.causes.specs.declared.mark.Mark.TheVariants.{Sets}
-use Rattle.causes.specs.Marks.{KnownByUnit, known_by}
+use Rattle.reaching.specs.declared.mark.UnitMark.{UnitMark}
+use Rattle.reaching.specs.declared.mark.UnitMark.TheVariants.{Sets}
+use Rattle.reaching.specs.Marks.{KnownByUnit, known_by}
 use Rattle.explain.specs.declared.sentence.Sentence.{Sentence}
 use Rattle.explain.specs.declared.sentence.Sentence.TheVariants.{Register}
-use Rattle.explain.specs.declared.sentence.Misuse.TheVariants.{Computed}
+use Rattle.explain.specs.declared.sentence.RegisterMisuse.TheVariants.{Computed}
 use Rattle.helper.specs.Reads.{of_first, of_operand}
 
 abbrev pub is_either_sign : AbsVal → Bool
@@ -36,12 +36,12 @@ computed_of (Arithmetic w operation dst operand) registers =
     option_or (number_at registers (of_first operation dst)) (number_at registers (of_operand operand))
 computed_of i registers = None
 
-abbrev pub is_set : Option Mark → Bool
+abbrev pub is_set : Option UnitMark → Bool
 is_set (Some Sets) = true
 is_set _ = false
 
 -- the last of the units below one that set it
-abbrev pub last_set : List Mark → ℕ → Option ℕ
+abbrev pub last_set : List UnitMark → ℕ → Option ℕ
 last_set marks zero = None
 last_set marks (suc n) = if is_set (slice_get marks n) then Some n else last_set marks n
 
@@ -50,7 +50,7 @@ origin_at unit (Some i) (Some a) = option_map (λ r. (r, unit)) (computed_of i a
 origin_at unit i known = None
 
 -- the register, and the unit that computed of it what is asked about, the last that set it
-abbrev pub origin_of : List Insn → KnownByUnit → List Mark → ℕ → Option (ℕ × ℕ)
+abbrev pub origin_of : List Insn → KnownByUnit → List UnitMark → ℕ → Option (ℕ × ℕ)
 origin_of program survey marks unit =
     option_and_then (λ n. origin_at n (instruction_at program n) (known_by (survey n))) (last_set marks unit)
 

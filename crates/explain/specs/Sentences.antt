@@ -6,15 +6,15 @@ use Rattle.semantics.specs.declared.value.Region.{Region}
 use Rattle.semantics.specs.declared.value.Region.TheVariants.{Stack, Context}
 use Rattle.semantics.specs.declared.request.Helper.{Helper}
 use Rattle.absval.specs.declared.value.AbsVal.{AbsVal}
-use Rattle.explain.specs.declared.values.Span.{Span}
+use Rattle.explain.specs.declared.values.NumberSpan.{NumberSpan}
 use Rattle.explain.specs.declared.sentence.Sentence.{Sentence}
 use Rattle.explain.specs.declared.sentence.Sentence.TheVariants as sentence
 use Rattle.explain.specs.declared.sentence.Structure.{Structure}
 use Rattle.explain.specs.declared.sentence.Structure.TheVariants as structure
-use Rattle.explain.specs.declared.sentence.Misuse.{Misuse}
-use Rattle.explain.specs.declared.sentence.Misuse.TheVariants as misuse
-use Rattle.explain.specs.declared.sentence.Access.{Access}
-use Rattle.explain.specs.declared.sentence.Access.TheVariants as access
+use Rattle.explain.specs.declared.sentence.RegisterMisuse.{RegisterMisuse}
+use Rattle.explain.specs.declared.sentence.RegisterMisuse.TheVariants as misuse
+use Rattle.explain.specs.declared.sentence.AccessMisuse.{AccessMisuse}
+use Rattle.explain.specs.declared.sentence.AccessMisuse.TheVariants as access
 use Rattle.explain.specs.declared.sentence.Misfit.{Misfit}
 use Rattle.explain.specs.declared.sentence.Misfit.TheVariants as misfit
 use Rattle.explain.specs.Names.{helper_name}
@@ -31,10 +31,10 @@ structure_text (structure.Inside to) = leads_text to ++ codes ", inside a wide i
 structure_text structure.NoExit = codes "the last instruction is not the exit"
 
 -- a part of a region, and a register through which it may be reached
-unfoldable pub place_text : Region → Span → List ℕ
+unfoldable pub place_text : Region → NumberSpan → List ℕ
 place_text region span = codes "the " ++ region_text region ++ codes " at " ++ span_text (span.low, span.high)
 
-unfoldable pub reached_text : ℕ → Region → Span → List ℕ
+unfoldable pub reached_text : ℕ → Region → NumberSpan → List ℕ
 reached_text r region span = codes "r" ++ decimal r ++ codes " may reach " ++ place_text region span
 
 -- a register that would point somewhere
@@ -49,11 +49,11 @@ named_text r value = codes "r" ++ decimal r ++ codes " " ++ value_text value
 abbrev pub limit_text : ℤ → List ℕ
 limit_text high = if int_le high (pos 65536) then codes "-65536" else codes "65536"
 
-unfoldable pub past_text : Region → Span → List ℕ
+unfoldable pub past_text : Region → NumberSpan → List ℕ
 past_text region span = place_text region span ++ codes ", past " ++ limit_text span.high
 
 -- how a register is used
-abbrev pub misuse_text : Misuse → List ℕ
+abbrev pub misuse_text : RegisterMisuse → List ℕ
 misuse_text (misuse.Unset r) =
     codes "r" ++ decimal r ++ codes " is read, and may be unset, or of different kinds on different ways"
 misuse_text misuse.Frame = codes "r10 is written, which marks the end of the stack"
@@ -76,7 +76,7 @@ extent_text Stack = codes "-512 to -1"
 extent_text Context = codes "0 to 4095"
 
 -- what an access may touch
-abbrev pub access_text : Access → List ℕ
+abbrev pub access_text : AccessMisuse → List ℕ
 access_text (access.Outside r region span) = reached_text r region span ++ codes ": it has " ++ extent_text region
 access_text (access.Empty r span cell) =
     reached_text r Stack span ++ codes ": no byte is known at " ++ signed_decimal (pos cell -ℤ pos 512)

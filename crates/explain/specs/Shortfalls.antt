@@ -32,12 +32,12 @@ use Rattle.verify.specs.Registers.{known_at, operand_known}
 use Rattle.verify.specs.declared.state.AbsState.{AbsState}
 use Rattle.verify.specs.declared.reason.Reason.{Reason}
 use Rattle.verify.specs.declared.reason.Reason.TheVariants as reason
-use Rattle.explain.specs.declared.values.Span.{Span}
+use Rattle.explain.specs.declared.values.NumberSpan.{NumberSpan}
 use Rattle.explain.specs.declared.reach.Reach.{Reach}
 use Rattle.explain.specs.declared.sentence.Sentence.{Sentence}
 use Rattle.explain.specs.declared.sentence.Sentence.TheVariants as sentence
-use Rattle.explain.specs.declared.sentence.Misuse.TheVariants as misuse
-use Rattle.explain.specs.declared.sentence.Access.TheVariants as access
+use Rattle.explain.specs.declared.sentence.RegisterMisuse.TheVariants as misuse
+use Rattle.explain.specs.declared.sentence.AccessMisuse.TheVariants as access
 use Rattle.explain.specs.declared.sentence.Misfit.TheVariants as misfit
 use Rattle.helper.specs.Reads.{of_operand, read_by}
 
@@ -95,7 +95,7 @@ clamped z =
     if int_le z (pos (2 ^ 63 - 1)) then (if int_le (negsuc (2 ^ 63 - 1)) z then z else negsuc (2 ^ 63 - 1))
     else pos (2 ^ 63 - 1)
 
-abbrev pub moved : Bool → Offsets → ℤ × ℤ → Span
+abbrev pub moved : Bool → Offsets → ℤ × ℤ → NumberSpan
 moved false o by = record { low = clamped (o.0 +ℤ by.0); high = clamped (o.1 +ℤ by.1) }
 moved true o by = record { low = clamped (o.0 -ℤ by.1); high = clamped (o.1 -ℤ by.0) }
 
@@ -162,7 +162,7 @@ reach_of (Call number) registers = call_reach (helper_of number) (known_at regis
 reach_of i registers = None
 
 -- the offsets that may be touched; where nothing is, those at which it would be
-abbrev pub touched : Offsets → Reach → Span
+abbrev pub touched : Offsets → Reach → NumberSpan
 touched o reach = record { low = o.0 +ℤ reach.distance; high = (o.1 +ℤ reach.distance) +ℤ pos (reach.size - 1) }
 
 abbrev pub outside : Reach → AbsVal → Option Sentence

@@ -4,11 +4,11 @@ use Rattle.std.specs.Prelude.{ℕ, zero, suc, ◌&&◌, Bool, true, false, List,
 use Rattle.std.specs.Str.{bytes_eq}
 use Rattle.insn.specs.declared.insn.Insn.{Insn}
 use Rattle.absmem.specs.Known.{Known}
-use Rattle.causes.specs.declared.cells.Content.{Content}
-use Rattle.causes.specs.declared.mark.Mark.{Mark}
-use Rattle.causes.specs.declared.subject.Subject.TheVariants.{Cell}
-use Rattle.causes.specs.Contents.{held_at, same_content}
-use Rattle.causes.specs.Marks.{KnownByUnit, marks}
+use Rattle.reaching.specs.declared.cells.CellContent.{CellContent}
+use Rattle.reaching.specs.declared.mark.UnitMark.{UnitMark}
+use Rattle.reaching.specs.declared.subject.Subject.TheVariants.{Cell}
+use Rattle.reaching.specs.Contents.{held_at, same_content}
+use Rattle.reaching.specs.Marks.{KnownByUnit, marks}
 use Rattle.explain.specs.Origins.{is_set}
 
 -- a unit, if it is one of them
@@ -17,7 +17,7 @@ if_set true unit = unit ∷ []
 if_set false unit = []
 
 -- those of the first so many units that set it, ascending
-abbrev pub set_below : List Mark → ℕ → List ℕ
+abbrev pub set_below : List UnitMark → ℕ → List ℕ
 set_below marks zero = []
 set_below marks (suc n) = set_below marks n ++ if_set (is_set (slice_get marks n)) n
 
@@ -26,7 +26,7 @@ abbrev pub sources : List Insn → KnownByUnit → ℕ → ℕ → List ℕ
 sources program survey unit cell = set_below (marks program survey (Cell cell) unit) unit
 
 abbrev pub Holding : Type 0
-Holding = Content × List ℕ
+Holding = CellContent × List ℕ
 
 -- with what is known of the stack there
 abbrev pub holding : List Insn → KnownByUnit → ℕ → Known → ℕ → Holding

@@ -4,7 +4,7 @@ use Rattle.std.specs.Prelude.{ℕ, List, [], ◌∷◌, ◌++◌, Option, Some, 
 use Rattle.std.specs.declared.alloc.Global.{Global}
 use Rattle.insn.specs.declared.insn.Insn.{Insn}
 use Rattle.asm.specs.Printing.{insn_text}
-use Rattle.explain.specs.declared.units.Written.{Written}
+use Rattle.explain.specs.declared.units.UnitTexts.{UnitTexts}
 
 -- the place of each unit, and its instruction as it is written; an empty text where that is not known
 abbrev pub Writing : Type 0
@@ -18,7 +18,7 @@ text_or_none (Some text) = string_bytes text
 abbrev pub in_lists : List (String Global) → List (String Global) → Writing
 in_lists places statements unit = (text_or_none (slice_get places unit), text_or_none (slice_get statements unit))
 
-abbrev pub written_in : Written → Writing
+abbrev pub written_in : UnitTexts → Writing
 written_in w = in_lists w.places.now w.statements.now
 
 abbrev pub in_brackets : List ℕ → List ℕ

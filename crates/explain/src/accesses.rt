@@ -3,7 +3,7 @@ ghost use Rattle.std.specs.Prelude.{◌≡◌, ◌≤◌, ◌+◌, ◌-◌, IfSo
 ghost use Rattle.explain.specs.Shortfalls.{outside, first_empty, empty_in, empty_cell, context_written, reached};
 
 use crate::reach::{Reach, touched};
-use crate::sentence::{Access, Sentence};
+use crate::sentence::{AccessMisuse, Sentence};
 use absmem::AbsStack;
 use absval::{AbsVal, Window, window_of};
 use semantics::Region;
@@ -17,7 +17,7 @@ pub(crate) fn outside(reach: Reach, value: AbsVal) -> Option<Sentence>
         return None;
     };
     let span = touched(offsets, &reach);
-    Some(Sentence::Memory(Access::Outside(reach.base, region, span)))
+    Some(Sentence::Memory(AccessMisuse::Outside(reach.base, region, span)))
 }
 
 /// The first of so many cells that may hold no byte.
@@ -59,12 +59,12 @@ pub(crate) fn empty_cell(stack: &AbsStack, reach: Reach, value: AbsVal) -> Optio
     let window = window_of(Region::Stack, offsets, reach.distance, reach.size);
     let cell = empty_in(stack, window)?;
     let span = touched(offsets, &reach);
-    Some(Sentence::Memory(Access::Empty(reach.base, span, cell as u16)))
+    Some(Sentence::Memory(AccessMisuse::Empty(reach.base, span, cell as u16)))
 }
 
 /// The context is written.
 pub(crate) fn context_written(reach: Reach, value: AbsVal) -> Option<Sentence>
     ensures { result ≡ context_written reach value }
 {
-    Some(Sentence::Memory(Access::Context(reach.base, value)))
+    Some(Sentence::Memory(AccessMisuse::Context(reach.base, value)))
 }

@@ -5,26 +5,26 @@ ghost use Rattle.explain.specs.Here.{Stands, held_here};
 ghost use Rattle.explain.specs.Cells.{content_text, cells_text, last_text, run_text, sourced_text, ended_text, runs_text, of_cells, of_window, of_reach, is_row, reads_cells, cells_read};
 
 use crate::reach::{Reach, reach_of};
-use crate::saying::put_signed_between;
+use crate::refusal_text::put_signed_between;
 use crate::sources::{Held, Here, held_here, put_from};
 use crate::values::region_name;
 use absval::{AbsVal, Window, window_of};
 use asm::{put, put_number};
-use causes::Content;
 use helper::Helper;
 use insn::Insn;
+use reaching::CellContent;
 use semantics::Region;
 use std::alloc::{AllocError, Global};
 use verify::AbsState;
 
 /// Adds what a cell holds.
-fn put_content(out: &mut String, content: Content) -> Result<(), AllocError>
+fn put_content(out: &mut String, content: CellContent) -> Result<(), AllocError>
     ensures { OnOk result (string_bytes out.new ≡ string_bytes out.old ++ content_text content) }
 {
     match content {
-        Content::Unset => put(out, "perhaps unset"),
-        Content::Byte => put(out, "bytes"),
-        Content::Piece(region, offset) => {
+        CellContent::Unset => put(out, "perhaps unset"),
+        CellContent::Byte => put(out, "bytes"),
+        CellContent::Piece(region, offset) => {
             put(out, "pointer: ")?;
             put(out, region_name(region))?;
             put(out, " ")?;
@@ -76,7 +76,7 @@ pub(crate) fn put_run(
     out: &mut String,
     first: usize,
     end: usize,
-    content: Content,
+    content: CellContent,
 ) -> Result<(), AllocError>
     requires first { first ≤ 65536 }
     requires end { end ≤ 65536 }

@@ -1,14 +1,14 @@
 //! Which edits are to be tried for a sentence.
 ghost use Rattle.std.specs.Prelude.{◌≡◌, ◌<◌, ◌≤◌, IfSome, slice_get};
-ghost use Rattle.causes.specs.Marks.{is_open};
+ghost use Rattle.reaching.specs.Marks.{is_open};
 ghost use Rattle.explain.specs.Helps.{moving_mask, exchanged, copy_of, copy_at, last_copy, by_copy, for_misuse, for_argument, for_misfit, moved_at, for_access, wanted};
 
 use crate::origins::last_set;
-use crate::sentence::{Access, Misfit, Misuse, Sentence};
+use crate::sentence::{AccessMisuse, Misfit, RegisterMisuse, Sentence};
 use absval::AbsVal;
-use causes::{Edit, Mark};
 use helper::reads::numbered;
 use insn::{Insn, Operand, Program, Reg};
+use reaching::{Edit, UnitMark};
 use word::{Operation, Width};
 
 /// An edit, or one of several.
@@ -76,17 +76,17 @@ fn copy_of(r: Reg, insn: &Insn) -> Option<Reg>
 }
 
 /// Whether a way leads from a unit on which nothing sets it.
-fn is_open(marks: &[Mark], unit: usize) -> bool
+fn is_open(marks: &[UnitMark], unit: usize) -> bool
     ensures { result ≡ is_open (slice_get marks.now unit) }
 {
     match marks.get(unit) {
-        Some(Mark::Open) => true,
+        Some(UnitMark::Open) => true,
         _ => false,
     }
 }
 
 /// The copy that the instruction of such a unit makes.
-fn copy_at(program: &Program, marks: &[Mark], r: Reg, unit: usize) -> Option<Reg>
+fn copy_at(program: &Program, marks: &[UnitMark], r: Reg, unit: usize) -> Option<Reg>
     ensures { result ≡ copy_at program.now marks.now r unit }
 {
     if !is_open(marks, unit) {
@@ -100,7 +100,7 @@ fn copy_at(program: &Program, marks: &[Mark], r: Reg, unit: usize) -> Option<Reg
 
 /// The last such copy that the units below one make.
 #[tactic(auto, using(crate::proofs::CopyLemmas::no_copy, crate::proofs::CopyLemmas::copy_so))]
-fn last_copy(program: &Program, marks: &[Mark], r: Reg, unit: usize) -> Option<Reg>
+fn last_copy(program: &Program, marks: &[UnitMark], r: Reg, unit: usize) -> Option<Reg>
     ensures { result ≡ last_copy program.now marks.now r unit }
 {
     if unit == 0 {
@@ -132,19 +132,24 @@ fn by_copy(unit: usize, insn: &Insn, r: Reg, copy: Option<Reg>) -> Option<(usize
 /// For a register that is used as it may not be.
 fn for_misuse(
     program: &Program,
-    marks: &[Mark],
+    marks: &[UnitMark],
     unit: usize,
     insn: &Insn,
-    misuse: Misuse,
+    misuse: RegisterMisuse,
 ) -> Option<(usize, Choice)>
     ensures wanted { result ≡ for_misuse program.now marks.now unit insn.now misuse }
     ensures below { IfSome result (λ want. want.0 ≤ unit) }
 {
     match misuse {
-        Misuse::EitherSign(r, _) => by_copy(unit, insn, r, last_copy(program, marks, r, unit)),
-        Misuse::Far(_, _, _) => moving_mask(unit, insn),
-        Misuse::Computed(_, _) => exchanged(unit, insn),
-        Misuse::Exit(_) => {
+        RegisterMisuse::EitherSign(r, _) => by_copy(
+            unit,
+            insn,
+            r,
+            last_copy(program, marks, r, unit),
+        ),
+        RegisterMisuse::Far(_, _, _) => moving_mask(unit, insn),
+        RegisterMisuse::Computed(_, _) => exchanged(unit, insn),
+        RegisterMisuse::Exit(_) => {
             let zero = Edit::Before(Operation::Move, numbered(0), Operand::Immediate(0));
             Some((unit, Choice::One(zero)))
         }
@@ -188,14 +193,14 @@ fn moved_at(program: &Program, unit: usize) -> Option<(usize, Choice)>
 /// For an access: a pointer that leads too far, by the number that moved it last.
 fn for_access(
     program: &Program,
-    marks: &[Mark],
+    marks: &[UnitMark],
     unit: usize,
-    access: Access,
+    access: AccessMisuse,
 ) -> Option<(usize, Choice)>
     ensures wanted { result ≡ for_access program.now marks.now unit access }
     ensures below { IfSome result (λ want. want.0 ≤ unit) }
 {
-    let Access::Outside(_, _, _) = access else {
+    let AccessMisuse::Outside(_, _, _) = access else {
         return None;
     };
     moved_at(program, last_set(marks, unit)?)
@@ -204,7 +209,7 @@ fn for_access(
 /// What is to be tried for a sentence, and at which unit.
 pub(crate) fn wanted(
     program: &Program,
-    marks: &[Mark],
+    marks: &[UnitMark],
     unit: usize,
     insn: &Insn,
     sentence: &Sentence,

@@ -2,10 +2,10 @@
 ghost use Rattle.std.specs.Prelude.{◌≡◌, ◌<◌, ◌≤◌, ◌++◌, string_bytes, IfOk, IfSome, OnOk};
 ghost use Rattle.explain.specs.Helps.{masks_of, edits_of, accepted_or, better, best, quoted, mask_text, sum_text, edit_text, trial_text, told_help, help_on};
 
-use crate::wanted::Choice;
+use crate::edit_choices::Choice;
 use asm::{put, put_instruction, put_unsigned};
-use causes::{Edit, Trial, operation_of, tried};
 use insn::{Insn, Operand, Program, Reg};
+use reaching::{Edit, Trial, operation_of, tried};
 use std::alloc::{AllocError, Global};
 use word::Operation;
 

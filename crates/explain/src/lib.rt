@@ -3,28 +3,28 @@
 
 mod accesses;
 mod cells;
+mod edit_choices;
 mod helps;
 mod laws;
 mod lines;
 mod misfits;
 mod misuse;
-mod moving;
 mod names;
 mod notes;
 mod origins;
+mod pointer_moves;
 mod reach;
+mod refusal_text;
 mod rules;
-mod saying;
 mod sentence;
 mod shortfall;
 mod sources;
 mod units;
 mod values;
-mod wanted;
 
 pub use laws::{helps_mend, names_are_read, refusals_are_told};
 pub use lines::{explanation, explanation_at};
 pub use names::{HELPERS, helper_name};
-pub use sentence::{Access, Misfit, Misuse, Sentence, Structure};
-pub use units::Written;
-pub use values::Span;
+pub use sentence::{AccessMisuse, Misfit, RegisterMisuse, Sentence, Structure};
+pub use units::UnitTexts;
+pub use values::NumberSpan;

@@ -7,19 +7,19 @@ ghost use Rattle.explain.specs.Here.{IsSurveyed, known_of};
 ghost use Rattle.explain.specs.Units.{written_in};
 
 use crate::cells::put_cells_read;
+use crate::edit_choices::wanted;
 use crate::helps::put_help;
 use crate::notes::{put_notes_on, put_number_notes, subject_of};
 use crate::origins::other_number;
-use crate::saying::{put_named, put_sentence_text};
+use crate::refusal_text::{put_named, put_sentence_text};
 use crate::sentence::{Sentence, Structure};
 use crate::shortfall::shortfall;
 use crate::sources::{Here, Surveyed};
-use crate::units::{Written, put_insn_at};
-use crate::wanted::wanted;
+use crate::units::{UnitTexts, put_insn_at};
 use asm::put;
-use causes::{columns, known_by, left_by, marks, result_of};
-use helper::reads::{Registers, read_by};
+use helper::reads::{RegisterTriple, read_by};
 use insn::{Insn, Program, Reg};
+use reaching::{columns, known_by, left_by, marks, result_of};
 use std::alloc::{AllocError, Global};
 use verify::{AbsState, Reason, VerifyError, known_at_units};
 
@@ -36,7 +36,7 @@ fn put_read(out: &mut String, state: &AbsState, register: Option<Reg>) -> Result
 }
 
 /// Adds the registers that are read.
-fn put_reads(out: &mut String, state: &AbsState, read: Registers) -> Result<(), AllocError>
+fn put_reads(out: &mut String, state: &AbsState, read: RegisterTriple) -> Result<(), AllocError>
     ensures { OnOk result (string_bytes out.new ≡ string_bytes out.old ++ reads_text state.now.registers read) }
 {
     let [first, second, third] = read;
@@ -75,7 +75,7 @@ fn put_known(
 /// Adds a unit and its instruction, behind the end of a line.
 fn put_place(
     out: &mut String,
-    written: &Written<'_>,
+    written: &UnitTexts<'_>,
     unit: usize,
     insn: &Insn,
 ) -> Result<(), AllocError>
@@ -90,7 +90,7 @@ fn put_place(
 fn put_unit(
     alloc: Global,
     out: &mut String,
-    written: &Written<'_>,
+    written: &UnitTexts<'_>,
     surveyed: &Surveyed<'_>,
     unit: usize,
     insn: &Insn,
@@ -162,7 +162,7 @@ fn put_behind(
 fn put_line(
     alloc: Global,
     out: &mut String,
-    written: &Written<'_>,
+    written: &UnitTexts<'_>,
     surveyed: &Surveyed<'_>,
     fault: &Option<VerifyError>,
     unit: usize,
@@ -183,7 +183,7 @@ fn put_line(
 fn put_reached(
     alloc: Global,
     out: &mut String,
-    written: &Written<'_>,
+    written: &UnitTexts<'_>,
     surveyed: &Surveyed<'_>,
     fault: &Option<VerifyError>,
     unit: usize,
@@ -204,7 +204,7 @@ fn put_reached(
 fn put_units(
     alloc: Global,
     out: &mut String,
-    written: &Written<'_>,
+    written: &UnitTexts<'_>,
     surveyed: &Surveyed<'_>,
     fault: &Option<VerifyError>,
     insns: &[Insn],
@@ -261,7 +261,7 @@ fn sentence_of(
 /// Adds the sentence of an instruction.
 fn put_sentence(
     out: &mut String,
-    written: &Written<'_>,
+    written: &UnitTexts<'_>,
     unit: usize,
     insn: &Insn,
     sentence: Sentence,
@@ -278,7 +278,7 @@ fn put_sentence(
 fn put_about(
     alloc: Global,
     out: &mut String,
-    written: &Written<'_>,
+    written: &UnitTexts<'_>,
     program: &Program,
     states: &[Option<AbsState>],
     unit: usize,
@@ -315,7 +315,7 @@ fn put_about(
 fn put_told(
     alloc: Global,
     out: &mut String,
-    written: &Written<'_>,
+    written: &UnitTexts<'_>,
     program: &Program,
     states: &[Option<AbsState>],
     unit: usize,
@@ -338,7 +338,7 @@ fn put_told(
 fn put_refused(
     alloc: Global,
     out: &mut String,
-    written: &Written<'_>,
+    written: &UnitTexts<'_>,
     program: &Program,
     states: &[Option<AbsState>],
     fault: Option<VerifyError>,
@@ -360,7 +360,7 @@ fn put_refused(
 fn put_lines(
     alloc: Global,
     out: &mut String,
-    written: &Written<'_>,
+    written: &UnitTexts<'_>,
     program: &Program,
     states: &[Option<AbsState>],
     fault: &Option<VerifyError>,
@@ -387,7 +387,7 @@ fn put_lines(
 pub fn explanation_at(
     alloc: Global,
     program: &Program,
-    written: &Written<'_>,
+    written: &UnitTexts<'_>,
 ) -> Result<String, AllocError>
     ensures { IfOk result (λ text. string_bytes text ≡ explained_at (written_in written.now) program.now) }
 {
@@ -403,7 +403,7 @@ pub fn explanation_at(
 pub fn explanation(alloc: Global, program: &Program) -> Result<String, AllocError>
     ensures { IfOk result (λ text. string_bytes text ≡ explained program.now) }
 {
-    let unwritten = Written {
+    let unwritten = UnitTexts {
         places: &[],
         statements: &[],
     };

@@ -1,4 +1,4 @@
-//! Registers that are used as they may not be.
+//! RegisterTriple that are used as they may not be.
 ghost use Rattle.std.specs.Prelude.{◌≡◌, Some};
 ghost use Rattle.std.specs.Option.{option_or};
 ghost use Rattle.insn.specs.declared.insn.Insn.{Insn};
@@ -6,10 +6,10 @@ ghost use Rattle.verify.specs.Registers.{known_at};
 ghost use Rattle.helper.specs.Reads.{of_operand, read_by};
 ghost use Rattle.explain.specs.Shortfalls.{unset_if, unset_at, first_unset, pointer_if, pointer_at, first_pointer, compared_at, no_base, stored_at, store_misuse, pointer_misuse};
 
-use crate::moving::sum_misuse;
-use crate::sentence::{Misuse, Sentence};
+use crate::pointer_moves::sum_misuse;
+use crate::sentence::{RegisterMisuse, Sentence};
 use absval::AbsVal;
-use helper::reads::{Registers, of_operand, read_by};
+use helper::reads::{RegisterTriple, of_operand, read_by};
 use insn::{Insn, Operand, Reg};
 use verify::AbsState;
 
@@ -19,13 +19,13 @@ fn unset_at(state: &AbsState, register: Option<Reg>) -> Option<Sentence>
 {
     let r = register?;
     match state.known(r) {
-        AbsVal::Unset => Some(Sentence::Register(Misuse::Unset(r))),
+        AbsVal::Unset => Some(Sentence::Register(RegisterMisuse::Unset(r))),
         AbsVal::Number(_) | AbsVal::Pointer(..) => None,
     }
 }
 
 /// The first of the registers that may be unset.
-pub(crate) fn first_unset(state: &AbsState, read: Registers) -> Option<Sentence>
+pub(crate) fn first_unset(state: &AbsState, read: RegisterTriple) -> Option<Sentence>
     ensures { result ≡ first_unset state.now.registers read }
 {
     let [first, second, third] = read;
@@ -45,13 +45,13 @@ fn pointer_at(state: &AbsState, register: Option<Reg>) -> Option<Sentence>
     let r = register?;
     let value = state.known(r);
     match value {
-        AbsVal::Pointer(..) => Some(Sentence::Register(Misuse::Computed(r, value))),
+        AbsVal::Pointer(..) => Some(Sentence::Register(RegisterMisuse::Computed(r, value))),
         AbsVal::Unset | AbsVal::Number(_) => None,
     }
 }
 
 /// The first of the registers that is a pointer.
-fn first_pointer(state: &AbsState, read: Registers) -> Option<Sentence>
+fn first_pointer(state: &AbsState, read: RegisterTriple) -> Option<Sentence>
     ensures { result ≡ first_pointer state.now.registers read }
 {
     let [first, second, third] = read;
@@ -71,7 +71,7 @@ fn compared_at(state: &AbsState, register: Option<Reg>) -> Option<Sentence>
     let r = register?;
     let value = state.known(r);
     match value {
-        AbsVal::Pointer(..) => Some(Sentence::Register(Misuse::Compared(r, value))),
+        AbsVal::Pointer(..) => Some(Sentence::Register(RegisterMisuse::Compared(r, value))),
         AbsVal::Unset | AbsVal::Number(_) => None,
     }
 }
@@ -92,7 +92,7 @@ fn no_base(state: &AbsState, base: Reg) -> Option<Sentence>
     ensures { result ≡ no_base state.now.registers base }
 {
     let value = state.known(base);
-    Some(Sentence::Register(Misuse::NoBase(base, value)))
+    Some(Sentence::Register(RegisterMisuse::NoBase(base, value)))
 }
 
 /// A pointer is stored, and not whole.
@@ -102,7 +102,7 @@ fn stored_at(state: &AbsState, base: Reg, source: Option<Reg>) -> Option<Sentenc
     let r = source?;
     let value = state.known(r);
     let at = state.known(base);
-    Some(Sentence::Register(Misuse::Stored(r, value, base, at)))
+    Some(Sentence::Register(RegisterMisuse::Stored(r, value, base, at)))
 }
 
 /// What a store makes of a pointer, or without one.

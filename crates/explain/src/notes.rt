@@ -6,41 +6,41 @@ ghost use Rattle.insn.specs.Program.{slots_of};
 
 use crate::cells::put_run;
 use crate::origins::origin_of;
+use crate::refusal_text::put_named;
 use crate::rules::{Passing, passed_by, put_tells, rule_text};
-use crate::saying::put_named;
-use crate::sentence::{Access, Misfit, Misuse, Sentence};
-use crate::units::{Written, put_insn_at};
+use crate::sentence::{AccessMisuse, Misfit, RegisterMisuse, Sentence};
+use crate::units::{UnitTexts, put_insn_at};
 use asm::put;
-use causes::{Mark, Subject, held_at, known_by, left_by, marks};
 use helper::reads::numbered;
 use insn::{Insn, Program, Reg};
+use reaching::{Subject, UnitMark, held_at, known_by, left_by, marks};
 use std::alloc::{AllocError, Global};
 use verify::AbsState;
 
 /// What a misuse is about.
-fn of_misuse(misuse: Misuse) -> Option<Subject>
+fn of_misuse(misuse: RegisterMisuse) -> Option<Subject>
     ensures { result ≡ of_misuse misuse }
 {
     match misuse {
-        Misuse::Frame => None,
-        Misuse::Exit(_) => Some(Subject::Register(numbered(0))),
-        Misuse::Unset(r)
-        | Misuse::Far(r, _, _)
-        | Misuse::EitherSign(r, _)
-        | Misuse::Computed(r, _)
-        | Misuse::Compared(r, _)
-        | Misuse::Stored(r, _, _, _)
-        | Misuse::NoBase(r, _) => Some(Subject::Register(r)),
+        RegisterMisuse::Frame => None,
+        RegisterMisuse::Exit(_) => Some(Subject::Register(numbered(0))),
+        RegisterMisuse::Unset(r)
+        | RegisterMisuse::Far(r, _, _)
+        | RegisterMisuse::EitherSign(r, _)
+        | RegisterMisuse::Computed(r, _)
+        | RegisterMisuse::Compared(r, _)
+        | RegisterMisuse::Stored(r, _, _, _)
+        | RegisterMisuse::NoBase(r, _) => Some(Subject::Register(r)),
     }
 }
 
 /// What an access is about.
-fn of_access(access: Access) -> Option<Subject>
+fn of_access(access: AccessMisuse) -> Option<Subject>
     ensures { result ≡ of_access access }
 {
     match access {
-        Access::Empty(_, _, cell) => Some(Subject::Cell(cell)),
-        Access::Outside(r, _, _) | Access::Context(r, _) => Some(Subject::Register(r)),
+        AccessMisuse::Empty(_, _, cell) => Some(Subject::Cell(cell)),
+        AccessMisuse::Outside(r, _, _) | AccessMisuse::Context(r, _) => Some(Subject::Register(r)),
     }
 }
 
@@ -83,7 +83,7 @@ fn put_found(out: &mut String, asked: &Subject, state: &AbsState) -> Result<(), 
 /// Adds that an instruction is noted.
 fn put_noted(
     out: &mut String,
-    written: &Written<'_>,
+    written: &UnitTexts<'_>,
     unit: usize,
     insn: &Insn,
 ) -> Result<(), AllocError>
@@ -112,7 +112,7 @@ fn put_rule(
 /// Adds what an instruction that set it left.
 fn put_set(
     out: &mut String,
-    written: &Written<'_>,
+    written: &UnitTexts<'_>,
     asked: &Subject,
     unit: usize,
     insn: &Insn,
@@ -131,7 +131,7 @@ fn put_set(
 /// Adds an instruction that tells nothing of a register, if it is one.
 fn put_if(
     out: &mut String,
-    written: &Written<'_>,
+    written: &UnitTexts<'_>,
     unit: usize,
     insn: &Insn,
     tells: Option<Passing>,
@@ -149,7 +149,7 @@ fn put_if(
 /// Adds an instruction on a way there that tells nothing of it.
 fn put_passing(
     out: &mut String,
-    written: &Written<'_>,
+    written: &UnitTexts<'_>,
     asked: &Subject,
     unit: usize,
     insn: &Insn,
@@ -173,32 +173,32 @@ fn put_passing(
 /// Adds what is noted of a unit by its mark.
 fn put_note(
     out: &mut String,
-    written: &Written<'_>,
+    written: &UnitTexts<'_>,
     asked: &Subject,
     unit: usize,
     insn: &Insn,
     state: &AbsState,
-    mark: Option<Mark>,
+    mark: Option<UnitMark>,
 ) -> Result<(), AllocError>
     ensures { OnOk result (string_bytes out.new ≡ string_bytes out.old
         ++ note_by (written_in written.now) asked.now unit insn.now state.now mark) }
 {
     match mark {
-        Some(Mark::Sets) => put_set(out, written, asked, unit, insn, state),
-        Some(Mark::Open) => put_passing(out, written, asked, unit, insn, state),
-        Some(Mark::Closed) | None => Ok(()),
+        Some(UnitMark::Sets) => put_set(out, written, asked, unit, insn, state),
+        Some(UnitMark::Open) => put_passing(out, written, asked, unit, insn, state),
+        Some(UnitMark::Closed) | None => Ok(()),
     }
 }
 
 /// The same where an instruction starts to which a path leads.
 fn put_note_at(
     out: &mut String,
-    written: &Written<'_>,
+    written: &UnitTexts<'_>,
     asked: &Subject,
     unit: usize,
     insn: Option<Insn>,
     state: Option<&AbsState>,
-    mark: Option<Mark>,
+    mark: Option<UnitMark>,
 ) -> Result<(), AllocError>
     ensures { OnOk result (string_bytes out.new ≡ string_bytes out.old
         ++ note_text (written_in written.now) asked.now unit insn (option_map (λ a. a.now) state.entry) mark) }
@@ -217,7 +217,7 @@ fn put_entry(
     out: &mut String,
     asked: &Subject,
     state: Option<&AbsState>,
-    mark: Option<Mark>,
+    mark: Option<UnitMark>,
 ) -> Result<(), AllocError>
     ensures { OnOk result (string_bytes out.new ≡ string_bytes out.old
         ++ entry_note asked.now (option_map (λ a. a.now) state.entry) mark) }
@@ -225,7 +225,7 @@ fn put_entry(
     let Some(state) = state else {
         return Ok(());
     };
-    let Some(Mark::Open) = mark else {
+    let Some(UnitMark::Open) = mark else {
         return Ok(());
     };
     put(out, "\nnote: at the entry ")?;
@@ -233,7 +233,7 @@ fn put_entry(
 }
 
 /// The mark of a unit, if it has one.
-fn mark_at(marks: &[Mark], unit: usize) -> Option<Mark>
+fn mark_at(marks: &[UnitMark], unit: usize) -> Option<UnitMark>
     ensures { result ≡ slice_get marks.now unit }
 {
     marks.get(unit).copied()
@@ -242,11 +242,11 @@ fn mark_at(marks: &[Mark], unit: usize) -> Option<Mark>
 /// Adds the notes of the units below one.
 fn put_notes_below(
     out: &mut String,
-    written: &Written<'_>,
+    written: &UnitTexts<'_>,
     program: &Program,
     states: &[Option<AbsState>],
     asked: &Subject,
-    marks: &[Mark],
+    marks: &[UnitMark],
     unit: usize,
 ) -> Result<(), AllocError>
     ensures { OnOk result (string_bytes out.new ≡ string_bytes out.old
@@ -273,10 +273,10 @@ fn put_notes_below(
 fn put_origin_notes(
     alloc: Global,
     out: &mut String,
-    written: &Written<'_>,
+    written: &UnitTexts<'_>,
     program: &Program,
     states: &[Option<AbsState>],
-    marked: &[Mark],
+    marked: &[UnitMark],
     unit: usize,
     most: usize,
 ) -> Result<(), AllocError>
@@ -310,11 +310,11 @@ fn put_origin_notes(
 pub(crate) fn put_notes_on(
     alloc: Global,
     out: &mut String,
-    written: &Written<'_>,
+    written: &UnitTexts<'_>,
     program: &Program,
     states: &[Option<AbsState>],
     asked: &Subject,
-    marked: &[Mark],
+    marked: &[UnitMark],
     unit: usize,
 ) -> Result<(), AllocError>
     requires { unit < length (slots_of program.now) }
@@ -329,7 +329,7 @@ pub(crate) fn put_notes_on(
 pub(crate) fn put_number_notes(
     alloc: Global,
     out: &mut String,
-    written: &Written<'_>,
+    written: &UnitTexts<'_>,
     program: &Program,
     states: &[Option<AbsState>],
     unit: usize,

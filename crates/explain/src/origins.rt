@@ -1,14 +1,14 @@
 //! Of which register a number was computed that may be above or below 0.
 ghost use Rattle.std.specs.Prelude.{◌≡◌, ◌<◌, IfSome, option_map, slice_get};
 ghost use Rattle.insn.specs.Program.{instruction_at};
-ghost use Rattle.causes.specs.Marks.{known_by};
+ghost use Rattle.reaching.specs.Marks.{known_by};
 ghost use Rattle.explain.specs.Origins.{is_either_sign, number_at, computed_of, is_set, last_set, origin_at, origin_of, summed, other_number};
 
-use crate::sentence::{Misuse, Sentence};
+use crate::sentence::{RegisterMisuse, Sentence};
 use absval::AbsVal;
-use causes::{Mark, known_by};
 use helper::reads::{of_first, of_operand};
 use insn::{Insn, Operand, Program, Reg};
+use reaching::{UnitMark, known_by};
 use verify::AbsState;
 use word::{Operation, Width};
 
@@ -57,17 +57,17 @@ fn computed_of(insn: &Insn, state: &AbsState) -> Option<Reg>
 }
 
 /// Whether the instruction of a unit sets it.
-pub(crate) fn is_set(marks: &[Mark], unit: usize) -> bool
+pub(crate) fn is_set(marks: &[UnitMark], unit: usize) -> bool
     ensures { result ≡ is_set (slice_get marks.now unit) }
 {
     match marks.get(unit) {
-        Some(Mark::Sets) => true,
+        Some(UnitMark::Sets) => true,
         _ => false,
     }
 }
 
 /// The last of the units below one that set it.
-pub(crate) fn last_set(marks: &[Mark], unit: usize) -> Option<usize>
+pub(crate) fn last_set(marks: &[UnitMark], unit: usize) -> Option<usize>
     ensures set { result ≡ last_set marks.now unit }
     ensures below { IfSome result (λ n. n < unit) }
 {
@@ -99,7 +99,7 @@ fn origin_at(unit: usize, insn: Option<Insn>, state: Option<&AbsState>) -> Optio
 pub(crate) fn origin_of(
     program: &Program,
     states: &[Option<AbsState>],
-    marks: &[Mark],
+    marks: &[UnitMark],
     unit: usize,
 ) -> Option<(Reg, usize)>
     ensures origin { result ≡ origin_of program.now (slice_get states.now) marks.now unit }
@@ -113,7 +113,7 @@ pub(crate) fn origin_of(
 fn summed(insn: &Insn, sentence: &Sentence) -> Option<Reg>
     ensures { result ≡ summed insn.now sentence.now }
 {
-    let Sentence::Register(Misuse::Computed(_, _)) = sentence else {
+    let Sentence::Register(RegisterMisuse::Computed(_, _)) = sentence else {
         return None;
     };
     match insn {

@@ -3,8 +3,8 @@ ghost use Rattle.std.specs.Prelude.{◌≡◌, ◌+ℤ◌, ◌-ℤ◌};
 ghost use Rattle.absval.specs.Table.{in_a_row};
 ghost use Rattle.explain.specs.Shortfalls.{lowers, clamped, moved, either_sign, far, sum_misuse};
 
-use crate::sentence::{Misuse, Sentence};
-use crate::values::{Span, between};
+use crate::sentence::{RegisterMisuse, Sentence};
+use crate::values::{NumberSpan, between};
 use absval::{AbsVal, NumberSet, Offsets};
 use helper::reads::of_operand;
 use insn::{Operand, Reg};
@@ -50,7 +50,7 @@ fn lowered(offset: i32, by: i64) -> i64
 }
 
 /// Where offsets lead, moved by numbers from the least to the greatest.
-fn moved(down: bool, offsets: Offsets, least: i64, greatest: i64) -> Span
+fn moved(down: bool, offsets: Offsets, least: i64, greatest: i64) -> NumberSpan
     ensures { result ≡ moved down offsets (least, greatest) }
 {
     if down {
@@ -67,7 +67,7 @@ fn either_sign(register: Option<Reg>, numbers: NumberSet) -> Option<Sentence>
     ensures { result ≡ either_sign register numbers }
 {
     let r = register?;
-    Some(Sentence::Register(Misuse::EitherSign(r, AbsVal::Number(numbers))))
+    Some(Sentence::Register(RegisterMisuse::EitherSign(r, AbsVal::Number(numbers))))
 }
 
 /// A pointer in a register that numbers move.
@@ -88,7 +88,7 @@ fn far(pointer: Start, operand: Operand, numbers: NumberSet) -> Option<Sentence>
         return either_sign(of_operand(operand), numbers);
     };
     let span = moved(pointer.down, pointer.offsets, least, greatest);
-    Some(Sentence::Register(Misuse::Far(pointer.dst, pointer.region, span)))
+    Some(Sentence::Register(RegisterMisuse::Far(pointer.dst, pointer.region, span)))
 }
 
 /// A pointer and a number, of which a sum or difference is made.

@@ -3,7 +3,7 @@ ghost use Rattle.std.specs.Prelude.{◌≡◌, ◌≤◌, ◌-◌, ◌+ℤ◌, p
 ghost use Rattle.semantics.specs.Call.{helper_of};
 ghost use Rattle.explain.specs.Shortfalls.{counted, call_reach, reach_of, touched};
 
-use crate::values::{Span, between};
+use crate::values::{NumberSpan, between};
 use absval::{AbsVal, Offsets};
 use helper::reads::numbered;
 use helper::{BOARD_WORDS, Helper};
@@ -106,7 +106,7 @@ fn last_touched(offset: i32, distance: i16, size: usize) -> i64
 }
 
 /// The offsets that may be touched from these on.
-pub(crate) fn touched(offsets: Offsets, reach: &Reach) -> Span
+pub(crate) fn touched(offsets: Offsets, reach: &Reach) -> NumberSpan
     requires { reach.now.size ≤ 512 }
     ensures { result ≡ touched offsets reach.now }
 {

@@ -4,8 +4,8 @@ ghost use Rattle.std.specs.Fmt.{signed_decimal};
 ghost use Rattle.explain.specs.Sentences.{leads_text, structure_text, place_text, reached_text, would_text, named_text, limit_text, misuse_text, extent_text, access_text, above_text, pointer_text, past_text, no_helper_text, numbers_text, together_text, misfit_text, sentence_text};
 
 use crate::names::{HELPERS, helper_name};
-use crate::sentence::{Access, Misfit, Misuse, Sentence, Structure};
-use crate::values::{Span, put_known, put_span, region_name};
+use crate::sentence::{AccessMisuse, Misfit, RegisterMisuse, Sentence, Structure};
+use crate::values::{NumberSpan, put_known, put_span, region_name};
 use absval::AbsVal;
 use asm::{put, put_number, put_unsigned};
 use helper::Helper;
@@ -117,7 +117,7 @@ fn put_structure(out: &mut String, structure: Structure) -> Result<(), AllocErro
 
 /// Adds a part of a region.
 #[tactic(auto, unfolding(crate::specs::Sentences::place_text))]
-fn put_part(out: &mut String, region: Region, span: Span) -> Result<(), AllocError>
+fn put_part(out: &mut String, region: Region, span: NumberSpan) -> Result<(), AllocError>
     ensures { OnOk result (string_bytes out.new ≡ string_bytes out.old ++ place_text region span) }
 {
     put(out, "the ")?;
@@ -132,7 +132,7 @@ fn put_reached(
     out: &mut String,
     r: Reg,
     region: Region,
-    span: Span,
+    span: NumberSpan,
     text: &str,
 ) -> Result<(), AllocError>
     ensures { OnOk result (string_bytes out.new ≡ string_bytes out.old ++ (reached_text r region span ++ text.now)) }
@@ -161,7 +161,7 @@ fn put_would(out: &mut String, r: Reg) -> Result<(), AllocError>
 
 /// Adds a part of a region, and how far a pointer may point.
 #[tactic(auto, unfolding(crate::specs::Sentences::past_text))]
-fn put_past(out: &mut String, region: Region, span: Span) -> Result<(), AllocError>
+fn put_past(out: &mut String, region: Region, span: NumberSpan) -> Result<(), AllocError>
     ensures { OnOk result (string_bytes out.new ≡ string_bytes out.old ++ past_text region span) }
 {
     put_part(out, region, span)?;
@@ -170,7 +170,7 @@ fn put_past(out: &mut String, region: Region, span: Span) -> Result<(), AllocErr
 }
 
 /// Adds that a register would point too far.
-fn put_far(out: &mut String, r: Reg, region: Region, span: Span) -> Result<(), AllocError>
+fn put_far(out: &mut String, r: Reg, region: Region, span: NumberSpan) -> Result<(), AllocError>
     ensures { OnOk result (string_bytes out.new ≡ string_bytes out.old ++ misuse_text (Misuse.Far r region span)) }
 {
     put_would(out, r)?;
@@ -198,38 +198,45 @@ fn put_stored(
 }
 
 /// Adds how a register is used.
-fn put_misuse(out: &mut String, misuse: Misuse) -> Result<(), AllocError>
+fn put_misuse(out: &mut String, misuse: RegisterMisuse) -> Result<(), AllocError>
     ensures { OnOk result (string_bytes out.new ≡ string_bytes out.old ++ misuse_text misuse) }
 {
     match misuse {
-        Misuse::Unset(r) => {
+        RegisterMisuse::Unset(r) => {
             put_register(out, r)?;
             put(
                 out,
                 " is read, and may be unset, or of different kinds on different ways",
             )
         }
-        Misuse::Frame => put(out, "r10 is written, which marks the end of the stack"),
-        Misuse::Far(r, region, span) => put_far(out, r, region, span),
-        Misuse::EitherSign(r, value) => put_so(
+        RegisterMisuse::Frame => put(out, "r10 is written, which marks the end of the stack"),
+        RegisterMisuse::Far(r, region, span) => put_far(out, r, region, span),
+        RegisterMisuse::EitherSign(r, value) => put_so(
             out,
             r,
             value,
             ": a number that moves a pointer is read as signed, and this one may be above or below 0",
         ),
-        Misuse::Computed(r, value) => put_so(
+        RegisterMisuse::Computed(r, value) => put_so(
             out,
             r,
             value,
             ": of a pointer only a copy of 64 bits is made, or, in its own register, \
              the 64-bit sum or difference with a number",
         ),
-        Misuse::Compared(r, value) => put_so(out, r, value, ": a comparison is of numbers only"),
-        Misuse::Stored(r, value, base, at) => put_stored(out, r, value, base, at),
-        Misuse::NoBase(r, value) => {
+        RegisterMisuse::Compared(r, value) => put_so(
+            out,
+            r,
+            value,
+            ": a comparison is of numbers only",
+        ),
+        RegisterMisuse::Stored(r, value, base, at) => put_stored(out, r, value, base, at),
+        RegisterMisuse::NoBase(r, value) => {
             put_so(out, r, value, ": memory is reached by a pointer only")
         }
-        Misuse::Exit(value) => { put_so(out, numbered(0), value, ": a program ends with a number") }
+        RegisterMisuse::Exit(value) => {
+            put_so(out, numbered(0), value, ": a program ends with a number")
+        }
     }
 }
 
@@ -244,19 +251,19 @@ fn extent(region: Region) -> &'static str
 }
 
 /// Adds what an access may touch.
-fn put_access(out: &mut String, access: Access) -> Result<(), AllocError>
+fn put_access(out: &mut String, access: AccessMisuse) -> Result<(), AllocError>
     ensures { OnOk result (string_bytes out.new ≡ string_bytes out.old ++ access_text access) }
 {
     match access {
-        Access::Outside(r, region, span) => {
+        AccessMisuse::Outside(r, region, span) => {
             put_reached(out, r, region, span, ": it has ")?;
             put(out, extent(region))
         }
-        Access::Empty(r, span, cell) => {
+        AccessMisuse::Empty(r, span, cell) => {
             put_reached(out, r, Region::Stack, span, ": no byte is known at ")?;
             put_number(out, i64::from(cell) - 512)
         }
-        Access::Context(r, value) => put_so(out, r, value, ": the context is only read"),
+        AccessMisuse::Context(r, value) => put_so(out, r, value, ": the context is only read"),
     }
 }
 

@@ -3,7 +3,7 @@ ghost use Rattle.std.specs.Prelude.{◌≡◌, ◌^◌, ◌-◌, ◌++◌, strin
 ghost use Rattle.word.specs.Arithmetic.{bits_of};
 ghost use Rattle.explain.specs.Rules.{may_wrap, is_all, number_rule, unset_rule, rule_text, is_signed, limit_bits, is_past, is_operand, passed_by, tested_text, passing_text};
 
-use crate::saying::{put_between, put_counted};
+use crate::refusal_text::{put_between, put_counted};
 use absval::{AbsVal, NumberSet};
 use insn::{Insn, Operand, Reg};
 use range::Range;

@@ -1,6 +1,6 @@
 //! Why a program is refused.
 
-use crate::values::Span;
+use crate::values::NumberSpan;
 use absval::AbsVal;
 use helper::Helper;
 use insn::Reg;
@@ -10,8 +10,8 @@ use semantics::Region;
 #[derive(Clone, Copy)]
 pub enum Sentence {
     Structure(Structure),
-    Register(Misuse),
-    Memory(Access),
+    Register(RegisterMisuse),
+    Memory(AccessMisuse),
     Call(Misfit),
 }
 
@@ -30,13 +30,13 @@ pub enum Structure {
 
 /// A register that is used as it may not be, with what is known of it.
 #[derive(Clone, Copy)]
-pub enum Misuse {
+pub enum RegisterMisuse {
     /// Nothing is known of it: it may be unset, or of different kinds on different ways.
     Unset(Reg),
     /// r10 is written.
     Frame,
     /// It would point so far.
-    Far(Reg, Region, Span),
+    Far(Reg, Region, NumberSpan),
     /// It moves a pointer, and may have either sign.
     EitherSign(Reg, AbsVal),
     /// It is a pointer, of which something is computed.
@@ -53,11 +53,11 @@ pub enum Misuse {
 
 /// What an access through a register may touch.
 #[derive(Clone, Copy)]
-pub enum Access {
+pub enum AccessMisuse {
     /// Bytes outside the region.
-    Outside(Reg, Region, Span),
+    Outside(Reg, Region, NumberSpan),
     /// Cells of the stack, of which this one may hold no byte, counted from the lowest.
-    Empty(Reg, Span, u16),
+    Empty(Reg, NumberSpan, u16),
     /// The context, which is written.
     Context(Reg, AbsVal),
 }

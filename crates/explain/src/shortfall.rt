@@ -6,7 +6,7 @@ use crate::accesses::{context_written, empty_cell, outside};
 use crate::misfits::{call_misfit, no_helper};
 use crate::misuse::{first_unset, pointer_misuse};
 use crate::reach::reach_of;
-use crate::sentence::{Misuse, Sentence};
+use crate::sentence::{RegisterMisuse, Sentence};
 use helper::reads::{numbered, read_by};
 use insn::Insn;
 use verify::{AbsState, Reason};
@@ -41,7 +41,7 @@ pub(crate) fn shortfall(reason: Reason, insn: &Insn, state: &AbsState) -> Option
 {
     match reason {
         Reason::Unset => first_unset(state, read_by(insn)),
-        Reason::FrameWrite => Some(Sentence::Register(Misuse::Frame)),
+        Reason::FrameWrite => Some(Sentence::Register(RegisterMisuse::Frame)),
         Reason::PointerUse => pointer_misuse(insn, state),
         Reason::Bounds => outside_of(insn, state),
         Reason::StackUnset => empty_of(insn, state),
@@ -50,7 +50,7 @@ pub(crate) fn shortfall(reason: Reason, insn: &Insn, state: &AbsState) -> Option
         Reason::Argument => call_misfit(insn, state),
         Reason::ExitPointer => {
             let value = state.known(numbered(0));
-            Some(Sentence::Register(Misuse::Exit(value)))
+            Some(Sentence::Register(RegisterMisuse::Exit(value)))
         }
         _ => None,
     }

@@ -6,15 +6,15 @@ ghost use Rattle.explain.specs.Here.{Stands, known_of, held_here, same_held};
 use crate::origins::is_set;
 use absmem::AbsStack;
 use asm::{put, put_unsigned};
-use causes::{Column, Content, Mark, cell_marks, held_at};
 use insn::Program;
+use reaching::{CellContent, Column, UnitMark, cell_marks, held_at};
 use std::alloc::{AllocError, Global};
 use verify::AbsState;
 
 /// What a cell holds, and the units that set it last on the ways that lead there.
 #[derive(Drop)]
 pub(crate) struct Held {
-    pub content: Content,
+    pub content: CellContent,
     pub units: Vec<usize>,
 }
 
@@ -44,7 +44,7 @@ pub(crate) struct Here<'a> {
 }
 
 /// Those of the first so many units that set it.
-fn set_below(alloc: Global, marks: &[Mark], unit: usize) -> Result<Vec<usize>, AllocError>
+fn set_below(alloc: Global, marks: &[UnitMark], unit: usize) -> Result<Vec<usize>, AllocError>
     ensures { IfOk result (λ vec. vec.items ≡ set_below marks.now unit) }
 {
     let mut units = Vec::new(alloc);

@@ -8,7 +8,7 @@ use std::alloc::AllocError;
 
 /// How the units of a program are written in the text that it was made of; what is not there, or empty, is not known.
 #[derive(Clone, Copy)]
-pub struct Written<'a> {
+pub struct UnitTexts<'a> {
     /// The place of each unit, such as `line 7`.
     pub places: &'a [String],
     /// The instruction of each unit, such as `call board_get`.
@@ -38,7 +38,7 @@ fn put_in_brackets(out: &mut String, place: &str) -> Result<(), AllocError>
 }
 
 /// Adds a unit and, where that is known, its place in the text that it was written in.
-fn put_unit_text(out: &mut String, written: &Written<'_>, unit: usize) -> Result<(), AllocError>
+fn put_unit_text(out: &mut String, written: &UnitTexts<'_>, unit: usize) -> Result<(), AllocError>
     ensures { OnOk result (string_bytes out.new ≡ string_bytes out.old ++ unit_text (written_in written.now) unit) }
 {
     put_unsigned(out, unit as u64)?;
@@ -58,7 +58,7 @@ fn put_statement(out: &mut String, statement: &str, insn: &Insn) -> Result<(), A
 /// Adds a unit and its instruction.
 pub(crate) fn put_insn_at(
     out: &mut String,
-    written: &Written<'_>,
+    written: &UnitTexts<'_>,
     unit: usize,
     insn: &Insn,
 ) -> Result<(), AllocError>

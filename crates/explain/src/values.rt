@@ -12,7 +12,7 @@ use std::alloc::AllocError;
 
 /// From one number to another, both among them.
 #[derive(Clone, Copy)]
-pub struct Span {
+pub struct NumberSpan {
     /// The least.
     pub low: i64,
     /// The greatest.
@@ -20,14 +20,14 @@ pub struct Span {
 }
 
 /// From one number to another.
-pub(crate) fn between(low: i64, high: i64) -> Span
+pub(crate) fn between(low: i64, high: i64) -> NumberSpan
     ensures { result ≡ record { low = low; high = high } }
 {
-    Span { low, high }
+    NumberSpan { low, high }
 }
 
 /// Adds one number, or from one to another.
-pub(crate) fn put_span(out: &mut String, span: Span) -> Result<(), AllocError>
+pub(crate) fn put_span(out: &mut String, span: NumberSpan) -> Result<(), AllocError>
     ensures { OnOk result (string_bytes out.new ≡ string_bytes out.old ++ span_text (span.low, span.high)) }
 {
     put_number(out, span.low)?;
@@ -58,10 +58,10 @@ fn is_any(range: Range) -> bool
 }
 
 /// The range as signed numbers.
-fn signed(range: Range) -> Span
+fn signed(range: Range) -> NumberSpan
     ensures { result ≡ record { low = cast_signed w64 range.0; high = cast_signed w64 range.1 } }
 {
-    Span {
+    NumberSpan {
         low: range.lo.cast_signed(),
         high: range.hi.cast_signed(),
     }
@@ -131,7 +131,7 @@ pub(crate) fn put_known(out: &mut String, value: AbsVal) -> Result<(), AllocErro
             put(out, " ")?;
             put_span(
                 out,
-                Span {
+                NumberSpan {
                     low: i64::from(offsets.low),
                     high: i64::from(offsets.high),
                 },

@@ -10,7 +10,7 @@ use insn::{Insn, Operand, Reg};
 use word::Operation;
 
 /// Up to three registers.
-pub type Registers = [Option<Reg>; 3];
+pub type RegisterTriple = [Option<Reg>; 3];
 
 /// The register that an operand is.
 pub fn of_operand(operand: Operand) -> Option<Reg>
@@ -55,7 +55,7 @@ fn of_argument(number: u8, argument: Option<Argument>) -> Option<Reg>
 }
 
 /// The registers that the helper of a number takes.
-fn of_call(number: i32) -> Registers
+fn of_call(number: i32) -> RegisterTriple
     ensures { result ≡ of_helper (helper_of number) }
 {
     let Some(helper) = helper_of(number) else {
@@ -70,7 +70,7 @@ fn of_call(number: i32) -> Registers
 }
 
 /// The registers that an instruction reads, in the order in which they are looked at.
-pub fn read_by(insn: &Insn) -> Registers
+pub fn read_by(insn: &Insn) -> RegisterTriple
     ensures { result ≡ read_by insn.now }
 {
     match insn {

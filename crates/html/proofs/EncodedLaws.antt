@@ -4,10 +4,10 @@ use Rattle.std.specs.Prelude.{◌==◌, nat_le}
 use Rattle.std.proofs.lemmas.Bool.{cases_lt, cases_eq, le-leb, le-ltb, lt-leb, lt-ltb, ne_eqb, or_from, or_left, or_right, and_from, cond_both, true≢false}
 use Rattle.std.proofs.lemmas.Str.{encodes-append, encode_ascii}
 use Rattle.std.proofs.Math.Utf8.{encode, next}
-use Rattle.markup.specs.Escaped.{escaped, is_character, is_within, shown, written}
-use Rattle.markup.specs.Grammar.{IsText, character, no_text, referred}
-use Rattle.page.specs.Page.{shown as shown_bytes}
-use Rattle.page.specs.Visible.{visible}
+use Rattle.html.specs.Escaped.{escaped, is_character, is_within, shown, written}
+use Rattle.html.specs.Grammar.{IsText, character, no_text, referred}
+use Rattle.html.specs.Page.{shown as shown_bytes}
+use Rattle.html.specs.Visible.{visible}
 
 -- the bytes of a character past ASCII
 two : (c : ℕ) → 128 ≤ c → c < 2048 → encode c ≡ (192 + c / 64) ∷ next c ∷ []

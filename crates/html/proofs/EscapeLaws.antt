@@ -4,10 +4,10 @@ use Rattle.std.specs.Prelude.{codes}
 use Rattle.std.specs.List.{list_all}
 use Rattle.std.proofs.lemmas.Bool.{and_parts, and_from, cases_eq, cond-true, cond_both, ne_eqb}
 use Rattle.std.proofs.lemmas.List.Folds.{list_all-append}
-use Rattle.markup.specs.Escaped.{escaped, is_character, shown, written}
-use Rattle.markup.specs.Grammar.{IsText, character, no_text, referred}
-use Rattle.markup.specs.Laws.{EscapesArePlain, EscapesAreReadBack, is_plain}
-use Rattle.markup.specs.Reading.{onto, read}
+use Rattle.html.specs.Escaped.{escaped, is_character, shown, written}
+use Rattle.html.specs.Grammar.{IsText, character, no_text, referred}
+use Rattle.html.specs.MarkupLaws.{EscapesArePlain, EscapesAreReadBack, is_plain}
+use Rattle.html.specs.Reading.{onto, read}
 
 -- it is none of those that are written as references
 record IsOther (c : ℕ) : Type 0 where

@@ -1,3 +1,6 @@
+pub mod EscapeLaws
+pub mod TagLaws
+pub mod TextLemmas
 mod EncodedLaws
 pub mod NumberLemmas
 mod VisibleLaws

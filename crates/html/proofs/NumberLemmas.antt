@@ -3,7 +3,7 @@ use Rattle.std.proofs.Common.{ℕ, ◌≡◌, List, [], ◌∷◌, ◌++◌, sym
 use Rattle.std.proofs.lemmas.Grind.{flat_map-append}
 use Rattle.std.proofs.lemmas.Str.{encodes-append}
 use Rattle.std.proofs.Math.Utf8.{encode}
-use Rattle.markup.specs.Escaped.{escaped, written}
+use Rattle.html.specs.Escaped.{escaped, written}
 
 abbrev E : List ℕ → List ℕ
 E cs = encode_utf8_all cs

@@ -3,12 +3,12 @@ use Rattle.std.proofs.Common.{ℕ, ◌≡◌, ◌≢◌, Bool, true, false, not,
 use Rattle.std.specs.Prelude.{◌==◌, bytes_eq}
 use Rattle.std.specs.List.{list_all, list_any}
 use Rattle.std.proofs.lemmas.Bool.{and_parts, eqb-false, not-true}
-use Rattle.markup.specs.Escaped.{is_character}
-use Rattle.markup.specs.Grammar.{IsContent, IsElement, IsTag, IsText, alone, attributed, character, joined, nested, no_attributes, no_text, text, is_name}
-use Rattle.markup.specs.Tags.{attribute, element, empty}
-use Rattle.page.specs.Laws.{PagesAreElements, PartsAreContent}
-use Rattle.page.specs.Page.{begun_lines, cell, fold, head, head_start, heading, item, lines, list, look, page, paragraph, picture, picture_tag, preamble, row, shown, table, text_item}
-use Rattle.page.proofs.EncodedLaws.{shown_text}
+use Rattle.html.specs.Escaped.{is_character}
+use Rattle.html.specs.Grammar.{IsContent, IsElement, IsTag, IsText, alone, attributed, character, joined, nested, no_attributes, no_text, text, is_name}
+use Rattle.html.specs.Tags.{attribute, element, empty}
+use Rattle.html.specs.Laws.{PagesAreElements, PartsAreContent}
+use Rattle.html.specs.Page.{begun_lines, cell, fold, head, head_start, heading, item, lines, list, look, page, paragraph, picture, picture_tag, preamble, row, shown, table, text_item}
+use Rattle.html.proofs.EncodedLaws.{shown_text}
 
 -- a character that is no markup, and no quotation mark
 abbrev is_bare : ℕ → Bool

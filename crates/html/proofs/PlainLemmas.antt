@@ -3,8 +3,8 @@ use Rattle.std.proofs.Common.{ℕ, ◌<◌, ◌≤◌, ◌≡◌, Bool, true, no
 use Rattle.std.specs.Prelude.{◌==◌, nat_le, is_none, unwrap_or}
 use Rattle.std.proofs.Math.Utf8.{encode}
 use Rattle.std.proofs.lemmas.Bool.{agree_below_at, and_parts, cond-false, cond-true, eqb-true, leb-true, not-true, or_cases, true≢false}
-use Rattle.markup.specs.Escaped.{escaped, is_character, is_within, reference, shown, written}
-use Rattle.page.specs.Visible.{is_hidden, is_plain, made_visible, numbered}
+use Rattle.html.specs.Escaped.{escaped, is_character, is_within, reference, shown, written}
+use Rattle.html.specs.Visible.{is_hidden, is_plain, made_visible, numbered}
 
 -- what is tested of each character below 127
 abbrev is_right : ℕ → Bool

@@ -4,11 +4,11 @@ use Rattle.std.specs.Prelude.{nat_le, if◌then◌else◌}
 use Rattle.std.specs.List.{AllByRecursion}
 use Rattle.std.proofs.lemmas.Bool.{cond-true, cond_both, le-leb, leb-false, leb-true}
 use Rattle.std.proofs.lemmas.List.Elements.{recursion_from_All}
-use Rattle.markup.specs.Grammar.{IsContent, joined, no_text, text}
-use Rattle.page.specs.Page.{heading}
-use Rattle.page.specs.Laws.{IsFilled, IsRoomy, IsToldOrTooLong, SectionsAreFitted, StandsIn}
-use Rattle.page.specs.Sections.{Section, all_sections, bytes_of, fitted_sections, heading_bytes, left_by, more, rooms, section, sections_in, standing, standing_in, sure, titled, told_bytes}
-use Rattle.page.proofs.PageLaws.{proved_parts_are_content}
+use Rattle.html.specs.Grammar.{IsContent, joined, no_text, text}
+use Rattle.html.specs.Page.{heading}
+use Rattle.html.specs.Laws.{IsFilled, IsRoomy, IsToldOrTooLong, SectionsAreFitted, StandsIn}
+use Rattle.html.specs.Sections.{Section, all_sections, bytes_of, fitted_sections, heading_bytes, left_by, more, rooms, section, sections_in, standing, standing_in, sure, titled, told_bytes}
+use Rattle.html.proofs.PageLaws.{proved_parts_are_content}
 
 -- of a section
 

@@ -1,7 +1,7 @@
 -- What is written is an element.
 use Rattle.std.proofs.Common.{refl, subst, sym}
-use Rattle.markup.specs.Grammar.{IsContent, nested}
-use Rattle.markup.specs.Laws.{ElementsAreElements}
+use Rattle.html.specs.Grammar.{IsContent, nested}
+use Rattle.html.specs.MarkupLaws.{ElementsAreElements}
 
 pub proved_elements_are_elements : ElementsAreElements
 proved_elements_are_elements = record {

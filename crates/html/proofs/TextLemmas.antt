@@ -4,9 +4,9 @@ use Rattle.std.specs.Prelude.{◌==◌}
 use Rattle.std.specs.Fmt.{decimal, digits, digit_glyph, digits_onto}
 use Rattle.std.specs.List.{flat_map, list_all}
 use Rattle.std.proofs.lemmas.Bool.{and_parts, and_from, cond_both, eqb-false, le-leb, lt-ltb, not-true, or_left, or_right}
-use Rattle.markup.specs.Escaped.{is_character, is_within}
-use Rattle.markup.specs.Grammar.{IsText, character, no_text, referred}
-use Rattle.markup.specs.Laws.{is_plain}
+use Rattle.html.specs.Escaped.{is_character, is_within}
+use Rattle.html.specs.Grammar.{IsText, character, no_text, referred}
+use Rattle.html.specs.MarkupLaws.{is_plain}
 
 -- one behind the other
 pub text-append : {a : List ℕ} (b : List ℕ) → IsText a → IsText b → IsText (a ++ b)

@@ -4,9 +4,9 @@ use Rattle.std.specs.Prelude.{nat_le, nat_lt}
 use Rattle.std.specs.List.{list_all}
 use Rattle.std.proofs.lemmas.Bool.{and_from, and_parts, cond-false, cond_both, lt-leb, ltb-true, ne_eqb, not-true, or_from}
 use Rattle.std.proofs.lemmas.List.Folds.{list_all-append}
-use Rattle.markup.specs.Escaped.{is_within}
-use Rattle.page.specs.Laws.{TextsAreVisible}
-use Rattle.page.specs.Visible.{digit, fifth, is_control, is_hidden, is_ignored, is_ignored_above, is_ignored_below, made_visible, numbered, visible}
+use Rattle.html.specs.Escaped.{is_within}
+use Rattle.html.specs.Laws.{TextsAreVisible}
+use Rattle.html.specs.Visible.{digit, fifth, is_control, is_hidden, is_ignored, is_ignored_above, is_ignored_below, made_visible, numbered, visible}
 
 abbrev is_seen : ℕ → Bool
 is_seen c = not (is_hidden c)

@@ -1,9 +1,9 @@
 -- Elements, by the grammar of XML 1.0 (the production's number behind each), as far as it is written here.
 use Rattle.std.specs.Prelude.{ℕ, ◌≡◌, ◌≢◌, ◌==◌, Bool, true, false, ◌&&◌, ◌||◌, List, [], ◌∷◌, ◌++◌, bytes_eq, IsSome}
 use Rattle.std.specs.List.{list_all, list_any}
-use Rattle.markup.specs.Escaped.{is_within, is_character}
-use Rattle.markup.specs.Reading.{meaning}
-use Rattle.markup.specs.Tags.{attribute, element, empty}
+use Rattle.html.specs.Escaped.{is_within, is_character}
+use Rattle.html.specs.Reading.{meaning}
+use Rattle.html.specs.Tags.{attribute, element, empty}
 
 -- letters of ASCII, and what else a name may go on with
 abbrev pub is_letter : ℕ → Bool

@@ -1,10 +1,10 @@
 -- Laws of pages. Each is the contract of a function of this crate.
 use Rattle.std.specs.Prelude.{ℕ, ◌+◌, ◌≤◌, ◌<◌, ◌≡◌, ◌⊎◌, Bool, true, not, List, ◌∷◌, ◌++◌, codes, length}
 use Rattle.std.specs.List.{All, list_all}
-use Rattle.markup.specs.Grammar.{IsContent, IsElement, IsText}
-use Rattle.page.specs.Page.{begun_lines, cell, fold, head, heading, item, lines, list, page, paragraph, picture, row, shown, table, text_item}
-use Rattle.page.specs.Sections.{Section, all_sections, bytes_of, heading_bytes, rooms, sections_in, standing_in, told_bytes}
-use Rattle.page.specs.Visible.{is_hidden, visible}
+use Rattle.html.specs.Grammar.{IsContent, IsElement, IsText}
+use Rattle.html.specs.Page.{begun_lines, cell, fold, head, heading, item, lines, list, page, paragraph, picture, row, shown, table, text_item}
+use Rattle.html.specs.Sections.{Section, all_sections, bytes_of, heading_bytes, rooms, sections_in, standing_in, told_bytes}
+use Rattle.html.specs.Visible.{is_hidden, visible}
 
 -- a text of others is text without tags: no < > and ", and no & but that of a reference
 abbrev pub TextsAreText : Type 0

@@ -1,3 +1,8 @@
+pub mod Escaped
+pub mod Reading
+pub mod Tags
+pub mod Grammar
+pub mod MarkupLaws
 pub mod Visible
 pub mod Page
 pub mod Sections

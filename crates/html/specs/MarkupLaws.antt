@@ -1,10 +1,10 @@
 -- Laws of what is written. Each is the contract of a function of this crate.
 use Rattle.std.specs.Prelude.{ℕ, ◌≡◌, ◌==◌, Bool, true, ◌&&◌, not, List, map, None, Some}
 use Rattle.std.specs.List.{list_all}
-use Rattle.markup.specs.Escaped.{escaped, is_character, shown}
-use Rattle.markup.specs.Reading.{read}
-use Rattle.markup.specs.Grammar.{IsContent, IsElement, IsTag, IsText}
-use Rattle.markup.specs.Tags.{element}
+use Rattle.html.specs.Escaped.{escaped, is_character, shown}
+use Rattle.html.specs.Reading.{read}
+use Rattle.html.specs.Grammar.{IsContent, IsElement, IsTag, IsText}
+use Rattle.html.specs.Tags.{element}
 
 -- an escaped text is read as what is shown of it; where a document may have all its characters, as the text itself
 pub record EscapesAreReadBack : Type 0 where

@@ -2,8 +2,8 @@
 -- made visible and escaped.
 use Rattle.std.specs.Prelude.{ℕ, Bool, true, false, List, ◌++◌, codes}
 use Rattle.std.specs.Str.{chars, encode_utf8_all}
-use Rattle.markup.specs.Escaped.{escaped}
-use Rattle.page.specs.Visible.{visible}
+use Rattle.html.specs.Escaped.{escaped}
+use Rattle.html.specs.Visible.{visible}
 
 -- a text of others
 abbrev pub shown : List ℕ → List ℕ

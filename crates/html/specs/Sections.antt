@@ -1,7 +1,7 @@
 -- Sections of a page, and for which of them there is room: each has a room of its own, and one that is longer stands
 -- where what the others leave of the page's room suffices.
 use Rattle.std.specs.Prelude.{ℕ, ◌+◌, ◌-◌, nat_le, if◌then◌else◌, List, [], ◌∷◌, ◌++◌, length}
-use Rattle.page.specs.Page.{heading}
+use Rattle.html.specs.Page.{heading}
 
 -- what a section tells under its title, the bytes for which there is room in any case, and what stands in its place
 -- where there is no room

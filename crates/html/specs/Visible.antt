@@ -1,7 +1,7 @@
 -- Characters that are not seen, or that turn the order in which others are, made visible.
 use Rattle.std.specs.Prelude.{ℕ, ◌+◌, ◌/◌, ◌%◌, ◌==◌, nat_lt, Bool, ◌||◌, if◌then◌else◌, List, [], ◌∷◌, ◌++◌, codes}
 use Rattle.std.specs.List.{flat_map}
-use Rattle.markup.specs.Escaped.{is_within}
+use Rattle.html.specs.Escaped.{is_within}
 
 -- controls but the tab, the line feed and the carriage return (Unicode, general category Cc)
 abbrev pub is_control : ℕ → Bool

@@ -1,7 +1,7 @@
 //! Texts of others, so written that a reader of XML takes none of them for markup.
 ghost use Rattle.std.specs.Prelude.{◌≡◌, ◌++◌, string_bytes, OnOk, option_map};
 ghost use Rattle.std.specs.Str.{encode_utf8_all};
-ghost use Rattle.markup.specs.Escaped.{is_character, reference, shown, written};
+ghost use Rattle.html.specs.Escaped.{is_character, reference, shown, written};
 
 use std::alloc::AllocError;
 

@@ -1,5 +1,5 @@
 //! Laws of pages: each function does nothing, and its contract is the law.
-ghost use Rattle.page.specs.Laws.{PagesAreElements, PartsAreContent, SectionsAreFitted, TextsAreText, TextsAreVisible};
+ghost use Rattle.html.specs.Laws.{PagesAreElements, PartsAreContent, SectionsAreFitted, TextsAreText, TextsAreVisible};
 
 /// A text of others has no markup: no angle bracket, no quotation mark, and no ampersand but that of a reference.
 pub fn texts_are_text()

@@ -1,16 +1,21 @@
+//! Texts in XML, and so in SVG and XHTML: escapes; what attributes, tags and elements are.
 //! Pages of HTML that show texts of others: one file each, which needs nothing else and runs nothing.
 #![tactic(auto)]
 
+mod escapes;
 mod laws;
+mod markup_laws;
 mod page;
 mod parts;
 mod section;
 mod sections;
-mod visible;
+mod visible_text;
 
+pub use escapes::put_character;
 pub use laws::{
     pages_are_elements, parts_are_content, sections_are_fitted, texts_are_text, texts_are_visible,
 };
+pub use markup_laws::{elements_are_elements, escapes_are_plain, escapes_are_read_back};
 pub use page::{finish, start};
 pub use parts::{
     put_begun_lines, put_cell, put_fold_end, put_fold_start, put_head, put_heading, put_item_end,

@@ -1,5 +1,5 @@
 //! Laws of what is written: each function does nothing, and its contract is the law.
-ghost use Rattle.markup.specs.Laws.{ElementsAreElements, EscapesArePlain, EscapesAreReadBack};
+ghost use Rattle.html.specs.MarkupLaws.{ElementsAreElements, EscapesArePlain, EscapesAreReadBack};
 
 /// An escaped text is read as the text again, but for characters that no document may have, for each of which the
 /// replacement character is read.

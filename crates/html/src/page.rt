@@ -1,8 +1,8 @@
 //! Where a page begins and where it ends.
 ghost use Rattle.std.specs.Prelude.{◌≡◌, ◌++◌, string_bytes, IfOk, OnOk};
-ghost use Rattle.page.specs.Page.{head_end, head_middle, look, look_end, page_end, page_start, preamble, shown};
+ghost use Rattle.html.specs.Page.{head_end, head_middle, look, look_end, page_end, page_start, preamble, shown};
 
-use crate::visible::put_shown;
+use crate::visible_text::put_shown;
 use std::alloc::{AllocError, Global};
 
 /// What a page of this title begins with: its parts come behind it.

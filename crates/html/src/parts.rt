@@ -1,8 +1,8 @@
 //! The parts of a page.
 ghost use Rattle.std.specs.Prelude.{◌≡◌, ◌++◌, string_bytes, OnOk};
-ghost use Rattle.page.specs.Page.{begun_lines, cell, fold_end, fold_start, head, head_start, heading, item_end, item_start, lines, list_end, list_start, paragraph, picture, picture_end, picture_start, picture_tag, row_end, row_start, table_end, table_start, text_item};
+ghost use Rattle.html.specs.Page.{begun_lines, cell, fold_end, fold_start, head, head_start, heading, item_end, item_start, lines, list_end, list_start, paragraph, picture, picture_end, picture_start, picture_tag, row_end, row_start, table_end, table_start, text_item};
 
-use crate::visible::put_shown;
+use crate::visible_text::put_shown;
 use std::alloc::AllocError;
 
 /// Adds a heading.

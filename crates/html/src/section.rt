@@ -1,6 +1,6 @@
 //! A section of a page.
 ghost use Rattle.std.specs.Prelude.{◌≡◌, length};
-ghost use Rattle.page.specs.Sections.{more, sure};
+ghost use Rattle.html.specs.Sections.{more, sure};
 
 use std::marker::Model;
 
@@ -19,7 +19,7 @@ pub struct Section {
 
 impl Model for Section {
     ghost use Rattle.std.specs.Prelude.{string_bytes};
-    ghost use Rattle.page.specs.Sections.{Section as Telling};
+    ghost use Rattle.html.specs.Sections.{Section as Telling};
 
     ghost Value = { Telling };
 

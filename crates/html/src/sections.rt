@@ -1,6 +1,6 @@
 //! Sections of a page, one behind the other, and for which of them there is room.
 ghost use Rattle.std.specs.Prelude.{◌≡◌, ◌++◌, string_bytes, OnOk};
-ghost use Rattle.page.specs.Sections.{fitted_sections, left_by, section, sections_in};
+ghost use Rattle.html.specs.Sections.{fitted_sections, left_by, section, sections_in};
 
 use crate::parts::put_heading;
 use crate::section::Section;

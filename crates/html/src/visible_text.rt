@@ -1,11 +1,11 @@
 //! Texts of others, of which a reader sees each character.
 ghost use Rattle.std.specs.Prelude.{◌≡◌, ◌<◌, ◌++◌, string_bytes, OnOk};
 ghost use Rattle.std.specs.Str.{encode_utf8_all};
-ghost use Rattle.markup.specs.Escaped.{escaped};
-ghost use Rattle.page.specs.Page.{shown};
-ghost use Rattle.page.specs.Visible.{digit, fifth, is_control, is_hidden, is_ignored, is_ignored_above, is_ignored_below, is_plain, made_visible, numbered, visible};
+ghost use Rattle.html.specs.Escaped.{escaped};
+ghost use Rattle.html.specs.Page.{shown};
+ghost use Rattle.html.specs.Visible.{digit, fifth, is_control, is_hidden, is_ignored, is_ignored_above, is_ignored_below, is_plain, made_visible, numbered, visible};
 
-use markup::put_character;
+use crate::escapes::put_character;
 use std::alloc::AllocError;
 
 /// Adds a text, escaped, with the number of each character in its place that is not seen or turns the order of others.

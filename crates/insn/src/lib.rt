@@ -2,8 +2,8 @@
 #![tactic(auto)]
 
 mod insn;
+mod kept_facts;
 mod program;
-mod recalling;
 mod reg;
 mod size;
 

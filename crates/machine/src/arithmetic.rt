@@ -5,9 +5,9 @@ ghost use Rattle.semantics.specs.Step.{number_of};
 ghost use Rattle.verify.specs.Work.{operation_of};
 
 use semantics::Value;
-use verify::Work;
+use verify::SizedOperation;
 use word::arithmetic::{alu32, alu64};
-use word::compare::{compare32, compare64};
+use word::comparison::{compare32, compare64};
 use word::{Condition, Operation, Width};
 
 /// The number of a value that is one.
@@ -34,36 +34,36 @@ pub fn arithmetic(width: Width, operation: Operation, a: u64, b: u64) -> u64
 
 /// The result of an operation that is no move.
 #[inline(always)]
-pub fn worked(work: Work, a: u64, b: u64) -> u64
+pub fn worked(work: SizedOperation, a: u64, b: u64) -> u64
     ensures { result ≡ arithmetic (operation_of work).0 (operation_of work).1 a b }
 {
     match work {
-        Work::Add64 => alu64(Operation::Add, a, b),
-        Work::Sub64 => alu64(Operation::Sub, a, b),
-        Work::Mul64 => alu64(Operation::Mul, a, b),
-        Work::Div64 => alu64(Operation::Div, a, b),
-        Work::SignedDiv64 => alu64(Operation::SignedDiv, a, b),
-        Work::Or64 => alu64(Operation::Or, a, b),
-        Work::And64 => alu64(Operation::And, a, b),
-        Work::ShiftLeft64 => alu64(Operation::ShiftLeft, a, b),
-        Work::ShiftRight64 => alu64(Operation::ShiftRight, a, b),
-        Work::Mod64 => alu64(Operation::Mod, a, b),
-        Work::SignedMod64 => alu64(Operation::SignedMod, a, b),
-        Work::Xor64 => alu64(Operation::Xor, a, b),
-        Work::ArithmeticShiftRight64 => alu64(Operation::ArithmeticShiftRight, a, b),
-        Work::Add32 => alu32(Operation::Add, a, b),
-        Work::Sub32 => alu32(Operation::Sub, a, b),
-        Work::Mul32 => alu32(Operation::Mul, a, b),
-        Work::Div32 => alu32(Operation::Div, a, b),
-        Work::SignedDiv32 => alu32(Operation::SignedDiv, a, b),
-        Work::Or32 => alu32(Operation::Or, a, b),
-        Work::And32 => alu32(Operation::And, a, b),
-        Work::ShiftLeft32 => alu32(Operation::ShiftLeft, a, b),
-        Work::ShiftRight32 => alu32(Operation::ShiftRight, a, b),
-        Work::Mod32 => alu32(Operation::Mod, a, b),
-        Work::SignedMod32 => alu32(Operation::SignedMod, a, b),
-        Work::Xor32 => alu32(Operation::Xor, a, b),
-        Work::ArithmeticShiftRight32 => alu32(Operation::ArithmeticShiftRight, a, b),
+        SizedOperation::Add64 => alu64(Operation::Add, a, b),
+        SizedOperation::Sub64 => alu64(Operation::Sub, a, b),
+        SizedOperation::Mul64 => alu64(Operation::Mul, a, b),
+        SizedOperation::Div64 => alu64(Operation::Div, a, b),
+        SizedOperation::SignedDiv64 => alu64(Operation::SignedDiv, a, b),
+        SizedOperation::Or64 => alu64(Operation::Or, a, b),
+        SizedOperation::And64 => alu64(Operation::And, a, b),
+        SizedOperation::ShiftLeft64 => alu64(Operation::ShiftLeft, a, b),
+        SizedOperation::ShiftRight64 => alu64(Operation::ShiftRight, a, b),
+        SizedOperation::Mod64 => alu64(Operation::Mod, a, b),
+        SizedOperation::SignedMod64 => alu64(Operation::SignedMod, a, b),
+        SizedOperation::Xor64 => alu64(Operation::Xor, a, b),
+        SizedOperation::ArithmeticShiftRight64 => alu64(Operation::ArithmeticShiftRight, a, b),
+        SizedOperation::Add32 => alu32(Operation::Add, a, b),
+        SizedOperation::Sub32 => alu32(Operation::Sub, a, b),
+        SizedOperation::Mul32 => alu32(Operation::Mul, a, b),
+        SizedOperation::Div32 => alu32(Operation::Div, a, b),
+        SizedOperation::SignedDiv32 => alu32(Operation::SignedDiv, a, b),
+        SizedOperation::Or32 => alu32(Operation::Or, a, b),
+        SizedOperation::And32 => alu32(Operation::And, a, b),
+        SizedOperation::ShiftLeft32 => alu32(Operation::ShiftLeft, a, b),
+        SizedOperation::ShiftRight32 => alu32(Operation::ShiftRight, a, b),
+        SizedOperation::Mod32 => alu32(Operation::Mod, a, b),
+        SizedOperation::SignedMod32 => alu32(Operation::SignedMod, a, b),
+        SizedOperation::Xor32 => alu32(Operation::Xor, a, b),
+        SizedOperation::ArithmeticShiftRight32 => alu32(Operation::ArithmeticShiftRight, a, b),
     }
 }
 

@@ -1,6 +1,6 @@
-use crate::activation::Activation;
-use crate::ended::Ended;
-use crate::waiting::Waiting;
+use crate::ended_program::Ended;
+use crate::typed_activation::Activation;
+use crate::waiting_program::Waiting;
 use semantics::Request;
 
 /// Why a program stands still, with what can be done about it.

@@ -10,11 +10,11 @@ ghost use Rattle.machine.specs.Advance.{IsOfRun, IsAskOfRun};
 ghost use Rattle.semantics.specs.Call.{fits, returned, resumed};
 ghost use Rattle.semantics.specs.Replies.{words_in};
 
-use crate::activation::Activation;
+use crate::activation::Machine;
 use mem::store_words;
 use semantics::{Reply, Request, Span};
 
-impl Activation {
+impl Machine {
     /// Goes on with the board's reply to what it asked.
     pub fn resume(&mut self, request: &Request, reply: &Reply)
         requires fits { fits request.now (words_in reply.now) ≡ true }

@@ -2,7 +2,7 @@ use semantics::Request;
 
 /// Why a running program stands still.
 #[derive(Clone, Copy)]
-pub enum Stop {
+pub enum StopReason {
     /// It asks the board.
     Asked(Request),
     /// It has exited with r0.

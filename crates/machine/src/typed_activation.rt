@@ -3,12 +3,13 @@ ghost use Rattle.semantics.specs.State.{entry};
 ghost use Rattle.semantics.specs.Outbox.{empty_outbox};
 ghost use Rattle.semantics.specs.Reached.{Reached};
 ghost use Rattle.machine.specs.Advance.{IsOfRun};
-ghost use Rattle.typed.specs.Pausing.{Pauses, IsUncut, IsPauseOfRun, IsLeftBy};
+ghost use Rattle.machine.specs.Pausing.{Pauses, IsUncut, IsPauseOfRun, IsLeftBy};
 
-use crate::ended::Ended;
+use crate::activation::Machine as Machine;
+use crate::ended_program::Ended;
 use crate::pause::Pause;
-use crate::waiting::Waiting;
-use machine::{Activation as Machine, Stop};
+use crate::stop::StopReason;
+use crate::waiting_program::Waiting;
 use mem::Context;
 use outbox::Outbox;
 use std::marker::Model;
@@ -68,12 +69,12 @@ impl Activation {
     {
         let Activation { mut machine } = self;
         match machine.run(verified, context, limit) {
-            Stop::Asked(request) => {
+            StopReason::Asked(request) => {
                 let waiting = Waiting::of(request, machine);
                 Pause::Board(waiting.request(), waiting)
             }
-            Stop::Exited(r0) => Pause::Done(left(machine, Some(r0))),
-            Stop::Limit => Pause::Cut(Activation::of(machine)),
+            StopReason::Exited(r0) => Pause::Done(left(machine, Some(r0))),
+            StopReason::Limit => Pause::Cut(Activation::of(machine)),
         }
     }
 

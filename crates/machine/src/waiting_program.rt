@@ -5,8 +5,8 @@ ghost use Rattle.semantics.specs.Replies.{words_in};
 ghost use Rattle.machine.specs.Standing.{before, HasAsked};
 ghost use Rattle.machine.specs.Advance.{IsOfRun, IsAskOfRun};
 
-use crate::activation::Activation;
-use machine::Activation as Machine;
+use crate::activation::Machine as Machine;
+use crate::typed_activation::Activation;
 use semantics::{Reply, Request};
 use std::marker::Model;
 
@@ -19,7 +19,7 @@ pub struct Waiting {
 }
 
 impl Model for Waiting {
-    ghost use Rattle.typed.specs.Asking.{Asking};
+    ghost use Rattle.machine.specs.Asking.{Asking};
     ghost use Rattle.machine.specs.Standing.{HasAsked};
 
     ghost Value = { Asking };

@@ -6,7 +6,7 @@ use Rattle.std.proofs.lemmas.List.{length-replicate, length-take-le}
 use Rattle.std.proofs.lemmas.List.Elements.{All-append, All-take, All-replicate}
 use Rattle.word.specs.Bytes.{little_bytes}
 use Rattle.semantics.specs.Relay.{IsContext}
-use Rattle.contexts.specs.Layout.{context_bytes}
+use Rattle.mem.specs.ContextLayout.{context_bytes}
 use Rattle.semantics.proofs.WordLaws.{byte_fits}
 
 padded_long : (n : ℕ) (xs : List ℕ) → length (take n (xs ++ replicate n 0)) ≡ n

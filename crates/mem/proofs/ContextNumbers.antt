@@ -3,7 +3,7 @@ use Rattle.std.proofs.Common.{◌≡◌, ℕ, zero, suc, ◌+◌, ◌-◌, ◌*�
 use Rattle.std.specs.Prelude.{replicate, slice_get, slice_range}
 use Rattle.std.specs.Int.{w32, from_le_bytes}
 use Rattle.std.proofs.lemmas.Nat.{from_le_bytes-to_le_bytes_4}
-use Rattle.contexts.specs.Layout.{context_bytes}
+use Rattle.mem.specs.ContextLayout.{context_bytes}
 use Rattle.word.specs.Bytes.{little_bytes, little_number}
 
 four_bytes : (a b c d : ℕ) → little_number (a ∷ b ∷ c ∷ d ∷ []) ≡ from_le_bytes w32 (a ∷ b ∷ c ∷ d ∷ [])

@@ -1,3 +1,6 @@
+pub mod Bytes
+pub mod ContextNumbers
+pub mod Spelling
 pub mod Parts
 pub mod Numbers
 pub mod Writing

@@ -4,7 +4,7 @@ use Rattle.std.specs.Prelude.{replicate}
 use Rattle.std.proofs.lemmas.Grind.{flat_map-append}
 use Rattle.word.specs.Bytes.{little_bytes}
 use Rattle.label.specs.declared.shape.Shape.{Shape}
-use Rattle.contexts.specs.Layout.{context_bytes}
+use Rattle.mem.specs.ContextLayout.{context_bytes}
 
 -- the eight numbers in front of a context's values
 abbrev pub header_numbers : Shape → ℕ → ℕ → List ℕ

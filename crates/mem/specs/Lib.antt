@@ -1,3 +1,4 @@
+pub mod ContextLayout
 pub mod Answers
 pub mod Places
 pub mod Reading

@@ -6,7 +6,7 @@ ghost use Rattle.mem.specs.Layout.{replaced};
 
 use byteorder::{ByteOrder, LittleEndian};
 use insn::Size;
-use word::low::{low_byte, low_half, low_word};
+use word::low_bits::{low_byte, low_half, low_word};
 
 /// The number that so many bytes spell.
 #[inline(always)]

@@ -3,8 +3,8 @@ ghost use Rattle.word.specs.Bytes.{little_number};
 ghost use Rattle.insn.specs.Insn.{bytes_of};
 ghost use Rattle.semantics.specs.Run.{IsContext};
 
-use crate::little::number_at;
-use contexts::word_at;
+use crate::byte_order::number_at;
+use crate::context_reader::word_at;
 use insn::Size;
 use std::marker::Model;
 
@@ -27,7 +27,7 @@ impl<'a> Model for Context<'a> {
 
 impl<'a> Context<'a> {
     /// How many bytes it has.
-    pub const BYTES: usize = contexts::layout::BYTES;
+    pub const BYTES: usize = crate::layout::BYTES;
 
     /// The context of these bytes, which are 4,096.
     pub fn new(bytes: &'a [u8]) -> Context<'a>

@@ -2,7 +2,7 @@
 ghost use Rattle.std.specs.Prelude.{◌≡◌, ◌+◌, ◌*◌, ◌≤◌, length, take, drop};
 ghost use Rattle.word.specs.Bytes.{little_number};
 ghost use Rattle.semantics.specs.Outbox.{taken_value};
-ghost use Rattle.contexts.specs.Layout.{number_told};
+ghost use Rattle.mem.specs.ContextLayout.{number_told};
 
 use byteorder::{ByteOrder, LittleEndian};
 

@@ -1,7 +1,7 @@
 //! The bytes of a context.
 ghost use Rattle.std.specs.Prelude.{◌≡◌, ◌<◌, ◌≤◌, ◌+◌, ◌*◌, ◌^◌, ◌++◌, All, length, flat_map, vec_len, vec_capacity, IfOk};
 ghost use Rattle.word.specs.Bytes.{little_bytes};
-ghost use Rattle.contexts.specs.Layout.{context_bytes, context_numbers};
+ghost use Rattle.mem.specs.ContextLayout.{context_bytes, context_numbers};
 
 use crate::layout::BYTES;
 use byteorder::{ByteOrder, LittleEndian};

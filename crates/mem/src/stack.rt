@@ -6,9 +6,9 @@ ghost use Rattle.mem.specs.Answers.{IsAnswer};
 ghost use Rattle.mem.specs.Reading.{number_in};
 ghost use Rattle.mem.specs.Layout.{region_of, pieces};
 
+use crate::byte_order::{number_at, put};
 use crate::cells::{are_pieces, read_number, same_cell, word_at};
 use crate::fault::MemoryFault;
-use crate::little::{number_at, put};
 use insn::Size;
 use semantics::{Cell, Region, Value};
 use std::marker::Model;

@@ -2,9 +2,9 @@
 use Rattle.std.proofs.Common.{◌≡◌, ℕ, zero, suc, ◌-◌, ◌<◌, ◌≢◌, List, false, refl, sym, ◌∙◌, arith, ap}
 use Rattle.std.specs.Prelude.{Option, Some, None, option_and_then, ◌==◌}
 use Rattle.std.proofs.lemmas.Grind.{common_steps}
-use Rattle.debug_lines.specs.declared.entries.Format.{Format}
-use Rattle.debug_lines.specs.declared.entries.Path.{Path}
-use Rattle.debug_lines.specs.Entries.{format_at, behind_value, behind_formats, behind_then, behind_entry, path_by, path_in, behind_entries}
+use Rattle.object.specs.declared.entries.Format.{Format}
+use Rattle.object.specs.declared.entries.Path.{Path}
+use Rattle.object.specs.Entries.{format_at, behind_value, behind_formats, behind_then, behind_entry, path_by, path_in, behind_entries}
 
 pub formats_none : (n place : ℕ) (formats : List ℕ) → n ≡ 0 → behind_formats n place formats ≡ Some place
 unfolding behind_formats

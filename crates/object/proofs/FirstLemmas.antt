@@ -1,7 +1,7 @@
 -- The first that is found, in a loop that looks at the numbers in order.
 use Rattle.std.proofs.Common.{◌≡◌, ℕ, zero, suc, ◌+◌, ◌-◌, ◌<◌, refl, sym, ap, ◌∙◌, add-one, arith}
 use Rattle.std.specs.Prelude.{Option, Some, None}
-use Rattle.elf.specs.First.{first_some, or_else}
+use Rattle.object.specs.First.{first_some, or_else}
 
 -- before the first turn nothing is found
 pub nothing_yet : {A : Type 0} (f : ℕ → Option A) → first_some f 0 ≡ None

@@ -5,7 +5,7 @@ use Rattle.std.specs.List.{list_all}
 use Rattle.std.proofs.lemmas.Bool.{and_parts}
 use Rattle.std.proofs.lemmas.Str.{IsUtf8-from_ascii}
 use Rattle.std.proofs.lemmas.Grind.{common_steps}
-use Rattle.debug_lines.specs.Names.{is_visible, is_plain}
+use Rattle.object.specs.Names.{is_visible, is_plain}
 
 visible_low : (byte : ℕ) → is_visible byte ≡ true → byte < 128
 visible_low byte h =

@@ -3,9 +3,9 @@ use Rattle.std.proofs.Common.{◌≡◌, ℕ, zero, suc, ◌+◌, ◌-◌, ◌<�
 use Rattle.std.specs.Prelude.{Option, None}
 use Rattle.std.specs.Prelude.{Some, nat_le, nat_lt, true, false}
 use Rattle.std.proofs.lemmas.Grind.{common_steps}
-use Rattle.elf.specs.Number.{number_at}
-use Rattle.debug_lines.specs.declared.number.Read.{Read}
-use Rattle.debug_lines.specs.Numbers.{last_byte, number_in, number_on}
+use Rattle.object.specs.Number.{number_at}
+use Rattle.object.specs.declared.leb128.Read.{Read}
+use Rattle.object.specs.Numbers.{last_byte, number_in, number_on}
 
 pub number_none : (signed : Bool) (n place : ℕ) (bytes : List ℕ) → n ≡ 0 → number_in signed n place bytes ≡ None
 unfolding number_in

@@ -1,17 +1,17 @@
 -- What of an object does not lie within the file, or within what it is a part of: the first, in this order.
 use Rattle.std.specs.Prelude.{ℕ, ◌+◌, ◌/◌, List, length, Bool, not, ◌==◌, ◌&&◌, ◌||◌, nat_lt, nat_le, if◌then◌else◌}
 use Rattle.std.specs.Prelude.{Option, Some, None}
-use Rattle.elf.specs.declared.section.Section.{Section}
-use Rattle.elf.specs.declared.symbol.Symbol.{Symbol}
-use Rattle.elf.specs.declared.fault.Damage.{Damage}
-use Rattle.elf.specs.declared.fault.Damage.TheVariants as damages
-use Rattle.elf.specs.First.{first_some, or_else}
-use Rattle.elf.specs.Section.{section_at, section_bytes, has_no_bytes, is_relocations}
-use Rattle.elf.specs.Symbol.{symbol_at, is_function}
-use Rattle.elf.specs.Relocation.{relocation_size, relocation_at}
+use Rattle.object.specs.declared.section.SectionHeader.{SectionHeader}
+use Rattle.object.specs.declared.symbol.Symbol.{Symbol}
+use Rattle.object.specs.declared.fault.Damage.{Damage}
+use Rattle.object.specs.declared.fault.Damage.TheVariants as damages
+use Rattle.object.specs.First.{first_some, or_else}
+use Rattle.object.specs.Section.{section_at, section_bytes, has_no_bytes, is_relocations}
+use Rattle.object.specs.Symbol.{symbol_at, is_function}
+use Rattle.object.specs.Relocation.{relocation_size, relocation_at}
 
 -- a section without bytes in the file, or one whose bytes are there
-abbrev pub is_section_whole : List ℕ → Section → Bool
+abbrev pub is_section_whole : List ℕ → SectionHeader → Bool
 is_section_whole object section = has_no_bytes section || nat_le (section.start + section.size) (length object)
 
 abbrev pub section_damage : List ℕ → List ℕ → ℕ → Option Damage

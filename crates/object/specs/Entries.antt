@@ -1,13 +1,13 @@
--- Entries of the tables of directories and files (DWARF 5, section 6.2.4.1): formats, which are pairs of a content and
+-- EntryTable of the tables of directories and files (DWARF 5, section 6.2.4.1): formats, which are pairs of a content and
 -- a form, and for each entry a value in each form.
 use Rattle.std.specs.Prelude.{ℕ, zero, suc, ◌+◌, List, length, ◌==◌, ◌||◌, nat_lt, nat_le, if◌then◌else◌}
 use Rattle.std.specs.Prelude.{Option, Some, None, option_map, option_and_then}
-use Rattle.elf.specs.Number.{number_at}
-use Rattle.debug_lines.specs.declared.number.Read.{Read}
-use Rattle.debug_lines.specs.declared.entries.Format.{Format}
-use Rattle.debug_lines.specs.declared.entries.Entries.{Entries}
-use Rattle.debug_lines.specs.declared.entries.Path.{Path}
-use Rattle.debug_lines.specs.Numbers.{unsigned_at, string_at}
+use Rattle.object.specs.Number.{number_at}
+use Rattle.object.specs.declared.leb128.Read.{Read}
+use Rattle.object.specs.declared.entries.Format.{Format}
+use Rattle.object.specs.declared.entries.EntryTable.{EntryTable}
+use Rattle.object.specs.declared.entries.Path.{Path}
+use Rattle.object.specs.Numbers.{unsigned_at, string_at}
 
 -- how many bytes a form of a fixed size has, else 0: DW_FORM_data1, data2, data4, data8 and data16, and the offsets of
 -- DW_FORM_strp and DW_FORM_line_strp
@@ -87,15 +87,15 @@ behind_entries (suc n) count formats from bytes place =
 
 -- a table of version 5: a byte with the number of the formats, these, the number of the entries, and these; no table
 -- has more entries than bytes
-abbrev pub entries_by : ℕ → ℕ → List ℕ → Read → Option Entries
+abbrev pub entries_by : ℕ → ℕ → List ℕ → Read → Option EntryTable
 entries_by formats from bytes count =
     if nat_le count.value (length bytes)
     then Some (record { formats = formats; from = from; count = count.value; first = count.next }) else None
 
-abbrev pub entries_behind : ℕ → ℕ → List ℕ → ℕ → Option Entries
+abbrev pub entries_behind : ℕ → ℕ → List ℕ → ℕ → Option EntryTable
 entries_behind formats from bytes next = option_and_then (entries_by formats from bytes) (unsigned_at next bytes)
 
-abbrev pub entries_at : ℕ → List ℕ → Option Entries
+abbrev pub entries_at : ℕ → List ℕ → Option EntryTable
 entries_at place bytes =
     option_and_then (entries_behind (number_at 1 place bytes) (place + 1) bytes)
     (behind_formats (number_at 1 place bytes) (place + 1) bytes)

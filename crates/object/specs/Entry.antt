@@ -1,16 +1,16 @@
 -- The code that an object has for an entry, or the first fault.
 use Rattle.std.specs.Prelude.{ℕ, ◌+◌, ◌/◌, List, length, not, if◌then◌else◌, Option, Some, None, Result, Ok, Err}
-use Rattle.elf.specs.declared.symbol.Symbol.{Symbol}
-use Rattle.elf.specs.declared.fault.Damage.{Damage}
-use Rattle.elf.specs.declared.fault.Fault.{Fault}
-use Rattle.elf.specs.declared.fault.Fault.TheVariants.{NoObject, Damaged, NoFunction, Several}
-use Rattle.elf.specs.declared.fault.Damage.TheVariants.{Sections}
-use Rattle.elf.specs.Number.{window}
-use Rattle.elf.specs.First.{first_some, or_else}
-use Rattle.elf.specs.Section.{is_bpf_object, section_count, section_table, is_table_whole, section_at, section_bytes}
-use Rattle.elf.specs.Symbol.{symbols_section, symbol_at, entry_here}
-use Rattle.elf.specs.Relocation.{relocations_fault, call_fault}
-use Rattle.elf.specs.Damage.{tables_damage}
+use Rattle.object.specs.declared.symbol.Symbol.{Symbol}
+use Rattle.object.specs.declared.fault.Damage.{Damage}
+use Rattle.object.specs.declared.fault.ObjectFault.{ObjectFault}
+use Rattle.object.specs.declared.fault.ObjectFault.TheVariants.{NoObject, Damaged, NoFunction, Several}
+use Rattle.object.specs.declared.fault.Damage.TheVariants.{Sections}
+use Rattle.object.specs.Number.{window}
+use Rattle.object.specs.First.{first_some, or_else}
+use Rattle.object.specs.Section.{is_bpf_object, section_count, section_table, is_table_whole, section_at, section_bytes}
+use Rattle.object.specs.Symbol.{symbols_section, symbol_at, entry_here}
+use Rattle.object.specs.Relocation.{relocations_fault, call_fault}
+use Rattle.object.specs.Damage.{tables_damage}
 
 -- the parts of an object that are looked at: the headers of its sections, how many there are, which of them has the
 -- symbols, these, and their strings
@@ -42,7 +42,7 @@ parts_of object =
     parts_at object (section_table object) (section_count object)
     (symbols_section (section_table object) (section_count object))
 
-abbrev pub as_fault : Option Damage → Option Fault
+abbrev pub as_fault : Option Damage → Option ObjectFault
 as_fault None = None
 as_fault (Some damage) = Some (Damaged damage)
 
@@ -51,17 +51,17 @@ abbrev pub parts_damage : List ℕ → Parts → Option Damage
 parts_damage object parts = tables_damage object parts.table parts.count parts.home parts.symbols parts.strings
 
 -- no object for BPF, then what is damaged
-abbrev pub object_fault : List ℕ → Option Fault
+abbrev pub object_fault : List ℕ → Option ObjectFault
 object_fault object =
     if not (is_bpf_object object) then Some NoObject
     else (if is_table_whole object then as_fault (parts_damage object (parts_of object)) else Some (Damaged Sections))
 
 -- no other beside it
-abbrev pub only : ℕ → Option ℕ → Result ℕ Fault
+abbrev pub only : ℕ → Option ℕ → Result ℕ ObjectFault
 only index None = Ok index
 only index (Some other) = Err Several
 
-abbrev pub first_only : Option ℕ → (ℕ → Option ℕ) → Result ℕ Fault
+abbrev pub first_only : Option ℕ → (ℕ → Option ℕ) → Result ℕ ObjectFault
 first_only None beside = Err NoFunction
 first_only (Some index) beside = only index (beside (index + 1))
 
@@ -71,7 +71,7 @@ entry_from table symbols strings name least =
     first_some (entry_here table symbols strings name least) (length symbols / 24)
 
 -- the one function that fits
-abbrev pub chosen : List ℕ → List ℕ → List ℕ → Option (List ℕ) → Result ℕ Fault
+abbrev pub chosen : List ℕ → List ℕ → List ℕ → Option (List ℕ) → Result ℕ ObjectFault
 chosen table symbols strings name =
     first_only (entry_from table symbols strings name 0) (entry_from table symbols strings name)
 
@@ -81,33 +81,33 @@ code_in object table function =
     window function.value function.size (section_bytes object (section_at function.section table))
 
 -- the first relocation that changes its code, then the first unit that calls a function
-abbrev pub function_fault : List ℕ → List ℕ → ℕ → List ℕ → Symbol → Option Fault
+abbrev pub function_fault : List ℕ → List ℕ → ℕ → List ℕ → Symbol → Option ObjectFault
 function_fault object table count symbols function =
     or_else (first_some (relocations_fault object table symbols function) count)
     (first_some (call_fault (code_in object table function)) (length (code_in object table function) / 8))
 
 -- the fault, if there is one
-abbrev pub unless : {A : Type 0} → Option Fault → A → Result A Fault
+abbrev pub unless : {A : Type 0} → Option ObjectFault → A → Result A ObjectFault
 unless None a = Ok a
 unless (Some fault) a = Err fault
 
 -- what follows an answer that is no fault
-abbrev pub then_by : {A B : Type 0} → Result A Fault → (A → Result B Fault) → Result B Fault
+abbrev pub then_by : {A B : Type 0} → Result A ObjectFault → (A → Result B ObjectFault) → Result B ObjectFault
 then_by (Ok a) next = next a
 then_by (Err fault) next = Err fault
 
 -- the function that is the entry
-abbrev pub found_in : List ℕ → Parts → Option (List ℕ) → Result Symbol Fault
+abbrev pub found_in : List ℕ → Parts → Option (List ℕ) → Result Symbol ObjectFault
 found_in object parts name =
     then_by (chosen parts.table parts.symbols parts.strings name) (λ index.
     unless (function_fault object parts.table parts.count parts.symbols (symbol_at index parts.symbols))
     (symbol_at index parts.symbols))
 
 -- what is wrong with the object, then with the entry; else the function
-abbrev pub function_of : List ℕ → Option (List ℕ) → Result Symbol Fault
+abbrev pub function_of : List ℕ → Option (List ℕ) → Result Symbol ObjectFault
 function_of object name = then_by (unless (object_fault object) (parts_of object)) (λ parts. found_in object parts name)
 
 -- its code
-abbrev pub entry_of : List ℕ → Option (List ℕ) → Result (List ℕ) Fault
+abbrev pub entry_of : List ℕ → Option (List ℕ) → Result (List ℕ) ObjectFault
 entry_of object name =
     then_by (function_of object name) (λ function. Ok (code_in object (section_table object) function))

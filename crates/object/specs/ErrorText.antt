@@ -1,10 +1,10 @@
 -- What is said of a fault.
 use Rattle.std.specs.Prelude.{ℕ, List, ◌++◌, codes}
 use Rattle.std.specs.Fmt.{decimal}
-use Rattle.elf.specs.declared.fault.Damage.{Damage}
-use Rattle.elf.specs.declared.fault.Damage.TheVariants.{Sections, Section, Symbol, Relocations}
-use Rattle.elf.specs.declared.fault.Fault.{Fault}
-use Rattle.elf.specs.declared.fault.Fault.TheVariants.{NoObject, Damaged, NoFunction, Several, Names, Leaves}
+use Rattle.object.specs.declared.fault.Damage.{Damage}
+use Rattle.object.specs.declared.fault.Damage.TheVariants.{Sections, Section, Symbol, Relocations}
+use Rattle.object.specs.declared.fault.ObjectFault.{ObjectFault}
+use Rattle.object.specs.declared.fault.ObjectFault.TheVariants.{NoObject, Damaged, NoFunction, Several, Names, Leaves}
 
 -- what is damaged
 abbrev pub place_of : Damage → List ℕ
@@ -14,7 +14,7 @@ place_of (Symbol index) = codes "symbol " ++ decimal index
 place_of (Relocations index) = codes "relocations " ++ decimal index
 
 -- the code, and the place
-abbrev pub told : Fault → List ℕ
+abbrev pub told : ObjectFault → List ℕ
 told NoObject = codes "O1"
 told (Damaged damage) = codes "O2 " ++ place_of damage
 told NoFunction = codes "O3"

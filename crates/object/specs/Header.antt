@@ -1,8 +1,8 @@
 -- The header of a line number program (DWARF 5, section 6.2.4; DWARF 4, section 6.2.4), of 32 bits.
 use Rattle.std.specs.Prelude.{ℕ, ◌+◌, ◌-◌, ◌^◌, List, length, Bool, ◌==◌, ◌&&◌, ◌||◌, nat_lt, nat_le, if◌then◌else◌}
 use Rattle.std.specs.Prelude.{Option, Some, None}
-use Rattle.elf.specs.Number.{number_at}
-use Rattle.debug_lines.specs.declared.header.Header.{Header}
+use Rattle.object.specs.Number.{number_at}
+use Rattle.object.specs.declared.header.Header.{Header}
 
 -- where minimum_instruction_length stands: version 5 has two bytes more before it
 abbrev pub fields_of : ℕ → ℕ

@@ -1,3 +1,12 @@
+pub mod Number
+pub mod First
+pub mod Section
+pub mod Symbol
+pub mod Relocation
+pub mod Damage
+pub mod Entry
+pub mod ErrorText
+pub mod Sentences
 pub mod Numbers
 pub mod Header
 pub mod Steps

@@ -2,20 +2,20 @@
 use Rattle.std.specs.Prelude.{ℕ, ◌+◌, ◌-◌, List, [], ◌∷◌, length, Bool, ◌==◌, ◌&&◌, ◌||◌, nat_lt, nat_le, if◌then◌else◌}
 use Rattle.std.specs.Prelude.{Option, Some, None, option_and_then}
 use Rattle.std.specs.List.{list_all}
-use Rattle.elf.specs.Number.{number_at}
-use Rattle.elf.specs.First.{first_some}
-use Rattle.debug_lines.specs.declared.header.Header.{Header}
-use Rattle.debug_lines.specs.declared.entries.Entries.{Entries}
-use Rattle.debug_lines.specs.declared.entries.Path.{Path}
-use Rattle.debug_lines.specs.Numbers.{string_at}
-use Rattle.debug_lines.specs.Entries.{entries_at, behind_entries, path_in}
+use Rattle.object.specs.Number.{number_at}
+use Rattle.object.specs.First.{first_some}
+use Rattle.object.specs.declared.header.Header.{Header}
+use Rattle.object.specs.declared.entries.EntryTable.{EntryTable}
+use Rattle.object.specs.declared.entries.Path.{Path}
+use Rattle.object.specs.Numbers.{string_at}
+use Rattle.object.specs.Entries.{entries_at, behind_entries, path_in}
 
 -- ---- version 5: two tables of entries, the directories and the files, which are counted from 0
 
-abbrev pub path_of_entry : List ℕ → Entries → ℕ → Option Path
+abbrev pub path_of_entry : List ℕ → EntryTable → ℕ → Option Path
 path_of_entry bytes files place = path_in files.formats bytes files.from bytes place
 
-abbrev pub path_among : List ℕ → ℕ → Entries → Option Path
+abbrev pub path_among : List ℕ → ℕ → EntryTable → Option Path
 path_among bytes file files =
     if nat_lt file files.count
     then option_and_then (path_of_entry bytes files)
@@ -23,12 +23,12 @@ path_among bytes file files =
     else None
 
 -- the files stand behind the directories
-abbrev pub files_behind : List ℕ → Entries → Option Entries
+abbrev pub files_behind : List ℕ → EntryTable → Option EntryTable
 files_behind bytes directories =
     option_and_then (λ place. entries_at place bytes)
     (behind_entries directories.count directories.formats bytes directories.from bytes directories.first)
 
-abbrev pub files_at : ℕ → List ℕ → Option Entries
+abbrev pub files_at : ℕ → List ℕ → Option EntryTable
 files_at tables bytes = option_and_then (files_behind bytes) (entries_at tables bytes)
 
 abbrev pub path_in_five : ℕ → List ℕ → ℕ → Option Path

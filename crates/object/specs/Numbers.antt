@@ -3,8 +3,8 @@ use Rattle.std.specs.Prelude.{ℕ, zero, suc, ◌+◌, ◌-◌, ◌*◌, ◌%◌
 use Rattle.std.specs.Prelude.{Option, Some, None, option_map}
 use Rattle.text.specs.declared.stop.Stop.TheVariants.{Byte}
 use Rattle.text.specs.Parts.{before}
-use Rattle.elf.specs.Number.{number_at}
-use Rattle.debug_lines.specs.declared.number.Read.{Read}
+use Rattle.object.specs.Number.{number_at}
+use Rattle.object.specs.declared.leb128.Read.{Read}
 
 -- the last byte of a number is below 128; in a signed one its bit of 64 is the sign, which counts modulo 2^64
 abbrev pub last_byte : Bool → ℕ → ℕ

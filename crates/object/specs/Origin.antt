@@ -2,11 +2,11 @@
 -- section, and the symbol's value is added (System V ABI, "Relocation"; R_BPF_64_ABS64 of LLVM's relocations).
 use Rattle.std.specs.Prelude.{ℕ, ◌+◌, ◌*◌, ◌/◌, ◌%◌, ◌^◌, List, length, ◌==◌, if◌then◌else◌}
 use Rattle.std.specs.Prelude.{Option, Some, None}
-use Rattle.elf.specs.declared.symbol.Symbol.{Symbol}
-use Rattle.elf.specs.Number.{number_at}
-use Rattle.elf.specs.First.{first_some}
-use Rattle.elf.specs.Relocation.{relocation_at}
-use Rattle.elf.specs.Symbol.{symbol_at}
+use Rattle.object.specs.declared.symbol.Symbol.{Symbol}
+use Rattle.object.specs.Number.{number_at}
+use Rattle.object.specs.First.{first_some}
+use Rattle.object.specs.Relocation.{relocation_at}
+use Rattle.object.specs.Symbol.{symbol_at}
 
 -- what is added to the symbol's value: of 16 bytes (Elf64_Rel) the number in place, of 24 (Elf64_Rela) r_addend
 abbrev pub addend_of : ℕ → ℕ → List ℕ → ℕ → List ℕ → ℕ

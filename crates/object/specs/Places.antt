@@ -2,43 +2,43 @@
 use Rattle.std.specs.Prelude.{ℕ, zero, suc, Bool, ◌≡◌, ◌+◌, ◌-◌, ◌*◌, ◌/◌, ◌%◌, ◌^◌, ◌⊎◌, List, [], ◌∷◌, ◌++◌, length, take, slice_get, min, codes, decimal}
 use Rattle.std.specs.Prelude.{◌==◌, ◌&&◌, not, nat_lt, nat_le, if◌then◌else◌, Option, Some, None}
 use Rattle.std.specs.Prelude.{Result, Ok, Err}
-use Rattle.elf.specs.declared.fault.Fault.{Fault}
-use Rattle.elf.specs.declared.symbol.Symbol.{Symbol}
-use Rattle.elf.specs.First.{first_some}
-use Rattle.debug_lines.specs.declared.header.Header.{Header}
-use Rattle.debug_lines.specs.declared.registers.Row.{Row}
-use Rattle.debug_lines.specs.Header.{header_of}
-use Rattle.debug_lines.specs.Rows.{Origins, HasRows, BreaksOff}
-use Rattle.debug_lines.specs.Names.{path_of, name_by, is_plain}
-use Rattle.debug_lines.specs.Tables.{lines_in, line_strings_in, strings_in, origins_in}
+use Rattle.object.specs.declared.fault.ObjectFault.{ObjectFault}
+use Rattle.object.specs.declared.symbol.Symbol.{Symbol}
+use Rattle.object.specs.First.{first_some}
+use Rattle.object.specs.declared.header.Header.{Header}
+use Rattle.object.specs.declared.registers.LineRow.{LineRow}
+use Rattle.object.specs.Header.{header_of}
+use Rattle.object.specs.Rows.{Origins, HasRows, BreaksOff}
+use Rattle.object.specs.Names.{path_of, name_by, is_plain}
+use Rattle.object.specs.Tables.{lines_in, line_strings_in, strings_in, origins_in}
 
 -- ---- rows
 
 -- the rows of a program with this header: none where there is no header, or where the program breaks off
-abbrev pub AreRowsBy : Header → List ℕ → Origins → List Row → Type 0
+abbrev pub AreRowsBy : Header → List ℕ → Origins → List LineRow → Type 0
 AreRowsBy header bytes origins rows = HasRows header bytes origins rows ⊎ (BreaksOff header bytes origins × (rows ≡ []))
 
-abbrev pub AreRows : List ℕ → ℕ → Option Header → List Row → Type 0
+abbrev pub AreRows : List ℕ → ℕ → Option Header → List LineRow → Type 0
 AreRows object section None rows = rows ≡ []
 AreRows object section (Some header) rows =
     AreRowsBy header (take header.end (lines_in object))
     (origins_in object (take header.end (lines_in object)) section) rows
 
 -- the address lies from the row on and before the next, in one sequence and in the function's section
-abbrev pub is_of : ℕ → Row → Row → Bool
+abbrev pub is_of : ℕ → LineRow → LineRow → Bool
 is_of address row next =
     row.registers.inside && not row.last && nat_le row.registers.address address
     && nat_lt address next.registers.address
 
-abbrev pub row_by : ℕ → Option Row → Option Row → Option Row
+abbrev pub row_by : ℕ → Option LineRow → Option LineRow → Option LineRow
 row_by address (Some row) (Some next) = if is_of address row next then Some row else None
 row_by address _ _ = None
 
-abbrev pub row_here : List Row → ℕ → ℕ → Option Row
+abbrev pub row_here : List LineRow → ℕ → ℕ → Option LineRow
 row_here rows address index = row_by address (slice_get rows index) (slice_get rows (index + 1))
 
 -- the first row of an address
-abbrev pub row_of : List Row → ℕ → Option Row
+abbrev pub row_of : List LineRow → ℕ → Option LineRow
 row_of rows address = first_some (row_here rows address) (length rows - 1)
 
 -- ---- text
@@ -55,26 +55,26 @@ abbrev pub told : List ℕ → ℕ → List ℕ
 told name line = if is_plain name then name ++ codes ":" ++ decimal line else []
 
 -- nothing where there is no row, or no line
-abbrev pub told_of : (ℕ → List ℕ) → Option Row → List ℕ
+abbrev pub told_of : (ℕ → List ℕ) → Option LineRow → List ℕ
 told_of names None = []
 told_of names (Some row) = if row.registers.line == 0 then [] else told (names row.registers.file) row.registers.line
 
-abbrev pub text_at : (ℕ → List ℕ) → List Row → ℕ → ℕ → List ℕ
+abbrev pub text_at : (ℕ → List ℕ) → List LineRow → ℕ → ℕ → List ℕ
 text_at names rows start unit = told_of names (row_of rows ((start + 8 * unit) % 2 ^ 64))
 
 -- those of so many units
-unfoldable pub texts_of : (ℕ → List ℕ) → List Row → ℕ → ℕ → List (List ℕ)
+unfoldable pub texts_of : (ℕ → List ℕ) → List LineRow → ℕ → ℕ → List (List ℕ)
 texts_of names rows start zero = []
 texts_of names rows start (suc n) = texts_of names rows start n ++ text_at names rows start n ∷ []
 
 -- of each unit of the function, as far as a program has units, the file and the line, or nothing
 abbrev pub TellsPlaces : List ℕ → Symbol → List (List ℕ) → Type 0
 TellsPlaces object function texts =
-    (rows : List Row) × AreRows object function.section (header_of (lines_in object)) rows
+    (rows : List LineRow) × AreRows object function.section (header_of (lines_in object)) rows
     × (texts ≡ texts_of (name_in object (header_of (lines_in object))) rows function.value
     (min (function.size / 8) 4096))
 
 -- those of the entry, if the object has one
-abbrev pub AreEntryPlaces : List ℕ → Result Symbol Fault → List (List ℕ) → Type 0
+abbrev pub AreEntryPlaces : List ℕ → Result Symbol ObjectFault → List (List ℕ) → Type 0
 AreEntryPlaces object (Ok function) texts = TellsPlaces object function texts
 AreEntryPlaces object (Err fault) texts = texts ≡ []

@@ -3,18 +3,18 @@
 -- Relocation Types").
 use Rattle.std.specs.Prelude.{ℕ, ◌+◌, ◌*◌, ◌/◌, ◌-◌, List, length, Bool, ◌==◌, ◌&&◌, nat_lt, nat_le, if◌then◌else◌}
 use Rattle.std.specs.Prelude.{Option, Some, None}
-use Rattle.elf.specs.declared.section.Section.{Section}
-use Rattle.elf.specs.declared.symbol.Symbol.{Symbol}
-use Rattle.elf.specs.declared.relocation.Relocation.{Relocation}
-use Rattle.elf.specs.declared.fault.Fault.{Fault}
-use Rattle.elf.specs.declared.fault.Fault.TheVariants.{Names, Leaves}
-use Rattle.elf.specs.Number.{number_at}
-use Rattle.elf.specs.First.{first_some}
-use Rattle.elf.specs.Section.{section_at, section_bytes, is_code, is_relocations}
-use Rattle.elf.specs.Symbol.{symbol_at}
+use Rattle.object.specs.declared.section.SectionHeader.{SectionHeader}
+use Rattle.object.specs.declared.symbol.Symbol.{Symbol}
+use Rattle.object.specs.declared.relocation.Relocation.{Relocation}
+use Rattle.object.specs.declared.fault.ObjectFault.{ObjectFault}
+use Rattle.object.specs.declared.fault.ObjectFault.TheVariants.{Names, Leaves}
+use Rattle.object.specs.Number.{number_at}
+use Rattle.object.specs.First.{first_some}
+use Rattle.object.specs.Section.{section_at, section_bytes, is_code, is_relocations}
+use Rattle.object.specs.Symbol.{symbol_at}
 
 -- the size of a relocation: SHT_REL has 16 bytes, SHT_RELA 24
-abbrev pub relocation_size : Section → ℕ
+abbrev pub relocation_size : SectionHeader → ℕ
 relocation_size section = if section.kind == 9 then 16 else 24
 
 -- r_offset, and the symbol in the upper half of r_info
@@ -31,11 +31,11 @@ is_within relocation function =
 
 -- what is wrong with a place of the function's code that names the symbol: a machine without calls of functions
 -- leaves its function, and data is not there at all
-abbrev pub named_at : List ℕ → Symbol → ℕ → Fault
+abbrev pub named_at : List ℕ → Symbol → ℕ → ObjectFault
 named_at table symbol unit = if is_code (section_at symbol.section table) then Leaves unit else Names unit
 
 -- the fault of a relocation, if it changes the function's code
-abbrev pub relocation_fault : List ℕ → List ℕ → Symbol → ℕ → List ℕ → ℕ → Option Fault
+abbrev pub relocation_fault : List ℕ → List ℕ → Symbol → ℕ → List ℕ → ℕ → Option ObjectFault
 relocation_fault table symbols function size relocations index =
     if is_within (relocation_at size index relocations) function
     then Some (named_at table (symbol_at (relocation_at size index relocations).symbol symbols)
@@ -43,7 +43,7 @@ relocation_fault table symbols function size relocations index =
     else None
 
 -- the first fault of a section's relocations, if they change the function's section
-abbrev pub relocations_fault : List ℕ → List ℕ → List ℕ → Symbol → ℕ → Option Fault
+abbrev pub relocations_fault : List ℕ → List ℕ → List ℕ → Symbol → ℕ → Option ObjectFault
 relocations_fault object table symbols function index =
     if is_relocations (section_at index table) && ((section_at index table).info == function.section)
     then first_some
@@ -56,5 +56,5 @@ relocations_fault object table symbols function index =
 abbrev pub is_call : List ℕ → ℕ → Bool
 is_call code unit = (number_at 1 (8 * unit) code == 133) && (number_at 1 (8 * unit + 1) code / 16 == 1)
 
-abbrev pub call_fault : List ℕ → ℕ → Option Fault
+abbrev pub call_fault : List ℕ → ℕ → Option ObjectFault
 call_fault code unit = if is_call code unit then Some (Leaves unit) else None

@@ -3,31 +3,31 @@ use Rattle.std.specs.Prelude.{ℕ, zero, suc, ◌≡◌, ◌+◌, ◌%◌, ◌^�
 use Rattle.std.specs.Prelude.{Option, Some, None, option_map, option_and_then, option_to_list}
 use Rattle.std.specs.Prelude.{Vec}
 use Rattle.std.specs.declared.alloc.Global.{Global}
-use Rattle.debug_lines.specs.declared.header.Header.{Header}
-use Rattle.debug_lines.specs.declared.step.Step.{Step}
-use Rattle.debug_lines.specs.declared.step.Step.TheVariants as steps
-use Rattle.debug_lines.specs.declared.step.Stepped.{Stepped}
-use Rattle.debug_lines.specs.declared.registers.Registers.{Registers}
-use Rattle.debug_lines.specs.declared.registers.Row.{Row}
-use Rattle.debug_lines.specs.Steps.{step_at}
+use Rattle.object.specs.declared.header.Header.{Header}
+use Rattle.object.specs.declared.step.Step.{Step}
+use Rattle.object.specs.declared.step.Step.TheVariants as steps
+use Rattle.object.specs.declared.step.Stepped.{Stepped}
+use Rattle.object.specs.declared.registers.LineRegisters.{LineRegisters}
+use Rattle.object.specs.declared.registers.LineRow.{LineRow}
+use Rattle.object.specs.Steps.{step_at}
 
 -- which address of the function's section the operand at a place is, if it lies there
 abbrev pub Origins : Type 0
 Origins = ℕ → Option ℕ
 
 -- as a sequence begins
-abbrev pub at_start : Registers
+abbrev pub at_start : LineRegisters
 at_start = record { address = 0; inside = false; file = 1; line = 1 }
 
-abbrev pub advanced : Registers → ℕ → ℕ → Registers
+abbrev pub advanced : LineRegisters → ℕ → ℕ → LineRegisters
 advanced r address line = record r { address = (r.address + address) % 2 ^ 64; line = (r.line + line) % 2 ^ 64 }
 
-abbrev pub started : Registers → Option ℕ → Registers
+abbrev pub started : LineRegisters → Option ℕ → LineRegisters
 started r None = record r { inside = false }
 started r (Some address) = record r { address = address; inside = true }
 
 -- the registers behind an instruction
-abbrev pub after : Origins → Registers → Step → Registers
+abbrev pub after : Origins → LineRegisters → Step → LineRegisters
 after origins r (steps.Row address line) = advanced r address line
 after origins r (steps.Address by) = advanced r by 0
 after origins r (steps.Line by) = advanced r 0 by
@@ -36,11 +36,11 @@ after origins r (steps.Start place) = started r (origins place)
 after origins r steps.End = at_start
 after origins r steps.Other = r
 
-abbrev pub row_with : Registers → Bool → Row
+abbrev pub row_with : LineRegisters → Bool → LineRow
 row_with r last = record { registers = r; last = last }
 
 -- the row that an instruction adds: it has the registers, of a special opcode those behind it
-abbrev pub row_by : Registers → Step → Option Row
+abbrev pub row_by : LineRegisters → Step → Option LineRow
 row_by r (steps.Row address line) = Some (row_with (advanced r address line) false)
 row_by r steps.End = Some (row_with r true)
 row_by r _ = None
@@ -48,8 +48,8 @@ row_by r _ = None
 -- how far the program has come
 pub record Machine : Type 0 where
   pub place : ℕ
-  pub registers : Registers
-  pub rows : List Row
+  pub registers : LineRegisters
+  pub rows : List LineRow
 
 abbrev pub moved : Origins → Machine → Stepped → Machine
 moved origins m s = record {
@@ -72,7 +72,7 @@ abbrev pub Comes : Header → List ℕ → Origins → Machine → Type 0
 Comes header bytes origins m = (n : ℕ) × (machine_after header bytes origins n ≡ Some m)
 
 -- the program ends with the bytes, and these are its rows
-abbrev pub HasRows : Header → List ℕ → Origins → List Row → Type 0
+abbrev pub HasRows : Header → List ℕ → Origins → List LineRow → Type 0
 HasRows header bytes origins rows =
     (m : Machine) × Comes header bytes origins m × (length bytes ≡ m.place) × (m.rows ≡ rows)
 
@@ -82,6 +82,6 @@ BreaksOff header bytes origins =
     (m : Machine) × Comes header bytes origins m × (m.place < length bytes) × (step_at header m.place bytes ≡ None)
 
 -- its rows; none of a program that breaks off
-abbrev pub GivesRows : Header → List ℕ → Origins → Option (Vec Row Global) → Type 0
+abbrev pub GivesRows : Header → List ℕ → Origins → Option (Vec LineRow Global) → Type 0
 GivesRows header bytes origins None = BreaksOff header bytes origins
 GivesRows header bytes origins (Some rows) = HasRows header bytes origins rows.items

@@ -1,8 +1,8 @@
 -- The header and the sections of an object, as far as they are looked at (System V ABI, "ELF Header" and "Sections":
 -- Elf64_Ehdr, Elf64_Shdr).
 use Rattle.std.specs.Prelude.{ℕ, ◌+◌, ◌*◌, ◌/◌, ◌%◌, List, [], length, Bool, ◌==◌, ◌&&◌, ◌||◌, nat_le, if◌then◌else◌}
-use Rattle.elf.specs.declared.section.Section.{Section}
-use Rattle.elf.specs.Number.{number_at, window}
+use Rattle.object.specs.declared.section.SectionHeader.{SectionHeader}
+use Rattle.object.specs.Number.{number_at, window}
 
 -- 7f 45 4c 46 (e_ident), 64 bits (2), little-endian (1), relocatable (e_type 1), for BPF (e_machine 247)
 abbrev pub is_bpf_object : List ℕ → Bool
@@ -25,7 +25,7 @@ is_table_whole object =
     && (length (section_table object) == 64 * section_count object)
 
 -- sh_type, sh_flags, sh_offset, sh_size, sh_link and sh_info; zeros past the table
-abbrev pub section_at : ℕ → List ℕ → Section
+abbrev pub section_at : ℕ → List ℕ → SectionHeader
 section_at index table = record {
   kind = number_at 4 (64 * index + 4) table;
   flags = number_at 8 (64 * index + 8) table;
@@ -36,17 +36,17 @@ section_at index table = record {
 }
 
 -- SHT_NULL or SHT_NOBITS: it has no bytes in the file
-abbrev pub has_no_bytes : Section → Bool
+abbrev pub has_no_bytes : SectionHeader → Bool
 has_no_bytes section = (section.kind == 0) || (section.kind == 8)
 
 -- its part of the file; none where that is not all there
-unfoldable pub section_bytes : List ℕ → Section → List ℕ
+unfoldable pub section_bytes : List ℕ → SectionHeader → List ℕ
 section_bytes object section = if has_no_bytes section then [] else window section.start section.size object
 
 -- SHT_PROGBITS with SHF_EXECINSTR
-abbrev pub is_code : Section → Bool
+abbrev pub is_code : SectionHeader → Bool
 is_code section = (section.kind == 1) && (section.flags / 4 % 2 == 1)
 
 -- SHT_REL or SHT_RELA
-abbrev pub is_relocations : Section → Bool
+abbrev pub is_relocations : SectionHeader → Bool
 is_relocations section = (section.kind == 9) || (section.kind == 4)

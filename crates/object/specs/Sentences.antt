@@ -1,11 +1,11 @@
 -- The sentences of the faults.
 use Rattle.std.specs.Prelude.{ℕ, List, codes}
-use Rattle.elf.specs.declared.fault.Damage.TheVariants.{Sections, Section, Symbol, Relocations}
-use Rattle.elf.specs.declared.fault.Fault.{Fault}
-use Rattle.elf.specs.declared.fault.Fault.TheVariants.{NoObject, Damaged, NoFunction, Several, Names, Leaves}
+use Rattle.object.specs.declared.fault.Damage.TheVariants.{Sections, Section, Symbol, Relocations}
+use Rattle.object.specs.declared.fault.ObjectFault.{ObjectFault}
+use Rattle.object.specs.declared.fault.ObjectFault.TheVariants.{NoObject, Damaged, NoFunction, Several, Names, Leaves}
 
 -- what a fault means, and what helps
-abbrev pub sentence_of : Fault → List ℕ
+abbrev pub sentence_of : ObjectFault → List ℕ
 sentence_of NoObject = codes "this is no relocatable ELF object of 64 bits, little-endian, for BPF (machine 247)"
 sentence_of (Damaged Sections) = codes "the header is cut off, or those of the sections are not within the file"
 sentence_of (Damaged (Section place)) = codes "the bytes of this section are not within the file"

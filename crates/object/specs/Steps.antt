@@ -1,13 +1,13 @@
 -- The instructions of a line number program (DWARF 5, section 6.2.5), by what they say of addresses, files and lines.
 use Rattle.std.specs.Prelude.{ℕ, ◌+◌, ◌-◌, ◌*◌, ◌/◌, ◌%◌, ◌^◌, List, length, ◌==◌, ◌&&◌, ◌||◌, nat_lt, nat_le, if◌then◌else◌}
 use Rattle.std.specs.Prelude.{Option, Some, None, option_map, option_and_then}
-use Rattle.elf.specs.Number.{number_at}
-use Rattle.debug_lines.specs.declared.number.Read.{Read}
-use Rattle.debug_lines.specs.declared.header.Header.{Header}
-use Rattle.debug_lines.specs.declared.step.Step.{Step}
-use Rattle.debug_lines.specs.declared.step.Step.TheVariants.{Row, Address, Line, File, Start, End, Other}
-use Rattle.debug_lines.specs.declared.step.Stepped.{Stepped}
-use Rattle.debug_lines.specs.Numbers.{unsigned_at, signed_at}
+use Rattle.object.specs.Number.{number_at}
+use Rattle.object.specs.declared.leb128.Read.{Read}
+use Rattle.object.specs.declared.header.Header.{Header}
+use Rattle.object.specs.declared.step.Step.{Step}
+use Rattle.object.specs.declared.step.Step.TheVariants.{Row, Address, Line, File, Start, End, Other}
+use Rattle.object.specs.declared.step.Stepped.{Stepped}
+use Rattle.object.specs.Numbers.{unsigned_at, signed_at}
 
 -- an instruction, and the place behind it
 abbrev pub stepped : Step → ℕ → Stepped

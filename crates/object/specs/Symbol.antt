@@ -3,10 +3,10 @@ use Rattle.std.specs.Prelude.{ℕ, ◌+◌, ◌*◌, ◌/◌, ◌%◌, List, len
 use Rattle.std.specs.Prelude.{◌||◌, nat_lt, nat_le, if◌then◌else◌, Option, Some, None, option_map, unwrap_or}
 use Rattle.std.specs.Str.{bytes_eq}
 use Rattle.std.specs.Borrow.{Bor}
-use Rattle.elf.specs.declared.symbol.Symbol.{Symbol}
-use Rattle.elf.specs.Number.{number_at}
-use Rattle.elf.specs.First.{first_some}
-use Rattle.elf.specs.Section.{section_at, is_code}
+use Rattle.object.specs.declared.symbol.Symbol.{Symbol}
+use Rattle.object.specs.Number.{number_at}
+use Rattle.object.specs.First.{first_some}
+use Rattle.object.specs.Section.{section_at, is_code}
 
 -- the number of the section, if it is a table of symbols (SHT_SYMTAB)
 abbrev pub symbols_here : List ℕ → ℕ → Option ℕ

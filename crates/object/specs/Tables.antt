@@ -2,14 +2,14 @@
 use Rattle.std.specs.Prelude.{ℕ, ◌*◌, List, [], length, codes, ◌==◌, ◌&&◌, nat_le, if◌then◌else◌}
 use Rattle.std.specs.Prelude.{Option, Some, None, unwrap_or}
 use Rattle.std.specs.Str.{bytes_eq}
-use Rattle.elf.specs.Number.{number_at}
-use Rattle.elf.specs.First.{first_some}
-use Rattle.elf.specs.Section.{section_at, section_bytes, section_count, section_table, is_relocations}
-use Rattle.elf.specs.Symbol.{symbols_section}
-use Rattle.elf.specs.Relocation.{relocation_size}
-use Rattle.debug_lines.specs.Numbers.{string_at}
-use Rattle.debug_lines.specs.Origin.{origin_of}
-use Rattle.debug_lines.specs.Rows.{Origins}
+use Rattle.object.specs.Number.{number_at}
+use Rattle.object.specs.First.{first_some}
+use Rattle.object.specs.Section.{section_at, section_bytes, section_count, section_table, is_relocations}
+use Rattle.object.specs.Symbol.{symbols_section}
+use Rattle.object.specs.Relocation.{relocation_size}
+use Rattle.object.specs.Numbers.{string_at}
+use Rattle.object.specs.Origin.{origin_of}
+use Rattle.object.specs.Rows.{Origins}
 
 -- the bytes of a section; none of one of more than 2^16 bytes
 abbrev pub short : List ℕ → List ℕ

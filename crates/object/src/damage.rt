@@ -1,14 +1,14 @@
 ghost use Rattle.std.specs.Prelude.{◌≡◌, ◌<◌, ◌≤◌, ◌+◌, ◌*◌, ◌/◌, ◌^◌, length};
-ghost use Rattle.elf.specs.First.{first_some};
-ghost use Rattle.elf.specs.Damage.{is_section_whole, section_damage, is_symbol_whole, symbol_damage, relocation_damage, relocations_damage, tables_damage};
+ghost use Rattle.object.specs.First.{first_some};
+ghost use Rattle.object.specs.Damage.{is_section_whole, section_damage, is_symbol_whole, symbol_damage, relocation_damage, relocations_damage, tables_damage};
 
 use crate::fault::Damage;
 use crate::relocation::Relocation;
-use crate::section::Section;
+use crate::section::SectionHeader;
 use crate::symbol::Symbol;
 
 /// Whether the bytes of a section are in the file.
-fn has_section(object: &[u8], section: Section) -> bool
+fn has_section(object: &[u8], section: SectionHeader) -> bool
     ensures { result ≡ is_section_whole object.now section }
 {
     let length = object.len() as u64;
@@ -20,7 +20,7 @@ fn of_section(object: &[u8], table: &[u8], index: usize) -> Option<Damage>
     requires { index < 2 ^ 32 }
     ensures { result ≡ section_damage object.now table.now index }
 {
-    if has_section(object, Section::read(table, index)) {
+    if has_section(object, SectionHeader::read(table, index)) {
         None
     } else {
         Some(Damage::Section(index))
@@ -126,7 +126,7 @@ fn of_relocations(
     requires { index < 2 ^ 32 }
     ensures { result ≡ relocations_damage object.now table.now home symbols index }
 {
-    let section = Section::read(table, index);
+    let section = SectionHeader::read(table, index);
     if !section.holds_relocations() {
         return None;
     }

@@ -1,9 +1,9 @@
-//! Entries of the tables of directories and files.
+//! EntryTable of the tables of directories and files.
 ghost use Rattle.std.specs.Prelude.{◌≡◌, ◌≤◌, ◌+◌, length, IfSome};
-ghost use Rattle.debug_lines.specs.Entries.{size_of, within, behind_block, behind_number, behind_varying, behind_value, format_behind, format_at, behind_formats, behind_entry, path_in, behind_entries, entries_by, entries_behind, entries_at};
+ghost use Rattle.object.specs.Entries.{size_of, within, behind_block, behind_number, behind_varying, behind_value, format_behind, format_at, behind_formats, behind_entry, path_in, behind_entries, entries_by, entries_behind, entries_at};
 
-use crate::number::{Read, string_at, unsigned_at};
-use elf::byte_at;
+use crate::leb128::{Read, string_at, unsigned_at};
+use crate::number::byte_at;
 
 /// What one value of an entry is.
 #[derive(Clone, Copy)]
@@ -18,7 +18,7 @@ pub struct Format {
 
 /// A table of entries.
 #[derive(Clone, Copy)]
-pub struct Entries {
+pub struct EntryTable {
     /// How many formats an entry has.
     pub formats: u8,
     /// Where they stand.
@@ -230,7 +230,7 @@ pub fn behind_entries(
 }
 
 /// The table whose number of entries was read.
-fn entries_by(bytes: &[u8], formats: u8, from: usize, count: Read) -> Option<Entries>
+fn entries_by(bytes: &[u8], formats: u8, from: usize, count: Read) -> Option<EntryTable>
     requires { count.next ≤ length bytes.now }
     ensures read { result ≡ entries_by formats from bytes.now count }
     ensures few { IfSome result (λ entries. entries.count ≤ length bytes.now) }
@@ -239,7 +239,7 @@ fn entries_by(bytes: &[u8], formats: u8, from: usize, count: Read) -> Option<Ent
     if count.value > bytes.len() as u64 {
         return None;
     }
-    Some(Entries {
+    Some(EntryTable {
         formats,
         from,
         count: count.value,
@@ -248,7 +248,7 @@ fn entries_by(bytes: &[u8], formats: u8, from: usize, count: Read) -> Option<Ent
 }
 
 /// The table whose formats end at a place.
-fn entries_behind(bytes: &[u8], formats: u8, from: usize, next: usize) -> Option<Entries>
+fn entries_behind(bytes: &[u8], formats: u8, from: usize, next: usize) -> Option<EntryTable>
     ensures read { result ≡ entries_behind formats from bytes.now next }
     ensures few { IfSome result (λ entries. entries.count ≤ length bytes.now) }
     ensures within { IfSome result (λ entries. entries.first ≤ length bytes.now) }
@@ -258,7 +258,7 @@ fn entries_behind(bytes: &[u8], formats: u8, from: usize, next: usize) -> Option
 }
 
 /// The table of entries at a place.
-pub fn entries_at(bytes: &[u8], place: usize) -> Option<Entries>
+pub fn entries_at(bytes: &[u8], place: usize) -> Option<EntryTable>
     requires few { length bytes.now ≤ 65536 }
     requires inside { place ≤ length bytes.now }
     ensures read { result ≡ entries_at place bytes.now }

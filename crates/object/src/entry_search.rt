@@ -1,14 +1,14 @@
 ghost use Rattle.std.specs.Prelude.{◌≡◌, ◌<◌, ◌≤◌, ◌+◌, ◌*◌, ◌/◌, ◌^◌, length, Ok, Err, IfSome, IfOk, MatchResult};
-ghost use Rattle.elf.specs.First.{first_some};
-ghost use Rattle.elf.specs.Section.{section_table};
-ghost use Rattle.elf.specs.Symbol.{asked, entry_here};
-ghost use Rattle.elf.specs.Entry.{object_fault, entry_from, chosen, code_in, function_fault, symbols_in, strings_in, function_of, entry_of, found_in, parts_of};
+ghost use Rattle.object.specs.First.{first_some};
+ghost use Rattle.object.specs.Section.{section_table};
+ghost use Rattle.object.specs.Symbol.{asked, entry_here};
+ghost use Rattle.object.specs.Entry.{object_fault, entry_from, chosen, code_in, function_fault, symbols_in, strings_in, function_of, entry_of, found_in, parts_of};
 
 use crate::damage::first_damage;
-use crate::fault::{Damage, Fault};
+use crate::fault::{Damage, ObjectFault};
 use crate::number::window;
 use crate::relocation::{first_call, first_named};
-use crate::section::{Section, count_sections, has_table, is_for_bpf, read_table};
+use crate::section::{SectionHeader, count_sections, has_table, is_for_bpf, read_table};
 use crate::symbol::{Symbol, find_symbols};
 
 /// The table of symbols.
@@ -16,7 +16,7 @@ fn symbols_of<'a>(object: &'a [u8], table: &[u8], home: usize) -> &'a [u8]
     requires { home < 2 ^ 32 }
     ensures { result.now ≡ symbols_in object.now table.now home }
 {
-    Section::read(table, home).bytes(object)
+    SectionHeader::read(table, home).bytes(object)
 }
 
 /// The strings that the table of symbols links.
@@ -24,19 +24,19 @@ fn strings_of<'a>(object: &'a [u8], table: &[u8], home: usize) -> &'a [u8]
     requires { home < 2 ^ 32 }
     ensures { result.now ≡ strings_in object.now table.now home }
 {
-    let link = Section::read(table, home).link as usize;
-    Section::read(table, link).bytes(object)
+    let link = SectionHeader::read(table, home).link as usize;
+    SectionHeader::read(table, link).bytes(object)
 }
 
 /// What is wrong with an object, whatever is asked of it.
-fn fault_of(object: &[u8]) -> Option<Fault>
+fn fault_of(object: &[u8]) -> Option<ObjectFault>
     ensures { result ≡ object_fault object.now }
 {
     if !is_for_bpf(object) {
-        return Some(Fault::NoObject);
+        return Some(ObjectFault::NoObject);
     }
     if !has_table(object) {
-        return Some(Fault::Damaged(Damage::Sections));
+        return Some(ObjectFault::Damaged(Damage::Sections));
     }
     let table = read_table(object);
     let count = count_sections(object);
@@ -44,7 +44,7 @@ fn fault_of(object: &[u8]) -> Option<Fault>
     let symbols = symbols_of(object, table, home);
     let strings = strings_of(object, table, home);
     match first_damage(object, table, count, home, symbols, strings) {
-        Some(damage) => Some(Fault::Damaged(damage)),
+        Some(damage) => Some(ObjectFault::Damaged(damage)),
         None => None,
     }
 }
@@ -91,16 +91,21 @@ fn first_entry(
 }
 
 /// The one function that fits.
-fn choose(table: &[u8], symbols: &[u8], strings: &[u8], name: Option<&[u8]>) -> Result<usize, Fault>
+fn choose(
+    table: &[u8],
+    symbols: &[u8],
+    strings: &[u8],
+    name: Option<&[u8]>,
+) -> Result<usize, ObjectFault>
     ensures chosen { result ≡ chosen table.now symbols.now strings.now (asked name.entry) }
     ensures bound { IfOk result (λ index. index < length symbols.now / 24) }
 {
     let Some(index) = first_entry(table, symbols, strings, name, 0) else {
-        return Err(Fault::NoFunction);
+        return Err(ObjectFault::NoFunction);
     };
     match first_entry(table, symbols, strings, name, index + 1) {
         None => Ok(index),
-        Some(_) => Err(Fault::Several),
+        Some(_) => Err(ObjectFault::Several),
     }
 }
 
@@ -122,7 +127,7 @@ fn fault_in(
     count: usize,
     symbols: &[u8],
     function: Symbol,
-) -> Option<Fault>
+) -> Option<ObjectFault>
     requires { count < 2 ^ 32 }
     ensures { result ≡ function_fault object.now table.now count symbols.now function }
 {
@@ -134,7 +139,7 @@ fn fault_in(
 }
 
 /// The entry of a whole object.
-fn find_entry(object: &[u8], name: Option<&[u8]>) -> Result<Symbol, Fault>
+fn find_entry(object: &[u8], name: Option<&[u8]>) -> Result<Symbol, ObjectFault>
     ensures { result ≡ found_in object.now (parts_of object.now) (asked name.entry) }
 {
     let table = read_table(object);
@@ -156,7 +161,7 @@ fn find_entry(object: &[u8], name: Option<&[u8]>) -> Result<Symbol, Fault>
 ///
 /// The first fault: no object, what is damaged of it, no such function or several, the first relocation of its code,
 /// the first call of a function of the object.
-pub fn function(object: &[u8], name: Option<&[u8]>) -> Result<Symbol, Fault>
+pub fn function(object: &[u8], name: Option<&[u8]>) -> Result<Symbol, ObjectFault>
     ensures { result ≡ function_of object.now (asked name.entry) }
 {
     match fault_of(object) {
@@ -170,7 +175,7 @@ pub fn function(object: &[u8], name: Option<&[u8]>) -> Result<Symbol, Fault>
 /// # Errors
 ///
 /// The first fault, as of [`function`].
-pub fn entry<'a>(object: &'a [u8], name: Option<&[u8]>) -> Result<&'a [u8], Fault>
+pub fn entry<'a>(object: &'a [u8], name: Option<&[u8]>) -> Result<&'a [u8], ObjectFault>
     ensures { MatchResult result (λ code. entry_of object.now (asked name.entry) ≡ Ok code.now)
         (λ fault. entry_of object.now (asked name.entry) ≡ Err fault) }
 {

@@ -1,5 +1,5 @@
 ghost use Rattle.std.specs.Prelude.{◌≡◌};
-ghost use Rattle.elf.specs.Sentences.{sentence_of};
+ghost use Rattle.object.specs.Sentences.{sentence_of};
 
 use std::error::Error;
 use std::fmt;
@@ -19,7 +19,7 @@ pub enum Damage {
 
 /// Why an object has no code to be run.
 #[derive(Clone, Copy, Debug, PartialEq, Eq, Drop)]
-pub enum Fault {
+pub enum ObjectFault {
     /// O1: no relocatable ELF object of 64 bits, little-endian, for BPF.
     NoObject,
     /// O2: an offset or a size leads out of the file.
@@ -36,7 +36,7 @@ pub enum Fault {
 
 impl fmt::Display for Damage {
     ghost use Rattle.std.specs.Prelude.{Some};
-    ghost use Rattle.elf.specs.ErrorText.{place_of};
+    ghost use Rattle.object.specs.ErrorText.{place_of};
 
     ghost output = { λ damage. Some (place_of damage) };
 
@@ -50,53 +50,55 @@ impl fmt::Display for Damage {
     }
 }
 
-impl fmt::Display for Fault {
+impl fmt::Display for ObjectFault {
     ghost use Rattle.std.specs.Prelude.{Some};
-    ghost use Rattle.elf.specs.ErrorText.{told};
+    ghost use Rattle.object.specs.ErrorText.{told};
 
     ghost output = { λ fault. Some (told fault) };
 
     fn fmt<W: fmt::Write>(&self, f: &mut fmt::Formatter<W>) -> fmt::Result {
         match self {
-            Fault::NoObject => f.write_str("O1"),
-            Fault::Damaged(damage) => write!(f, "O2 {damage}"),
-            Fault::NoFunction => f.write_str("O3"),
-            Fault::Several => f.write_str("O4"),
-            Fault::Names(unit) => write!(f, "O5 unit {unit}"),
-            Fault::Leaves(unit) => write!(f, "O6 unit {unit}"),
+            ObjectFault::NoObject => f.write_str("O1"),
+            ObjectFault::Damaged(damage) => write!(f, "O2 {damage}"),
+            ObjectFault::NoFunction => f.write_str("O3"),
+            ObjectFault::Several => f.write_str("O4"),
+            ObjectFault::Names(unit) => write!(f, "O5 unit {unit}"),
+            ObjectFault::Leaves(unit) => write!(f, "O6 unit {unit}"),
         }
     }
 }
 
-impl Error for Fault {}
+impl Error for ObjectFault {}
 
 /// The sentence that says what a fault means, and what helps.
-pub fn sentence(fault: Fault) -> &'static str
+pub fn sentence(fault: ObjectFault) -> &'static str
     ensures { result.now ≡ sentence_of fault }
 {
     match fault {
-        Fault::NoObject => {
+        ObjectFault::NoObject => {
             "this is no relocatable ELF object of 64 bits, little-endian, for BPF (machine 247)"
         }
-        Fault::Damaged(Damage::Sections) => {
+        ObjectFault::Damaged(Damage::Sections) => {
             "the header is cut off, or those of the sections are not within the file"
         }
-        Fault::Damaged(Damage::Section(_)) => {
+        ObjectFault::Damaged(Damage::Section(_)) => {
             "the bytes of this section are not within the file"
         }
-        Fault::Damaged(Damage::Symbol(_)) => {
+        ObjectFault::Damaged(Damage::Symbol(_)) => {
             "the name of this function is not among the strings, or its code not within its section"
         }
-        Fault::Damaged(Damage::Relocations(_)) => {
+        ObjectFault::Damaged(Damage::Relocations(_)) => {
             "the relocations of this section name a symbol that is not there"
         }
-        Fault::NoFunction => { "there is no function of this name, or no global function at all" }
-        Fault::Several => { "there are several functions: name the one that is the program" }
-        Fault::Names(_) => {
+        ObjectFault::NoFunction => {
+            "there is no function of this name, or no global function at all"
+        }
+        ObjectFault::Several => { "there are several functions: name the one that is the program" }
+        ObjectFault::Names(_) => {
             "the entry names data or a function that is not here: arrays belong on the stack, \
              helpers are called by number"
         }
-        Fault::Leaves(_) => {
+        ObjectFault::Leaves(_) => {
             "the entry calls or names another function: make that one `static inline`, so that one is left"
         }
     }

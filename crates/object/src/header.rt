@@ -1,8 +1,8 @@
 //! The header of a line number program.
 ghost use Rattle.std.specs.Prelude.{◌≡◌, ◌<◌, ◌≤◌, ◌^◌, length, IfSome};
-ghost use Rattle.debug_lines.specs.Header.{fields_of, widened, header_from, header_in, is_read, header_of};
+ghost use Rattle.object.specs.Header.{fields_of, widened, header_from, header_in, is_read, header_of};
 
-use elf::{byte_at, half_at, word_at};
+use crate::number::{byte_at, half_at, word_at};
 
 /// The header, as far as addresses, files and lines need it.
 #[derive(Clone, Copy)]

@@ -1,8 +1,8 @@
 //! Numbers and strings of line number information.
 ghost use Rattle.std.specs.Prelude.{◌≡◌, ◌<◌, ◌≤◌, length, drop, IfSome};
-ghost use Rattle.debug_lines.specs.Numbers.{last_byte, joined, number_in, unsigned_at, signed_at, string_at};
+ghost use Rattle.object.specs.Numbers.{last_byte, joined, number_in, unsigned_at, signed_at, string_at};
 
-use elf::byte_at;
+use crate::number::byte_at;
 use text::{Stop, cut};
 
 /// The most bytes of a number in LEB128 that is read.

@@ -1,17 +1,32 @@
+//! ELF objects for BPF: the code of one function, or the first fault (System V ABI, "Object Files"; LLVM's BPF
+//! relocations).
 //! The lines of an object's program: for each unit of a function the file and line of the text that it was compiled
 //! from (DWARF 5 and 4, "Line Number Information").
 #![tactic(auto)]
 
+mod damage;
 mod entries;
+mod entry_search;
+mod fault;
 mod header;
+mod leb128;
 mod names;
 mod number;
 mod origin;
-mod placing;
 mod registers;
+mod relocation;
 mod rows;
+mod section;
 mod source;
 mod step;
+mod symbol;
 mod tables;
+mod unit_places;
 
-pub use placing::{entry_places, places};
+pub use entry_search::{entry, function};
+pub use fault::{Damage, ObjectFault, sentence};
+pub use number::{byte_at, double_at, half_at, word_at};
+pub use relocation::Relocation;
+pub use section::{SectionHeader, count_sections, read_table};
+pub use symbol::{Symbol, find_symbols};
+pub use unit_places::{entry_places, places};

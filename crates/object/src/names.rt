@@ -1,20 +1,20 @@
 //! The name of a file by its number.
 ghost use Rattle.std.specs.Prelude.{◌≡◌, ◌<◌, ◌≤◌, ◌+◌, ◌-◌, length, false, true, IfSome, MatchOption};
 ghost use Rattle.std.specs.List.{list_all};
-ghost use Rattle.elf.specs.First.{first_some};
-ghost use Rattle.debug_lines.specs.Names.{directories_end, empty_here, file_formats, files_at, files_behind, is_plain, is_visible, name_at, name_by, path_among, path_behind, path_in_five, path_in_four, path_of, path_of_entry};
+ghost use Rattle.object.specs.First.{first_some};
+ghost use Rattle.object.specs.Names.{directories_end, empty_here, file_formats, files_at, files_behind, is_plain, is_visible, name_at, name_by, path_among, path_behind, path_in_five, path_in_four, path_of, path_of_entry};
 
-use crate::entries::{Entries, Path, behind_entries, entries_at, path_in};
+use crate::entries::{EntryTable, Path, behind_entries, entries_at, path_in};
 use crate::header::Header;
-use crate::number::string_at;
-use elf::{byte_at, word_at};
+use crate::leb128::string_at;
+use crate::number::{byte_at, word_at};
 
 /// The formats of version 4's files, in the words of version 5: the path (DW_FORM_string), and directory, time and size
 /// (DW_FORM_udata).
 const FILE_FORMATS: [u8; 8] = [1, 8, 2, 15, 3, 15, 4, 15];
 
 /// The path of the entry at a place.
-fn path_of_entry(bytes: &[u8], files: Entries, place: usize) -> Option<Path>
+fn path_of_entry(bytes: &[u8], files: EntryTable, place: usize) -> Option<Path>
     requires few { length bytes.now ≤ 65536 }
     requires inside { place ≤ length bytes.now }
     ensures { result ≡ path_of_entry bytes.now files place }
@@ -23,7 +23,7 @@ fn path_of_entry(bytes: &[u8], files: Entries, place: usize) -> Option<Path>
 }
 
 /// The path of the entry of this number.
-fn path_among(bytes: &[u8], file: u64, files: Entries) -> Option<Path>
+fn path_among(bytes: &[u8], file: u64, files: EntryTable) -> Option<Path>
     requires few { length bytes.now ≤ 65536 }
     requires inside { files.first ≤ length bytes.now }
     ensures { result ≡ path_among bytes.now file files }
@@ -36,13 +36,13 @@ fn path_among(bytes: &[u8], file: u64, files: Entries) -> Option<Path>
 }
 
 /// The table of files behind that of directories.
-fn files_behind(bytes: &[u8], directories: Entries) -> Option<Entries>
+fn files_behind(bytes: &[u8], directories: EntryTable) -> Option<EntryTable>
     requires few { length bytes.now ≤ 65536 }
     requires inside { directories.first ≤ length bytes.now }
     ensures read { result ≡ files_behind bytes.now directories }
     ensures within { IfSome result (λ entries. entries.first ≤ length bytes.now) }
 {
-    let Entries {
+    let EntryTable {
         formats,
         from,
         count,
@@ -53,7 +53,7 @@ fn files_behind(bytes: &[u8], directories: Entries) -> Option<Entries>
 }
 
 /// The table of files of version 5, whose tables stand at a place.
-fn files_at(bytes: &[u8], tables: usize) -> Option<Entries>
+fn files_at(bytes: &[u8], tables: usize) -> Option<EntryTable>
     requires few { length bytes.now ≤ 65536 }
     requires inside { tables ≤ length bytes.now }
     ensures read { result ≡ files_at tables bytes.now }

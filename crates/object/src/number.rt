@@ -1,6 +1,6 @@
 //! Numbers and windows of bytes, where they are there.
 ghost use Rattle.std.specs.Prelude.{◌≡◌, ◌+◌, length, nat_le};
-ghost use Rattle.elf.specs.Number.{number_at, window};
+ghost use Rattle.object.specs.Number.{number_at, window};
 
 use byteorder::{ByteOrder, LittleEndian};
 

@@ -1,9 +1,11 @@
 //! Where in the function's section an address of the line number program lies.
 ghost use Rattle.std.specs.Prelude.{◌≡◌, ◌<◌, ◌≤◌, ◌+◌, ◌*◌, ◌/◌, ◌^◌, length};
-ghost use Rattle.elf.specs.First.{first_some};
-ghost use Rattle.debug_lines.specs.Origin.{addend_of, address_in, origin_here, origin_of};
+ghost use Rattle.object.specs.First.{first_some};
+ghost use Rattle.object.specs.Origin.{addend_of, address_in, origin_here, origin_of};
 
-use elf::{Relocation, Symbol, double_at};
+use crate::number::double_at;
+use crate::relocation::Relocation;
+use crate::symbol::Symbol;
 
 /// What is added to the symbol's value.
 fn addend_of(bytes: &[u8], size: usize, relocations: &[u8], index: usize, place: usize) -> u64

@@ -3,7 +3,7 @@ ghost use Rattle.std.specs.Prelude.{◌≡◌, ◌^◌};
 
 /// What the machine knows of addresses, files and lines.
 #[derive(Clone, Copy)]
-pub struct Registers {
+pub struct LineRegisters {
     /// The address.
     pub address: u64,
     /// Whether it is one of the function's section.
@@ -16,9 +16,9 @@ pub struct Registers {
 
 /// A row: its line is that of the addresses from its own up to that of the next row.
 #[derive(Clone, Copy)]
-pub struct Row {
+pub struct LineRow {
     /// The registers.
-    pub registers: Registers,
+    pub registers: LineRegisters,
     /// Whether it ends a sequence: its address is behind it.
     pub last: bool,
 }

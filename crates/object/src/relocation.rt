@@ -1,10 +1,10 @@
 ghost use Rattle.std.specs.Prelude.{◌≡◌, ◌<◌, ◌≤◌, ◌+◌, ◌*◌, ◌/◌, ◌^◌, length};
-ghost use Rattle.elf.specs.First.{first_some};
-ghost use Rattle.elf.specs.Relocation.{named_at, relocation_fault, relocations_fault, is_call, call_fault};
+ghost use Rattle.object.specs.First.{first_some};
+ghost use Rattle.object.specs.Relocation.{named_at, relocation_fault, relocations_fault, is_call, call_fault};
 
-use crate::fault::Fault;
+use crate::fault::ObjectFault;
 use crate::number::{byte_at, double_at, word_at};
-use crate::section::Section;
+use crate::section::SectionHeader;
 use crate::symbol::Symbol;
 
 /// A place of a section that names a symbol (Elf64_Rel, Elf64_Rela).
@@ -18,10 +18,10 @@ pub struct Relocation {
 
 impl Relocation {
     ghost use Rattle.std.specs.Prelude.{◌≡◌, ◌<◌, ◌≤◌, ◌+◌, ◌*◌, ◌^◌};
-    ghost use Rattle.elf.specs.Relocation.{relocation_size, relocation_at, is_within};
+    ghost use Rattle.object.specs.Relocation.{relocation_size, relocation_at, is_within};
 
     /// How many bytes each relocation of a section has.
-    pub fn size(section: Section) -> usize
+    pub fn size(section: SectionHeader) -> usize
         ensures { result ≡ relocation_size section }
     {
         if section.kind == 9 { 16 } else { 24 }
@@ -48,13 +48,13 @@ impl Relocation {
 }
 
 /// What is wrong with a unit of the function's code that names the symbol.
-fn fault_of(table: &[u8], symbol: Symbol, unit: usize) -> Fault
+fn fault_of(table: &[u8], symbol: Symbol, unit: usize) -> ObjectFault
     ensures { result ≡ named_at table.now symbol unit }
 {
     if symbol.home(table).holds_code() {
-        Fault::Leaves(unit)
+        ObjectFault::Leaves(unit)
     } else {
-        Fault::Names(unit)
+        ObjectFault::Names(unit)
     }
 }
 
@@ -66,7 +66,7 @@ fn fault_at(
     size: usize,
     relocations: &[u8],
     index: usize,
-) -> Option<Fault>
+) -> Option<ObjectFault>
     requires { size * index + 16 < 2 ^ 64 }
     ensures { result ≡ relocation_fault table.now symbols.now function size relocations.now index }
 {
@@ -87,7 +87,7 @@ fn first_fault(
     function: Symbol,
     size: usize,
     relocations: &[u8],
-) -> Option<Fault>
+) -> Option<ObjectFault>
     requires { 16 ≤ size }
     ensures { result ≡ first_some (relocation_fault table.now symbols.now function size relocations.now)
         (length relocations.now / size) }
@@ -108,11 +108,11 @@ fn section_fault(
     symbols: &[u8],
     function: Symbol,
     index: usize,
-) -> Option<Fault>
+) -> Option<ObjectFault>
     requires { index < 2 ^ 32 }
     ensures { result ≡ relocations_fault object.now table.now symbols.now function index }
 {
-    let section = Section::read(table, index);
+    let section = SectionHeader::read(table, index);
     if section.holds_relocations() && section.info == u32::from(function.section) {
         first_fault(
             table,
@@ -133,7 +133,7 @@ pub fn first_named(
     count: usize,
     symbols: &[u8],
     function: Symbol,
-) -> Option<Fault>
+) -> Option<ObjectFault>
     requires { count < 2 ^ 32 }
     ensures { result ≡ first_some (relocations_fault object.now table.now symbols.now function) count }
 {
@@ -155,19 +155,19 @@ fn calls(code: &[u8], unit: usize) -> bool
 }
 
 /// What is wrong with a unit that calls a function of the program.
-fn fault_of_call(code: &[u8], unit: usize) -> Option<Fault>
+fn fault_of_call(code: &[u8], unit: usize) -> Option<ObjectFault>
     requires { 8 * unit + 8 < 2 ^ 64 }
     ensures { result ≡ call_fault code.now unit }
 {
     if calls(code, unit) {
-        Some(Fault::Leaves(unit))
+        Some(ObjectFault::Leaves(unit))
     } else {
         None
     }
 }
 
 /// The first unit that calls a function of the program.
-pub fn first_call(code: &[u8]) -> Option<Fault>
+pub fn first_call(code: &[u8]) -> Option<ObjectFault>
     ensures { result ≡ first_some (call_fault code.now) (length code.now / 8) }
 {
     for unit in 0..code.len() / 8 {

@@ -1,20 +1,20 @@
 //! The state machine of a line number program.
 ghost use Rattle.std.specs.Prelude.{◌≡◌, ◌<◌, ◌≤◌, ◌++◌, length, IfOk, OnOk, option_to_list};
-ghost use Rattle.debug_lines.specs.Rows.{GivesRows, advanced, after, at_start, row_by, started};
-ghost use Rattle.debug_lines.specs.Sources.{IsSource, origins_of};
+ghost use Rattle.object.specs.Rows.{GivesRows, advanced, after, at_start, row_by, started};
+ghost use Rattle.object.specs.Sources.{IsSource, origins_of};
 
 use crate::header::Header;
 use crate::origin::origin_of;
-use crate::registers::{Registers, Row};
-use crate::source::Source;
+use crate::registers::{LineRegisters, LineRow};
+use crate::source::LineSections;
 use crate::step::{Step, step_at};
 use std::alloc::{AllocError, Global};
 
 /// The registers as a sequence begins.
-fn at_start() -> Registers
+fn at_start() -> LineRegisters
     ensures { result ≡ at_start }
 {
-    Registers {
+    LineRegisters {
         address: 0,
         inside: false,
         file: 1,
@@ -23,7 +23,7 @@ fn at_start() -> Registers
 }
 
 /// The registers with address and line advanced.
-fn advanced(registers: Registers, address: u64, line: u64) -> Registers
+fn advanced(registers: LineRegisters, address: u64, line: u64) -> LineRegisters
     ensures { result ≡ advanced registers address line }
 {
     let mut next = registers;
@@ -33,7 +33,7 @@ fn advanced(registers: Registers, address: u64, line: u64) -> Registers
 }
 
 /// The registers with an address that begins a sequence.
-fn started(registers: Registers, address: Option<u64>) -> Registers
+fn started(registers: LineRegisters, address: Option<u64>) -> LineRegisters
     ensures { result ≡ started registers address }
 {
     let mut next = registers;
@@ -48,15 +48,15 @@ fn started(registers: Registers, address: Option<u64>) -> Registers
 }
 
 /// The row that an instruction adds.
-fn row_by(registers: Registers, step: Step) -> Option<Row>
+fn row_by(registers: LineRegisters, step: Step) -> Option<LineRow>
     ensures { result ≡ row_by registers step }
 {
     match step {
-        Step::Row(address, line) => Some(Row {
+        Step::Row(address, line) => Some(LineRow {
             registers: advanced(registers, address, line),
             last: false,
         }),
-        Step::End => Some(Row {
+        Step::End => Some(LineRow {
             registers,
             last: true,
         }),
@@ -65,7 +65,7 @@ fn row_by(registers: Registers, step: Step) -> Option<Row>
 }
 
 /// Adds the row that an instruction adds.
-fn put_row(rows: &mut Vec<Row>, registers: Registers, step: Step) -> Result<(), AllocError>
+fn put_row(rows: &mut Vec<LineRow>, registers: LineRegisters, step: Step) -> Result<(), AllocError>
     ensures { OnOk result (rows.new.items ≡ rows.old.items ++ option_to_list (row_by registers step)) }
 {
     match row_by(registers, step) {
@@ -78,7 +78,7 @@ fn put_row(rows: &mut Vec<Row>, registers: Registers, step: Step) -> Result<(), 
 }
 
 /// The registers behind an instruction.
-fn after(source: &Source, registers: Registers, step: Step) -> Registers
+fn after(source: &LineSections, registers: LineRegisters, step: Step) -> LineRegisters
     requires { IsSource source.now }
     ensures { result ≡ after (origins_of source.now) registers step }
 {
@@ -98,7 +98,7 @@ fn after(source: &Source, registers: Registers, step: Step) -> Registers
 }
 
 /// The address of the operand at a place, if it is one of the function's section.
-fn origin(source: &Source, place: usize) -> Option<u64>
+fn origin(source: &LineSections, place: usize) -> Option<u64>
     requires { IsSource source.now }
     ensures { result ≡ origins_of source.now place }
 {
@@ -120,8 +120,8 @@ fn origin(source: &Source, place: usize) -> Option<u64>
 pub fn read_rows(
     alloc: Global,
     header: Header,
-    source: &Source,
-) -> Result<Option<Vec<Row>>, AllocError>
+    source: &LineSections,
+) -> Result<Option<Vec<LineRow>>, AllocError>
     requires source { IsSource source.now }
     requires range { 0 < header.range }
     requires opcodes { header.opcodes ≤ 13 }

@@ -1,5 +1,5 @@
 ghost use Rattle.std.specs.Prelude.{◌≡◌, ◌<◌, ◌^◌};
-ghost use Rattle.elf.specs.Section.{is_bpf_object, section_count, section_table, is_table_whole};
+ghost use Rattle.object.specs.Section.{is_bpf_object, section_count, section_table, is_table_whole};
 
 use crate::number::{byte_at, double_at, half_at, window, word_at};
 
@@ -44,7 +44,7 @@ pub fn has_table(object: &[u8]) -> bool
 
 /// What is looked at of a section's header (Elf64_Shdr).
 #[derive(Clone, Copy)]
-pub struct Section {
+pub struct SectionHeader {
     /// sh_type.
     pub kind: u32,
     /// sh_flags.
@@ -59,17 +59,17 @@ pub struct Section {
     pub info: u32,
 }
 
-impl Section {
+impl SectionHeader {
     ghost use Rattle.std.specs.Prelude.{◌≡◌, ◌<◌, ◌^◌};
-    ghost use Rattle.elf.specs.Section.{section_at, section_bytes, has_no_bytes, is_code, is_relocations};
+    ghost use Rattle.object.specs.Section.{section_at, section_bytes, has_no_bytes, is_code, is_relocations};
 
     /// The header of this number; zeros past the table.
-    pub fn read(table: &[u8], index: usize) -> Section
+    pub fn read(table: &[u8], index: usize) -> SectionHeader
         requires { index < 2 ^ 32 }
         ensures { result ≡ section_at index table.now }
     {
         let place = 64 * index;
-        Section {
+        SectionHeader {
             kind: word_at(table, place + 4),
             flags: double_at(table, place + 8),
             start: double_at(table, place + 24),

@@ -2,7 +2,7 @@
 
 /// The parts of an object that a line number program needs.
 #[derive(Clone, Copy)]
-pub struct Source<'a> {
+pub struct LineSections<'a> {
     /// .debug_line, up to the end of the program.
     pub bytes: &'a [u8],
     /// The symbols of the object.

@@ -1,11 +1,11 @@
 //! The instructions of a line number program.
 ghost use Rattle.std.specs.Prelude.{◌≡◌, ◌<◌, ◌≤◌, ◌-◌, ◌*◌, ◌^◌, length, IfSome};
-ghost use Rattle.debug_lines.specs.Steps.{address_advance, special, by_number, advance_step, no_step, fixed_advance, alone, standard, extended_step, extended_of, extended, step_at};
-ghost use Rattle.debug_lines.specs.Numbers.{unsigned_at, signed_at};
+ghost use Rattle.object.specs.Steps.{address_advance, special, by_number, advance_step, no_step, fixed_advance, alone, standard, extended_step, extended_of, extended, step_at};
+ghost use Rattle.object.specs.Numbers.{unsigned_at, signed_at};
 
 use crate::header::Header;
-use crate::number::{Read, signed_at, unsigned_at};
-use elf::{byte_at, half_at};
+use crate::leb128::{Read, signed_at, unsigned_at};
+use crate::number::{byte_at, half_at};
 
 /// What an instruction says of addresses, files and lines.
 #[derive(Clone, Copy)]

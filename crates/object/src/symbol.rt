@@ -1,9 +1,9 @@
 ghost use Rattle.std.specs.Prelude.{◌≡◌, ◌<◌, ◌≤◌, ◌+◌, ◌*◌, ◌^◌, drop, IfSome};
-ghost use Rattle.elf.specs.First.{first_some};
-ghost use Rattle.elf.specs.Symbol.{symbols_here, symbols_section, begins_with_name};
+ghost use Rattle.object.specs.First.{first_some};
+ghost use Rattle.object.specs.Symbol.{symbols_here, symbols_section, begins_with_name};
 
 use crate::number::{byte_at, double_at, half_at, word_at};
-use crate::section::Section;
+use crate::section::SectionHeader;
 
 /// What is looked at of a symbol (Elf64_Sym).
 #[derive(Clone, Copy)]
@@ -22,8 +22,8 @@ pub struct Symbol {
 
 impl Symbol {
     ghost use Rattle.std.specs.Prelude.{◌≡◌, ◌<◌, ◌+◌, ◌*◌, ◌^◌};
-    ghost use Rattle.elf.specs.Symbol.{symbol_at, is_function, is_global, asked, fits};
-    ghost use Rattle.elf.specs.Section.{section_at};
+    ghost use Rattle.object.specs.Symbol.{symbol_at, is_function, is_global, asked, fits};
+    ghost use Rattle.object.specs.Section.{section_at};
 
     /// The symbol of this number; zeros past the table.
     pub fn read(symbols: &[u8], index: usize) -> Symbol
@@ -41,10 +41,10 @@ impl Symbol {
     }
 
     /// Its section.
-    pub fn home(self, table: &[u8]) -> Section
+    pub fn home(self, table: &[u8]) -> SectionHeader
         ensures { result ≡ section_at self.section table.now }
     {
-        Section::read(table, usize::from(self.section))
+        SectionHeader::read(table, usize::from(self.section))
     }
 
     /// Whether it is a function in a section of code.
@@ -109,7 +109,7 @@ fn symbols_at(table: &[u8], index: usize) -> Option<usize>
     ensures here { result ≡ symbols_here table.now index }
     ensures same { IfSome result (λ found. found ≡ index) }
 {
-    if Section::read(table, index).kind == 2 {
+    if SectionHeader::read(table, index).kind == 2 {
         Some(index)
     } else {
         None

@@ -1,13 +1,16 @@
 //! The sections of an object that have its line number information.
 ghost use Rattle.std.specs.Prelude.{◌≡◌, ◌<◌, ◌≤◌, ◌^◌, codes, length, IfSome};
-ghost use Rattle.elf.specs.First.{first_some};
-ghost use Rattle.elf.specs.Section.{section_at, section_count, section_table};
-ghost use Rattle.debug_lines.specs.Tables.{bytes_of, line_strings_in, lines_in, lines_section, named_here, origins_in, relocates_here, relocations_of, section_named, section_names, short, strings_in, symbols_in};
-ghost use Rattle.debug_lines.specs.Sources.{IsSource, origins_of};
+ghost use Rattle.object.specs.First.{first_some};
+ghost use Rattle.object.specs.Section.{section_at, section_count, section_table};
+ghost use Rattle.object.specs.Tables.{bytes_of, line_strings_in, lines_in, lines_section, named_here, origins_in, relocates_here, relocations_of, section_named, section_names, short, strings_in, symbols_in};
+ghost use Rattle.object.specs.Sources.{IsSource, origins_of};
 
-use crate::number::string_at;
-use crate::source::Source;
-use elf::{Relocation, Section, count_sections, find_symbols, half_at, read_table, word_at};
+use crate::leb128::string_at;
+use crate::number::{half_at, word_at};
+use crate::relocation::Relocation;
+use crate::section::{SectionHeader, count_sections, read_table};
+use crate::source::LineSections;
+use crate::symbol::find_symbols;
 
 /// The most bytes of a section that is read.
 const MOST: usize = 65_536;
@@ -26,7 +29,7 @@ fn bytes_of(object: &[u8], index: usize) -> &[u8]
     ensures read { result.now ≡ bytes_of object.now index }
     ensures bound { length result.now ≤ 65536 }
 {
-    short(Section::read(read_table(object), index).bytes(object))
+    short(SectionHeader::read(read_table(object), index).bytes(object))
 }
 
 /// The names of the sections.
@@ -34,7 +37,7 @@ fn section_names(object: &[u8]) -> &[u8]
     ensures { result.now ≡ section_names object.now }
 {
     let index = usize::from(half_at(object, 62));
-    Section::read(read_table(object), index).bytes(object)
+    SectionHeader::read(read_table(object), index).bytes(object)
 }
 
 /// The number of a section, if it has this name.
@@ -84,7 +87,7 @@ fn relocates_here(table: &[u8], home: usize, index: usize) -> Option<usize>
     ensures here { result ≡ relocates_here table.now home index }
     ensures same { IfSome result (λ found. found ≡ index) }
 {
-    let section = Section::read(table, index);
+    let section = SectionHeader::read(table, index);
     if section.holds_relocations() && section.info as usize == home {
         Some(index)
     } else {
@@ -154,18 +157,18 @@ fn symbols_in(object: &[u8]) -> &[u8]
 {
     let table = read_table(object);
     let home = find_symbols(table, count_sections(object));
-    Section::read(table, home).bytes(object)
+    SectionHeader::read(table, home).bytes(object)
 }
 
 /// What the program in these bytes needs of its object, for a function in the section of this number.
-pub fn source_in<'a>(object: &'a [u8], bytes: &'a [u8], section: u16) -> Source<'a>
+pub fn source_in<'a>(object: &'a [u8], bytes: &'a [u8], section: u16) -> LineSections<'a>
     ensures whole { IsSource result }
     ensures bytes { result.bytes.now ≡ bytes.now }
     ensures origins { origins_of result ≡ origins_in object.now bytes.now section }
 {
     let index = relocations_of(object, lines_section(object));
-    let size = Relocation::size(Section::read(read_table(object), index));
-    Source {
+    let size = Relocation::size(SectionHeader::read(read_table(object), index));
+    LineSections {
         bytes,
         symbols: symbols_in(object),
         section,

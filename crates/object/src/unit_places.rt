@@ -1,17 +1,17 @@
 //! The place of each unit of a function in the text that it was compiled from.
 ghost use Rattle.std.specs.Prelude.{◌≡◌, ◌<◌, ◌≤◌, ◌+◌, ◌++◌, codes, decimal, length, map, string_bytes, IfOk};
-ghost use Rattle.elf.specs.Entry.{function_of};
-ghost use Rattle.elf.specs.Symbol.{asked};
-ghost use Rattle.debug_lines.specs.Header.{header_of};
-ghost use Rattle.debug_lines.specs.Tables.{lines_in};
-ghost use Rattle.debug_lines.specs.Places.{AreEntryPlaces, AreRows, TellsPlaces, name_in, is_of, row_here, row_of, texts_of, told, told_of};
+ghost use Rattle.object.specs.Entry.{function_of};
+ghost use Rattle.object.specs.Symbol.{asked};
+ghost use Rattle.object.specs.Header.{header_of};
+ghost use Rattle.object.specs.Tables.{lines_in};
+ghost use Rattle.object.specs.Places.{AreEntryPlaces, AreRows, TellsPlaces, name_in, is_of, row_here, row_of, texts_of, told, told_of};
 
 use crate::header::{Header, header_of};
 use crate::names::{name_of, plain};
-use crate::registers::Row;
+use crate::registers::LineRow;
 use crate::rows::read_rows;
+use crate::symbol::Symbol;
 use crate::tables::{line_strings_in, lines_in, source_in, strings_in};
-use elf::Symbol;
 use std::alloc::{AllocError, Global};
 
 /// The most units of a program.
@@ -23,7 +23,7 @@ fn rows_of(
     object: &[u8],
     section: u16,
     header: Option<Header>,
-) -> Result<Vec<Row>, AllocError>
+) -> Result<Vec<LineRow>, AllocError>
     requires { header ≡ header_of (lines_in object.now) }
     ensures { IfOk result (λ rows. AreRows object.now section header rows.items) }
 {
@@ -39,7 +39,7 @@ fn rows_of(
 }
 
 /// Whether an address of the function's section lies from a row on and before the next.
-fn is_of(address: u64, row: Row, next: Row) -> bool
+fn is_of(address: u64, row: LineRow, next: LineRow) -> bool
     ensures { result ≡ is_of address row next }
 {
     row.registers.inside
@@ -49,7 +49,7 @@ fn is_of(address: u64, row: Row, next: Row) -> bool
 }
 
 /// The row of this number, if an address is one of its.
-fn row_here(rows: &[Row], address: u64, index: usize) -> Option<Row>
+fn row_here(rows: &[LineRow], address: u64, index: usize) -> Option<LineRow>
     requires { index + 1 < length rows.now }
     ensures { result ≡ row_here rows.now address index }
 {
@@ -62,7 +62,7 @@ fn row_here(rows: &[Row], address: u64, index: usize) -> Option<Row>
 }
 
 /// The first row of an address.
-fn row_of(rows: &[Row], address: u64) -> Option<Row>
+fn row_of(rows: &[LineRow], address: u64) -> Option<LineRow>
     ensures { result ≡ row_of rows.now address }
 {
     for index in 0..rows.len().saturating_sub(1) {
@@ -113,7 +113,7 @@ fn told_of(
     alloc: Global,
     object: &[u8],
     header: Option<Header>,
-    row: Option<Row>,
+    row: Option<LineRow>,
 ) -> Result<String, AllocError>
     requires { header ≡ header_of (lines_in object.now) }
     ensures { IfOk result (λ text. string_bytes text ≡ told_of (name_in object.now header) row) }
@@ -132,7 +132,7 @@ fn texts_of(
     alloc: Global,
     object: &[u8],
     header: Option<Header>,
-    rows: &[Row],
+    rows: &[LineRow],
     function: Symbol,
     units: usize,
 ) -> Result<Vec<String>, AllocError>
@@ -177,7 +177,7 @@ pub fn entry_places(
     ensures { IfOk result (λ texts. AreEntryPlaces object.now (function_of object.now (asked name.entry))
         (map string_bytes texts.items)) }
 {
-    match elf::function(object, name) {
+    match crate::entry_search::function(object, name) {
         Ok(function) => places(alloc, object, function),
         Err(_) => Ok(Vec::new(alloc)),
     }

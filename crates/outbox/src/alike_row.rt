@@ -3,20 +3,20 @@ ghost use Rattle.outbox.specs.Rows.{empty_row, orders_in, receivers_in, all_put,
 ghost use Rattle.outbox.specs.Told.{orders_told};
 
 use crate::receivers::Receivers;
-use crate::row::Row;
-use crate::told::Told;
+use crate::row::MixedRow;
+use crate::told_orders::ReceiverOrders;
 use arrayvec::ArrayVec;
 use std::marker::Model;
 
 /// The places of one label as long as all who hear of it have one order, or none: twelve bytes.
 #[derive(Drop)]
-pub struct Alike {
+pub struct UniformRow {
     receivers: Receivers,
     /// The order of each, where one was put.
     order: Option<u32>,
 }
 
-impl Model for Alike {
+impl Model for UniformRow {
     ghost use Rattle.outbox.specs.Rows.{RowOrders, alike_row};
 
     ghost Value = { RowOrders };
@@ -24,12 +24,12 @@ impl Model for Alike {
     ghost view = { λ a. alike_row a.order a.receivers };
 }
 
-impl Alike {
+impl UniformRow {
     /// A row in which nothing is put, for these receivers.
-    pub(crate) fn new(receivers: Receivers) -> Alike
+    pub(crate) fn new(receivers: Receivers) -> UniformRow
         ensures { result ≡ empty_row receivers }
     {
-        Alike {
+        UniformRow {
             receivers,
             order: None,
         }
@@ -74,21 +74,21 @@ impl Alike {
     }
 
     /// The same, all at once.
-    pub(crate) fn told_at_once(&self) -> Told
+    pub(crate) fn told_at_once(&self) -> ReceiverOrders
         ensures orders { orders_told result ≡ orders_in self.now }
         ensures few { length (orders_told result) ≤ 13 }
     {
-        Told::Alike {
+        ReceiverOrders::Alike {
             order: self.order,
             times: self.receivers.count(),
         }
     }
 
     /// The same places, with an order for each receiver.
-    pub(crate) fn apart(&self) -> Row
+    pub(crate) fn apart(&self) -> MixedRow
         ensures { result ≡ self.now }
     {
-        let mut row = Row::new(self.receivers.copy());
+        let mut row = MixedRow::new(self.receivers.copy());
         match self.order {
             Some(order) => {
                 row.put_all(order);
@@ -99,10 +99,10 @@ impl Alike {
     }
 
     /// The same row.
-    pub(crate) fn copy(&self) -> Alike
+    pub(crate) fn copy(&self) -> UniformRow
         ensures { result ≡ self.now }
     {
-        Alike {
+        UniformRow {
             receivers: self.receivers.copy(),
             order: self.order,
         }

@@ -1,7 +1,7 @@
 //! The orders that a general puts for a round, a place for each label relayed and each receiver.
 #![tactic(auto)]
 
-mod alike;
+mod alike_row;
 mod laws;
 mod mask;
 mod orders;
@@ -11,12 +11,12 @@ mod receivers;
 mod relays;
 mod row;
 mod rows;
-mod signing;
-mod told;
+mod signed_entries;
+mod told_orders;
 
 pub use label::Shape;
 pub use laws::last_orders_are_given;
 pub use orders::Orders;
 pub use outbox::Outbox;
 pub use semantics::Entry;
-pub use told::Told;
+pub use told_orders::ReceiverOrders;

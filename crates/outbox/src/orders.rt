@@ -3,18 +3,18 @@ ghost use Rattle.outbox.specs.Orders.{orders_seen};
 ghost use Rattle.outbox.specs.Rows.{orders_in, order_in, receivers_in};
 ghost use Rattle.outbox.specs.Told.{orders_told};
 
-use crate::alike::Alike;
-use crate::row::Row;
-use crate::told::Told;
+use crate::alike_row::UniformRow;
+use crate::row::MixedRow;
+use crate::told_orders::ReceiverOrders;
 use arrayvec::ArrayVec;
 
 /// Lent: the places of one label, who may hear of it, each with the order put for him.
 #[derive(Clone, Copy)]
 pub enum Orders<'a> {
     /// All who hear of it have one order, or none.
-    Alike(&'a Alike),
+    Alike(&'a UniformRow),
     /// Each has his own, or none.
-    Apart(&'a Row),
+    Apart(&'a MixedRow),
     /// Nobody hears of it: for a letter that is missing.
     Nobody,
 }
@@ -54,14 +54,14 @@ impl Orders<'_> {
     }
 
     /// The same, alike orders at once.
-    pub(crate) fn told_at_once(&self) -> Told
+    pub(crate) fn told_at_once(&self) -> ReceiverOrders
         ensures orders { orders_told result ≡ orders_in (orders_seen self.now) }
         ensures few { length (orders_told result) ≤ 13 }
     {
         match self {
             Orders::Alike(alike) => alike.told_at_once(),
-            Orders::Apart(row) => Told::Apart(row.told()),
-            Orders::Nobody => Told::Alike {
+            Orders::Apart(row) => ReceiverOrders::Apart(row.told()),
+            Orders::Nobody => ReceiverOrders::Alike {
                 order: None,
                 times: 0,
             },

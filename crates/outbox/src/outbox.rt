@@ -10,11 +10,11 @@ ghost use Rattle.outbox.specs.Told.{orders_told};
 use crate::orders::Orders;
 use crate::relays::rows_of;
 use crate::rows::Rows;
-use crate::signing::{Signing, copied_signing, same_signing};
-use crate::told::Told;
+use crate::signed_entries::{Signing, copied_signing, same_signing};
+use crate::told_orders::ReceiverOrders;
 use arrayvec::ArrayVec;
-use contexts::taken_value;
 use label::Shape;
+use mem::taken_value;
 use semantics::Entry;
 use std::alloc::{AllocError, Global};
 use std::marker::Model;
@@ -233,13 +233,13 @@ impl Outbox {
     }
 
     /// The orders for the label of that rank, receiver by receiver, ascending; none where there is no such label.
-    pub fn told(&self, rank: u32) -> Told
+    pub fn told(&self, rank: u32) -> ReceiverOrders
         ensures orders { orders_told result ≡ slice_index_or self.now.rows rank [] }
         ensures few { length (orders_told result) ≤ 13 }
     {
         let rank = rank as usize;
         if rank >= self.rows.len() {
-            return Told::Alike {
+            return ReceiverOrders::Alike {
                 order: None,
                 times: 0,
             };

@@ -5,13 +5,13 @@ ghost use Rattle.label.specs.Relay.{IsShape, relay};
 ghost use Rattle.outbox.specs.Rows.{row_for};
 ghost use Rattle.outbox.specs.Receivers.{rows_under};
 
-use crate::alike::Alike;
+use crate::alike_row::UniformRow;
 use crate::receivers::Receivers;
 use label::{Shape, Space, count};
 use std::alloc::{AllocError, Global};
 
 /// The empty rows of the labels that the general relays.
-pub(crate) fn rows_of(alloc: Global, shape: Shape) -> Result<Vec<Alike>, AllocError>
+pub(crate) fn rows_of(alloc: Global, shape: Shape) -> Result<Vec<UniformRow>, AllocError>
     requires { IsShape shape }
     ensures { IfOk result (λ rows. rows.items ≡ map (row_for shape) (relay shape)) }
 {
@@ -20,13 +20,13 @@ pub(crate) fn rows_of(alloc: Global, shape: Shape) -> Result<Vec<Alike>, AllocEr
     }
     let mut rows = Vec::new(alloc);
     if shape.round == 1 {
-        rows.push(Alike::new(hearing(shape)))?;
+        rows.push(UniformRow::new(hearing(shape)))?;
     }
     Ok(rows)
 }
 
 /// Those of a lieutenant: the labels of the round before that lack him.
-fn lieutenant_rows(alloc: Global, shape: Shape) -> Result<Vec<Alike>, AllocError>
+fn lieutenant_rows(alloc: Global, shape: Shape) -> Result<Vec<UniformRow>, AllocError>
     requires shape { IsShape shape }
     requires lieutenant { shape.general ≢ shape.commander }
     ensures { IfOk result (λ rows. rows.items
@@ -59,11 +59,11 @@ fn hearing(shape: Shape) -> Receivers
 }
 
 /// Pushes the rows of the labels that have so many generals more than one of which these hear.
-fn push_rows(rows: &mut Vec<Alike>, hearing: Receivers, more: u32) -> Result<(), AllocError>
+fn push_rows(rows: &mut Vec<UniformRow>, hearing: Receivers, more: u32) -> Result<(), AllocError>
     ensures { IfOk result (λ _. rows.new.items ≡ rows.old.items ++ rows_under more hearing) }
 {
     if more == 0 {
-        rows.push(Alike::new(hearing))?;
+        rows.push(UniformRow::new(hearing))?;
         return Ok(());
     }
     hearing.recall();

@@ -9,13 +9,13 @@ use std::marker::Model;
 
 /// The places of one label: who may hear of it, ascending, each with the order put for him.
 #[derive(Drop)]
-pub struct Row {
+pub struct MixedRow {
     receivers: Receivers,
     /// By the receiver's number; nothing at the other numbers.
     orders: OrdersByNumber,
 }
 
-impl Model for Row {
+impl Model for MixedRow {
     ghost use Rattle.outbox.specs.Rows.{RowOrders, IsRow, row_of};
 
     ghost Value = { RowOrders };
@@ -25,13 +25,13 @@ impl Model for Row {
     ghost invariant = { λ r. IsRow r.orders r.receivers };
 }
 
-impl Row {
+impl MixedRow {
     /// A row in which nothing is put, for these receivers.
-    pub(crate) fn new(receivers: Receivers) -> Row
+    pub(crate) fn new(receivers: Receivers) -> MixedRow
         ensures { result ≡ empty_row receivers }
     {
         receivers.recall();
-        Row {
+        MixedRow {
             receivers,
             orders: OrdersByNumber::nothing(),
         }
@@ -88,10 +88,10 @@ impl Row {
     }
 
     /// The same row.
-    pub(crate) fn copy(&self) -> Row
+    pub(crate) fn copy(&self) -> MixedRow
         ensures { result ≡ self.now }
     {
-        Row {
+        MixedRow {
             receivers: self.receivers.copy(),
             orders: self.orders.copy(),
         }

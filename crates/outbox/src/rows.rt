@@ -4,9 +4,9 @@ ghost use Rattle.label.specs.Labels.{on};
 ghost use Rattle.outbox.specs.Orders.{orders_seen};
 ghost use Rattle.outbox.specs.Rows.{orders_in, receivers_in, put_in_row, all_put, filled, put_first, found_first, rows_seen, Tells};
 
-use crate::alike::Alike;
+use crate::alike_row::UniformRow;
 use crate::orders::Orders;
-use crate::row::Row;
+use crate::row::MixedRow;
 use std::alloc::{AllocError, Global};
 use std::marker::Model;
 
@@ -15,9 +15,9 @@ use std::marker::Model;
 #[derive(Drop)]
 pub(crate) struct Rows {
     /// The rows, as long as the others are empty.
-    alike: Vec<Alike>,
+    alike: Vec<UniformRow>,
     /// The rows once they are set apart.
-    apart: Vec<Row>,
+    apart: Vec<MixedRow>,
 }
 
 impl Model for Rows {
@@ -37,7 +37,7 @@ impl Rows {
     /// # Errors
     ///
     /// `AllocError` where the memory for their orders is refused.
-    pub fn new(alloc: Global, alike: Vec<Alike>) -> Result<Rows, AllocError>
+    pub fn new(alloc: Global, alike: Vec<UniformRow>) -> Result<Rows, AllocError>
         ensures { IfOk result (λ rows. rows ≡ alike.items) }
     {
         let apart = Vec::with_capacity(alloc, alike.len())?;
@@ -159,7 +159,7 @@ impl Rows {
 }
 
 /// Sets the rows apart, for which there is room, where they are not yet.
-fn set_apart(alike: &[Alike], apart: &mut Vec<Row>)
+fn set_apart(alike: &[UniformRow], apart: &mut Vec<MixedRow>)
     requires room { length apart.old.items ≡ 0 → length alike.now ≤ vec_capacity apart.old }
     ensures rows { apart.new.items ≡ rows_seen alike.now apart.old.items }
     ensures room { length apart.new.items ≡ 0 → length alike.now ≤ vec_capacity apart.new }
@@ -173,7 +173,7 @@ fn set_apart(alike: &[Alike], apart: &mut Vec<Row>)
 }
 
 /// The same rows.
-fn copied_alike(alloc: Global, rows: &[Alike]) -> Result<Vec<Alike>, AllocError>
+fn copied_alike(alloc: Global, rows: &[UniformRow]) -> Result<Vec<UniformRow>, AllocError>
     ensures { IfOk result (λ copy. copy.items ≡ rows.now) }
 {
     let mut copy = Vec::with_capacity(alloc, rows.len())?;
@@ -184,7 +184,7 @@ fn copied_alike(alloc: Global, rows: &[Alike]) -> Result<Vec<Alike>, AllocError>
 }
 
 /// The same rows.
-fn copied(alloc: Global, rows: &[Row]) -> Result<Vec<Row>, AllocError>
+fn copied(alloc: Global, rows: &[MixedRow]) -> Result<Vec<MixedRow>, AllocError>
     ensures { IfOk result (λ copy. copy.items ≡ rows.now) }
 {
     let mut copy = Vec::with_capacity(alloc, rows.len())?;
@@ -210,7 +210,7 @@ fn are_same(told: &[Option<u32>], others: &[Option<u32>]) -> bool
 }
 
 /// Puts a receiver's order in the row of each label, told by its rank: how many were put.
-fn put_in_each<F: Fn(usize) -> u32>(labels: &mut [Row], receiver: u32, order: F) -> u32
+fn put_in_each<F: Fn(usize) -> u32>(labels: &mut [MixedRow], receiver: u32, order: F) -> u32
     requires few { length labels.old ≤ 990 }
     requires callable { (rank : ℕ) → rank < length labels.old → F.pre order rank }
     ensures rows { (f : ℕ → ℕ) → Tells (F.post order) f →

@@ -7,7 +7,7 @@ ghost use Rattle.range.specs.Table.{table, row};
 
 use crate::range::Range;
 use crate::width::used;
-use crate::{bitwise, quotients, shifts, sums};
+use crate::{bit_operations, quotients, shifts, sums};
 use word::arithmetic::{alu32, alu64};
 use word::{Operation, Width};
 
@@ -52,13 +52,13 @@ fn by_row(width: Width, operation: Operation, a: Range, b: Range) -> Range
         Operation::Mul => sums::multiply(width, a, b),
         Operation::Div => quotients::divide(width, a, b),
         Operation::SignedDiv => quotients::divide_signed(width, a, b),
-        Operation::Or => bitwise::or(a, b),
-        Operation::And => bitwise::and(a, b),
+        Operation::Or => bit_operations::or(a, b),
+        Operation::And => bit_operations::and(a, b),
         Operation::ShiftLeft => shifts::shift_left(width, a, b),
         Operation::ShiftRight => shifts::shift_right(width, a, b),
         Operation::Mod => quotients::remain(width, a, b),
         Operation::SignedMod => quotients::remain_signed(width, a, b),
-        Operation::Xor => bitwise::xor(a, b),
+        Operation::Xor => bit_operations::xor(a, b),
         Operation::Move => b,
         Operation::ArithmeticShiftRight => shifts::shift_signed(width, a, b),
     }

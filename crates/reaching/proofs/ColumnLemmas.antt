@@ -17,14 +17,14 @@ use Rattle.absval.specs.Table.{computed, negated_known, extended_known, swapped_
 use Rattle.verify.specs.Registers.{known_at, operand_known, first_known}
 use Rattle.verify.specs.MemoryTable.{load_given, signed_load_given}
 use Rattle.verify.specs.Transfer.{assigned}
-use Rattle.causes.specs.declared.cells.Content.{Content}
-use Rattle.causes.specs.declared.cells.Content.TheVariants.{Unset, Byte, Piece}
-use Rattle.causes.specs.declared.subject.Subject.TheVariants.{Cell}
-use Rattle.causes.specs.Contents.{held_at, same_content}
-use Rattle.causes.specs.declared.changes.Column.{Column}
-use Rattle.causes.specs.Left.{left}
-use Rattle.causes.specs.Marks.{KnownByUnit, known_by}
-use Rattle.causes.specs.Columns.{set_by, of_units, setting, stack_behind, stacks_behind, stack_at, changed_in, flag_at, IsColumn}
+use Rattle.reaching.specs.declared.cells.CellContent.{CellContent}
+use Rattle.reaching.specs.declared.cells.CellContent.TheVariants.{Unset, Byte, Piece}
+use Rattle.reaching.specs.declared.subject.Subject.TheVariants.{Cell}
+use Rattle.reaching.specs.Contents.{held_at, same_content}
+use Rattle.reaching.specs.declared.changes.Column.{Column}
+use Rattle.reaching.specs.Left.{left}
+use Rattle.reaching.specs.Marks.{KnownByUnit, known_by}
+use Rattle.reaching.specs.Columns.{set_by, of_units, setting, stack_behind, stacks_behind, stack_at, changed_in, flag_at, IsColumn}
 
 pub of_units_length : {X : Type 0} (tells : ℕ → X) (n : ℕ) → length (of_units tells n) ≡ n
 of_units_length tells zero = refl
@@ -49,7 +49,7 @@ of_units_at tells (suc n) unit lt = by_test (nat_lt unit n) refl (of_units_at te
         let there : unit ≡ length (of_units tells n) + 0 = omega (arith, room) in
         get_right (of_units tells n) (tells n ∷ []) unit 0 there ∙ ap (λ (k : ℕ). Some (tells k)) (sym last)
 
-same_itself : (c : Content) → same_content c c ≡ true
+same_itself : (c : CellContent) → same_content c c ≡ true
 same_itself Unset = refl
 same_itself Byte = refl
 same_itself (Piece Stack offset) = (Decides-int_eq offset offset).1 refl

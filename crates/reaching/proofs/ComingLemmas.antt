@@ -4,8 +4,8 @@ use Rattle.std.specs.Prelude.{Option, Some, Result, Ok, Err, IfOk}
 use Rattle.std.specs.declared.alloc.AllocError.{AllocError}
 use Rattle.verify.specs.declared.error.VerifyError.{VerifyError}
 use Rattle.verify.specs.declared.error.VerifyError.TheVariants.{Memory}
-use Rattle.causes.specs.declared.mends.Trial.{Trial}
-use Rattle.causes.specs.Mends.{ComesBy, comes}
+use Rattle.reaching.specs.declared.edits.Trial.{Trial}
+use Rattle.reaching.specs.Mends.{ComesBy, comes}
 
 pub came : (unit : ℕ) (fault : VerifyError) (judged : Option VerifyError) (answer : Result Trial AllocError)
     → ComesBy unit fault answer → (fault ≡ Memory) ⊎ (judged ≡ Some fault) → IfOk answer (λ trial. trial ≡ comes unit judged)

@@ -24,8 +24,8 @@ use Rattle.verify.specs.MemoryTable.{is_storable, write_refused, store_refused, 
 use Rattle.verify.specs.Calls.{reason_if, arguments_reason, IsBelow, window_from, copy_reason, helper_reason}
 use Rattle.verify.specs.Transfer.{stored, copied, called, transfer}
 use Rattle.verify.proofs.CallArguments.{or_parts, copy_arguments}
-use Rattle.causes.specs.Left.{stored_in_stack, copied_to_stack, behind_call}
-use Rattle.causes.specs.Laws.{LeftIsTransfer}
+use Rattle.reaching.specs.Left.{stored_in_stack, copied_to_stack, behind_call}
+use Rattle.reaching.specs.Laws.{LeftIsTransfer}
 
 -- ---- stores
 

@@ -8,9 +8,9 @@ use Rattle.insn.specs.declared.insn.Insn.TheVariants.{SignExtend}
 use Rattle.insn.specs.Insn.{units_of, IsInsn, IsWell}
 use Rattle.insn.specs.Program.{slots_of}
 use Rattle.insn.proofs.SlotLemmas.{length-slots_of-cons, units_bound, units_some}
-use Rattle.causes.specs.declared.mends.Edit.{Edit}
-use Rattle.causes.specs.declared.mends.Edit.TheVariants.{Before, Instead, Moved}
-use Rattle.causes.specs.Mends.{grown, stretched, put_at, passed, edited, mended}
+use Rattle.reaching.specs.declared.edits.Edit.{Edit}
+use Rattle.reaching.specs.declared.edits.Edit.TheVariants.{Before, Instead, Moved}
+use Rattle.reaching.specs.Mends.{grown, stretched, put_at, passed, edited, mended}
 
 -- one more instruction
 mended-push : (edit : Edit) (place unit : ℕ) (xs : List Insn) (i : Insn)

@@ -5,13 +5,13 @@ use Rattle.insn.specs.declared.insn.Insn.TheVariants.{Store, Call}
 use Rattle.insn.specs.Program.{slots_of, instruction_at}
 use Rattle.absmem.specs.Known.{Known}
 use Rattle.verify.specs.declared.state.AbsState.{AbsState}
-use Rattle.causes.specs.declared.changes.Column.{Column}
-use Rattle.causes.specs.declared.subject.Subject.{Subject}
-use Rattle.causes.specs.declared.subject.Subject.TheVariants.{Cell}
-use Rattle.causes.specs.Contents.{held_at, same_content}
-use Rattle.causes.specs.Left.{left}
-use Rattle.causes.specs.Setting.{sets}
-use Rattle.causes.specs.Marks.{KnownByUnit, known_by}
+use Rattle.reaching.specs.declared.changes.Column.{Column}
+use Rattle.reaching.specs.declared.subject.Subject.{Subject}
+use Rattle.reaching.specs.declared.subject.Subject.TheVariants.{Cell}
+use Rattle.reaching.specs.Contents.{held_at, same_content}
+use Rattle.reaching.specs.Left.{left}
+use Rattle.reaching.specs.Setting.{sets}
+use Rattle.reaching.specs.Marks.{KnownByUnit, known_by}
 
 -- whether what starts at a unit, where this is known, sets what is asked about
 abbrev pub set_by : Subject → Option Insn → Option AbsState → Bool

@@ -7,8 +7,8 @@ use Rattle.semantics.specs.Limits.{stack_size}
 use Rattle.semantics.specs.Memory.{is_same_region}
 use Rattle.semantics.specs.declared.value.Region.{Region}
 use Rattle.absmem.specs.Known.{Known, byte_at, spill_at, pointer_of}
-use Rattle.causes.specs.declared.cells.Content.{Content}
-use Rattle.causes.specs.declared.cells.Content.TheVariants.{Unset, Byte, Piece}
+use Rattle.reaching.specs.declared.cells.CellContent.{CellContent}
+use Rattle.reaching.specs.declared.cells.CellContent.TheVariants.{Unset, Byte, Piece}
 
 -- the pointer that begins at a place
 abbrev pub pointer_from : Known → ℕ → Option (Region × ℤ)
@@ -19,18 +19,18 @@ abbrev pub pointer_over : Known → ℕ → ℕ → Option (Region × ℤ)
 pointer_over known place zero = None
 pointer_over known place (suc n) = option_or (pointer_from known place) (pointer_over known (place - 1) n)
 
-abbrev pub piece_of : Option (Region × ℤ) → Content
+abbrev pub piece_of : Option (Region × ℤ) → CellContent
 piece_of None = Unset
 piece_of (Some pointer) = Piece pointer.0 pointer.1
 
 -- a pointer takes eight cells
-abbrev pub content_in : Known → ℕ → Content
+abbrev pub content_in : Known → ℕ → CellContent
 content_in known place = if byte_at known.bytes place then Byte else piece_of (pointer_over known place 8)
 
-abbrev pub held_at : Known → ℕ → Content
+abbrev pub held_at : Known → ℕ → CellContent
 held_at known place = if nat_lt place stack_size then content_in known place else Unset
 
-abbrev pub same_content : Content → Content → Bool
+abbrev pub same_content : CellContent → CellContent → Bool
 same_content Unset Unset = true
 same_content Byte Byte = true
 same_content (Piece region offset) (Piece second place) = is_same_region region second && int_eq offset place

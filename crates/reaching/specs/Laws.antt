@@ -4,7 +4,7 @@ use Rattle.insn.specs.declared.insn.Insn.{Insn}
 use Rattle.verify.specs.declared.state.AbsState.{AbsState}
 use Rattle.verify.specs.Instructions.{reason_of}
 use Rattle.verify.specs.Transfer.{transfer}
-use Rattle.causes.specs.Left.{left}
+use Rattle.reaching.specs.Left.{left}
 
 -- what is left by an instruction that may run is what the verifier's transfer leaves
 abbrev pub LeftIsTransfer : Type 0

@@ -14,10 +14,10 @@ use Rattle.insn.specs.Program.{slots_of, most_units}
 use Rattle.verify.specs.declared.error.VerifyError.{VerifyError}
 use Rattle.verify.specs.declared.error.VerifyError.TheVariants.{At, Memory}
 use Rattle.verify.specs.Judgement.{judged}
-use Rattle.causes.specs.declared.mends.Edit.{Edit}
-use Rattle.causes.specs.declared.mends.Edit.TheVariants.{Before, Instead, Moved}
-use Rattle.causes.specs.declared.mends.Trial.{Trial}
-use Rattle.causes.specs.declared.mends.Trial.TheVariants.{Refused, Passes, Accepted}
+use Rattle.reaching.specs.declared.edits.Edit.{Edit}
+use Rattle.reaching.specs.declared.edits.Edit.TheVariants.{Before, Instead, Moved}
+use Rattle.reaching.specs.declared.edits.Trial.{Trial}
+use Rattle.reaching.specs.declared.edits.Trial.TheVariants.{Refused, Passes, Accepted}
 
 -- how many units more a program has with an edit
 abbrev pub grown : Edit → ℕ

@@ -3,10 +3,10 @@ use Rattle.std.specs.Prelude.{ℕ, ◌==◌, not, nat_le, Bool, false, Option, S
 use Rattle.insn.specs.declared.insn.Insn.{Insn}
 use Rattle.insn.specs.declared.insn.Insn.TheVariants.{Call}
 use Rattle.verify.specs.declared.state.AbsState.{AbsState}
-use Rattle.causes.specs.declared.subject.Subject.{Subject}
-use Rattle.causes.specs.declared.subject.Subject.TheVariants.{Register, Cell}
-use Rattle.causes.specs.Contents.{held_at, same_content}
-use Rattle.causes.specs.Left.{left, result_of}
+use Rattle.reaching.specs.declared.subject.Subject.{Subject}
+use Rattle.reaching.specs.declared.subject.Subject.TheVariants.{Register, Cell}
+use Rattle.reaching.specs.Contents.{held_at, same_content}
+use Rattle.reaching.specs.Left.{left, result_of}
 
 abbrev pub is_result : ℕ → Option ℕ → Bool
 is_result r None = false

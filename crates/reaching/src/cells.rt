@@ -1,7 +1,7 @@
 //! What is known of one cell of a stack.
 ghost use Rattle.std.specs.Prelude.{◌≡◌, ◌≤◌, ◌+◌, IfSome};
 ghost use Rattle.semantics.specs.Memory.{is_same_region};
-ghost use Rattle.causes.specs.Contents.{pointer_from, pointer_over, content_in, held_at, same_content};
+ghost use Rattle.reaching.specs.Contents.{pointer_from, pointer_over, content_in, held_at, same_content};
 
 use absmem::AbsStack;
 use absval::Offset;
@@ -9,7 +9,7 @@ use semantics::Region;
 
 /// What is known of a cell.
 #[derive(Clone, Copy)]
-pub enum Content {
+pub enum CellContent {
     /// Nothing: it may be unset, or hold different things on different ways.
     Unset,
     /// A byte.
@@ -42,26 +42,26 @@ fn pointer_over(stack: &AbsStack, place: usize, tries: usize) -> Option<(Region,
 }
 
 /// What is known of a cell within the stack.
-fn content_in(stack: &AbsStack, place: usize) -> Content
+fn content_in(stack: &AbsStack, place: usize) -> CellContent
     requires { place + 1 ≤ 512 }
     ensures { result ≡ content_in stack.now place }
 {
     if stack.has_bytes(place, 1) {
-        return Content::Byte;
+        return CellContent::Byte;
     }
     match pointer_over(stack, place, 8) {
-        Some((region, offset)) => Content::Piece(region, offset.at),
-        None => Content::Unset,
+        Some((region, offset)) => CellContent::Piece(region, offset.at),
+        None => CellContent::Unset,
     }
 }
 
 /// What is known of a cell.
 #[inline(never)]
-pub fn held_at(stack: &AbsStack, place: usize) -> Content
+pub fn held_at(stack: &AbsStack, place: usize) -> CellContent
     ensures { result ≡ held_at stack.now place }
 {
     if place >= 512 {
-        return Content::Unset;
+        return CellContent::Unset;
     }
     content_in(stack, place)
 }
@@ -75,14 +75,15 @@ fn is_same_region(a: Region, b: Region) -> bool
     }
 }
 
-impl Content {
+impl CellContent {
     /// Whether the other is the same.
-    pub fn is_same(self, other: Content) -> bool
+    pub fn is_same(self, other: CellContent) -> bool
         ensures { result ≡ same_content self other }
     {
         match (self, other) {
-            (Content::Unset, Content::Unset) | (Content::Byte, Content::Byte) => true,
-            (Content::Piece(region, offset), Content::Piece(second, place)) => {
+            (CellContent::Unset, CellContent::Unset) | (CellContent::Byte, CellContent::Byte) =>
+                true,
+            (CellContent::Piece(region, offset), CellContent::Piece(second, place)) => {
                 is_same_region(region, second) && offset == place
             }
             _ => false,

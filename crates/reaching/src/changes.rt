@@ -1,13 +1,13 @@
 //! For each cell of the stack which units set it.
 ghost use Rattle.std.specs.Prelude.{◌≡◌, ◌<◌, length, slice_get, option_map, IfOk};
 ghost use Rattle.insn.specs.Program.{slots_of, instruction_at};
-ghost use Rattle.causes.specs.declared.subject.Subject.TheVariants.{Cell};
-ghost use Rattle.causes.specs.Marks.{known_by};
-ghost use Rattle.causes.specs.Columns.{set_by, setting, stack_behind, stacks_behind, stack_at, changed_in, flag_at, AreColumns};
+ghost use Rattle.reaching.specs.declared.subject.Subject.TheVariants.{Cell};
+ghost use Rattle.reaching.specs.Marks.{known_by};
+ghost use Rattle.reaching.specs.Columns.{set_by, setting, stack_behind, stacks_behind, stack_at, changed_in, flag_at, AreColumns};
 
 use crate::cells::held_at;
-use crate::left::left_by;
-use crate::marking::known_by;
+use crate::transfer::left_by;
+use crate::unit_marks::known_by;
 use absmem::AbsStack;
 use insn::{Insn, Program};
 use std::alloc::{AllocError, Global};

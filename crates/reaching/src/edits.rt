@@ -2,7 +2,7 @@
 ghost use Rattle.std.specs.Prelude.{◌≡◌, ◌≤◌, ◌<◌, ◌+◌, ◌++◌, ◌∷◌, [], ◌&&◌, ◌+ℤ◌, ◌<ℤ◌, pos, int_lt, length, IfOk, OnOk, IsTrue};
 ghost use Rattle.insn.specs.Program.{slots_of, most_units};
 ghost use Rattle.verify.specs.Judgement.{judged};
-ghost use Rattle.causes.specs.Mends.{grown, longer, stretched, wide, masked, put_at, passed, edited, mended, comes, tried, ComesBy};
+ghost use Rattle.reaching.specs.Mends.{grown, longer, stretched, wide, masked, put_at, passed, edited, mended, comes, tried, ComesBy};
 
 use insn::{Insn, Operand, Program, Reg};
 use std::alloc::{AllocError, Global};

@@ -1,5 +1,5 @@
 //! The law of what is left: the function does nothing, and its contract is the law.
-ghost use Rattle.causes.specs.Laws.{LeftIsTransfer};
+ghost use Rattle.reaching.specs.Laws.{LeftIsTransfer};
 
 /// What an instruction that may run leaves is what the verifier's transfer leaves.
 pub fn left_is_the_transfer()

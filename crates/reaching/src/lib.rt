@@ -3,23 +3,23 @@
 
 mod cells;
 mod changes;
+mod edits;
 mod laws;
-mod left;
 mod loads;
 mod mark;
-mod marking;
-mod mends;
 mod register;
-mod stack_left;
+mod stack_transfer;
 mod subject;
+mod transfer;
+mod unit_marks;
 mod ways;
 
-pub use cells::{Content, held_at};
+pub use cells::{CellContent, held_at};
 pub use changes::{Column, columns};
+pub use edits::{Edit, Trial, operation_of, tried};
 pub use laws::left_is_the_transfer;
-pub use left::left_by;
-pub use mark::Mark;
-pub use marking::{cell_marks, known_by, marks};
-pub use mends::{Edit, Trial, operation_of, tried};
+pub use mark::UnitMark;
 pub use register::result_of;
 pub use subject::Subject;
+pub use transfer::left_by;
+pub use unit_marks::{cell_marks, known_by, marks};

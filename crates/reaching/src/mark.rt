@@ -2,7 +2,7 @@
 
 /// What a unit is to the one that is asked about.
 #[derive(Clone, Copy, PartialEq, Eq)]
-pub enum Mark {
+pub enum UnitMark {
     /// No way leads from it there on which what is asked about stays as it is.
     Closed,
     /// A way leads from it there on which it stays as it is.

@@ -1,7 +1,7 @@
 //! Registers by number, and the one that takes a result.
 ghost use Rattle.std.specs.Prelude.{◌≡◌, ◌<◌};
 ghost use Rattle.verify.specs.Registers.{known_at};
-ghost use Rattle.causes.specs.Left.{result_of};
+ghost use Rattle.reaching.specs.Left.{result_of};
 
 use absval::AbsVal;
 use helper::reads::numbered;

@@ -4,7 +4,7 @@ ghost use Rattle.absval.specs.Windows.{window_known};
 ghost use Rattle.semantics.specs.Call.{helper_of};
 ghost use Rattle.verify.specs.Transfer.{number_stored, pointer_stored, written, copied};
 ghost use Rattle.verify.specs.Calls.{is_certain, window_from};
-ghost use Rattle.causes.specs.Left.{stored_in_stack, copied_to_stack, behind_call};
+ghost use Rattle.reaching.specs.Left.{stored_in_stack, copied_to_stack, behind_call};
 
 use absmem::AbsStack;
 use absval::{AbsVal, NumberSet, Offset, Offsets, Window, window_of};

@@ -1,10 +1,10 @@
 //! What is asked about, and whether an instruction sets it.
 ghost use Rattle.std.specs.Prelude.{◌≡◌};
-ghost use Rattle.causes.specs.Setting.{writes, sets};
+ghost use Rattle.reaching.specs.Setting.{writes, sets};
 
 use crate::cells::held_at;
-use crate::left::left_by;
 use crate::register::result_of;
+use crate::transfer::left_by;
 use insn::{Insn, Reg};
 use verify::AbsState;
 

@@ -5,10 +5,10 @@ ghost use Rattle.absval.specs.NumberSets.{within};
 ghost use Rattle.verify.specs.Registers.{first_known};
 ghost use Rattle.verify.specs.Calls.{known_behind};
 ghost use Rattle.verify.specs.Transfer.{assigned};
-ghost use Rattle.causes.specs.Left.{left};
+ghost use Rattle.reaching.specs.Left.{left};
 
 use crate::register::known_at;
-use crate::{loads, stack_left};
+use crate::{loads, stack_transfer};
 use absval::{AbsVal, NumberSet};
 use insn::{Insn, Operand, Reg, Size};
 use range::Range;
@@ -63,7 +63,7 @@ fn stored(state: &AbsState, size: Size, base: Reg, offset: i16, source: Operand)
     ensures { result ≡ left (Insn.Store size base offset source) state.now }
 {
     let mut left = state.copy();
-    stack_left::store(
+    stack_transfer::store(
         &mut left.stack,
         size,
         state.known(base),
@@ -90,7 +90,7 @@ fn called(state: &AbsState, number: i32) -> AbsState
     let helper = helper::helper_of(number);
     let mut left = state.copy();
     let target = known_at(&state.registers, 2);
-    stack_left::call(
+    stack_transfer::call(
         &mut left.stack,
         helper,
         target,

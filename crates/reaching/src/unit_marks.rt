@@ -1,12 +1,12 @@
 //! Which units set a register or a cell last before a unit.
 ghost use Rattle.std.specs.Prelude.{◌≡◌, ◌<◌, length, replicate, slice_get, option_map, IfOk};
 ghost use Rattle.insn.specs.Program.{slots_of, instruction_at};
-ghost use Rattle.causes.specs.declared.subject.Subject.TheVariants.{Cell};
-ghost use Rattle.causes.specs.Marks.{known_by, mark_of, marks};
-ghost use Rattle.causes.specs.Columns.{set_by, IsColumn};
+ghost use Rattle.reaching.specs.declared.subject.Subject.TheVariants.{Cell};
+ghost use Rattle.reaching.specs.Marks.{known_by, mark_of, marks};
+ghost use Rattle.reaching.specs.Columns.{set_by, IsColumn};
 
 use crate::changes::Column;
-use crate::mark::Mark;
+use crate::mark::UnitMark;
 use crate::subject::Subject;
 use crate::ways::leads_open;
 use insn::Program;
@@ -22,36 +22,36 @@ pub fn known_by(states: &[Option<AbsState>], unit: usize) -> Option<&AbsState>
 
 /// So many units of which none is open.
 #[inline(never)]
-fn closed(alloc: Global, units: usize) -> Result<Vec<Mark>, AllocError>
+fn closed(alloc: Global, units: usize) -> Result<Vec<UnitMark>, AllocError>
     ensures { IfOk result (λ marks. marks.items ≡ replicate units Mark.Closed) }
 {
-    vec![in alloc; Mark::Closed; units]
+    vec![in alloc; UnitMark::Closed; units]
 }
 
 /// The mark of a unit, by those of the units behind it.
 fn mark_of(
     subject: &Subject,
-    behind: &[Mark],
+    behind: &[UnitMark],
     program: &Program,
     states: &[Option<AbsState>],
     unit: usize,
-) -> Mark
+) -> UnitMark
     ensures { result ≡ mark_of subject.now behind.now unit (instruction_at program.now unit)
         (known_by (slice_get states.now unit)) }
 {
     let Some(insn) = program.at(unit) else {
-        return Mark::Closed;
+        return UnitMark::Closed;
     };
     let Some(state) = known_by(states, unit) else {
-        return Mark::Closed;
+        return UnitMark::Closed;
     };
     if !leads_open(behind, &insn, unit) {
-        return Mark::Closed;
+        return UnitMark::Closed;
     }
     if subject.is_set_by(&insn, state) {
-        Mark::Sets
+        UnitMark::Sets
     } else {
-        Mark::Open
+        UnitMark::Open
     }
 }
 
@@ -62,12 +62,12 @@ pub fn marks(
     states: &[Option<AbsState>],
     subject: &Subject,
     unit: usize,
-) -> Result<Vec<Mark>, AllocError>
+) -> Result<Vec<UnitMark>, AllocError>
     requires { unit < length (slots_of program.now) }
     ensures { IfOk result (λ vec. vec.items ≡ marks program.now (slice_get states.now) subject.now unit) }
 {
     let mut marks = closed(alloc, program.units())?;
-    marks[unit] = Mark::Open;
+    marks[unit] = UnitMark::Open;
     for below in 0..unit {
         let place = unit - (below + 1);
         let mark = mark_of(subject, marks.as_slice(), program, states, place);
@@ -80,25 +80,29 @@ pub fn marks(
 fn cell_mark_of(
     cell: u16,
     changed: bool,
-    behind: &[Mark],
+    behind: &[UnitMark],
     program: &Program,
     states: &[Option<AbsState>],
     unit: usize,
-) -> Mark
+) -> UnitMark
     requires { changed ≡ set_by (Cell cell) (instruction_at program.now unit) (known_by (slice_get states.now unit)) }
     ensures { result ≡ mark_of (Cell cell) behind.now unit (instruction_at program.now unit)
         (known_by (slice_get states.now unit)) }
 {
     let Some(insn) = program.at(unit) else {
-        return Mark::Closed;
+        return UnitMark::Closed;
     };
     let Some(_state) = known_by(states, unit) else {
-        return Mark::Closed;
+        return UnitMark::Closed;
     };
     if !leads_open(behind, &insn, unit) {
-        return Mark::Closed;
+        return UnitMark::Closed;
     }
-    if changed { Mark::Sets } else { Mark::Open }
+    if changed {
+        UnitMark::Sets
+    } else {
+        UnitMark::Open
+    }
 }
 
 /// The marks for a cell of the stack, with its column.
@@ -109,13 +113,13 @@ pub fn cell_marks(
     column: &Column,
     cell: u16,
     unit: usize,
-) -> Result<Vec<Mark>, AllocError>
+) -> Result<Vec<UnitMark>, AllocError>
     requires inside { unit < length (slots_of program.now) }
     requires column { IsColumn program.now (slice_get states.now) cell column.now }
     ensures { IfOk result (λ vec. vec.items ≡ marks program.now (slice_get states.now) (Cell cell) unit) }
 {
     let mut marks = closed(alloc, program.units())?;
-    marks[unit] = Mark::Open;
+    marks[unit] = UnitMark::Open;
     for below in 0..unit {
         let place = unit - (below + 1);
         let changed = column.is_set_by(place);

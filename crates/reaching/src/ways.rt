@@ -1,17 +1,17 @@
 //! Where an instruction may lead.
 ghost use Rattle.std.specs.Prelude.{◌≡◌, ◌≢◌, ◌<◌, ◌+◌, ◌+ℤ◌, pos, ℕ, IfSome, IfNone, slice_get};
 ghost use Rattle.semantics.specs.Plain.{leads_to};
-ghost use Rattle.causes.specs.Marks.{is_open, open_at, leads_open};
+ghost use Rattle.reaching.specs.Marks.{is_open, open_at, leads_open};
 
-use crate::mark::Mark;
+use crate::mark::UnitMark;
 use insn::Insn;
 
 /// Whether the mark of a unit is open.
-fn is_open(marks: &[Mark], unit: usize) -> bool
+fn is_open(marks: &[UnitMark], unit: usize) -> bool
     ensures { result ≡ is_open (slice_get marks.now unit) }
 {
     match marks.get(unit) {
-        Some(Mark::Open) => true,
+        Some(UnitMark::Open) => true,
         _ => false,
     }
 }
@@ -30,7 +30,7 @@ fn target(unit: usize, distance: i32) -> Option<usize>
 }
 
 /// Whether the unit so far from the following one is open.
-fn is_open_to(marks: &[Mark], unit: usize, distance: i32) -> bool
+fn is_open_to(marks: &[UnitMark], unit: usize, distance: i32) -> bool
     requires { unit < 4096 }
     ensures { result ≡ open_at marks.now (pos (unit + 1) +ℤ distance) }
 {
@@ -42,7 +42,7 @@ fn is_open_to(marks: &[Mark], unit: usize, distance: i32) -> bool
 
 /// Whether an instruction may lead to an open unit.
 #[inline(never)]
-pub(crate) fn leads_open(marks: &[Mark], insn: &Insn, unit: usize) -> bool
+pub(crate) fn leads_open(marks: &[UnitMark], insn: &Insn, unit: usize) -> bool
     requires { unit < 4096 }
     ensures { result ≡ leads_open marks.now (leads_to insn.now unit) }
 {

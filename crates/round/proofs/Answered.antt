@@ -13,11 +13,11 @@ use Rattle.semantics.specs.Safety.{LeadsTo}
 use Rattle.semantics.proofs.ReachedLaws.{reached_safe, goes_on}
 use Rattle.semantics.proofs.SafetyLaws.{IsSafe-no_trap}
 use Rattle.board.specs.Board.{Access}
-use Rattle.letter.specs.Activation.{Activation, started, turned, Turn, is_reached}
-use Rattle.letter.specs.Runs.{Onward, Runs, AreFitting}
-use Rattle.letter.specs.Laws.{RunsFollowAnswers}
-use Rattle.letter.proofs.Stepping.{runs_steps}
-use Rattle.letter.proofs.Going.{over_ended}
+use Rattle.round.specs.Activation.{Activation, started, turned, Turn, is_reached}
+use Rattle.round.specs.Runs.{Onward, Runs, AreFitting}
+use Rattle.round.specs.Laws.{RunsFollowAnswers}
+use Rattle.round.proofs.Stepping.{runs_steps}
+use Rattle.round.proofs.Going.{over_ended}
 
 -- what has exited goes no further
 stays_over : (k : ℕ) (a : Activation) (t : List Access) (end : Activation) → a.over ≡ true → Runs k a t end → end.over ≡ true

@@ -4,7 +4,7 @@ use Rattle.semantics.specs.Outbox.{empty_outbox}
 use Rattle.semantics.specs.Reached.{Reached, at_entry}
 use Rattle.semantics.specs.Relay.{IsContext}
 use Rattle.semantics.specs.State.{State, entry}
-use Rattle.letter.specs.Activation.{Activation, started}
+use Rattle.round.specs.Activation.{Activation, started}
 use Rattle.round.specs.Running.{IsLive}
 
 pub briefed : (a old : Activation) (context : List ℕ) → a ≡ old → old ≡ started old.patience old.program old.context old.relay → record a { context = context } ≡ started old.patience old.program context old.relay

@@ -10,10 +10,10 @@ use Rattle.label.specs.Oral.{Messages}
 use Rattle.label.proofs.Listing.{proved_labels_are_exact, proved_labels_differ}
 use Rattle.tree.specs.LieutenantTree.{LieutenantTree, IsCampaign, IsFilled, SameCampaign, levels_from, told_also, told_run}
 use Rattle.tree.proofs.Also.{also-here, also-other}
-use Rattle.letter.specs.Letters.{Letter}
-use Rattle.delivery.specs.Told.{told_now, heard_also, round_of}
-use Rattle.delivery.specs.Delivery.{IsPartly, FillsFromTo}
-use Rattle.letter.proofs.Lists.{some_same}
+use Rattle.round.specs.Letters.{Letter}
+use Rattle.round.specs.Told.{told_now, heard_also, round_of}
+use Rattle.round.specs.Delivery.{IsPartly, FillsFromTo}
+use Rattle.round.proofs.Lists.{some_same}
 
 pub same_map : {B : Type 0} (F G : List ℕ → B) (ws : List (List ℕ)) → ((i : ℕ) (w : List ℕ) → slice_get ws i ≡ Some w → F w ≡ G w) → map F ws ≡ map G ws
 same_map F G [] h = refl

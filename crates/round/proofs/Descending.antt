@@ -9,36 +9,36 @@ use Rattle.label.proofs.Counting.{on-push}
 use Rattle.label.proofs.Listing.{proved_labels_differ}
 use Rattle.label.proofs.Places.{first_label}
 use Rattle.tree.specs.LieutenantTree.{LieutenantTree, IsCampaign, IsFilled, SameCampaign}
-use Rattle.letter.specs.Letters.{Letter}
-use Rattle.delivery.specs.Told.{heard_also, round_of}
-use Rattle.delivery.specs.Fronts.{IsFront, under}
-use Rattle.delivery.specs.Delivery.{FillsFromTo, IsWalk, first_under, past_under}
-use Rattle.delivery.specs.declared.front.Front.{Front}
-use Rattle.delivery.proofs.Delivering.{told_all}
-use Rattle.delivery.proofs.Walking.{child_at, child_long, told_ends, level_long}
+use Rattle.round.specs.Letters.{Letter}
+use Rattle.round.specs.Told.{heard_also, round_of}
+use Rattle.round.specs.Fronts.{IsFront, under}
+use Rattle.round.specs.Delivery.{FillsFromTo, IsWalk, first_under, past_under}
+use Rattle.round.specs.declared.front.LabelPrefix.{LabelPrefix}
+use Rattle.round.proofs.Delivering.{told_all}
+use Rattle.round.proofs.Walking.{child_at, child_long, told_ends, level_long}
 
 apart-from : (p x : ℕ) (w : List ℕ) → on (p ∷ w) x ≡ false → p ≢ x
 apart-from p x w away = λ e. true≢false (sym (eq-eqb p x e) ∙ (or_parts (p == x) (on w x) away).0)
 
 -- the child's part
-child_rank_is : (t : LieutenantTree) (row : List Letter) (places : List ℕ) (k : ℕ) (f : Front) (walk : IsWalk t row places k f) → IsCampaign t → (x place : ℕ) → x < t.generals → on (t.general ∷ walk.w) x ≡ false → place ≡ length (others x (t.general ∷ walk.w)) → (g : Front) → IsFront t.generals t.commander (walk.w ++ x ∷ []) g →
+child_rank_is : (t : LieutenantTree) (row : List Letter) (places : List ℕ) (k : ℕ) (f : LabelPrefix) (walk : IsWalk t row places k f) → IsCampaign t → (x place : ℕ) → x < t.generals → on (t.general ∷ walk.w) x ≡ false → place ≡ length (others x (t.general ∷ walk.w)) → (g : LabelPrefix) → IsFront t.generals t.commander (walk.w ++ x ∷ []) g →
     slice_index g.ranks t.general ≡ slice_index f.ranks t.general * (t.generals - (f.size + 1)) + place
 child_rank_is t row places k f walk c x place within away ep g child =
     let off : on (walk.w ++ x ∷ []) t.general ≡ false = on-push walk.w x t.general ∙ rw (walk.off, ne_eqb x t.general (λ e. apart-from t.general x walk.w away (sym e))) refl in
     proved_labels_differ t.generals t.commander t.general (length (walk.w ++ x ∷ [])) _ _ (walk.w ++ x ∷ []) c.commander c.general c.lieutenant (child.stands t.general c.general off)
     (child_at t.generals t.commander t.general x place (t.generals - (f.size + 1)) walk.w f walk.front c.commander c.general within walk.off away ep refl)
 
-child_size_is : (n c x : ℕ) (w : List ℕ) (f g : Front) → IsFront n c w f → IsFront n c (w ++ x ∷ []) g → g.size ≡ f.size + 1
+child_size_is : (n c x : ℕ) (w : List ℕ) (f g : LabelPrefix) → IsFront n c w f → IsFront n c (w ++ x ∷ []) g → g.size ≡ f.size + 1
 child_size_is n c x w f g h child = child.size ∙ child_long n c x w f h
 
-pub child_first : (t u : LieutenantTree) (row : List Letter) (places : List ℕ) (k : ℕ) (f : Front) (walk : IsWalk t row places k f) → SameCampaign t u → IsCampaign t → (x place : ℕ) → x < t.generals → on (t.general ∷ walk.w) x ≡ false → place ≡ length (others x (t.general ∷ walk.w)) → (g : Front) → IsFront t.generals t.commander (walk.w ++ x ∷ []) g →
+pub child_first : (t u : LieutenantTree) (row : List Letter) (places : List ℕ) (k : ℕ) (f : LabelPrefix) (walk : IsWalk t row places k f) → SameCampaign t u → IsCampaign t → (x place : ℕ) → x < t.generals → on (t.general ∷ walk.w) x ≡ false → place ≡ length (others x (t.general ∷ walk.w)) → (g : LabelPrefix) → IsFront t.generals t.commander (walk.w ++ x ∷ []) g →
     first_under u g k ≡ (slice_index f.ranks t.general * (t.generals - (f.size + 1)) + place) * under t.generals (f.size + 1) (k - (f.size + 1))
 child_first t u row places k f walk same c x place within away ep g child =
     rw (same.general, same.generals)
     (ap (λ (r : ℕ). r * under t.generals g.size (k - g.size)) (child_rank_is t row places k f walk c x place within away ep g child)
     ∙ ap (λ (s : ℕ). (slice_index f.ranks t.general * (t.generals - (f.size + 1)) + place) * under t.generals s (k - s)) (child_size_is t.generals t.commander x walk.w f g walk.front child))
 
-pub child_past : (t u : LieutenantTree) (row : List Letter) (places : List ℕ) (k : ℕ) (f : Front) (walk : IsWalk t row places k f) → SameCampaign t u → IsCampaign t → (x place : ℕ) → x < t.generals → on (t.general ∷ walk.w) x ≡ false → place ≡ length (others x (t.general ∷ walk.w)) → (g : Front) → IsFront t.generals t.commander (walk.w ++ x ∷ []) g →
+pub child_past : (t u : LieutenantTree) (row : List Letter) (places : List ℕ) (k : ℕ) (f : LabelPrefix) (walk : IsWalk t row places k f) → SameCampaign t u → IsCampaign t → (x place : ℕ) → x < t.generals → on (t.general ∷ walk.w) x ≡ false → place ≡ length (others x (t.general ∷ walk.w)) → (g : LabelPrefix) → IsFront t.generals t.commander (walk.w ++ x ∷ []) g →
     past_under u g k ≡ (slice_index f.ranks t.general * (t.generals - (f.size + 1)) + (place + 1)) * under t.generals (f.size + 1) (k - (f.size + 1))
 child_past t u row places k f walk same c x place within away ep g child =
     let rank : slice_index g.ranks t.general ≡ slice_index f.ranks t.general * (t.generals - (f.size + 1)) + place = child_rank_is t row places k f walk c x place within away ep g child in
@@ -47,7 +47,7 @@ child_past t u row places k f walk same c x place within away ep g child =
     (ap (λ (r : ℕ). r * under t.generals g.size (k - g.size)) next
     ∙ ap (λ (s : ℕ). (slice_index f.ranks t.general * (t.generals - (f.size + 1)) + (place + 1)) * under t.generals s (k - s)) (child_size_is t.generals t.commander x walk.w f g walk.front child))
 
-pub all_walked : (t : LieutenantTree) (row : List Letter) (k : ℕ) (f : Front) (u : LieutenantTree) → IsCampaign t → k ≡ round_of row → 1 < k → IsFront t.generals t.commander (t.commander ∷ []) f → FillsFromTo t row k (first_under t f k) (past_under t f k) u → (M : Messages) → IsFilled t M → IsFilled u (heard_also M row)
+pub all_walked : (t : LieutenantTree) (row : List Letter) (k : ℕ) (f : LabelPrefix) (u : LieutenantTree) → IsCampaign t → k ≡ round_of row → 1 < k → IsFront t.generals t.commander (t.commander ∷ []) f → FillsFromTo t row k (first_under t f k) (past_under t f k) u → (M : Messages) → IsFilled t M → IsFilled u (heard_also M row)
 all_walked t row k f u c ek more front told =
     let off : on (t.commander ∷ []) t.general ≡ false = rw (ne_eqb t.commander t.general (λ e. c.lieutenant (sym e))) refl in
     let one : length (labels t.generals t.commander t.general 1) ≡ 1 = ap length (first_label t.generals t.commander t.general c.lieutenant) in

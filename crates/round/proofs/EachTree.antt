@@ -5,8 +5,8 @@ use Rattle.std.proofs.lemmas.Bool.Decides.{eqb_tells}
 use Rattle.std.proofs.lemmas.Option.{slice_get_read, slice_get_within}
 use Rattle.label.specs.Oral.{Messages}
 use Rattle.tree.specs.LieutenantTree.{LieutenantTree, IsFilled, SameCampaign}
-use Rattle.delivery.specs.Delivery.{AreEach}
-use Rattle.letter.proofs.Lists.{some_same, get_set, get_unset}
+use Rattle.round.specs.Delivery.{AreEach}
+use Rattle.round.proofs.Lists.{some_same, get_set, get_unset}
 
 -- so many trees are as they are to be, the others as they were
 pub record AreDone (Are : LieutenantTree → LieutenantTree → Type 0) (old : List LieutenantTree) (i : ℕ) (trees : List LieutenantTree) : Type 0 where

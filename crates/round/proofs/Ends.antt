@@ -8,12 +8,12 @@ use Rattle.semantics.specs.Call.{fits}
 use Rattle.semantics.specs.Safety.{LeadsTo}
 use Rattle.semantics.proofs.SafetyLaws.{safe_of_sound, IsSafe-no_trap}
 use Rattle.board.specs.Board.{Access}
-use Rattle.letter.specs.Activation.{Activation, started, Turn, Goes, Asks, Ended, turn}
-use Rattle.letter.specs.Runs.{Onward, Runs, IsWithin, AreFitting}
-use Rattle.letter.specs.Laws.{PatienceIsKept, RunsAreSafe}
-use Rattle.letter.proofs.Stepping.{runs_steps}
-use Rattle.letter.proofs.Patience.{runs_under, runs_kept, within_none}
-use Rattle.letter.proofs.Going.{IsGoing, TurnsTo, turn_safe, going_zero, over_ended}
+use Rattle.round.specs.Activation.{Activation, started, Turn, Goes, Asks, Ended, turn}
+use Rattle.round.specs.Runs.{Onward, Runs, IsWithin, AreFitting}
+use Rattle.round.specs.Laws.{PatienceIsKept, RunsAreSafe}
+use Rattle.round.proofs.Stepping.{runs_steps}
+use Rattle.round.proofs.Patience.{runs_under, runs_kept, within_none}
+use Rattle.round.proofs.Going.{IsGoing, TurnsTo, turn_safe, going_zero, over_ended}
 
 -- one after the other, with the same accesses
 one_end : (o : Turn) (k : ℕ) (t : List Access) (u v : Activation)

@@ -7,12 +7,12 @@ use Rattle.std.proofs.lemmas.Option.{slice_get_within, slice_get_read, slice_get
 use Rattle.label.specs.Oral.{Messages}
 use Rattle.label.proofs.Listing.{proved_labels_are_exact}
 use Rattle.tree.specs.LieutenantTree.{LieutenantTree, IsFilled, SameCampaign, silence}
-use Rattle.roster.specs.Scenario.{Scenario, IsScenario}
-use Rattle.letter.specs.Letters.{Letter, messages, told_by, letter_of}
-use Rattle.letter.specs.Origin.{AreLettersOf}
-use Rattle.delivery.specs.Told.{AreOfCampaign, IsTreeOf, AreDue, ToldSeen, WasTold, told_now, heard_also, round_of, lieutenant_at}
-use Rattle.delivery.proofs.Delivering.{levels-same, heard_here, heard_other}
-use Rattle.delivery.specs.Delivery.{AreApart, AreEach, AreDueIn, IsTold}
+use Rattle.round.specs.Scenario.{Scenario, IsScenario}
+use Rattle.round.specs.Letters.{Letter, messages, told_by, letter_of}
+use Rattle.round.specs.Origin.{AreLettersOf}
+use Rattle.round.specs.Told.{AreOfCampaign, IsTreeOf, AreDue, ToldSeen, WasTold, told_now, heard_also, round_of, lieutenant_at}
+use Rattle.round.proofs.Delivering.{levels-same, heard_here, heard_other}
+use Rattle.round.specs.Delivery.{AreApart, AreEach, AreDueIn, IsTold}
 use Rattle.std.proofs.lemmas.List.{get_or_past}
 
 get-end : {A : Type 0} (xs : List A) (x d : A) → get_or (xs ++ x ∷ []) (length xs) d ≡ x

@@ -3,7 +3,7 @@ use Rattle.std.proofs.Common.{◌≡◌, ℕ, zero, suc, List, [], ◌∷◌, �
 use Rattle.std.specs.Prelude.{filter}
 use Rattle.semantics.specs.Call.{fits}
 use Rattle.board.specs.Board.{Access}
-use Rattle.letter.specs.Runs.{AreFitting}
+use Rattle.round.specs.Runs.{AreFitting}
 
 -- one more
 pub fitting_more : (t : List Access) (x : Access) → AreFitting t → fits x.request x.reply ≡ true → AreFitting (t ++ x ∷ [])

@@ -7,12 +7,12 @@ use Rattle.label.specs.Oral.{Messages}
 use Rattle.label.proofs.Listing.{proved_labels_are_exact}
 use Rattle.tree.specs.LieutenantTree.{LieutenantTree, IsFilled, SameCampaign, blank}
 use Rattle.tree.proofs.Blanks.{blank-here, blank-other}
-use Rattle.roster.specs.Scenario.{Scenario, IsScenario}
-use Rattle.letter.specs.Letters.{Letter, messages}
-use Rattle.delivery.specs.Told.{IsTreeOf, ToldSeen, WasTold, lieutenant_at}
-use Rattle.delivery.proofs.Delivering.{levels-same}
-use Rattle.delivery.proofs.EachTree.{AreChangedTo}
-use Rattle.delivery.proofs.Filling.{messages-past, messages-none}
+use Rattle.round.specs.Scenario.{Scenario, IsScenario}
+use Rattle.round.specs.Letters.{Letter, messages}
+use Rattle.round.specs.Told.{IsTreeOf, ToldSeen, WasTold, lieutenant_at}
+use Rattle.round.proofs.Delivering.{levels-same}
+use Rattle.round.proofs.EachTree.{AreChangedTo}
+use Rattle.round.proofs.Filling.{messages-past, messages-none}
 
 length-more : (before : List (List Letter)) (row : List Letter) → length (before ++ row ∷ []) ≡ suc (length before)
 length-more before row = let l = length-append before (row ∷ []) in omega arith

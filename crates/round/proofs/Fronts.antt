@@ -11,10 +11,10 @@ use Rattle.label.proofs.Counting.{on-push}
 use Rattle.label.proofs.Ranks.{others-at, is_distinct-push}
 use Rattle.std.proofs.lemmas.Bool.Decides.{nat_tests}
 use Rattle.label.proofs.Same.{label_stands}
-use Rattle.roster.specs.Scenario.{Scenario}
-use Rattle.letter.specs.Letters.{Letter, value_beside, tells, telling, told_by, letter_of, messages}
-use Rattle.letter.specs.Contexts.{took}
-use Rattle.letter.proofs.Lists.{beside-map, take-get_or}
+use Rattle.round.specs.Scenario.{Scenario}
+use Rattle.round.specs.Letters.{Letter, value_beside, tells, telling, told_by, letter_of, messages}
+use Rattle.round.specs.Contexts.{took}
+use Rattle.round.proofs.Lists.{beside-map, take-get_or}
 
 below-front : (n g : ℕ) (u : List ℕ) → AllBelow n (u ++ g ∷ []) → AllBelow n u × (g < n)
 below-front n g [] a = (tt, a.0)

@@ -9,10 +9,10 @@ use Rattle.outbox.specs.Orders.{order_of_row, orders_seen}
 use Rattle.outbox.specs.Rows.{order_in}
 use Rattle.outbox.specs.declared.orders.Orders.{Orders}
 use Rattle.outbox.specs.declared.orders.Orders.TheVariants.{Nobody}
-use Rattle.letter.specs.Letters.{Letter, letter_of}
-use Rattle.delivery.specs.Delivery.{AreTellers, order_in_letter, Tellers}
-use Rattle.delivery.specs.declared.front.Front.{Front}
-use Rattle.letter.proofs.Lists.{some_same, get_set, get_unset}
+use Rattle.round.specs.Letters.{Letter, letter_of}
+use Rattle.round.specs.Delivery.{AreTellers, order_in_letter, Tellers}
+use Rattle.round.specs.declared.front.LabelPrefix.{LabelPrefix}
+use Rattle.round.proofs.Lists.{some_same, get_set, get_unset}
 use Rattle.std.proofs.lemmas.Bool.{cases_Bool}
 
 -- the row of a letter, or of nobody where there is none
@@ -20,7 +20,7 @@ pub or_nobody : (o : Option Orders) (p : ℕ) → order_in p (orders_seen (unwra
 or_nobody None p = refl
 or_nobody (Some r) p = refl
 
-pub none_gathered : (row : List Letter) (n : ℕ) (f : Front) (t : Tellers) → t.count ≡ 0 → length t.generals ≡ 13 → length t.rows ≡ 13 → AreTellers row n f 0 t
+pub none_gathered : (row : List Letter) (n : ℕ) (f : LabelPrefix) (t : Tellers) → t.count ≡ 0 → length t.generals ≡ 13 → length t.rows ≡ 13 → AreTellers row n f 0 t
 none_gathered row n f t none long wide = record {
   long = long;
   wide = wide;
@@ -30,7 +30,7 @@ none_gathered row n f t none long wide = record {
 }
 
 -- one more
-pub one_gathered : (row : List Letter) (n : ℕ) (f : Front) (x : ℕ) (t : Tellers) (o : Orders) → AreTellers row n f x t → x < n → n ≤ 13 → slice_index_or f.on x false ≡ false → ((p : ℕ) → order_in p (orders_seen o) ≡ order_in_letter (letter_of row x) (slice_index f.ranks x) p) →
+pub one_gathered : (row : List Letter) (n : ℕ) (f : LabelPrefix) (x : ℕ) (t : Tellers) (o : Orders) → AreTellers row n f x t → x < n → n ≤ 13 → slice_index_or f.on x false ≡ false → ((p : ℕ) → order_in p (orders_seen o) ≡ order_in_letter (letter_of row x) (slice_index f.ranks x) p) →
     AreTellers row n f (x + 1) (record { count = t.count + 1; generals = set t.generals t.count x; rows = set t.rows t.count o })
 one_gathered row n f x t o h within small mark tells = record {
   long = length-set t.generals t.count x ∙ h.long;
@@ -58,7 +58,7 @@ one_gathered row n f x t o h within small mark tells = record {
     room' = let a = h.few in let l = h.wide in omega arith
 
 -- nobody more: what is written behind them means nothing
-pub same_gathered : (row : List Letter) (n : ℕ) (f : Front) (x : ℕ) (t : Tellers) (o : Orders) → AreTellers row n f x t → x < n → slice_index_or f.on x false ≡ true → AreTellers row n f (x + 1) (record { count = t.count; generals = set t.generals t.count x; rows = set t.rows t.count o })
+pub same_gathered : (row : List Letter) (n : ℕ) (f : LabelPrefix) (x : ℕ) (t : Tellers) (o : Orders) → AreTellers row n f x t → x < n → slice_index_or f.on x false ≡ true → AreTellers row n f (x + 1) (record { count = t.count; generals = set t.generals t.count x; rows = set t.rows t.count o })
 same_gathered row n f x t o h within mark = record {
   long = length-set t.generals t.count x ∙ h.long;
   wide = length-set t.rows t.count o ∙ h.wide;
@@ -70,7 +70,7 @@ same_gathered row n f x t o h within mark = record {
 }
 
 -- the next, who is off the label or not
-pub next_gathered : (row : List Letter) (n : ℕ) (f : Front) (x count : ℕ) (t : Tellers) (o : Orders) → AreTellers row n f x t → x < n → n ≤ 13 → count ≡ t.count + cond {A = ℕ} (not (slice_index_or f.on x false)) 1 0 → ((p : ℕ) → order_in p (orders_seen o) ≡ order_in_letter (letter_of row x) (slice_index f.ranks x) p) →
+pub next_gathered : (row : List Letter) (n : ℕ) (f : LabelPrefix) (x count : ℕ) (t : Tellers) (o : Orders) → AreTellers row n f x t → x < n → n ≤ 13 → count ≡ t.count + cond {A = ℕ} (not (slice_index_or f.on x false)) 1 0 → ((p : ℕ) → order_in p (orders_seen o) ≡ order_in_letter (letter_of row x) (slice_index f.ranks x) p) →
     AreTellers row n f (x + 1) (record { count = count; generals = set t.generals t.count x; rows = set t.rows t.count o })
 next_gathered row n f x count t o h within small e tells = ⊎_elim
     (λ (q : slice_index_or f.on x false ≡ true).

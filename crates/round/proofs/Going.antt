@@ -7,7 +7,7 @@ use Rattle.semantics.specs.Execution.{step}
 use Rattle.semantics.specs.Safety.{LeadsTo, IsSafe}
 use Rattle.semantics.specs.Whole.{CountsOnce}
 use Rattle.semantics.proofs.StepLaws.{step_counts, resumed_counts}
-use Rattle.letter.specs.Activation.{Activation, Turn, Goes, Asks, Ended, turned, turn, has_ended}
+use Rattle.round.specs.Activation.{Activation, Turn, Goes, Asks, Ended, turned, turn, has_ended}
 use Rattle.board.specs.Requests.{IsRequest}
 use Rattle.board.proofs.Asking.{asks_within}
 

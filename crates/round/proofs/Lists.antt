@@ -1,7 +1,7 @@
 -- Lists by place.
 use Rattle.std.proofs.Common.{◌≡◌, ℕ, zero, suc, ◌<◌, List, [], ◌∷◌, take, map, get_or, Bool, true, false, refl, ap, ◌∙◌, ◌⊎◌, inl, inr, ⊎_elim, Some, arith, length, set}
 use Rattle.std.specs.Prelude.{slice_get}
-use Rattle.letter.specs.Letters.{value_beside}
+use Rattle.round.specs.Letters.{value_beside}
 use Rattle.std.proofs.lemmas.Bool.{cases_Bool}
 
 -- the same element

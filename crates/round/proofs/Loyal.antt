@@ -8,12 +8,12 @@ use Rattle.label.specs.Relay.{relay, receivers}
 use Rattle.semantics.specs.Outbox.{taken_value}
 use Rattle.semantics.proofs.PlacesLaws.{row_from}
 use Rattle.outbox.specs.Contents.{Contents}
-use Rattle.roster.specs.Scenario.{Scenario, IsScenario, shape_of}
-use Rattle.letter.specs.Letters.{Letter, telling}
-use Rattle.letter.specs.Contexts.{AreWords, took, context_numbers, context_of, IsToldTo, shape_told, tells_oral, outbox_told, letter_told, faithful_letter}
-use Rattle.letter.specs.Laws.{ContextsTell, LoyalLettersFollow}
-use Rattle.contexts.proofs.Numbers.{number_at}
-use Rattle.letter.proofs.Telling.{value_is_told}
+use Rattle.round.specs.Scenario.{Scenario, IsScenario, shape_of}
+use Rattle.round.specs.Letters.{Letter, telling}
+use Rattle.round.specs.Contexts.{AreWords, took, context_numbers, context_of, IsToldTo, shape_told, tells_oral, outbox_told, letter_told, faithful_letter}
+use Rattle.round.specs.Laws.{ContextsTell, LoyalLettersFollow}
+use Rattle.mem.proofs.ContextNumbers.{number_at}
+use Rattle.round.proofs.Telling.{value_is_told}
 
 -- the numbers of his campaign
 pub shape_is_told : (s : Scenario) (before : List (List Letter)) (g round : ℕ) → IsScenario s → shape_told g round (context_of s before g) ≡ shape_of s g round

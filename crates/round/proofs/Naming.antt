@@ -9,13 +9,13 @@ use Rattle.outbox.specs.Rows.{order_in}
 use Rattle.outbox.specs.declared.orders.Orders.{Orders}
 use Rattle.outbox.proofs.RowLemmas.{others-few}
 use Rattle.tree.specs.LieutenantTree.{LieutenantTree, IsCampaign}
-use Rattle.letter.specs.Letters.{Letter}
-use Rattle.delivery.specs.Told.{lieutenant_at, told_now}
-use Rattle.delivery.specs.Delivery.{AreTellersOf, IsWalk}
-use Rattle.delivery.specs.declared.front.Front.{Front}
-use Rattle.delivery.proofs.Striking.{different, named, struck_before, struck_others, struck_past}
-use Rattle.letter.proofs.Lists.{some_at}
-use Rattle.delivery.proofs.Walking.{all_children, tell_child}
+use Rattle.round.specs.Letters.{Letter}
+use Rattle.round.specs.Told.{lieutenant_at, told_now}
+use Rattle.round.specs.Delivery.{AreTellersOf, IsWalk}
+use Rattle.round.specs.declared.front.LabelPrefix.{LabelPrefix}
+use Rattle.round.proofs.Striking.{different, named, struck_before, struck_others, struck_past}
+use Rattle.round.proofs.Lists.{some_at}
+use Rattle.round.proofs.Walking.{all_children, tell_child}
 
 -- who stands at a number
 pub record IsTeller (t : LieutenantTree) (w : List ℕ) (x place : ℕ) : Type 0 where
@@ -24,7 +24,7 @@ pub record IsTeller (t : LieutenantTree) (w : List ℕ) (x place : ℕ) : Type 0
   pub stands : place ≡ length (others x (t.general ∷ w))
   pub few : place < 13
 
-module _ (t : LieutenantTree) (row : List Letter) (places : List ℕ) (k : ℕ) (f : Front) (walk : IsWalk t row places k f) (c : IsCampaign t) (own : ℕ) (rows : List Orders) (a : AreTellersOf row t f own rows) where
+module _ (t : LieutenantTree) (row : List Letter) (places : List ℕ) (k : ℕ) (f : LabelPrefix) (walk : IsWalk t row places k f) (c : IsCampaign t) (own : ℕ) (rows : List Orders) (a : AreTellersOf row t f own rows) where
   names_all : take a.count a.generals ≡ others t.generals walk.w
   names_all = a.all.names t.commander walk.w walk.front
 

@@ -6,15 +6,15 @@ use Rattle.insn.specs.declared.insn.Insn.{Insn}
 use Rattle.semantics.specs.Relay.{IsContext, Relay}
 use Rattle.semantics.specs.Call.{fits}
 use Rattle.board.specs.Board.{Access}
-use Rattle.letter.specs.Activation.{Activation, Turn, Goes, Asks, Ended, turn, started, has_ended, is_reached}
-use Rattle.letter.specs.Contexts.{IsToldTo, relay_told}
-use Rattle.letter.specs.Letters.{Letter}
-use Rattle.letter.specs.Runs.{Onward, Runs, AreFitting, IsWithin, IsLetter}
+use Rattle.round.specs.Activation.{Activation, Turn, Goes, Asks, Ended, turn, started, has_ended, is_reached}
+use Rattle.round.specs.Contexts.{IsToldTo, relay_told}
+use Rattle.round.specs.Letters.{Letter}
+use Rattle.round.specs.Runs.{Onward, Runs, AreFitting, IsWithin, IsLetter}
 use Rattle.round.specs.Running.{TakesTurn, IsSameRun, Silently, AreAccessesOf, IsOnWay, IsLived, letter_left}
-use Rattle.letter.proofs.Patience.{under, runs_under}
-use Rattle.letter.proofs.Fitting.{fitting_more}
-use Rattle.letter.proofs.Stepping.{runs_steps}
-use Rattle.letter.proofs.Runnings.{StopsAt, Runs-snoc}
+use Rattle.round.proofs.Patience.{under, runs_under}
+use Rattle.round.proofs.Fitting.{fitting_more}
+use Rattle.round.proofs.Stepping.{runs_steps}
+use Rattle.round.proofs.Runnings.{StopsAt, Runs-snoc}
 
 -- a run, and the run behind it
 append_by : (o : Turn) (k : ℕ) (t more : List Access) (u v : Activation) → ((s : Activation) (t' : List Access) → Runs k s t' u → (n : ℕ) × Runs n s (t' ++ more) v) → Onward (Runs k) o t u → (n : ℕ) × Onward (Runs n) o (t ++ more) v

@@ -4,12 +4,12 @@ use Rattle.std.specs.Prelude.{◌||◌}
 use Rattle.semantics.specs.State.{Outcome, Next, Ask, Exit, Trap}
 use Rattle.semantics.specs.Execution.{step}
 use Rattle.board.specs.Board.{Access}
-use Rattle.letter.specs.Activation.{Activation, Turn, Goes, Asks, Ended, turned, turn, is_reached}
-use Rattle.letter.specs.Runs.{Onward, Runs, IsWithin}
+use Rattle.round.specs.Activation.{Activation, Turn, Goes, Asks, Ended, turned, turn, is_reached}
+use Rattle.round.specs.Runs.{Onward, Runs, IsWithin}
 use Rattle.std.proofs.lemmas.Bool.{leb-false, lt-leb}
 use Rattle.semantics.specs.Call.{resumed}
 use Rattle.semantics.proofs.StepLaws.{step_counts}
-use Rattle.letter.proofs.Stepping.{CountsTurn, turned_counts, runs_steps}
+use Rattle.round.proofs.Stepping.{CountsTurn, turned_counts, runs_steps}
 
 -- the same activation under another patience
 abbrev pub under : Option ℕ → Activation → Activation

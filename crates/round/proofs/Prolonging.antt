@@ -12,8 +12,8 @@ use Rattle.label.proofs.Counts.{rank-fits}
 use Rattle.label.proofs.Listing.{proved_children_stand}
 use Rattle.label.proofs.Places.{first_label}
 use Rattle.label.proofs.Pushes.{IsLabel-push}
-use Rattle.delivery.specs.Fronts.{IsFront}
-use Rattle.delivery.specs.declared.front.Front.{Front}
+use Rattle.round.specs.Fronts.{IsFront}
+use Rattle.round.specs.declared.front.LabelPrefix.{LabelPrefix}
 
 -- those below a general, with one lacked who is off the label
 pub below-lacked : (j x : ℕ) (w : List ℕ) → on w x ≡ false → length (others j (x ∷ w)) + cond {A = ℕ} (nat_lt x j) 1 0 ≡ length (others j w)
@@ -60,7 +60,7 @@ child_fits n c x k r w few inside within ne small some at =
     rank-fits (record { generals = n; commander = c; general = x }) (record { generals = few; commander = inside; general = within; lieutenant = ne }) (k - 1) r w (omega arith) (subst (λ (q : ℕ). slice_get (labels n c x q) r ≡ Some w) e at)
 
 -- the label with one general more
-pub front_with : (n c j below width size : ℕ) (w : List ℕ) (f : Front) (marks : List Bool) (ranks : List ℕ) → IsFront n c w f → n ≤ 13 → c < n → j < n → on w j ≡ false → below ≡ length (others j w) → width ≡ n - (f.size + 1) → size ≡ f.size + 1 →
+pub front_with : (n c j below width size : ℕ) (w : List ℕ) (f : LabelPrefix) (marks : List Bool) (ranks : List ℕ) → IsFront n c w f → n ≤ 13 → c < n → j < n → on w j ≡ false → below ≡ length (others j w) → width ≡ n - (f.size + 1) → size ≡ f.size + 1 →
     f.size < 13 → marks ≡ set f.on j true → length ranks ≡ 13 → ((x t : ℕ) → x < 13 → t + cond {A = ℕ} (nat_lt x j) 1 0 ≡ below → slice_index f.ranks x * width + t < 2 ^ 32 → slice_index ranks x ≡ slice_index f.ranks x * width + t) →
     IsFront n c (w ++ j ∷ []) (record { size = size; on = marks; ranks = ranks })
 front_with n c j below width size w f marks ranks h few inside within off eb ew es short em long next = record {

@@ -3,8 +3,8 @@ use Rattle.std.proofs.Common.{◌≡◌, ℕ, zero, suc, List, [], ◌∷◌, �
 use Rattle.std.specs.Prelude.{map}
 use Rattle.semantics.specs.declared.request.Request.{Request}
 use Rattle.board.specs.Board.{Access}
-use Rattle.letter.specs.Activation.{Activation, Turn, Goes, Asks, Ended, turn}
-use Rattle.letter.specs.Runs.{Onward, Runs}
+use Rattle.round.specs.Activation.{Activation, Turn, Goes, Asks, Ended, turn}
+use Rattle.round.specs.Runs.{Onward, Runs}
 
 abbrev pub StopsAt : Activation → List Access → Activation → Type 0
 StopsAt s served end = (served ≡ []) × (s ≡ end)

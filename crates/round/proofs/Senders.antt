@@ -11,8 +11,8 @@ use Rattle.semantics.specs.Relay.{Kind, Oral, Signed, Relay, oral}
 use Rattle.semantics.specs.declared.entry.Entry.{Entry}
 use Rattle.semantics.proofs.PlacesLaws.{row_from, rows_from}
 use Rattle.outbox.specs.Contents.{order_among, order_at}
-use Rattle.letter.specs.Letters.{Letter, value_beside, tells, letter_of}
-use Rattle.letter.specs.Laws.{OutboxesTell}
+use Rattle.round.specs.Letters.{Letter, value_beside, tells, letter_of}
+use Rattle.round.specs.Laws.{OutboxesTell}
 
 -- what stands beside the only element that passes
 beside-at : {A B : Type 0} (is : A → Bool) (d : B) (xs : List A) (ys : List B) (i : ℕ) (x : A) → slice_get xs i ≡ Some x → is x ≡ true → ((j : ℕ) (y : A) → slice_get xs j ≡ Some y → is y ≡ true → j ≡ i) → value_beside is d xs ys ≡ get_or ys i d

@@ -4,7 +4,7 @@ use Rattle.std.specs.Prelude.{OnErr}
 use Rattle.std.specs.Option.{option_to_list}
 use Rattle.semantics.specs.Call.{fits}
 use Rattle.board.specs.Board.{Access}
-use Rattle.letter.specs.Activation.{Activation, turn}
+use Rattle.round.specs.Activation.{Activation, turn}
 use Rattle.round.specs.Running.{TakesTurn, IsSameRun, Silently, IsOnWay, IsWayServed}
 use Rattle.round.proofs.Onwards.{on_silently, on_served, way_begins}
 

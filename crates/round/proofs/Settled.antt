@@ -5,8 +5,8 @@ use Rattle.semantics.specs.Relay.{Relay}
 use Rattle.semantics.specs.State.{Outcome, Next, Ask, Exit, Trap}
 use Rattle.semantics.specs.Execution.{step}
 use Rattle.board.specs.Board.{Access}
-use Rattle.letter.specs.Activation.{Activation, started, Turn, Goes, Asks, Ended, turned, turn, has_ended}
-use Rattle.letter.specs.Runs.{Onward, Runs}
+use Rattle.round.specs.Activation.{Activation, started, Turn, Goes, Asks, Ended, turned, turn, has_ended}
+use Rattle.round.specs.Runs.{Onward, Runs}
 
 pub record IsSettled (a b : Activation) : Type 0 where
   pub program : b.program ≡ a.program

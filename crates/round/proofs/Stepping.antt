@@ -5,8 +5,8 @@ use Rattle.semantics.specs.Execution.{step}
 use Rattle.semantics.specs.Whole.{CountsOnce}
 use Rattle.semantics.proofs.StepLaws.{step_counts, resumed_counts}
 use Rattle.board.specs.Board.{Access}
-use Rattle.letter.specs.Activation.{Activation, Turn, Goes, Asks, Ended, turned, turn, has_ended}
-use Rattle.letter.specs.Runs.{Onward, Runs}
+use Rattle.round.specs.Activation.{Activation, Turn, Goes, Asks, Ended, turned, turn, has_ended}
+use Rattle.round.specs.Runs.{Onward, Runs}
 
 abbrev pub CountsTurn : Activation → Turn → Type 0
 CountsTurn a (Goes b) = b.state.steps ≡ a.state.steps + 1

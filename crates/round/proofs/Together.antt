@@ -12,18 +12,18 @@ use Rattle.label.proofs.Counting.{on-push}
 use Rattle.label.proofs.Places.{first_label}
 use Rattle.outbox.proofs.Single.{same_default}
 use Rattle.tree.specs.LieutenantTree.{LieutenantTree, IsFilled, SameCampaign, told_also}
-use Rattle.letter.specs.Letters.{Letter, letter_of}
-use Rattle.delivery.specs.Fronts.{IsFront, under}
-use Rattle.delivery.specs.Told.{AreOfCampaign, round_of, told_now}
-use Rattle.delivery.specs.Delivery.{AreEach, AreTellers, IsDueIn, FillsFromTo, IsRoute, IsTold, IsToldUnder, IsWalk, first_under, order_in_letter, Tellers}
-use Rattle.delivery.specs.declared.front.Front.{Front}
-use Rattle.delivery.proofs.Delivering.{none_heard, told_all, told_none, told_on, told_one}
-use Rattle.delivery.proofs.Walking.{all_children, child_long, first_told, same_campaign, same_due, told_ends, under_first, under_past}
-use Rattle.delivery.proofs.Descending.{all_walked, child_first, child_past}
+use Rattle.round.specs.Letters.{Letter, letter_of}
+use Rattle.round.specs.Fronts.{IsFront, under}
+use Rattle.round.specs.Told.{AreOfCampaign, round_of, told_now}
+use Rattle.round.specs.Delivery.{AreEach, AreTellers, IsDueIn, FillsFromTo, IsRoute, IsTold, IsToldUnder, IsWalk, first_under, order_in_letter, Tellers}
+use Rattle.round.specs.declared.front.LabelPrefix.{LabelPrefix}
+use Rattle.round.proofs.Delivering.{none_heard, told_all, told_none, told_on, told_one}
+use Rattle.round.proofs.Walking.{all_children, child_long, first_told, same_campaign, same_due, told_ends, under_first, under_past}
+use Rattle.round.proofs.Descending.{all_walked, child_first, child_past}
 use Rattle.std.proofs.Math.Bool.{or-true}
 
 -- what was told of the labels that begin with this one, up to those where a general below x is next
-pub record IsToldUpTo (row : List Letter) (k : ℕ) (f : Front) (x : ℕ) (t u : LieutenantTree) : Type 0 where
+pub record IsToldUpTo (row : List Letter) (k : ℕ) (f : LabelPrefix) (x : ℕ) (t u : LieutenantTree) : Type 0 where
   pub on : slice_index_or f.on t.general false ≡ true → u ≡ t
   pub off : slice_index_or f.on t.general false ≡ false → (w : List ℕ) → IsFront t.generals t.commander w f →
       FillsFromTo t row k (first_under t f k) ((slice_index f.ranks t.general * (t.generals - (f.size + 1)) + length (others x (t.general ∷ w))) * under t.generals (f.size + 1) (k - (f.size + 1))) u
@@ -35,7 +35,7 @@ unlike : (b : Bool) → b ≡ true → b ≡ false → ⊥
 unlike b yes_it no_it = true≢false (sym yes_it ∙ no_it)
 
 -- one tree's walk
-pub own_walk : (n : ℕ) (row : List Letter) (places : List ℕ) (k : ℕ) (f : Front) (trees : List LieutenantTree) (route : IsRoute n row places k f trees) (t : LieutenantTree) → IsDueIn n route.c row t → slice_index_or f.on t.general false ≡ false → (w : List ℕ) → IsFront t.generals t.commander w f → IsWalk t row places k f
+pub own_walk : (n : ℕ) (row : List Letter) (places : List ℕ) (k : ℕ) (f : LabelPrefix) (trees : List LieutenantTree) (route : IsRoute n row places k f trees) (t : LieutenantTree) → IsDueIn n route.c row t → slice_index_or f.on t.general false ≡ false → (w : List ℕ) → IsFront t.generals t.commander w f → IsWalk t row places k f
 own_walk n row places k f trees route t d mark w front = record {
   due = d.due;
   size = route.size;
@@ -46,11 +46,11 @@ own_walk n row places k f trees route t d mark w front = record {
   off = sym (front.marks t.general d.kind.general) ∙ mark;
 }
 
-pub own_front : (n c : ℕ) (row : List Letter) (f : Front) (w : List ℕ) (t : LieutenantTree) → IsDueIn n c row t → IsFront n c w f → IsFront t.generals t.commander w f
+pub own_front : (n c : ℕ) (row : List Letter) (f : LabelPrefix) (w : List ℕ) (t : LieutenantTree) → IsDueIn n c row t → IsFront n c w f → IsFront t.generals t.commander w f
 own_front n c row f w t d front = rw (d.generals, d.commander) front
 
 -- nothing is told yet
-pub up_from : (n : ℕ) (row : List Letter) (places : List ℕ) (k : ℕ) (f : Front) (trees : List LieutenantTree) → IsRoute n row places k f trees → AreEach (IsToldUpTo row k f 0) trees trees
+pub up_from : (n : ℕ) (row : List Letter) (places : List ℕ) (k : ℕ) (f : LabelPrefix) (trees : List LieutenantTree) → IsRoute n row places k f trees → AreEach (IsToldUpTo row k f 0) trees trees
 up_from n row places k f trees route = record {
   count = refl;
   each = λ j t u was now.
@@ -62,7 +62,7 @@ up_from n row places k f trees route = record {
 }
 
 -- the campaign stays
-pub same_up : (n c : ℕ) (row : List Letter) (k : ℕ) (f : Front) (x : ℕ) (w : List ℕ) (t u : LieutenantTree) → IsDueIn n c row t → IsFront n c w f → IsToldUpTo row k f x t u → SameCampaign t u
+pub same_up : (n c : ℕ) (row : List Letter) (k : ℕ) (f : LabelPrefix) (x : ℕ) (w : List ℕ) (t u : LieutenantTree) → IsDueIn n c row t → IsFront n c w f → IsToldUpTo row k f x t u → SameCampaign t u
 same_up n c row k f x w t u d front h = ⊎_elim
     (λ (q : slice_index_or f.on t.general false ≡ true). let e : u ≡ t = h.on q in rw e (record { generals = refl; bound = refl; commander = refl; general = refl }))
     (λ (q : slice_index_or f.on t.general false ≡ false). (h.off q w (own_front n c row f w t d front)).same)
@@ -81,7 +81,7 @@ before_at : (Are : LieutenantTree → LieutenantTree → Type 0) (old new : List
 before_at Are old new j u h now = slice_get-get_or old j u (let l = slice_get_within new j u now in let e = h.count in omega arith)
 
 -- the walk from a child
-pub child_route : (n : ℕ) (row : List Letter) (places : List ℕ) (k : ℕ) (f g : Front) (old cur : List LieutenantTree) (route : IsRoute n row places k f old) (x : ℕ) → f.size + 1 ≢ k → IsFront n route.c (route.w ++ x ∷ []) g → AreEach (IsToldUpTo row k f x) old cur → IsRoute n row places k g cur
+pub child_route : (n : ℕ) (row : List Letter) (places : List ℕ) (k : ℕ) (f g : LabelPrefix) (old cur : List LieutenantTree) (route : IsRoute n row places k f old) (x : ℕ) → f.size + 1 ≢ k → IsFront n route.c (route.w ++ x ∷ []) g → AreEach (IsToldUpTo row k f x) old cur → IsRoute n row places k g cur
 child_route n row places k f g old cur route x more child told = record {
   few = route.few;
   size = route.size;
@@ -112,7 +112,7 @@ off_more p x w it =
     omega arith
 
 -- past someone who stands on the label
-pub up_on : (n : ℕ) (row : List Letter) (places : List ℕ) (k : ℕ) (f : Front) (old cur : List LieutenantTree) → IsRoute n row places k f old → (x : ℕ) → x < n → slice_index_or f.on x false ≡ true → AreEach (IsToldUpTo row k f x) old cur → AreEach (IsToldUpTo row k f (x + 1)) old cur
+pub up_on : (n : ℕ) (row : List Letter) (places : List ℕ) (k : ℕ) (f : LabelPrefix) (old cur : List LieutenantTree) → IsRoute n row places k f old → (x : ℕ) → x < n → slice_index_or f.on x false ≡ true → AreEach (IsToldUpTo row k f x) old cur → AreEach (IsToldUpTo row k f (x + 1)) old cur
 up_on n row places k f old cur route x within mark told = record {
   count = told.count;
   each = λ j t u was now.
@@ -128,7 +128,7 @@ up_on n row places k f old cur route x within mark told = record {
 }
 
 -- past someone who is off it, by whom the label was prolonged
-one_off : (n : ℕ) (row : List Letter) (places : List ℕ) (k : ℕ) (f g : Front) (old : List LieutenantTree) (route : IsRoute n row places k f old) (x : ℕ) → x < n → slice_index_or f.on x false ≡ false → ((w : List ℕ) → IsFront n route.c w f → IsFront n route.c (w ++ x ∷ []) g) →
+one_off : (n : ℕ) (row : List Letter) (places : List ℕ) (k : ℕ) (f g : LabelPrefix) (old : List LieutenantTree) (route : IsRoute n row places k f old) (x : ℕ) → x < n → slice_index_or f.on x false ≡ false → ((w : List ℕ) → IsFront n route.c w f → IsFront n route.c (w ++ x ∷ []) g) →
     (t u v : LieutenantTree) → IsDueIn n route.c row t → IsToldUpTo row k f x t u → IsToldUnder row k g u v → IsToldUpTo row k f (x + 1) t v
 unfolding own_walk
 one_off n row places k f g old route x within mark child t u v d h below =
@@ -161,7 +161,7 @@ one_off n row places k f g old route x within mark child t u v d h below =
           (eqb_tells x u.general);
     }
 
-pub up_off : (n : ℕ) (row : List Letter) (places : List ℕ) (k : ℕ) (f g : Front) (old cur new : List LieutenantTree) (route : IsRoute n row places k f old) (x : ℕ) → x < n → slice_index_or f.on x false ≡ false → ((w : List ℕ) → IsFront n route.c w f → IsFront n route.c (w ++ x ∷ []) g) →
+pub up_off : (n : ℕ) (row : List Letter) (places : List ℕ) (k : ℕ) (f g : LabelPrefix) (old cur new : List LieutenantTree) (route : IsRoute n row places k f old) (x : ℕ) → x < n → slice_index_or f.on x false ≡ false → ((w : List ℕ) → IsFront n route.c w f → IsFront n route.c (w ++ x ∷ []) g) →
     AreEach (IsToldUpTo row k f x) old cur → AreEach (IsToldUnder row k g) cur new → AreEach (IsToldUpTo row k f (x + 1)) old new
 up_off n row places k f g old cur new route x within mark child told below = record {
   count = below.count ∙ told.count;
@@ -171,7 +171,7 @@ up_off n row places k f g old cur new route x within mark child told below = rec
 }
 
 -- past all
-pub up_all : (n : ℕ) (row : List Letter) (places : List ℕ) (k : ℕ) (f : Front) (old new : List LieutenantTree) → IsRoute n row places k f old → AreEach (IsToldUpTo row k f n) old new → AreEach (IsToldUnder row k f) old new
+pub up_all : (n : ℕ) (row : List Letter) (places : List ℕ) (k : ℕ) (f : LabelPrefix) (old new : List LieutenantTree) → IsRoute n row places k f old → AreEach (IsToldUpTo row k f n) old new → AreEach (IsToldUnder row k f) old new
 up_all n row places k f old new route told = record {
   count = told.count;
   each = λ j t u was now.
@@ -188,7 +188,7 @@ up_all n row places k f old new route told = record {
 }
 
 -- where the walk began with the commander's label
-pub all_told : (n c : ℕ) (row : List Letter) (k : ℕ) (f : Front) (old new : List LieutenantTree) → ((j : ℕ) (t : LieutenantTree) → slice_get old j ≡ Some t → IsDueIn n c row t) → k ≡ round_of row → 1 < k → IsFront n c (c ∷ []) f → AreEach (IsToldUnder row k f) old new → AreEach (IsTold row) old new
+pub all_told : (n c : ℕ) (row : List Letter) (k : ℕ) (f : LabelPrefix) (old new : List LieutenantTree) → ((j : ℕ) (t : LieutenantTree) → slice_get old j ≡ Some t → IsDueIn n c row t) → k ≡ round_of row → 1 < k → IsFront n c (c ∷ []) f → AreEach (IsToldUnder row k f) old new → AreEach (IsTold row) old new
 all_told n c row k f old new due ek more front told = record {
   count = told.count;
   each = λ j t u was now.
@@ -207,7 +207,7 @@ pub stays_read : (trees : List LieutenantTree) (i : ℕ) (u : LieutenantTree) �
 stays_read trees i u lt = same_default trees i u (get_or trees i u) lt
 
 -- who tells a tree's lieutenant
-pub own_tellers : (n : ℕ) (row : List Letter) (f : Front) (tellers : Tellers) (t : LieutenantTree) → t.generals ≡ n → AreTellers row n f n tellers → AreTellers row t.generals f t.generals tellers
+pub own_tellers : (n : ℕ) (row : List Letter) (f : LabelPrefix) (tellers : Tellers) (t : LieutenantTree) → t.generals ≡ n → AreTellers row n f n tellers → AreTellers row t.generals f t.generals tellers
 own_tellers n row f tellers t e all = rw e all
 
 -- of the commander's label
@@ -254,5 +254,5 @@ below_same x w below there e =
     let none : cond {A = ℕ} (on w x) 0 1 ≡ 0 = ap (λ (q : Bool). cond {A = ℕ} q 0 1) there in
     omega arith
 
-pub ends_at : (row : List Letter) (k : ℕ) (f : Front) (x y : ℕ) (old new : List LieutenantTree) → x ≡ y → AreEach (IsToldUpTo row k f x) old new → AreEach (IsToldUpTo row k f y) old new
+pub ends_at : (row : List Letter) (k : ℕ) (f : LabelPrefix) (x y : ℕ) (old new : List LieutenantTree) → x ≡ y → AreEach (IsToldUpTo row k f x) old new → AreEach (IsToldUpTo row k f y) old new
 ends_at row k f x y old new e h = subst (λ (z : ℕ). AreEach (IsToldUpTo row k f z) old new) e h

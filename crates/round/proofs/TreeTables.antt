@@ -9,13 +9,13 @@ use Rattle.label.specs.Labels.{on, others}
 use Rattle.label.proofs.Bounds.{others_here}
 use Rattle.label.proofs.Counting.{on-push, others-on}
 use Rattle.tree.specs.LieutenantTree.{LieutenantTree}
-use Rattle.letter.specs.Letters.{Letter}
-use Rattle.delivery.specs.Delivery.{AreApart, AreEach, AreTellers, AreTellersOf, IsDueIn, FillsFromTo, IsRoute, IsToldUnder, AreTreeIndices, IsWalk, Tellers, first_under, past_under}
-use Rattle.delivery.specs.declared.front.Front.{Front}
-use Rattle.letter.proofs.Lists.{some_same, get_set, get_unset}
+use Rattle.round.specs.Letters.{Letter}
+use Rattle.round.specs.Delivery.{AreApart, AreEach, AreTellers, AreTellersOf, IsDueIn, FillsFromTo, IsRoute, IsToldUnder, AreTreeIndices, IsWalk, Tellers, first_under, past_under}
+use Rattle.round.specs.declared.front.LabelPrefix.{LabelPrefix}
+use Rattle.round.proofs.Lists.{some_same, get_set, get_unset}
 use Rattle.label.proofs.Counts.{on-get}
-use Rattle.delivery.proofs.Striking.{named, take_get, take_others, take_twice}
-use Rattle.delivery.proofs.Together.{IsToldUpTo, own_front, own_tellers, own_walk, same_up}
+use Rattle.round.proofs.Striking.{named, take_get, take_others, take_twice}
+use Rattle.round.proofs.Together.{IsToldUpTo, own_front, own_tellers, own_walk, same_up}
 use Rattle.std.proofs.Math.Bool.{or-true}
 
 or_false : (b : Bool) → (b || false) ≡ b
@@ -84,13 +84,13 @@ table_stays old new table h long same = record {
     before j u there = slice_get-get_or old j u (let l = slice_get_within new j u there in omega arith)
 
 -- the trees of the lieutenants who are named are told, the others are as they were
-pub record AreNamedTold (row : List Letter) (k : ℕ) (f : Front) (names : List ℕ) (old new : List LieutenantTree) : Type 0 where
+pub record AreNamedTold (row : List Letter) (k : ℕ) (f : LabelPrefix) (names : List ℕ) (old new : List LieutenantTree) : Type 0 where
   pub count : length new ≡ length old
   pub general : (j : ℕ) (t u : LieutenantTree) → slice_get old j ≡ Some t → slice_get new j ≡ Some u → u.general ≡ t.general
   pub told : (j : ℕ) (t u : LieutenantTree) → slice_get old j ≡ Some t → slice_get new j ≡ Some u → on names t.general ≡ true → IsToldUnder row k f t u
   pub left : (j : ℕ) (t u : LieutenantTree) → slice_get old j ≡ Some t → slice_get new j ≡ Some u → on names t.general ≡ false → u ≡ t
 
-pub named_none : (row : List Letter) (k : ℕ) (f : Front) (old : List LieutenantTree) → AreNamedTold row k f [] old old
+pub named_none : (row : List Letter) (k : ℕ) (f : LabelPrefix) (old : List LieutenantTree) → AreNamedTold row k f [] old old
 named_none row k f old = record {
   count = refl;
   general = λ j t u was now. ap (λ (v : LieutenantTree). v.general) (some_same (sym now ∙ was));
@@ -113,7 +113,7 @@ name_is_new n x i count w names all lt room at =
     (λ (q : on (take i names) x ≡ false). q)
     (cases_Bool (on (take i names) x))
 
-module _ (n : ℕ) (row : List Letter) (places : List ℕ) (k : ℕ) (f : Front) (old : List LieutenantTree) (route : IsRoute n row places k f old) (table : List ℕ) (s : AreTreeIndices old table) (tellers : Tellers) (all : AreTellers row n f n tellers) (i x place : ℕ) (lt : i < tellers.count) (at : x ≡ get_or tellers.generals i 0) (found : place ≡ slice_index table x) where
+module _ (n : ℕ) (row : List Letter) (places : List ℕ) (k : ℕ) (f : LabelPrefix) (old : List LieutenantTree) (route : IsRoute n row places k f old) (table : List ℕ) (s : AreTreeIndices old table) (tellers : Tellers) (all : AreTellers row n f n tellers) (i x place : ℕ) (lt : i < tellers.count) (at : x ≡ get_or tellers.generals i 0) (found : place ≡ slice_index table x) where
   room : i < length tellers.generals
   room = let a = all.few in let l = all.long in let m = route.few in omega arith
 
@@ -227,7 +227,7 @@ not_in_others n p w there = ⊎_elim
     (λ (q : on (others n w) p ≡ false). q)
     (cases_Bool (on (others n w) p))
 
-pub named_all : (n : ℕ) (row : List Letter) (places : List ℕ) (k : ℕ) (f : Front) (old new : List LieutenantTree) (route : IsRoute n row places k f old) (tellers : Tellers) → AreTellers row n f n tellers → AreNamedTold row k f (take tellers.count tellers.generals) old new → AreEach (IsToldUnder row k f) old new
+pub named_all : (n : ℕ) (row : List Letter) (places : List ℕ) (k : ℕ) (f : LabelPrefix) (old new : List LieutenantTree) (route : IsRoute n row places k f old) (tellers : Tellers) → AreTellers row n f n tellers → AreNamedTold row k f (take tellers.count tellers.generals) old new → AreEach (IsToldUnder row k f) old new
 named_all n row places k f old new route tellers all h = record {
   count = h.count;
   each = λ j t u was now.
@@ -242,7 +242,7 @@ named_all n row places k f old new route tellers all h = record {
 }
 
 -- along the walk
-pub table_up : (n : ℕ) (row : List Letter) (places : List ℕ) (k : ℕ) (f : Front) (old cur : List LieutenantTree) (route : IsRoute n row places k f old) (x : ℕ) → AreEach (IsToldUpTo row k f x) old cur → (table : List ℕ) → AreTreeIndices old table → AreTreeIndices cur table
+pub table_up : (n : ℕ) (row : List Letter) (places : List ℕ) (k : ℕ) (f : LabelPrefix) (old cur : List LieutenantTree) (route : IsRoute n row places k f old) (x : ℕ) → AreEach (IsToldUpTo row k f x) old cur → (table : List ℕ) → AreTreeIndices old table → AreTreeIndices cur table
 table_up n row places k f old cur route x told table h =
     table_stays old cur table h told.count (λ j t u was now. (same_up n route.c row k f x route.w t u (route.due j t was) route.front (told.each j t u was now)).general)
 

@@ -9,13 +9,13 @@ use Rattle.semantics.specs.Execution.{step}
 use Rattle.semantics.specs.Whole.{CountsOnce}
 use Rattle.semantics.proofs.StepLaws.{step_counts}
 use Rattle.machine.specs.Standing.{Standing, before}
-use Rattle.machine.specs.declared.stop.Stop.{Stop}
-use Rattle.machine.specs.declared.stop.Stop.TheVariants.{Asked, Exited, Limit}
+use Rattle.machine.specs.declared.stop.StopReason.{StopReason}
+use Rattle.machine.specs.declared.stop.StopReason.TheVariants.{Asked, Exited, Limit}
 use Rattle.semantics.specs.Reached.{Reached}
 use Rattle.machine.specs.Advance.{IsOfRun, Leads, Requests, Advances}
-use Rattle.letter.specs.Activation.{Activation, Turn, Goes, Asks, Ended, turned, turn, has_ended, is_reached}
-use Rattle.letter.specs.Runs.{Onward, Runs, IsWithin}
-use Rattle.letter.proofs.Patience.{runs_under}
+use Rattle.round.specs.Activation.{Activation, Turn, Goes, Asks, Ended, turned, turn, has_ended, is_reached}
+use Rattle.round.specs.Runs.{Onward, Runs, IsWithin}
+use Rattle.round.proofs.Patience.{runs_under}
 use Rattle.round.specs.Running.{Stopped, IsBack, activation_of, Silently, Pauses, lesser}
 
 -- so many steps are counted
@@ -42,7 +42,7 @@ asked_one : (program : List Insn) (context : List ℕ) (relay : Relay) (answers 
     Requests program context relay answers (s.steps + 1) s r new → s ≡ before new.state
 asked_one program context relay answers s new r h = none_taken program context relay h.taken s (before new.state) h.leads (let most = h.early in let counted = h.counted in omega arith)
 
-pub stopped : (program : List Insn) (context : List ℕ) (relay : Relay) (answers : List (List ℕ)) (s : State) (new : Standing) (result : Stop) →
+pub stopped : (program : List Insn) (context : List ℕ) (relay : Relay) (answers : List (List ℕ)) (s : State) (new : Standing) (result : StopReason) →
     Advances program context relay answers (s.steps + 1) s result new →
     Stopped (step program context relay s) result new.state × IsBack result s new.state
 stopped program context relay answers s new (Asked r) h =
@@ -57,7 +57,7 @@ stopped program context relay answers s new Limit h =
     (subst (λ (o : Outcome). Stopped o Limit new.state) (sym (one_taken program context relay h.taken s new.state h.leads h.past h.exactly)) refl, tt)
 
 -- as the machine is called
-pub stopped_with : (program : List Insn) (bytes context : List ℕ) (old new : Standing) (limit : ℕ) (result : Stop) → context ≡ bytes → limit ≡ old.state.steps + 1 → IsOfRun program bytes old →
+pub stopped_with : (program : List Insn) (bytes context : List ℕ) (old new : Standing) (limit : ℕ) (result : StopReason) → context ≡ bytes → limit ≡ old.state.steps + 1 → IsOfRun program bytes old →
     ((answers : List (List ℕ)) → Reached program context old.relay answers old.state → Advances program context old.relay answers limit old.state result new) →
     Stopped (step program bytes old.relay old.state) result new.state × IsBack result old.state new.state
 stopped_with program bytes context old new limit result same counted run advances =
@@ -93,18 +93,18 @@ module _ (program : List Insn) (context : List ℕ) (relay : Relay) where
   late_pause limit a Ended le = tt
 
 -- what it comes to
-abbrev pub IsOver : Stop → Bool
+abbrev pub IsOver : StopReason → Bool
 IsOver (Asked r) = false
 IsOver (Exited n) = true
 IsOver Limit = false
 
 -- where it stands once a request is taken back
-abbrev pub Stood : Stop → State → State
+abbrev pub Stood : StopReason → State → State
 Stood (Asked r) s = before s
 Stood (Exited n) s = s
 Stood Limit s = s
 
-pub ahead_by : (program : List Insn) (context : List ℕ) (relay : Relay) (answers : List (List ℕ)) (limit : ℕ) (s : State) (new : Standing) (result : Stop) →
+pub ahead_by : (program : List Insn) (context : List ℕ) (relay : Relay) (answers : List (List ℕ)) (limit : ℕ) (s : State) (new : Standing) (result : StopReason) →
     Advances program context relay answers limit s result new →
     Silently (activation_of None program context (record { relay = relay; state = s }) false) (activation_of None program context (record { relay = relay; state = Stood result new.state }) (IsOver result))
     × Pauses limit (activation_of None program context (record { relay = relay; state = Stood result new.state }) (IsOver result)) (turn (activation_of None program context (record { relay = relay; state = Stood result new.state }) (IsOver result)))
@@ -116,7 +116,7 @@ ahead_by program context relay answers limit s new Limit h =
     ((h.taken, leads_runs program context relay h.taken s new.state h.leads), late_pause program context relay limit (activation_of None program context (record { relay = relay; state = new.state }) false) (turn (activation_of None program context (record { relay = relay; state = new.state }) false)) h.past)
 
 -- as the machine is called
-pub ahead_with : (program : List Insn) (bytes context : List ℕ) (old new : Standing) (limit : ℕ) (result : Stop) → context ≡ bytes → IsOfRun program bytes old →
+pub ahead_with : (program : List Insn) (bytes context : List ℕ) (old new : Standing) (limit : ℕ) (result : StopReason) → context ≡ bytes → IsOfRun program bytes old →
     ((answers : List (List ℕ)) → Reached program context old.relay answers old.state → Advances program context old.relay answers limit old.state result new) →
     (stood : Standing) → stood.relay ≡ old.relay → stood.state ≡ Stood result new.state →
     Silently (activation_of None program bytes old false) (activation_of None program bytes stood (IsOver result)) × Pauses limit (activation_of None program bytes stood (IsOver result)) (turn (activation_of None program bytes stood (IsOver result)))
@@ -128,7 +128,7 @@ ahead_with program bytes context old new limit result same run advances stood sh
     subst (λ (l : List ℕ). A l stood) same (subst (λ (st : Standing). A context st) there done)
 
 -- how many steps it has then
-pub taken_within : (program : List Insn) (context : List ℕ) (relay : Relay) (answers : List (List ℕ)) (limit m : ℕ) (s : State) (new : Standing) (result : Stop) →
+pub taken_within : (program : List Insn) (context : List ℕ) (relay : Relay) (answers : List (List ℕ)) (limit m : ℕ) (s : State) (new : Standing) (result : StopReason) →
     Advances program context relay answers limit s result new → s.steps ≤ m → limit ≤ m → (Stood result new.state).steps ≤ m
 taken_within program context relay answers limit m s new (Asked r) h few le = (let b = h.early in omega arith)
 taken_within program context relay answers limit m s new (Exited n) h few le = (let b = h.early in let c = h.counted in omega arith)
@@ -165,7 +165,7 @@ module _ (p : Option ℕ) (program : List Insn) (context : List ℕ) where
       by false false e h = pauses_by limit stood (step program context stood.relay stood.state) e h
 
 -- as the machine is called
-pub within_with : (program : List Insn) (bytes context : List ℕ) (old new : Standing) (limit : ℕ) (result : Stop) → context ≡ bytes → IsOfRun program bytes old →
+pub within_with : (program : List Insn) (bytes context : List ℕ) (old new : Standing) (limit : ℕ) (result : StopReason) → context ≡ bytes → IsOfRun program bytes old →
     ((answers : List (List ℕ)) → Reached program context old.relay answers old.state → Advances program context old.relay answers limit old.state result new) →
     (state : State) → state ≡ Stood result new.state → (m : ℕ) → old.state.steps ≤ m → limit ≤ m → state.steps ≤ m
 within_with program bytes context old new limit result same run advances state state_is m few le =
@@ -173,7 +173,7 @@ within_with program bytes context old new limit result same run advances state s
     subst (λ (s : State). s.steps ≤ m) (sym state_is) (taken_within program context old.relay run.answers limit m old.state new result (advances run.answers reached) few le)
 
 -- one step is counted
-pub stopped_counts : (o : Outcome) (result : Stop) (s new : State) → CountsOnce s o → Stopped o result new → new.steps ≡ s.steps + 1
+pub stopped_counts : (o : Outcome) (result : StopReason) (s new : State) → CountsOnce s o → Stopped o result new → new.steps ≡ s.steps + 1
 stopped_counts (Next t) Limit s new h at = ap (λ (u : State). u.steps) at ∙ h
 stopped_counts (Next t) (Asked r) s new h at = absurd at
 stopped_counts (Next t) (Exited n) s new h at = absurd at

@@ -10,14 +10,14 @@ use Rattle.label.specs.Relay.{relay}
 use Rattle.label.specs.Oral.{Messages, order_of, heard}
 use Rattle.label.proofs.Listing.{proved_labels_are_exact}
 use Rattle.tree.specs.LieutenantTree.{LieutenantTree, IsFilled, level_told}
-use Rattle.roster.specs.Scenario.{Scenario, IsScenario, shape_of}
-use Rattle.letter.specs.Letters.{Letter, messages}
-use Rattle.letter.specs.Contexts.{took, context_bytes, context_numbers, context_of, AreWords}
+use Rattle.round.specs.Scenario.{Scenario, IsScenario, shape_of}
+use Rattle.round.specs.Letters.{Letter, messages}
+use Rattle.round.specs.Contexts.{took, context_bytes, context_numbers, context_of, AreWords}
 use Rattle.std.specs.declared.alloc.Global.{Global}
-use Rattle.delivery.specs.Told.{IsTreeOf, ToldSeen, WasTold, lieutenant_at}
-use Rattle.delivery.proofs.Delivering.{same_map}
-use Rattle.delivery.proofs.Filling.{own_tree}
-use Rattle.letter.proofs.Fronts.{messages-front}
+use Rattle.round.specs.Told.{IsTreeOf, ToldSeen, WasTold, lieutenant_at}
+use Rattle.round.proofs.Delivering.{same_map}
+use Rattle.round.proofs.Filling.{own_tree}
+use Rattle.round.proofs.Fronts.{messages-front}
 use Rattle.semantics.proofs.PlacesLaws.{round_few}
 
 map_twice : {B C : Type 0} (F : B → C) (G : List ℕ → B) (ws : List (List ℕ)) → map (λ w. F (G w)) ws ≡ map F (map G ws)

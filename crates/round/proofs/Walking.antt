@@ -13,15 +13,15 @@ use Rattle.label.proofs.Bounds.{others_length_more}
 use Rattle.label.proofs.Counts.{count-more, row-fits}
 use Rattle.label.proofs.Parts.{wide}
 use Rattle.tree.specs.LieutenantTree.{LieutenantTree, IsCampaign, SameCampaign}
-use Rattle.letter.specs.Letters.{Letter, told_by, letter_of}
-use Rattle.delivery.specs.Told.{AreDue, told_now, round_of}
-use Rattle.delivery.specs.Fronts.{IsFront, under}
-use Rattle.delivery.specs.Delivery.{order_in_letter, FillsFromTo, IsWalk}
-use Rattle.delivery.specs.declared.front.Front.{Front}
-use Rattle.letter.proofs.Senders.{order_tells, letter_stands}
-use Rattle.delivery.proofs.Prolonging.{child_rank, off-lieutenant, begun-long}
-use Rattle.letter.proofs.Fronts.{last-push, front-push}
-use Rattle.letter.proofs.Lists.{some_same}
+use Rattle.round.specs.Letters.{Letter, told_by, letter_of}
+use Rattle.round.specs.Told.{AreDue, told_now, round_of}
+use Rattle.round.specs.Fronts.{IsFront, under}
+use Rattle.round.specs.Delivery.{order_in_letter, FillsFromTo, IsWalk}
+use Rattle.round.specs.declared.front.LabelPrefix.{LabelPrefix}
+use Rattle.round.proofs.Senders.{order_tells, letter_stands}
+use Rattle.round.proofs.Prolonging.{child_rank, off-lieutenant, begun-long}
+use Rattle.round.proofs.Fronts.{last-push, front-push}
+use Rattle.round.proofs.Lists.{some_same}
 
 pub told_last : (row : List Letter) (w : List ℕ) (x p : ℕ) → told_now row (w ++ x ∷ []) p ≡ told_by (letter_of row x) w p
 told_last row w x p =
@@ -107,7 +107,7 @@ under_one n r s k e =
     ap (λ (u : ℕ). r * u) (step ∙ (ap (λ (u : ℕ). (n - (s + 1)) * u) last ∙ width))
 
 -- a child of a label
-pub child_at : (n c p x place width : ℕ) (w : List ℕ) (f : Front) → IsFront n c w f → c < n → p < n → x < n → on w p ≡ false → on (p ∷ w) x ≡ false → place ≡ length (others x (p ∷ w)) → width ≡ n - (f.size + 1) →
+pub child_at : (n c p x place width : ℕ) (w : List ℕ) (f : LabelPrefix) → IsFront n c w f → c < n → p < n → x < n → on w p ≡ false → on (p ∷ w) x ≡ false → place ≡ length (others x (p ∷ w)) → width ≡ n - (f.size + 1) →
     slice_get (labels n c p (length (w ++ x ∷ []))) (slice_index f.ranks p * width + place) ≡ Some (w ++ x ∷ [])
 child_at n c p x place width w f h inside pin xin off away ep ew =
     let parts = or_parts (p == x) (on w x) away in
@@ -115,11 +115,11 @@ child_at n c p x place width w f h inside pin xin off away ep ew =
     let s = h.size in
     child_rank n c p (slice_index f.ranks p) x place width w inside pin xin h.label.first off parts.1 ne (h.stands p pin off) ep (omega arith)
 
-pub child_long : (n c x : ℕ) (w : List ℕ) (f : Front) → IsFront n c w f → length (w ++ x ∷ []) ≡ f.size + 1
+pub child_long : (n c x : ℕ) (w : List ℕ) (f : LabelPrefix) → IsFront n c w f → length (w ++ x ∷ []) ≡ f.size + 1
 child_long n c x w f h = let s = h.size in let l = length-append w (x ∷ []) in omega arith
 
 -- whether a general is off, and how many are below the next
-pub off_told : (n c p x : ℕ) (w : List ℕ) (f : Front) (b : Bool) → IsFront n c w f → x < n → b ≡ not (p == x || slice_index_or f.on x false) → b ≡ not (on (p ∷ w) x)
+pub off_told : (n c p x : ℕ) (w : List ℕ) (f : LabelPrefix) (b : Bool) → IsFront n c w f → x < n → b ≡ not (p == x || slice_index_or f.on x false) → b ≡ not (on (p ∷ w) x)
 off_told n c p x w f b h lt is = is ∙ ap (λ m. not (p == x || m)) (h.marks x lt)
 
 pub place_next : (p x place : ℕ) (w : List ℕ) (b : Bool) → b ≡ not (on (p ∷ w) x) → b ≡ true → place ≡ length (others x (p ∷ w)) → place + 1 ≡ length (others (x + 1) (p ∷ w))
@@ -144,7 +144,7 @@ pub off_true : (p x : ℕ) (w : List ℕ) (b : Bool) → b ≡ not (on (p ∷ w)
 off_true p x w b is yes_off = not-true (on (p ∷ w) x) (sym is ∙ yes_off)
 
 -- all children
-pub all_children : (n c p place : ℕ) (w : List ℕ) (f : Front) → IsFront n c w f → c < n → p < n → on w p ≡ false → place ≡ length (others n (p ∷ w)) → place ≡ n - (f.size + 1)
+pub all_children : (n c p place : ℕ) (w : List ℕ) (f : LabelPrefix) → IsFront n c w f → c < n → p < n → on w p ≡ false → place ≡ length (others n (p ∷ w)) → place ≡ n - (f.size + 1)
 all_children n c p place w f h inside pin off at =
     let s = h.size in
     let long : length w ≡ suc (length w - 1) = begun-long c w h.label.first in
@@ -171,7 +171,7 @@ pub told_ends : (t : LieutenantTree) (row : List Letter) (k i j a b : ℕ) (u : 
 told_ends t row k i j a b u ei ej h = subst (λ (x : ℕ). FillsFromTo t row k x b u) ei (subst (λ (y : ℕ). FillsFromTo t row k i y u) ej h)
 
 -- what is told of a child
-pub tell_child : (t : LieutenantTree) (row : List Letter) (places : List ℕ) (k : ℕ) (f : Front) (walk : IsWalk t row places k f) → f.size + 1 ≡ k → IsCampaign t → (first width place x : ℕ) → width ≡ t.generals - k → first ≡ slice_index f.ranks t.general * width →
+pub tell_child : (t : LieutenantTree) (row : List Letter) (places : List ℕ) (k : ℕ) (f : LabelPrefix) (walk : IsWalk t row places k f) → f.size + 1 ≡ k → IsCampaign t → (first width place x : ℕ) → width ≡ t.generals - k → first ≡ slice_index f.ranks t.general * width →
     x < t.generals → on (t.general ∷ walk.w) x ≡ false → place ≡ length (others x (t.general ∷ walk.w)) → (value : Option ℕ) → value ≡ order_in_letter (letter_of row x) (slice_index f.ranks x) t.general →
     (w : List ℕ) → slice_get (labels t.generals t.commander t.general k) (first + place) ≡ Some w → value ≡ told_now row w t.general
 tell_child t row places k f walk last c first width place x ew ef within away ep value is w there =
@@ -189,7 +189,7 @@ tell_child t row places k f walk last c first width place x ew ef within away ep
     ∙ ap (λ u. told_now row u t.general) it
 
 -- the children fill one run
-pub children_fit : (t : LieutenantTree) (row : List Letter) (places : List ℕ) (k : ℕ) (f : Front) (walk : IsWalk t row places k f) → f.size + 1 ≡ k → IsCampaign t → (first width : ℕ) → width ≡ t.generals - k → first ≡ slice_index f.ranks t.general * width →
+pub children_fit : (t : LieutenantTree) (row : List Letter) (places : List ℕ) (k : ℕ) (f : LabelPrefix) (walk : IsWalk t row places k f) → f.size + 1 ≡ k → IsCampaign t → (first width : ℕ) → width ≡ t.generals - k → first ≡ slice_index f.ranks t.general * width →
     first + width ≤ length (labels t.generals t.commander t.general k)
 children_fit t row places k f walk last c first width ew ef =
     let h = walk.front in
@@ -207,7 +207,7 @@ children_fit t row places k f walk last c first width ew ef =
     omega arith
 
 -- a child's place, and that it fits
-pub row_fits : (t : LieutenantTree) (row : List Letter) (places : List ℕ) (k : ℕ) (f : Front) (walk : IsWalk t row places k f) → IsCampaign t → (g width : ℕ) → g ≡ t.general → width ≡ t.generals - (f.size + 1) → slice_index f.ranks g * width < 2 ^ 32
+pub row_fits : (t : LieutenantTree) (row : List Letter) (places : List ℕ) (k : ℕ) (f : LabelPrefix) (walk : IsWalk t row places k f) → IsCampaign t → (g width : ℕ) → g ≡ t.general → width ≡ t.generals - (f.size + 1) → slice_index f.ranks g * width < 2 ^ 32
 row_fits t row places k f walk c g width eg ew =
     let h = walk.front in let s = h.size in let d = walk.due.round in let z = walk.size in let b = c.small in let l = walk.short in
     let long : length walk.w ≡ suc (length walk.w - 1) = begun-long t.commander walk.w h.label.first in

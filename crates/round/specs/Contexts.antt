@@ -7,9 +7,9 @@ use Rattle.semantics.specs.Relay.{Relay, oral}
 use Rattle.semantics.specs.State.{Outbox}
 use Rattle.semantics.specs.Outbox.{places, taken_value}
 use Rattle.outbox.specs.Contents.{Contents}
-pub use Rattle.contexts.specs.Layout.{context_bytes, context_numbers, number_told, at_generals, at_general, at_commander, at_round, at_kind}
-use Rattle.roster.specs.Scenario.{Scenario, shape_of}
-use Rattle.letter.specs.Letters.{Letter, messages, telling}
+pub use Rattle.mem.specs.ContextLayout.{context_bytes, context_numbers, number_told, at_generals, at_general, at_commander, at_round, at_kind}
+use Rattle.round.specs.Scenario.{Scenario, shape_of}
+use Rattle.round.specs.Letters.{Letter, messages, telling}
 
 -- what a general took of a label in these rounds: the order that its last general told him of the rest; of the empty
 -- label the scenario's order, which the commander alone relays, loyal or not

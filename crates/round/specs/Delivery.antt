@@ -8,10 +8,10 @@ use Rattle.outbox.specs.Contents.{order_at}
 use Rattle.outbox.specs.Orders.{orders_seen}
 use Rattle.outbox.specs.Rows.{order_in}
 use Rattle.outbox.specs.declared.orders.Orders.{Orders}
-use Rattle.letter.specs.Letters.{Letter, letter_of}
-use Rattle.delivery.specs.Told.{AreDue, told_now, heard_also, round_of}
-use Rattle.delivery.specs.Fronts.{IsFront, under}
-use Rattle.delivery.specs.declared.front.Front.{Front}
+use Rattle.round.specs.Letters.{Letter, letter_of}
+use Rattle.round.specs.Told.{AreDue, told_now, heard_also, round_of}
+use Rattle.round.specs.Fronts.{IsFront, under}
+use Rattle.round.specs.declared.front.LabelPrefix.{LabelPrefix}
 
 -- for each general the index of his letter, or past the last
 abbrev pub AreLetterIndices : List Letter → List ℕ → Type 0
@@ -38,10 +38,10 @@ pub record FillsFromTo (t : LieutenantTree) (letters : List Letter) (k i j : ℕ
       IsPartly M letters t.generals t.commander t.general k j u
 
 -- the first rank of the labels of a length that begin with this one, and the rank past them
-abbrev pub first_under : LieutenantTree → Front → ℕ → ℕ
+abbrev pub first_under : LieutenantTree → LabelPrefix → ℕ → ℕ
 first_under t f k = slice_index f.ranks t.general * under t.generals f.size (k - f.size)
 
-abbrev pub past_under : LieutenantTree → Front → ℕ → ℕ
+abbrev pub past_under : LieutenantTree → LabelPrefix → ℕ → ℕ
 past_under t f k = suc (slice_index f.ranks t.general) * under t.generals f.size (k - f.size)
 
 -- lists of one length, of which those that stand at one index are so
@@ -78,7 +78,7 @@ pub record AreTreeIndices (trees : List LieutenantTree) (table : List ℕ) : Typ
 -- a label that is shorter than those of the round of these letters, with what a walk from it down to the labels of that
 -- round needs:
 -- where each general's letter stands, and trees of the campaign to which the letters are due
-pub record IsRoute (n : ℕ) (letters : List Letter) (indices : List ℕ) (k : ℕ) (f : Front)
+pub record IsRoute (n : ℕ) (letters : List Letter) (indices : List ℕ) (k : ℕ) (f : LabelPrefix)
     (trees : List LieutenantTree) : Type 0 where
   pub few : n ≤ 13
   pub size : k ≡ round_of letters
@@ -99,7 +99,7 @@ pub record Tellers : Type 0 where
 
 -- of those who are off a label the ones below x, each with the label's row in his letter, or one that tells nobody
 -- where there is none
-pub record AreTellers (letters : List Letter) (n : ℕ) (f : Front) (x : ℕ) (t : Tellers) : Type 0 where
+pub record AreTellers (letters : List Letter) (n : ℕ) (f : LabelPrefix) (x : ℕ) (t : Tellers) : Type 0 where
   pub long : length t.generals ≡ 13
   pub wide : length t.rows ≡ 13
   pub few : t.count ≤ x
@@ -109,7 +109,7 @@ pub record AreTellers (letters : List Letter) (n : ℕ) (f : Front) (x : ℕ) (t
       (slice_index f.ranks (slice_index t.generals i)) p
 
 -- the rows of those who are off a label, of whom the tree's lieutenant is the one of that number
-pub record AreTellersOf (letters : List Letter) (t : LieutenantTree) (f : Front) (i : ℕ)
+pub record AreTellersOf (letters : List Letter) (t : LieutenantTree) (f : LabelPrefix) (i : ℕ)
     (rows : List Orders) : Type 0 where
   pub count : ℕ
   pub generals : List ℕ
@@ -118,13 +118,13 @@ pub record AreTellersOf (letters : List Letter) (t : LieutenantTree) (f : Front)
   pub own : slice_index generals i ≡ t.general
 
 -- what was told of the labels that begin with this one: nothing where the tree's lieutenant stands on it
-pub record IsToldUnder (letters : List Letter) (k : ℕ) (f : Front) (t u : LieutenantTree) : Type 0 where
+pub record IsToldUnder (letters : List Letter) (k : ℕ) (f : LabelPrefix) (t u : LieutenantTree) : Type 0 where
   pub on : slice_index_or f.on t.general false ≡ true → u ≡ t
   pub off : slice_index_or f.on t.general false ≡ false →
       FillsFromTo t letters k (first_under t f k) (past_under t f k) u
 
 -- a shorter label that lacks the tree's lieutenant, in the round of these letters
-pub record IsWalk (t : LieutenantTree) (letters : List Letter) (indices : List ℕ) (k : ℕ) (f : Front) : Type 0 where
+pub record IsWalk (t : LieutenantTree) (letters : List Letter) (indices : List ℕ) (k : ℕ) (f : LabelPrefix) : Type 0 where
   pub due : AreDue t letters
   pub size : k ≡ round_of letters
   pub indexed : AreLetterIndices letters indices

@@ -3,10 +3,10 @@
 use Rattle.std.specs.Prelude.{ℕ, zero, suc, ◌-◌, ◌*◌, ◌<◌, ◌≡◌, false, List, length, slice_get, slice_index, slice_index_or, Some}
 use Rattle.label.specs.Labels.{on, labels}
 use Rattle.label.specs.Oral.{IsLabel}
-use Rattle.delivery.specs.declared.front.Front.{Front}
+use Rattle.round.specs.declared.front.LabelPrefix.{LabelPrefix}
 
 -- who stands on the label, and for each general off it, its place among the labels of its length that lack him
-pub record IsFront (n c : ℕ) (w : List ℕ) (f : Front) : Type 0 where
+pub record IsFront (n c : ℕ) (w : List ℕ) (f : LabelPrefix) : Type 0 where
   pub label : IsLabel n c w
   pub size : f.size ≡ length w
   pub wide : length f.on ≡ 13

@@ -10,11 +10,11 @@ use Rattle.semantics.specs.Run.{IsSound, Exited, after}
 use Rattle.semantics.specs.Reached.{Reached}
 use Rattle.outbox.specs.Contents.{Contents, order_at}
 use Rattle.board.specs.Board.{Access}
-use Rattle.roster.specs.Scenario.{Scenario, IsScenario, shape_of}
-use Rattle.letter.specs.Letters.{Letter, tells}
-use Rattle.letter.specs.Contexts.{AreWords, took, context_of, number_told, at_general, at_round, IsToldTo, shape_told, tells_oral, letter_told, faithful_letter}
-use Rattle.letter.specs.Activation.{Activation, started, has_ended}
-use Rattle.letter.specs.Runs.{Runs, IsWithin, AreFitting, IsLetter}
+use Rattle.round.specs.Scenario.{Scenario, IsScenario, shape_of}
+use Rattle.round.specs.Letters.{Letter, tells}
+use Rattle.round.specs.Contexts.{AreWords, took, context_of, number_told, at_general, at_round, IsToldTo, shape_told, tells_oral, letter_told, faithful_letter}
+use Rattle.round.specs.Activation.{Activation, started, has_ended}
+use Rattle.round.specs.Runs.{Runs, IsWithin, AreFitting, IsLetter}
 
 -- a context tells its general who he is, the round, whose relay he has, that orders are oral, and what he took for each
 -- label that he relays

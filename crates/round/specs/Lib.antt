@@ -1,1 +1,11 @@
+pub mod Scenario
+pub mod Letters
+pub mod Contexts
+pub mod Activation
+pub mod Runs
+pub mod Origin
+pub mod Laws
+pub mod Told
+pub mod Fronts
+pub mod Delivery
 pub mod Running

@@ -1,7 +1,7 @@
 -- Of which campaign and round letters are (own).
 use Rattle.std.specs.Prelude.{ℕ, suc, ◌≡◌, List, slice_get, Some}
-use Rattle.roster.specs.Scenario.{Scenario, shape_of}
-use Rattle.letter.specs.Letters.{Letter}
+use Rattle.round.specs.Scenario.{Scenario, shape_of}
+use Rattle.round.specs.Letters.{Letter}
 
 -- the letters are of this round of the campaign
 abbrev pub AreLettersOf : Scenario → ℕ → List Letter → Type 0

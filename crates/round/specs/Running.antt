@@ -8,13 +8,13 @@ use Rattle.board.specs.Board.{Access, reply, next}
 use Rattle.board.specs.Ledger.{RecordedBoard}
 use Rattle.machine.specs.Standing.{Standing, before}
 use Rattle.machine.specs.Advance.{IsOfRun}
-use Rattle.machine.specs.declared.stop.Stop.{Stop}
-use Rattle.machine.specs.declared.stop.Stop.TheVariants.{Asked, Exited, Limit}
+use Rattle.machine.specs.declared.stop.StopReason.{StopReason}
+use Rattle.machine.specs.declared.stop.StopReason.TheVariants.{Asked, Exited, Limit}
 use Rattle.insn.specs.declared.insn.Insn.{Insn}
-use Rattle.letter.specs.Letters.{Letter}
-use Rattle.letter.specs.Contexts.{relay_told}
-use Rattle.letter.specs.Runs.{Runs, AreFitting, IsRunOf, IsWithin}
-use Rattle.letter.specs.Activation.{Activation, Turn, Goes, Asks, Ended, started, is_reached}
+use Rattle.round.specs.Letters.{Letter}
+use Rattle.round.specs.Contexts.{relay_told}
+use Rattle.round.specs.Runs.{Runs, AreFitting, IsRunOf, IsWithin}
+use Rattle.round.specs.Activation.{Activation, Turn, Goes, Asks, Ended, started, is_reached}
 
 abbrev pub standing : Activation → Standing
 standing a = record { relay = a.relay; state = a.state }
@@ -26,14 +26,14 @@ pub record IsLive (a : Activation) : Type 0 where
   pub within : IsWithin a.patience a.state.steps
 
 -- the outcome is why it stopped, and where
-abbrev pub Stopped : Outcome → Stop → State → Type 0
+abbrev pub Stopped : Outcome → StopReason → State → Type 0
 Stopped (Next s) Limit new = new ≡ s
 Stopped (Ask request s) (Asked r) new = (r ≡ request) × (new ≡ s)
 Stopped (Exit r0 s) (Exited n) new = (n ≡ r0) × (new ≡ s)
 Stopped _ _ new = ⊥
 
 -- what was asked, taken back, is the state before
-abbrev pub IsBack : Stop → State → State → Type 0
+abbrev pub IsBack : StopReason → State → State → Type 0
 IsBack (Asked r) old new = before new ≡ old
 IsBack _ old new = Unit {0}
 

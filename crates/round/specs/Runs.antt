@@ -4,9 +4,9 @@ use Rattle.insn.specs.declared.insn.Insn.{Insn}
 use Rattle.semantics.specs.Relay.{IsContext, Oral}
 use Rattle.semantics.specs.Call.{fits}
 use Rattle.board.specs.Board.{Access}
-use Rattle.letter.specs.Letters.{Letter}
-use Rattle.letter.specs.Contexts.{IsToldTo, shape_told, rows_told, tells_oral}
-use Rattle.letter.specs.Activation.{Activation, started, Turn, Goes, Asks, Ended, turn}
+use Rattle.round.specs.Letters.{Letter}
+use Rattle.round.specs.Contexts.{IsToldTo, shape_told, rows_told, tells_oral}
+use Rattle.round.specs.Activation.{Activation, started, Turn, Goes, Asks, Ended, turn}
 
 -- one turn, which the next of these accesses serves where it asks, and then what is said of the rest. So of a turn that
 -- asks for a word, with the accesses x and y: x has asked for just that word, and Rest is said, with y alone, of what

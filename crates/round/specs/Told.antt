@@ -2,8 +2,8 @@
 use Rattle.std.specs.Prelude.{ℕ, ◌+◌, ◌-◌, ◌≡◌, ◌≢◌, ◌<◌, ◌==◌, nat_lt, if◌then◌else◌, cond, List, [], ◌∷◌, length, take, slice_index, slice_get, Option, Some}
 use Rattle.label.specs.Oral.{Messages}
 use Rattle.tree.specs.LieutenantTree.{LieutenantTree, IsFilled}
-use Rattle.roster.specs.Scenario.{Scenario}
-use Rattle.letter.specs.Letters.{Letter, messages, told_by, letter_of}
+use Rattle.round.specs.Scenario.{Scenario}
+use Rattle.round.specs.Letters.{Letter, messages, told_by, letter_of}
 
 -- the tree is a lieutenant's of the campaign, filled from the letters of these rounds
 pub record IsTreeOf (s : Scenario) (before : List (List Letter)) (g : ℕ) (t : LieutenantTree) : Type 0 where

@@ -2,13 +2,13 @@
 ghost use Rattle.std.specs.Prelude.{◌≡◌, ◌<◌, ◌≤◌, ◌+◌, [], ℕ, length, slice_get, slice_index};
 ghost use Rattle.label.specs.Oral.{Messages};
 ghost use Rattle.tree.specs.LieutenantTree.{IsFilled, SameCampaign};
-ghost use Rattle.letter.specs.Letters.{letter_of};
-ghost use Rattle.delivery.specs.Told.{AreOfCampaign, AreDue, heard_also, round_of};
-ghost use Rattle.delivery.specs.Delivery.{AreApart, AreDueIn, AreEach, AreLetterIndices, AreTreeIndices, IsRoute, IsTold, IsToldUnder};
+ghost use Rattle.round.specs.Letters.{letter_of};
+ghost use Rattle.round.specs.Told.{AreOfCampaign, AreDue, heard_also, round_of};
+ghost use Rattle.round.specs.Delivery.{AreApart, AreDueIn, AreEach, AreLetterIndices, AreTreeIndices, IsRoute, IsTold, IsToldUnder};
 
-use crate::front::Front;
+use crate::front::LabelPrefix;
+use crate::letter::Letter;
 use crate::tellers::{fill_children, list_tellers, order_in_row, row_in};
-use letter::Letter;
 use outbox::Orders;
 use std::slice;
 use tree::Tree;
@@ -50,7 +50,7 @@ pub(crate) fn deliver_to_all(letters: &[Letter], generals: u8, commander: u8, tr
         return;
     }
     let tree_indices = find_trees(trees);
-    let front = Front::of(commander);
+    let front = LabelPrefix::of(commander);
     descend(
         letters,
         &indices,
@@ -86,7 +86,7 @@ fn descend(
     size: u8,
     generals: u8,
     trees: &mut [Tree],
-    front: &Front,
+    front: &LabelPrefix,
 )
     requires route { IsRoute generals letters.now indices.now size front.now trees.old }
     requires table { AreTreeIndices trees.old tree_indices.now }
@@ -122,7 +122,7 @@ fn fill_all_children(
     size: u8,
     generals: u8,
     trees: &mut [Tree],
-    front: &Front,
+    front: &LabelPrefix,
 )
     requires route { IsRoute generals letters.now indices.now size front.now trees.old }
     requires table { AreTreeIndices trees.old tree_indices.now }

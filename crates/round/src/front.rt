@@ -1,11 +1,11 @@
 ghost use Rattle.std.specs.Prelude.{◌≡◌, ◌<◌, ◌≤◌, ◌+◌, ◌*◌, ◌-◌, ◌^◌, ◌∷◌, ◌++◌, [], false, cond, nat_lt, ℕ, List, length, slice_index, slice_index_or};
 ghost use Rattle.label.specs.Labels.{on, others};
-ghost use Rattle.delivery.specs.Fronts.{IsFront};
+ghost use Rattle.round.specs.Fronts.{IsFront};
 
 /// A label as its ranks tell it: who stands on it, and for each general off it, its place among the labels of its
 /// length that lack him.
 #[derive(Clone, Copy)]
-pub(crate) struct Front {
+pub(crate) struct LabelPrefix {
     /// How many generals stand on it.
     pub size: u8,
     /// By general, whether he stands on it.
@@ -14,15 +14,15 @@ pub(crate) struct Front {
     pub ranks: [u32; 13],
 }
 
-impl Front {
+impl LabelPrefix {
     /// The label of the commander alone.
-    pub fn of(commander: u8) -> Front
+    pub fn of(commander: u8) -> LabelPrefix
         requires { commander < 13 }
         ensures { (n : ℕ) → commander < n → n ≤ 13 → IsFront n commander (commander ∷ []) result }
     {
         let mut on = [false; 13];
         on[usize::from(commander)] = true;
-        Front {
+        LabelPrefix {
             size: 1,
             on,
             ranks: [0; 13],
@@ -30,7 +30,7 @@ impl Front {
     }
 
     /// The label with one general more, of so many generals; `below` generals off it are below him.
-    pub fn with(&self, generals: u8, general: u8, below: u32) -> Front
+    pub fn with(&self, generals: u8, general: u8, below: u32) -> LabelPrefix
         requires general { general < 13 }
         requires size { self.now.size < 13 }
         requires on { length self.now.on ≡ 13 }
@@ -44,7 +44,7 @@ impl Front {
         let count = u32::from(generals);
         let size = u32::from(self.size);
         let width = count.saturating_sub(size + 1);
-        Front {
+        LabelPrefix {
             size: self.size + 1,
             on,
             ranks: ranks_with(self.ranks, width, below, general),

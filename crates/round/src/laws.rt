@@ -1,5 +1,5 @@
 //! Laws of contexts, letters and activations: each function does nothing, and its contract is the law.
-ghost use Rattle.letter.specs.Laws.{ContextsTell, LoyalLettersFollow, OutboxesTell, PatienceIsKept, RunsAreSafe, RunsFollowAnswers, RunsHaveOneEnd};
+ghost use Rattle.round.specs.Laws.{ContextsTell, LoyalLettersFollow, OutboxesTell, PatienceIsKept, RunsAreSafe, RunsFollowAnswers, RunsHaveOneEnd};
 
 /// A context tells its general what he took for each label that he relays.
 pub fn contexts_tell()

@@ -1,9 +1,9 @@
 ghost use Rattle.std.specs.Prelude.{◌≡◌, ◌↔◌, IfOk, IsTrue};
 
 use crate::accesses::{copied, same_accesses};
+use crate::seat::Player;
 use board::Access;
 use outbox::Outbox;
-use roster::Seat;
 use std::alloc::{AllocError, Global};
 use std::marker::Model;
 
@@ -20,7 +20,7 @@ pub struct Letter {
     /// What he was told, 4,096 bytes.
     pub context: Vec<u8>,
     /// His program, or none where he is loyal.
-    pub program: Seat,
+    pub program: Player,
     /// The accesses that his program made.
     pub transcript: Vec<Access>,
     /// How many steps it took.
@@ -32,8 +32,8 @@ pub struct Letter {
 }
 
 impl Model for Letter {
-    ghost use Rattle.letter.specs.Letters.{Letter as LetterSeen};
-    ghost use Rattle.letter.specs.Runs.{IsLetter};
+    ghost use Rattle.round.specs.Letters.{Letter as LetterSeen};
+    ghost use Rattle.round.specs.Runs.{IsLetter};
 
     ghost Value = { LetterSeen };
 

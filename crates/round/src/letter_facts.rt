@@ -1,5 +1,5 @@
 //! A call that does nothing at run time: it recalls, for the proof of its caller, what a letter's type keeps.
-ghost use Rattle.letter.specs.Runs.{IsLetter};
+ghost use Rattle.round.specs.Runs.{IsLetter};
 
 use crate::letter::Letter;
 

@@ -6,18 +6,19 @@ ghost use Rattle.label.specs.Relay.{IsShape};
 ghost use Rattle.semantics.specs.Call.{fits, resumed};
 ghost use Rattle.machine.specs.Standing.{HasAsked, before};
 ghost use Rattle.machine.specs.Advance.{IsOfRun, IsAskOfRun};
-ghost use Rattle.letter.specs.Activation.{Activation as Activated, started, turn, has_ended};
-ghost use Rattle.letter.specs.Runs.{Runs, AreFitting};
-ghost use Rattle.letter.specs.Contexts.{IsToldTo, shape_told};
+ghost use Rattle.round.specs.Activation.{Activation as Activated, started, turn, has_ended};
+ghost use Rattle.round.specs.Runs.{Runs, AreFitting};
+ghost use Rattle.round.specs.Contexts.{IsToldTo, shape_told};
 ghost use Rattle.board.specs.Board.{Access as Entry};
 ghost use Rattle.round.specs.Running.{TakesTurn, IsSameRun, IsWayServed, IsGivenUp, IsLived};
 
-use crate::running::Running;
+use crate::letter::Letter;
+use crate::loyalty::shape_told;
+use crate::run::Running;
 use crate::server::Server;
 use crate::turns::one;
 use board::Access;
-use letter::{Letter, shape_told};
-use machine::{Activation, Stop};
+use machine::{Machine, StopReason};
 use outbox::Outbox;
 use semantics::Request;
 use std::alloc::{AllocError, Global};
@@ -113,12 +114,12 @@ impl Running {
         ensures unserved { OnErr result (S.served server.new ≡ S.served server.old) }
     {
         match one(&mut self.activation, &self.program, self.context.as_slice()) {
-            Stop::Limit => Ok(None),
-            Stop::Exited(_) => {
+            StopReason::Limit => Ok(None),
+            StopReason::Exited(_) => {
                 self.over = true;
                 Ok(None)
             }
-            Stop::Asked(request) => {
+            StopReason::Asked(request) => {
                 let access = answered(&mut self.activation, server, general, round, request)?;
                 Ok(Some(access))
             }
@@ -128,7 +129,7 @@ impl Running {
 
 /// The server serves what was asked; without memory it is taken back.
 fn answered<S: Server>(
-    activation: &mut Activation,
+    activation: &mut Machine,
     server: &mut S,
     general: u32,
     round: u32,

@@ -1,14 +1,14 @@
 //! The letters of loyal generals.
 ghost use Rattle.std.specs.Prelude.{◌≡◌, length, IfOk};
 ghost use Rattle.label.specs.Relay.{IsShape};
-ghost use Rattle.letter.specs.Contexts.{IsToldTo, shape_told, outbox_told, letter_told};
+ghost use Rattle.round.specs.Contexts.{IsToldTo, shape_told, outbox_told, letter_told};
 
 use crate::letter::Letter;
-use contexts::layout::{AT_COMMANDER, AT_GENERALS};
-use contexts::number_told;
+use crate::seat::Player;
 use label::Shape;
+use mem::layout::{AT_COMMANDER, AT_GENERALS};
+use mem::number_told;
 use outbox::Outbox;
-use roster::Seat;
 use std::alloc::{AllocError, Global};
 
 /// A loyal general's letter of a round: he tells each receiver of each label what his context says that he took. The
@@ -35,7 +35,7 @@ pub fn loyal_letter(
         general,
         round,
         context,
-        program: Seat::new(None),
+        program: Player::new(None),
         transcript: Vec::new(alloc),
         steps: 0,
         outbox,

@@ -1,11 +1,11 @@
 //! Of which campaign and round letters are.
 ghost use Rattle.std.specs.Prelude.{◌≡◌, ◌<◌, ◌^◌, ◌↔◌, IsTrue, length};
-ghost use Rattle.roster.specs.Scenario.{shape_of};
-ghost use Rattle.letter.specs.Origin.{AreLettersOf, AreRoundsOf};
+ghost use Rattle.round.specs.Scenario.{shape_of};
+ghost use Rattle.round.specs.Origin.{AreLettersOf, AreRoundsOf};
 
 use crate::letter::Letter;
 use crate::round::Round;
-use roster::Scenario;
+use crate::scenario::Scenario;
 
 /// Whether the letters are of this round of the campaign.
 pub fn are_letters_of(scenario: &Scenario, round: u32, letters: &[Letter]) -> bool

@@ -12,7 +12,7 @@ pub struct Round {
 
 impl Model for Round {
     ghost use Rattle.std.specs.Prelude.{List};
-    ghost use Rattle.letter.specs.Letters.{Letter as LetterSeen};
+    ghost use Rattle.round.specs.Letters.{Letter as LetterSeen};
 
     ghost Value = { List LetterSeen };
 

@@ -3,20 +3,22 @@ ghost use Rattle.std.specs.Prelude.{◌≡◌, ◌<◌, ◌≤◌, ◌↔◌, If
 ghost use Rattle.std.specs.Arc.{arc_value};
 ghost use Rattle.semantics.specs.Outbox.{empty_outbox};
 ghost use Rattle.semantics.specs.Relay.{IsContext};
-ghost use Rattle.letter.specs.Activation.{started, has_ended, is_reached};
-ghost use Rattle.letter.specs.Letters.{Letter as Written};
-ghost use Rattle.letter.specs.Contexts.{context_of};
-ghost use Rattle.delivery.specs.Told.{WasTold};
-ghost use Rattle.letter.specs.Runs.{IsWithin, IsLetter};
+ghost use Rattle.round.specs.Activation.{started, has_ended, is_reached};
+ghost use Rattle.round.specs.Letters.{Letter as Written};
+ghost use Rattle.round.specs.Contexts.{context_of};
+ghost use Rattle.round.specs.Told.{WasTold};
+ghost use Rattle.round.specs.Runs.{IsWithin, IsLetter};
 ghost use Rattle.round.specs.Running.{letter_left};
 
+use crate::code::same_code;
+use crate::letter::Letter;
+use crate::scenario::Scenario;
+use crate::seat::Player;
+use crate::told_trees::Received;
 use board::Access;
-use delivery::Told;
-use letter::Letter;
-use machine::Activation;
+use machine::Machine;
 use mem::Context;
 use outbox::Outbox;
-use roster::{Scenario, Seat, same_code};
 use std::alloc::{AllocError, Global};
 use std::marker::Model;
 use std::sync::Arc;
@@ -30,13 +32,13 @@ pub struct Running {
     pub(crate) program: Arc<Verified>,
     pub(crate) context: Vec<u8>,
     pub(crate) patience: Option<u32>,
-    pub(crate) activation: Box<Activation>,
+    pub(crate) activation: Box<Machine>,
     pub(crate) over: bool,
 }
 
 impl Model for Running {
     ghost use Rattle.std.specs.Arc.{arc_value};
-    ghost use Rattle.letter.specs.Activation.{Activation as Activated};
+    ghost use Rattle.round.specs.Activation.{Activation as Activated};
 
     ghost Value = { Activated };
 
@@ -81,7 +83,7 @@ impl Running {
         ensures { IfOk result (λ running. running ≡ started patience (arc_value program) context.items outbox.relay) }
     {
         let told = Context::new(context.as_slice());
-        let activation = boxed(alloc, Activation::start(&program, &told, outbox))?;
+        let activation = boxed(alloc, Machine::start(&program, &told, outbox))?;
         Ok(Running {
             program,
             context,
@@ -124,7 +126,7 @@ impl Running {
 
     /// Tells an activation, before its first step, what its general is told as the next round begins, in place of what
     /// it was started with. It takes no memory.
-    pub fn brief(&mut self, told: &Told, scenario: &Scenario, general: u8)
+    pub fn brief(&mut self, told: &Received, scenario: &Scenario, general: u8)
         requires start { self.old ≡ started self.old.patience self.old.program self.old.context self.old.relay }
         requires told { (before : List (List Written)) × WasTold scenario.now before told.now }
         requires left { told.now.rounds ≤ scenario.now.bound }
@@ -155,7 +157,7 @@ impl Running {
             general,
             round,
             context,
-            program: Seat::new(Some(program)),
+            program: Player::new(Some(program)),
             transcript,
             steps,
             outbox: activation.into_outbox(),
@@ -178,7 +180,7 @@ impl Running {
     }
 
     /// How it stands.
-    pub fn activation(&self) -> &Activation
+    pub fn activation(&self) -> &Machine
         ensures relay { result.now.relay ≡ self.now.relay }
         ensures state { result.now.state ≡ self.now.state }
     {
@@ -219,7 +221,7 @@ impl Running {
 }
 
 /// The activation in a box.
-fn boxed(alloc: Global, activation: Activation) -> Result<Box<Activation>, AllocError>
+fn boxed(alloc: Global, activation: Machine) -> Result<Box<Machine>, AllocError>
     ensures { IfOk result (λ own. own.value ≡ activation) }
 {
     Ok(Box::new(alloc, activation)?)

@@ -1,8 +1,8 @@
 ghost use Rattle.std.specs.Prelude.{◌≡◌, ◌<◌, ◌≤◌, ◌+◌, length, IfOk};
-ghost use Rattle.roster.specs.Scenario.{IsScenario, IsPatience, program_of, is_traitor, shape_of};
+ghost use Rattle.round.specs.Scenario.{IsScenario, IsPatience, program_of, is_traitor, shape_of};
 
-use crate::recalling::recall_sound;
-use crate::seat::{Seat, copied};
+use crate::scenario_facts::recall_sound;
+use crate::seat::{Player, copied};
 use board::recall_board;
 use combine::Rule;
 use label::Shape;
@@ -18,13 +18,13 @@ pub struct Scenario {
     commander: u8,
     order: u32,
     board: [u64; 64],
-    programs: Vec<Seat>,
+    programs: Vec<Player>,
     patience: Option<u32>,
     rule: Rule,
 }
 
 impl Model for Scenario {
-    ghost use Rattle.roster.specs.Scenario.{Scenario as ScenarioSeen, IsScenario};
+    ghost use Rattle.round.specs.Scenario.{Scenario as ScenarioSeen, IsScenario};
 
     ghost Value = { ScenarioSeen };
 
@@ -60,7 +60,7 @@ impl Scenario {
         commander: u8,
         order: u32,
         board: [u64; 64],
-        programs: Vec<Seat>,
+        programs: Vec<Player>,
         patience: Option<u32>,
         rule: Rule,
     ) -> Scenario
@@ -134,7 +134,7 @@ impl Scenario {
     }
 
     /// The general's program, or none.
-    pub fn seat(&self, general: u8) -> &Seat
+    pub fn seat(&self, general: u8) -> &Player
         requires { general < self.now.generals }
         ensures { result.now ≡ program_of self.now general }
     {

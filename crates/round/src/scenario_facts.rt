@@ -2,10 +2,10 @@
 ghost use Rattle.std.specs.Prelude.{◌≡◌, ℕ, List, Option, Some, IfSome, slice_get};
 ghost use Rattle.insn.specs.declared.insn.Insn.{Insn};
 ghost use Rattle.semantics.specs.Run.{IsSound};
-ghost use Rattle.roster.specs.Scenario.{IsScenario};
+ghost use Rattle.round.specs.Scenario.{IsScenario};
 
 use crate::scenario::Scenario;
-use crate::seat::Seat;
+use crate::seat::Player;
 
 impl Scenario {
     /// Does nothing. What a scenario's type keeps: its limits.
@@ -17,7 +17,7 @@ impl Scenario {
 }
 
 /// Does nothing. The programs of seats are sound.
-pub(crate) fn recall_sound(seats: &[Seat])
+pub(crate) fn recall_sound(seats: &[Player])
     ensures { (i : ℕ) (program : List Insn) → slice_get seats.now i ≡ Some (Some program) → IsSound program }
 {
     for seat in seats {

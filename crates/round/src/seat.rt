@@ -11,11 +11,11 @@ use verify::Verified;
 
 /// A general's program, or none where he is loyal, seen as its instructions.
 #[derive(Drop)]
-pub struct Seat {
+pub struct Player {
     program: Option<Arc<Verified>>,
 }
 
-impl Model for Seat {
+impl Model for Player {
     ghost use Rattle.std.specs.Prelude.{List, Option};
     ghost use Rattle.std.specs.Option.{option_map};
     ghost use Rattle.std.specs.Arc.{arc_value};
@@ -26,12 +26,12 @@ impl Model for Seat {
     ghost view = { λ s. option_map arc_value s.program };
 }
 
-impl Seat {
+impl Player {
     /// With this program, or none.
-    pub fn new(program: Option<Arc<Verified>>) -> Seat
+    pub fn new(program: Option<Arc<Verified>>) -> Player
         ensures { result ≡ option_map arc_value program }
     {
-        Seat { program }
+        Player { program }
     }
 
     /// The program, or none.
@@ -50,19 +50,19 @@ impl Seat {
     /// # Errors
     ///
     /// `AllocError` where the program cannot be shared once more.
-    pub fn copy(&self) -> Result<Seat, AllocError>
+    pub fn copy(&self) -> Result<Player, AllocError>
         ensures { IfOk result (λ seat. seat ≡ self.now) }
     {
         match &self.program {
-            Some(program) => Ok(Seat {
+            Some(program) => Ok(Player {
                 program: Some(program.clone()?),
             }),
-            None => Ok(Seat { program: None }),
+            None => Ok(Player { program: None }),
         }
     }
 
     /// Whether both have the same program, or none.
-    pub fn same(&self, other: &Seat) -> bool
+    pub fn same(&self, other: &Player) -> bool
         ensures { IsTrue result ↔ (self.now ≡ other.now) }
     {
         match &self.program {
@@ -82,7 +82,7 @@ impl Seat {
 }
 
 /// The same programs.
-pub(crate) fn copied(alloc: Global, seats: &[Seat]) -> Result<Vec<Seat>, AllocError>
+pub(crate) fn copied(alloc: Global, seats: &[Player]) -> Result<Vec<Player>, AllocError>
     ensures { IfOk result (λ copy. copy.items ≡ seats.now) }
 {
     let mut copy = Vec::with_capacity(alloc, seats.len())?;

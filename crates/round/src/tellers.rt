@@ -3,12 +3,12 @@ ghost use Rattle.std.specs.Prelude.{◌≡◌, ◌<◌, ◌≤◌, ◌+◌, ℕ,
 ghost use Rattle.outbox.specs.Orders.{order_of_row, orders_seen};
 ghost use Rattle.outbox.specs.Rows.{order_in};
 ghost use Rattle.outbox.specs.declared.orders.Orders.{Orders};
-ghost use Rattle.letter.specs.Letters.{Letter as LetterSeen, letter_of};
-ghost use Rattle.delivery.specs.Delivery.{AreLetterIndices, AreTellers, AreTellersOf, FillsFromTo, IsWalk, first_under, order_in_letter, past_under};
-ghost use Rattle.delivery.specs.Told.{lieutenant_at};
+ghost use Rattle.round.specs.Letters.{Letter as LetterSeen, letter_of};
+ghost use Rattle.round.specs.Delivery.{AreLetterIndices, AreTellers, AreTellersOf, FillsFromTo, IsWalk, first_under, order_in_letter, past_under};
+ghost use Rattle.round.specs.Told.{lieutenant_at};
 
-use crate::front::Front;
-use letter::Letter;
+use crate::front::LabelPrefix;
+use crate::letter::Letter;
 use outbox::Orders;
 use tree::Tree;
 
@@ -22,7 +22,7 @@ pub(crate) fn list_tellers<'a>(
     letters: &'a [Letter],
     indices: &[usize; 13],
     generals: u8,
-    front: &Front,
+    front: &LabelPrefix,
     names: &mut [u8],
     rows: &mut [Orders<'a>],
 ) -> usize
@@ -60,7 +60,7 @@ pub(crate) fn fill_children(
     rows: &[Orders<'_>],
     size: u8,
     tree: &mut Tree,
-    front: &Front,
+    front: &LabelPrefix,
 )
     requires told { (letters : List LetterSeen) × (indices : List ℕ) × IsWalk tree.old letters indices size front.now
         × AreTellersOf letters tree.old front.now own rows.now }

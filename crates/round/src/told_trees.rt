@@ -1,41 +1,41 @@
 ghost use Rattle.std.specs.Prelude.{◌≡◌, ◌≢◌, ◌<◌, ◌≤◌, ◌++◌, ◌∷◌, [], suc, List, IfOk, OnOk, length, take, vec_capacity};
-ghost use Rattle.letter.specs.Letters.{Letter as LetterSeen};
-ghost use Rattle.letter.specs.Contexts.{context_of, AreWords};
-ghost use Rattle.letter.specs.Origin.{AreLettersOf, AreRoundsOf};
-ghost use Rattle.delivery.specs.Told.{WasTold, lieutenant_at};
+ghost use Rattle.round.specs.Letters.{Letter as LetterSeen};
+ghost use Rattle.round.specs.Contexts.{context_of, AreWords};
+ghost use Rattle.round.specs.Origin.{AreLettersOf, AreRoundsOf};
+ghost use Rattle.round.specs.Told.{WasTold, lieutenant_at};
 
 use crate::delivery::deliver_to_all;
-use contexts::write_context;
-use letter::{Letter, Round};
-use mem::Context;
-use roster::Scenario;
+use crate::letter::Letter;
+use crate::round::Round;
+use crate::scenario::Scenario;
+use mem::{Context, write_context};
 use std::alloc::{AllocError, Global};
 use std::marker::Model;
 use tree::Tree;
 
 /// What the letters of closed rounds have told the lieutenants: a tree for each, ascending, filled round by round.
 #[derive(Drop)]
-pub struct Told {
+pub struct Received {
     /// How many rounds were told.
     rounds: u8,
     trees: Vec<Tree>,
 }
 
-impl Model for Told {
-    ghost use Rattle.delivery.specs.Told.{ToldSeen};
+impl Model for Received {
+    ghost use Rattle.round.specs.Told.{ToldSeen};
 
     ghost Value = { ToldSeen };
 
     ghost view = { λ t. record { rounds = t.rounds; trees = t.trees.items } };
 }
 
-impl Told {
+impl Received {
     /// Nothing is told yet. Nothing that is told later takes memory.
     ///
     /// # Errors
     ///
     /// `AllocError` where the memory for a tree is refused.
-    pub fn new(alloc: Global, scenario: &Scenario) -> Result<Told, AllocError>
+    pub fn new(alloc: Global, scenario: &Scenario) -> Result<Received, AllocError>
         ensures { IfOk result (WasTold scenario.now []) }
     {
         let generals = scenario.generals();
@@ -46,7 +46,7 @@ impl Told {
             let general = lieutenant_at(commander, index);
             trees.push(Tree::new(alloc, generals, bound, commander, general)?)?;
         }
-        Ok(Told { rounds: 0, trees })
+        Ok(Received { rounds: 0, trees })
     }
 
     /// How many rounds were told.
@@ -144,7 +144,7 @@ impl Told {
         Ok(bytes)
     }
 
-    /// [`Told::context_after`] in place of what the vector held, which has room for it. It takes no memory.
+    /// [`Received::context_after`] in place of what the vector held, which has room for it. It takes no memory.
     pub fn write_context_after(
         &self,
         scenario: &Scenario,
@@ -193,7 +193,7 @@ pub fn context_for(
     ensures context { IfOk result (λ bytes. bytes.items ≡ context_of scenario.now before.now general) }
     ensures words { OnOk result (AreWords scenario.now before.now general) }
 {
-    let mut told = Told::new(alloc, scenario)?;
+    let mut told = Received::new(alloc, scenario)?;
     for round in before {
         told.deliver(scenario, round.letters());
     }

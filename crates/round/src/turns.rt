@@ -7,12 +7,12 @@ ghost use Rattle.semantics.specs.Relay.{IsContext};
 ghost use Rattle.board.specs.Board.{reply};
 ghost use Rattle.machine.specs.Standing.{HasAsked, before};
 ghost use Rattle.machine.specs.Advance.{IsOfRun, IsAskOfRun, IsStopOfRun, IsCounted};
-ghost use Rattle.letter.specs.Activation.{turn};
+ghost use Rattle.round.specs.Activation.{turn};
 ghost use Rattle.round.specs.Running.{Stopped, IsBack, access_entered, moved, activation_of, Silently, Pauses, IsSameRun, lesser};
 
-use crate::running::Running;
+use crate::run::Running;
 use board::Board;
-use machine::{Activation, Stop};
+use machine::{Machine, StopReason};
 use mem::Context;
 use semantics::Request;
 use std::alloc::AllocError;
@@ -28,12 +28,18 @@ impl Running {
             return Ok(());
         }
         match one(&mut self.activation, &self.program, self.context.as_slice()) {
-            Stop::Limit => Ok(()),
-            Stop::Exited(_) => {
+            StopReason::Limit => Ok(()),
+            StopReason::Exited(_) => {
                 self.over = true;
                 Ok(())
             }
-            Stop::Asked(request) => serve(&mut self.activation, board, general, round, request),
+            StopReason::Asked(request) => serve(
+                &mut self.activation,
+                board,
+                general,
+                round,
+                request,
+            ),
         }
     }
 
@@ -58,7 +64,7 @@ impl Running {
 }
 
 /// As many steps as there are before the next access or the exit: whether it has exited.
-fn many(activation: &mut Activation, verified: &Verified, bytes: &[u8], limit: u32) -> bool
+fn many(activation: &mut Machine, verified: &Verified, bytes: &[u8], limit: u32) -> bool
     requires context { IsContext bytes.now }
     requires of_run { IsOfRun verified.now bytes.now activation.old }
     ensures relay { activation.new.relay ≡ activation.old.relay }
@@ -71,9 +77,9 @@ fn many(activation: &mut Activation, verified: &Verified, bytes: &[u8], limit: u
 {
     let context = Context::new(bytes);
     match activation.run(verified, &context, limit) {
-        Stop::Exited(_) => true,
-        Stop::Limit => false,
-        Stop::Asked(_) => {
+        StopReason::Exited(_) => true,
+        StopReason::Limit => false,
+        StopReason::Asked(_) => {
             activation.withdraw();
             false
         }
@@ -81,7 +87,7 @@ fn many(activation: &mut Activation, verified: &Verified, bytes: &[u8], limit: u
 }
 
 /// One step.
-pub(crate) fn one(activation: &mut Activation, verified: &Verified, bytes: &[u8]) -> Stop
+pub(crate) fn one(activation: &mut Machine, verified: &Verified, bytes: &[u8]) -> StopReason
     requires context { IsContext bytes.now }
     requires of_run { IsOfRun verified.now bytes.now activation.old }
     ensures relay { activation.new.relay ≡ activation.old.relay }
@@ -101,7 +107,7 @@ pub(crate) fn one(activation: &mut Activation, verified: &Verified, bytes: &[u8]
 
 /// The board serves what was asked; without memory it is taken back.
 fn serve(
-    activation: &mut Activation,
+    activation: &mut Machine,
     board: &mut Board,
     general: u32,
     round: u32,

@@ -3,7 +3,7 @@ use Rattle.std.proofs.Common.{◌≡◌, ◌↔◌, ℕ, suc, ◌-◌, ◌<◌, 
 use Rattle.std.specs.Prelude.{◌==◌, if◌then◌else◌}
 use Rattle.std.proofs.lemmas.Bool.{eqb-true, eq-eqb}
 use Rattle.std.proofs.lemmas.List.{length-drop}
-use Rattle.rows.specs.declared.comparing.Outcome.TheVariants.{AsStored}
+use Rattle.rows.specs.declared.comparison.ComparisonResult.TheVariants.{AsStored}
 use Rattle.rows.specs.Comparing.{parting, outcome_by}
 
 both : (c d : ℕ) (cs ds : List ℕ) → c ≡ d → cs ≡ ds → c ∷ cs ≡ d ∷ ds

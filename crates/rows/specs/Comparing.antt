@@ -1,7 +1,7 @@
 -- Where two texts part (own).
 use Rattle.std.specs.Prelude.{ℕ, suc, ◌==◌, List, [], ◌∷◌, if◌then◌else◌, Option, Some, None}
-use Rattle.rows.specs.declared.comparing.Outcome.{Outcome}
-use Rattle.rows.specs.declared.comparing.Outcome.TheVariants.{AsStored, Differs}
+use Rattle.rows.specs.declared.comparison.ComparisonResult.{ComparisonResult}
+use Rattle.rows.specs.declared.comparison.ComparisonResult.TheVariants.{AsStored, Differs}
 
 -- the line in which two texts first differ, if they do; the given one is their first
 abbrev pub parting : ℕ → List ℕ → List ℕ → Option ℕ
@@ -10,6 +10,6 @@ parting line [] (d ∷ ds) = Some line
 parting line (c ∷ cs) [] = Some line
 parting line (c ∷ cs) (d ∷ ds) = if c == d then parting (if c == 10 then suc line else line) cs ds else Some line
 
-abbrev pub outcome_by : Option ℕ → Outcome
+abbrev pub outcome_by : Option ℕ → ComparisonResult
 outcome_by None = AsStored
 outcome_by (Some line) = Differs line

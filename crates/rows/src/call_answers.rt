@@ -1,11 +1,13 @@
 //! What a call answers.
-use crate::shelf::{Content, Input, Output, Shelf};
+use crate::shelf::{AnswerOutput, FileContent, FileInput, Shelf};
 use anyhow::{Result, bail};
-use chance::seeded;
-use command_line::{Request, Task, TaskError, each, request};
-use desk::{serve, turned_down};
-use lab::{FileName, is_explained, reason, with_schedules};
-use neighbours::{Untaken, reads_scenario, with_files, with_story};
+use campaign_schedules::seeded;
+use cli_answers::{serve, turned_down};
+use cli_tasks::{
+    FileName, FileProblem, is_explained, reads_scenario, reason, with_files, with_schedules,
+    with_story,
+};
+use cli_words::{Task, TaskError, TaskRequest, each, request};
 use std::alloc::{AllocError, Global};
 use std::fmt::Display;
 use std::io::ErrorKind;
@@ -14,16 +16,16 @@ use std::thread::Threads;
 
 /// What a call prints, what it tells of a fault, and its exit status.
 #[derive(Drop)]
-pub struct Told {
+pub struct CallOutput {
     pub out: Vec<u8>,
     pub err: Vec<u8>,
     pub status: u8,
 }
 
-impl Told {
+impl CallOutput {
     /// Nothing.
-    fn nothing(alloc: Global) -> Told {
-        Told {
+    fn nothing(alloc: Global) -> CallOutput {
+        CallOutput {
             out: Vec::new(alloc),
             err: Vec::new(alloc),
             status: 0,
@@ -31,7 +33,7 @@ impl Told {
     }
 
     /// Adds what is told next, and the worse status.
-    fn add(&mut self, next: Told) -> Result<(), AllocError> {
+    fn add(&mut self, next: CallOutput) -> Result<(), AllocError> {
         self.out.extend_from_slice(next.out.as_slice())?;
         self.err.extend_from_slice(next.err.as_slice())?;
         if self.status < next.status {
@@ -41,8 +43,8 @@ impl Told {
     }
 
     /// A fault: this is all that is told.
-    fn fault(alloc: Global, status: u8, text: String) -> Told {
-        Told {
+    fn fault(alloc: Global, status: u8, text: String) -> CallOutput {
+        CallOutput {
             out: Vec::new(alloc),
             err: text.into_bytes(),
             status,
@@ -56,8 +58,8 @@ pub fn answered<R: Threads + Wait + Sync + AllocGlobal>(
     rt: &R,
     words: &[&str],
     shelf: &mut Shelf,
-    output: Output,
-) -> Result<Told> {
+    output: AnswerOutput,
+) -> Result<CallOutput> {
     let alloc = rt.alloc();
     let requests = each(alloc, words)?;
     if let [one] = requests.as_slice() {
@@ -66,13 +68,13 @@ pub fn answered<R: Threads + Wait + Sync + AllocGlobal>(
             Err(error) => refused(alloc, error),
         };
     }
-    let mut all = Told::nothing(alloc);
+    let mut all = CallOutput::nothing(alloc);
     for words in &requests {
         let request = match request(alloc, words.as_slice()) {
             Ok(request) => request,
             Err(error) => return refused(alloc, error),
         };
-        let kept = Output::Kept(Vec::new(alloc));
+        let kept = AnswerOutput::Kept(Vec::new(alloc));
         all.add(answered_one(rt, &request, shelf, kept)?)?;
     }
     Ok(all)
@@ -81,10 +83,10 @@ pub fn answered<R: Threads + Wait + Sync + AllocGlobal>(
 /// What the program answers to one request.
 fn answered_one<R: Threads + Wait + Sync + AllocGlobal>(
     rt: &R,
-    request: &Request,
+    request: &TaskRequest,
     shelf: &mut Shelf,
-    output: Output,
-) -> Result<Told> {
+    output: AnswerOutput,
+) -> Result<CallOutput> {
     let alloc = rt.alloc();
     let told = opened(rt, request, shelf, output)?;
     if told.status == 0 {
@@ -98,7 +100,7 @@ fn answered_one<R: Threads + Wait + Sync + AllocGlobal>(
 fn keep(alloc: Global, task: &Task, shelf: &mut Shelf) -> Result<()> {
     if let (Some(seed), Some(name)) = (task.seed(), task.schedule_target()) {
         let text = seeded(alloc, seed)?;
-        shelf.put(alloc, name, Content::Bytes(text.into_bytes()))?;
+        shelf.put(alloc, name, FileContent::Bytes(text.into_bytes()))?;
     }
     let Task::Explore {
         scenario,
@@ -119,45 +121,45 @@ fn keep(alloc: Global, task: &Task, shelf: &mut Shelf) -> Result<()> {
         bail!("{scenario}: it is refused");
     };
     let name = format!(in alloc; "{folder}/scenario.toml")?;
-    shelf.put(alloc, name.as_str(), Content::Bytes(bytes))?;
+    shelf.put(alloc, name.as_str(), FileContent::Bytes(bytes))?;
     for (before, schedule) in schedules.iter().enumerate() {
         let number = (before as u64).saturating_add(1);
         let name = format!(in alloc; "{folder}/outcome-{number}.schedule")?;
         let text = schedule.as_bytes().to_vec(alloc)?;
-        shelf.put(alloc, name.as_str(), Content::Bytes(text))?;
+        shelf.put(alloc, name.as_str(), FileContent::Bytes(text))?;
     }
     Ok(())
 }
 
 /// What is told of words that name no task.
-fn refused(alloc: Global, error: TaskError) -> Result<Told> {
+fn refused(alloc: Global, error: TaskError) -> Result<CallOutput> {
     match error {
         TaskError::Words(error) => {
             let text = format!(in alloc; "{error}")?;
             if error.use_stderr() {
-                return Ok(Told::fault(alloc, 2, text));
+                return Ok(CallOutput::fault(alloc, 2, text));
             }
-            Ok(Told {
+            Ok(CallOutput {
                 out: text.into_bytes(),
                 err: Vec::new(alloc),
                 status: 0,
             })
         }
         TaskError::Memory => bail!("out of memory"),
-        error => Ok(Told::fault(alloc, 2, format!(in alloc; "{error}\n")?)),
+        error => Ok(CallOutput::fault(alloc, 2, format!(in alloc; "{error}\n")?)),
     }
 }
 
 /// Opens the task's files, and does it.
 fn opened<R: Threads + Wait + Sync + AllocGlobal>(
     rt: &R,
-    request: &Request,
+    request: &TaskRequest,
     shelf: &Shelf,
-    output: Output,
-) -> Result<Told, AllocError> {
+    output: AnswerOutput,
+) -> Result<CallOutput, AllocError> {
     let alloc = rt.alloc();
     let first = match request.task.file() {
-        None => Input::Bytes(&[]),
+        None => FileInput::Bytes(&[]),
         Some(name) => match shelf.find(name) {
             Some(content) => content.input(),
             None => return Ok(unopened(alloc, request, name, output)),
@@ -168,7 +170,9 @@ fn opened<R: Threads + Wait + Sync + AllocGlobal>(
         Some(seed) => Some(seeded(alloc, seed)?),
     };
     let second = match request.task.second() {
-        None => random.as_ref().map(|text| Input::Bytes(text.as_bytes())),
+        None => random
+            .as_ref()
+            .map(|text| FileInput::Bytes(text.as_bytes())),
         Some(name) => match shelf.find(name) {
             Some(content) => Some(content.input()),
             None => return Ok(unopened(alloc, request, name, output)),
@@ -180,20 +184,20 @@ fn opened<R: Threads + Wait + Sync + AllocGlobal>(
 /// Does the task on these files, of which a scenario gets those that it names.
 fn completed<R: Threads + Wait + Sync + AllocGlobal>(
     rt: &R,
-    request: &Request,
+    request: &TaskRequest,
     shelf: &Shelf,
-    first: Input,
-    second: Option<Input>,
-    output: Output,
-) -> Result<Told, AllocError> {
+    first: FileInput,
+    second: Option<FileInput>,
+    output: AnswerOutput,
+) -> Result<CallOutput, AllocError> {
     let alloc = rt.alloc();
     let bytes = match first {
-        Input::Bytes(bytes) if reads_scenario(&request.task) => bytes.to_vec(alloc)?,
+        FileInput::Bytes(bytes) if reads_scenario(&request.task) => bytes.to_vec(alloc)?,
         _ => return Ok(served(rt, request, first, second, output)),
     };
     let own = bytes.clone()?;
     match with_files(alloc, bytes, shelf) {
-        Ok(text) => match own_lines::refused(
+        Ok(text) => match cli_report::refused(
             alloc,
             &request.task,
             own.as_slice(),
@@ -202,18 +206,24 @@ fn completed<R: Threads + Wait + Sync + AllocGlobal>(
             Some(lines) => Ok(turn_down(alloc, request, lines.as_str(), output)),
             None => {
                 let text = with_story(alloc, &request.task, own.as_slice(), text)?;
-                Ok(served(rt, request, Input::Bytes(text.as_slice()), second, output))
+                Ok(served(
+                    rt,
+                    request,
+                    FileInput::Bytes(text.as_slice()),
+                    second,
+                    output,
+                ))
             }
         },
-        Err(Untaken::Told { lines, kind }) => {
+        Err(FileProblem::Told { lines, kind }) => {
             Ok(untaken(alloc, request, lines.as_str(), kind, output))
         }
-        Err(Untaken::Memory) => Err(AllocError),
+        Err(FileProblem::Memory) => Err(AllocError),
     }
 }
 
 /// What is told of a file that is not there.
-fn unopened(alloc: Global, request: &Request, name: &str, output: Output) -> Told {
+fn unopened(alloc: Global, request: &TaskRequest, name: &str, output: AnswerOutput) -> CallOutput {
     let name = FileName(name);
     let kind = Some(ErrorKind::NotFound);
     untaken(
@@ -228,11 +238,11 @@ fn unopened(alloc: Global, request: &Request, name: &str, output: Output) -> Tol
 /// What is told of a file that is not taken.
 fn untaken<D: Display + Drop>(
     alloc: Global,
-    request: &Request,
+    request: &TaskRequest,
     lines: D,
     kind: Option<ErrorKind>,
-    output: Output,
-) -> Told {
+    output: AnswerOutput,
+) -> CallOutput {
     match kind {
         Some(kind) if is_explained(&request.task) => {
             let why = reason(kind);
@@ -250,43 +260,43 @@ fn untaken<D: Display + Drop>(
 /// What is told where the task is not done, by this line.
 fn turn_down<D: Display + Drop>(
     alloc: Global,
-    request: &Request,
+    request: &TaskRequest,
     line: D,
-    mut output: Output,
-) -> Told {
+    mut output: AnswerOutput,
+) -> CallOutput {
     let mut err = Vec::new(alloc);
     let status = turned_down(alloc, request, line, &mut output, &mut err);
     let out = output.into_bytes(alloc);
-    Told { out, err, status }
+    CallOutput { out, err, status }
 }
 
 /// Does the task.
 fn served<R: Threads + Wait + Sync + AllocGlobal>(
     rt: &R,
-    request: &Request,
-    first: Input,
-    second: Option<Input>,
-    mut output: Output,
-) -> Told {
+    request: &TaskRequest,
+    first: FileInput,
+    second: Option<FileInput>,
+    mut output: AnswerOutput,
+) -> CallOutput {
     let alloc = rt.alloc();
     let mut err = Vec::new(alloc);
     let status = serve(rt, alloc, request, first, second, &mut output, &mut err);
     let out = output.into_bytes(alloc);
-    Told { out, err, status }
+    CallOutput { out, err, status }
 }
 
 /// Puts what was written to a file with the files: nothing of it is on standard output, and where nothing was written
 /// no file is made.
-fn written(alloc: Global, task: &Task, shelf: &mut Shelf, told: Told) -> Result<Told> {
+fn written(alloc: Global, task: &Task, shelf: &mut Shelf, told: CallOutput) -> Result<CallOutput> {
     let name = match task.target() {
         None | Some("-") => return Ok(told),
         Some(name) => name,
     };
-    let Told { out, err, status } = told;
+    let CallOutput { out, err, status } = told;
     if !out.is_empty() {
-        shelf.put(alloc, name, Content::Bytes(out))?;
+        shelf.put(alloc, name, FileContent::Bytes(out))?;
     }
-    Ok(Told {
+    Ok(CallOutput {
         out: Vec::new(alloc),
         err,
         status,

@@ -1,24 +1,24 @@
 //! Whether a text is the stored one.
 ghost use Rattle.std.specs.Prelude.{◌≡◌, ◌↔◌};
-ghost use Rattle.rows.specs.declared.comparing.Outcome.TheVariants.{AsStored};
+ghost use Rattle.rows.specs.declared.comparison.ComparisonResult.TheVariants.{AsStored};
 ghost use Rattle.rows.specs.Comparing.{parting, outcome_by};
 
 use std::fmt;
 
 /// What the comparison of a text with the stored one gives.
 #[derive(Clone, Copy)]
-pub enum Outcome {
+pub enum ComparisonResult {
     /// They are the same.
     AsStored,
     /// This line, counted from 1, is the first in which they differ.
     Differs(usize),
 }
 
-impl fmt::Display for Outcome {
+impl fmt::Display for ComparisonResult {
     fn fmt<W: fmt::Write>(&self, f: &mut fmt::Formatter<W>) -> fmt::Result {
         match *self {
-            Outcome::AsStored => write!(f, "as stored"),
-            Outcome::Differs(line) => write!(f, "differs at line {line}"),
+            ComparisonResult::AsStored => write!(f, "as stored"),
+            ComparisonResult::Differs(line) => write!(f, "differs at line {line}"),
         }
     }
 }
@@ -45,12 +45,12 @@ fn differing_line(told: &[u8], stored: &[u8]) -> Option<usize>
 }
 
 /// What the comparison of these texts gives.
-pub fn compare(told: &[u8], stored: &[u8]) -> Outcome
+pub fn compare(told: &[u8], stored: &[u8]) -> ComparisonResult
     ensures line { result ≡ outcome_by (parting 1 told.now stored.now) }
     ensures same { result ≡ AsStored ↔ told.now ≡ stored.now }
 {
     match differing_line(told, stored) {
-        None => Outcome::AsStored,
-        Some(line) => Outcome::Differs(line),
+        None => ComparisonResult::AsStored,
+        Some(line) => ComparisonResult::Differs(line),
     }
 }

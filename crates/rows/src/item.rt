@@ -3,7 +3,7 @@ use std::alloc::{AllocError, Global};
 
 /// What an item says.
 #[derive(Clone, Copy, PartialEq, Eq)]
-pub enum Key {
+pub enum ItemKey {
     /// A row of this name begins.
     Row,
     /// A file of this name: the lines below, or a copy of another file.
@@ -55,36 +55,36 @@ pub enum Key {
 }
 
 /// The keys and their words.
-const KEYS: [(&str, Key); 24] = [
-    ("row", Key::Row),
-    ("file", Key::File),
-    ("hex", Key::Hex),
-    ("line", Key::Line),
-    ("cut", Key::Cut),
-    ("unended", Key::Unended),
-    ("unreadable", Key::Unreadable),
-    ("words", Key::Words),
-    ("word", Key::Word),
-    ("full", Key::Full),
-    ("unflushed", Key::Unflushed),
-    ("beginnings", Key::Beginnings),
-    ("status", Key::Status),
-    ("out", Key::Out),
-    ("err", Key::Err),
-    ("like", Key::Like),
-    ("tells", Key::Tells),
-    ("last", Key::Last),
-    ("has", Key::Has),
-    ("lacks", Key::Lacks),
-    ("times", Key::Times),
-    ("accesses", Key::Accesses),
-    ("again", Key::Again),
-    ("keep", Key::Keep),
+const KEYS: [(&str, ItemKey); 24] = [
+    ("row", ItemKey::Row),
+    ("file", ItemKey::File),
+    ("hex", ItemKey::Hex),
+    ("line", ItemKey::Line),
+    ("cut", ItemKey::Cut),
+    ("unended", ItemKey::Unended),
+    ("unreadable", ItemKey::Unreadable),
+    ("words", ItemKey::Words),
+    ("word", ItemKey::Word),
+    ("full", ItemKey::Full),
+    ("unflushed", ItemKey::Unflushed),
+    ("beginnings", ItemKey::Beginnings),
+    ("status", ItemKey::Status),
+    ("out", ItemKey::Out),
+    ("err", ItemKey::Err),
+    ("like", ItemKey::Like),
+    ("tells", ItemKey::Tells),
+    ("last", ItemKey::Last),
+    ("has", ItemKey::Has),
+    ("lacks", ItemKey::Lacks),
+    ("times", ItemKey::Times),
+    ("accesses", ItemKey::Accesses),
+    ("again", ItemKey::Again),
+    ("keep", ItemKey::Keep),
 ];
 
-impl Key {
+impl ItemKey {
     /// The key of this word.
-    pub fn named(word: &str) -> Option<Key> {
+    pub fn named(word: &str) -> Option<ItemKey> {
         for (name, key) in &KEYS {
             if *name == word {
                 return Some(*key);
@@ -98,7 +98,7 @@ impl Key {
 #[derive(Drop)]
 pub struct Item {
     /// What it says.
-    pub key: Key,
+    pub key: ItemKey,
     /// What stands behind the key.
     pub value: String,
     /// The text below it.
@@ -107,7 +107,7 @@ pub struct Item {
 
 impl Item {
     /// The item of a line, without a text.
-    pub fn of(alloc: Global, key: Key, value: &str) -> Result<Item, AllocError> {
+    pub fn of(alloc: Global, key: ItemKey, value: &str) -> Result<Item, AllocError> {
         Ok(Item {
             key,
             value: String::from_str(alloc, value)?,

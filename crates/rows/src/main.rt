@@ -3,18 +3,18 @@
 //! says how one is written.
 #![tactic(auto)]
 
-mod answering;
-mod comparing;
+mod call_answers;
+mod comparison;
 mod item;
 mod likeness;
 mod lines;
 mod questions;
-mod reading;
+mod reader;
+mod rebuilt_lines;
 mod report;
-mod respelling;
 mod row;
+mod row_files;
 mod shelf;
-mod shelving;
 
 use anyhow::Result;
 use std::env;

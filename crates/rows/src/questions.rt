@@ -1,13 +1,13 @@
 //! What an answer is asked, and the first difference.
-use crate::answering::Told;
-use crate::comparing::{Outcome, compare};
-use crate::item::{Item, Key};
+use crate::call_answers::CallOutput;
+use crate::comparison::{ComparisonResult, compare};
+use crate::item::{Item, ItemKey};
 use crate::likeness::is_like;
 use crate::lines::{accesses, last, number_like};
-use crate::respelling::again;
-use crate::row::Call;
+use crate::rebuilt_lines::again;
+use crate::row::ProgramCall;
+use crate::row_files::{copied, number};
 use crate::shelf::Shelf;
-use crate::shelving::{copied, number};
 use anyhow::Result;
 use std::alloc::Global;
 use std::rt::Files;
@@ -16,9 +16,9 @@ use std::rt::Files;
 /// the status it is to be 0, and where nothing is asked of standard output or of standard error it is to be empty.
 pub fn difference<R: Files + AllocGlobal>(
     rt: &R,
-    call: &Call,
+    call: &ProgramCall,
     shelf: &Shelf,
-    told: &Told,
+    told: &CallOutput,
 ) -> Result<Option<String>> {
     let alloc = rt.alloc();
     if let Some(difference) = unasked(alloc, call, told)? {
@@ -33,20 +33,20 @@ pub fn difference<R: Files + AllocGlobal>(
 }
 
 /// The keys that ask of standard output.
-const OF_OUTPUT: [Key; 9] = [
-    Key::Out,
-    Key::Like,
-    Key::Last,
-    Key::Has,
-    Key::Lacks,
-    Key::Times,
-    Key::Accesses,
-    Key::Again,
-    Key::Keep,
+const OF_OUTPUT: [ItemKey; 9] = [
+    ItemKey::Out,
+    ItemKey::Like,
+    ItemKey::Last,
+    ItemKey::Has,
+    ItemKey::Lacks,
+    ItemKey::Times,
+    ItemKey::Accesses,
+    ItemKey::Again,
+    ItemKey::Keep,
 ];
 
 /// Whether the call asks of standard output.
-fn asks_output(call: &Call) -> bool {
+fn asks_output(call: &ProgramCall) -> bool {
     for key in OF_OUTPUT {
         if call.has(key) {
             return true;
@@ -56,11 +56,11 @@ fn asks_output(call: &Call) -> bool {
 }
 
 /// The first difference in what the call does not ask.
-fn unasked(alloc: Global, call: &Call, told: &Told) -> Result<Option<String>> {
-    if !call.has(Key::Status) && told.status != 0 {
+fn unasked(alloc: Global, call: &ProgramCall, told: &CallOutput) -> Result<Option<String>> {
+    if !call.has(ItemKey::Status) && told.status != 0 {
         return is_status(alloc, 0, told);
     }
-    if !call.has(Key::Err) && !call.has(Key::Tells) {
+    if !call.has(ItemKey::Err) && !call.has(ItemKey::Tells) {
         if let Some(difference) = whole(alloc, "standard error", &told.err, &[])? {
             return Ok(Some(difference));
         }
@@ -76,28 +76,28 @@ fn asked<R: Files + AllocGlobal>(
     rt: &R,
     item: &Item,
     shelf: &Shelf,
-    told: &Told,
+    told: &CallOutput,
 ) -> Result<Option<String>> {
     let alloc = rt.alloc();
     match item.key {
-        Key::Status => is_status(alloc, number(item.value.as_str())?, told),
-        Key::Out => {
+        ItemKey::Status => is_status(alloc, number(item.value.as_str())?, told),
+        ItemKey::Out => {
             let expected = expected(rt, item, shelf)?;
             whole(alloc, "standard output", &told.out, expected.as_slice())
         }
-        Key::Err => whole(alloc, "standard error", &told.err, item.block.as_slice()),
-        Key::Like => alike(alloc, "standard output", &told.out, item.block.as_slice()),
-        Key::Tells => alike(alloc, "standard error", &told.err, item.block.as_slice()),
-        Key::Last => {
+        ItemKey::Err => whole(alloc, "standard error", &told.err, item.block.as_slice()),
+        ItemKey::Like => alike(alloc, "standard output", &told.out, item.block.as_slice()),
+        ItemKey::Tells => alike(alloc, "standard error", &told.err, item.block.as_slice()),
+        ItemKey::Last => {
             let line = last(alloc, told.out.as_slice())?;
             alike(alloc, "the last line", &line, item.value.as_bytes())
         }
-        Key::Has | Key::Lacks | Key::Times => counted(alloc, item, told),
-        Key::Accesses => {
+        ItemKey::Has | ItemKey::Lacks | ItemKey::Times => counted(alloc, item, told),
+        ItemKey::Accesses => {
             let found = accesses(alloc, told.out.as_slice(), number(item.value.as_str())?)?;
             whole(alloc, "the accesses", &found, item.block.as_slice())
         }
-        Key::Again => {
+        ItemKey::Again => {
             let found = again(alloc, told.out.as_slice())?;
             let expected = copied(rt, shelf, item.value.as_str())?;
             whole(alloc, "the text made again", &found, expected.as_slice())
@@ -115,7 +115,7 @@ fn expected<R: Files + AllocGlobal>(rt: &R, item: &Item, shelf: &Shelf) -> Resul
 }
 
 /// The difference in the exit status.
-fn is_status(alloc: Global, status: usize, told: &Told) -> Result<Option<String>> {
+fn is_status(alloc: Global, status: usize, told: &CallOutput) -> Result<Option<String>> {
     let got = usize::from(told.status);
     if got == status {
         return Ok(None);
@@ -127,8 +127,8 @@ fn is_status(alloc: Global, status: usize, told: &Told) -> Result<Option<String>
 /// The difference between a text and the whole that it is to be.
 fn whole(alloc: Global, what: &str, got: &Vec<u8>, expected: &[u8]) -> Result<Option<String>> {
     match compare(got.as_slice(), expected) {
-        Outcome::AsStored => Ok(None),
-        Outcome::Differs(line) => {
+        ComparisonResult::AsStored => Ok(None),
+        ComparisonResult::Differs(line) => {
             let got = String::from_utf8_lossy(alloc, got.as_slice())?;
             let got = got.lines().nth(line.saturating_sub(1)).unwrap_or("");
             Ok(Some(format!(in alloc; "{what} differs at line {line}: {got}")?))
@@ -146,10 +146,10 @@ fn alike(alloc: Global, what: &str, got: &Vec<u8>, pattern: &[u8]) -> Result<Opt
 }
 
 /// The difference in how many lines are like the item's.
-fn counted(alloc: Global, item: &Item, told: &Told) -> Result<Option<String>> {
+fn counted(alloc: Global, item: &Item, told: &CallOutput) -> Result<Option<String>> {
     let value = item.value.as_str();
     let (times, pattern) = match item.key {
-        Key::Times => match value.split_once(' ') {
+        ItemKey::Times => match value.split_once(' ') {
             Some((times, pattern)) => (number(times)?, pattern),
             None => (number(value)?, ""),
         },
@@ -157,7 +157,7 @@ fn counted(alloc: Global, item: &Item, told: &Told) -> Result<Option<String>> {
     };
     let found = number_like(alloc, told.out.as_slice(), pattern.as_bytes())?;
     let is_right = match item.key {
-        Key::Has => found > 0,
+        ItemKey::Has => found > 0,
         _ => found == times,
     };
     if is_right {

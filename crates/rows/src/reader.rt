@@ -1,6 +1,6 @@
 //! Reads a table.
-use crate::item::{Item, Key};
-use crate::row::Row;
+use crate::item::{Item, ItemKey};
+use crate::row::WorkedRow;
 use anyhow::{Result, bail};
 use std::alloc::Global;
 
@@ -9,7 +9,7 @@ use std::alloc::Global;
 /// # Errors
 ///
 /// A line that has no shape, by its number.
-pub fn rows(alloc: Global, text: &str) -> Result<Vec<Row>> {
+pub fn rows(alloc: Global, text: &str) -> Result<Vec<WorkedRow>> {
     let mut rows = Vec::new(alloc);
     let mut number = 0usize;
     for line in text.lines() {
@@ -22,7 +22,7 @@ pub fn rows(alloc: Global, text: &str) -> Result<Vec<Row>> {
 }
 
 /// Takes a line in; the answer is whether it has a shape.
-fn is_taken(alloc: Global, rows: &mut Vec<Row>, line: &str) -> Result<bool> {
+fn is_taken(alloc: Global, rows: &mut Vec<WorkedRow>, line: &str) -> Result<bool> {
     if line.is_empty() || line.starts_with('#') {
         return Ok(true);
     }
@@ -35,10 +35,10 @@ fn is_taken(alloc: Global, rows: &mut Vec<Row>, line: &str) -> Result<bool> {
         Some(parts) => parts,
         None => (line, ""),
     };
-    match Key::named(word) {
+    match ItemKey::named(word) {
         None => Ok(false),
-        Some(Key::Row) => {
-            rows.push(Row::named(alloc, value)?)?;
+        Some(ItemKey::Row) => {
+            rows.push(WorkedRow::named(alloc, value)?)?;
             Ok(true)
         }
         Some(key) => is_begun(alloc, rows, key, value),
@@ -54,7 +54,7 @@ fn number_of_times(before: &str) -> Option<usize> {
 }
 
 /// Adds a line of text to the last item, so many times; the answer is whether there is one.
-fn is_added(rows: &mut Vec<Row>, times: usize, text: &str) -> Result<bool> {
+fn is_added(rows: &mut Vec<WorkedRow>, times: usize, text: &str) -> Result<bool> {
     let Some(row) = rows.last_mut() else {
         return Ok(false);
     };
@@ -73,7 +73,7 @@ fn is_added(rows: &mut Vec<Row>, times: usize, text: &str) -> Result<bool> {
 }
 
 /// Adds an item to the last row; the answer is whether there is one.
-fn is_begun(alloc: Global, rows: &mut Vec<Row>, key: Key, value: &str) -> Result<bool> {
+fn is_begun(alloc: Global, rows: &mut Vec<WorkedRow>, key: ItemKey, value: &str) -> Result<bool> {
     let Some(row) = rows.last_mut() else {
         return Ok(false);
     };

@@ -1,11 +1,11 @@
 //! What is printed of a table.
-use crate::answering::answered;
-use crate::item::Key;
+use crate::call_answers::answered;
+use crate::item::ItemKey;
 use crate::questions::difference;
-use crate::reading::rows;
-use crate::row::{Call, Row};
-use crate::shelf::{Content, Output, Shelf};
-use crate::shelving::{number, shelf};
+use crate::reader::rows;
+use crate::row::{ProgramCall, WorkedRow};
+use crate::row_files::{number, shelf};
+use crate::shelf::{AnswerOutput, FileContent, Shelf};
 use anyhow::{Result, bail};
 use std::alloc::Global;
 use std::fs;
@@ -39,11 +39,11 @@ pub fn report<R: Print + Files + Threads + Wait + Sync + AllocGlobal>(
 /// The first difference in the answers to a row's calls.
 fn differing<R: Files + Threads + Wait + Sync + AllocGlobal>(
     rt: &R,
-    row: &Row,
+    row: &WorkedRow,
 ) -> Result<Option<String>> {
     let mut shelf = shelf(rt, row.files.as_slice())?;
     for call in &row.calls {
-        let difference = match call.value(Key::Beginnings) {
+        let difference = match call.value(ItemKey::Beginnings) {
             None => called(rt, call, &mut shelf)?,
             Some(name) => beginnings(rt, call, &mut shelf, name)?,
         };
@@ -57,47 +57,47 @@ fn differing<R: Files + Threads + Wait + Sync + AllocGlobal>(
 /// Makes a call; the difference in its answer.
 fn called<R: Files + Threads + Wait + Sync + AllocGlobal>(
     rt: &R,
-    call: &Call,
+    call: &ProgramCall,
     shelf: &mut Shelf,
 ) -> Result<Option<String>> {
     let alloc = rt.alloc();
     let mut words: Vec<&str> = Vec::new(alloc);
     for item in &call.items {
         match item.key {
-            Key::Words => {
+            ItemKey::Words => {
                 for word in item.value.as_str().split_whitespace() {
                     words.push(word)?;
                 }
             }
-            Key::Word => words.push(item.value.as_str())?,
+            ItemKey::Word => words.push(item.value.as_str())?,
             _ => {}
         }
     }
     let told = answered(rt, words.as_slice(), shelf, output(alloc, call)?)?;
     let difference = difference(rt, call, shelf, &told)?;
-    if let Some(name) = call.value(Key::Keep) {
-        shelf.put(alloc, name, Content::Bytes(told.out))?;
+    if let Some(name) = call.value(ItemKey::Keep) {
+        shelf.put(alloc, name, FileContent::Bytes(told.out))?;
     }
     Ok(difference)
 }
 
 /// Where the call's standard output goes.
-fn output(alloc: Global, call: &Call) -> Result<Output> {
+fn output(alloc: Global, call: &ProgramCall) -> Result<AnswerOutput> {
     let bytes = Vec::new(alloc);
-    match call.value(Key::Unflushed) {
-        Some(most) => Ok(Output::Unflushed {
+    match call.value(ItemKey::Unflushed) {
+        Some(most) => Ok(AnswerOutput::Unflushed {
             most: number(most)?,
             bytes,
         }),
-        None if call.has(Key::Full) => Ok(Output::Full),
-        None => Ok(Output::Kept(bytes)),
+        None if call.has(ItemKey::Full) => Ok(AnswerOutput::Full),
+        None => Ok(AnswerOutput::Kept(bytes)),
     }
 }
 
 /// Makes the call with each beginning of the file but the whole; the difference in the first answer that has one.
 fn beginnings<R: Files + Threads + Wait + Sync + AllocGlobal>(
     rt: &R,
-    call: &Call,
+    call: &ProgramCall,
     shelf: &mut Shelf,
     name: &str,
 ) -> Result<Option<String>> {
@@ -108,7 +108,7 @@ fn beginnings<R: Files + Threads + Wait + Sync + AllocGlobal>(
     let whole = whole.to_vec(alloc)?;
     for length in 0..whole.len() {
         let beginning = whole[..length].to_vec(alloc)?;
-        shelf.put(alloc, name, Content::Bytes(beginning))?;
+        shelf.put(alloc, name, FileContent::Bytes(beginning))?;
         if let Some(difference) = called(rt, call, shelf)? {
             return Ok(Some(format!(in alloc; "{length} bytes of {name}: {difference}")?));
         }

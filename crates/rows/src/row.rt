@@ -1,28 +1,28 @@
 //! A row: its files, and the calls that are made with them.
-use crate::item::{Item, Key};
+use crate::item::{Item, ItemKey};
 use std::alloc::{AllocError, Global};
 
 /// A row of a table.
 #[derive(Drop)]
-pub struct Row {
+pub struct WorkedRow {
     /// What it shows.
     pub name: String,
     /// Its files.
     pub files: Vec<Item>,
     /// Its calls, one after the other.
-    pub calls: Vec<Call>,
+    pub calls: Vec<ProgramCall>,
 }
 
 /// A call: its words, how it is made, and what its answer is asked.
 #[derive(Drop)]
-pub struct Call {
+pub struct ProgramCall {
     pub items: Vec<Item>,
 }
 
-impl Row {
+impl WorkedRow {
     /// A row of this name, without files and calls.
-    pub fn named(alloc: Global, name: &str) -> Result<Row, AllocError> {
-        Ok(Row {
+    pub fn named(alloc: Global, name: &str) -> Result<WorkedRow, AllocError> {
+        Ok(WorkedRow {
             name: String::from_str(alloc, name)?,
             files: Vec::new(alloc),
             calls: Vec::new(alloc),
@@ -31,10 +31,10 @@ impl Row {
 
     /// Takes the item in: it belongs to the last call, or to the files where there is none yet.
     pub fn take_in(&mut self, alloc: Global, item: Item) -> Result<(), AllocError> {
-        if item.key == Key::Words {
+        if item.key == ItemKey::Words {
             let mut items = Vec::new(alloc);
             items.push(item)?;
-            self.calls.push(Call { items })?;
+            self.calls.push(ProgramCall { items })?;
             return Ok(());
         }
         match self.calls.last_mut() {
@@ -53,9 +53,9 @@ impl Row {
     }
 }
 
-impl Call {
+impl ProgramCall {
     /// What stands behind this key, where the call has it.
-    pub fn value(&self, key: Key) -> Option<&str> {
+    pub fn value(&self, key: ItemKey) -> Option<&str> {
         for item in &self.items {
             if item.key == key {
                 return Some(item.value.as_str());
@@ -65,7 +65,7 @@ impl Call {
     }
 
     /// Whether the call has this key.
-    pub fn has(&self, key: Key) -> bool {
+    pub fn has(&self, key: ItemKey) -> bool {
         self.value(key).is_some()
     }
 }

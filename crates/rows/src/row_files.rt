@@ -1,6 +1,6 @@
 //! Puts the files of a row on its shelf.
-use crate::item::{Item, Key};
-use crate::shelf::{Content, Shelf};
+use crate::item::{Item, ItemKey};
+use crate::shelf::{FileContent, Shelf};
 use anyhow::{Result, bail};
 use std::alloc::Global;
 use std::fs;
@@ -24,12 +24,12 @@ fn shelve<R: Files + AllocGlobal>(rt: &R, shelf: &mut Shelf, item: &Item) -> Res
     let alloc = rt.alloc();
     let value = item.value.as_str();
     match item.key {
-        Key::File => put(rt, shelf, value, item.block.as_slice()),
-        Key::Unreadable => {
-            shelf.put(alloc, value, Content::Unreadable)?;
+        ItemKey::File => put(rt, shelf, value, item.block.as_slice()),
+        ItemKey::Unreadable => {
+            shelf.put(alloc, value, FileContent::Unreadable)?;
             Ok(())
         }
-        Key::Hex | Key::Line | Key::Cut | Key::Unended => {
+        ItemKey::Hex | ItemKey::Line | ItemKey::Cut | ItemKey::Unended => {
             let Some(bytes) = shelf.last() else {
                 bail!("{value}: there is no file yet");
             };
@@ -46,7 +46,7 @@ fn put<R: Files + AllocGlobal>(rt: &R, shelf: &mut Shelf, value: &str, block: &[
         Some((name, other)) => (name, copied(rt, shelf, other)?),
         None => (value, block.to_vec(alloc)?),
     };
-    shelf.put(alloc, name, Content::Bytes(bytes))?;
+    shelf.put(alloc, name, FileContent::Bytes(bytes))?;
     Ok(())
 }
 
@@ -62,19 +62,19 @@ pub fn copied<R: Files + AllocGlobal>(rt: &R, shelf: &Shelf, name: &str) -> Resu
 fn change(alloc: Global, bytes: &mut Vec<u8>, item: &Item) -> Result<()> {
     let value = item.value.as_str();
     match item.key {
-        Key::Hex => {
+        ItemKey::Hex => {
             let Ok(more) = hex::decode(alloc, value) else {
                 bail!("{value}: no hex");
             };
             bytes.extend_from_slice(more.as_slice())?;
         }
-        Key::Line => *bytes = with_line(
+        ItemKey::Line => *bytes = with_line(
             alloc,
             bytes.as_slice(),
             number(value)?,
             item.block.as_slice(),
         )?,
-        Key::Cut => bytes.truncate(number(value)?),
+        ItemKey::Cut => bytes.truncate(number(value)?),
         _ => {
             let _ = bytes.pop();
         }

@@ -1,13 +1,13 @@
 //! The files of a row.
 ghost use Rattle.std.specs.Prelude.{◌≤◌, IfOk, length};
 
-use neighbours::Folder;
+use cli_tasks::Folder;
 use std::alloc::{AllocError, Global};
 use std::io::{self, ErrorKind, Read, Write};
 
 /// What a file holds.
 #[derive(Drop)]
-pub enum Content {
+pub enum FileContent {
     /// These bytes.
     Bytes(Vec<u8>),
     /// It opens, and cannot be read.
@@ -18,7 +18,7 @@ pub enum Content {
 #[derive(Drop)]
 struct Named {
     name: String,
-    content: Content,
+    content: FileContent,
 }
 
 /// Files by their names.
@@ -36,14 +36,19 @@ impl Shelf {
     }
 
     /// Puts a file of this name on top.
-    pub fn put(&mut self, alloc: Global, name: &str, content: Content) -> Result<(), AllocError> {
+    pub fn put(
+        &mut self,
+        alloc: Global,
+        name: &str,
+        content: FileContent,
+    ) -> Result<(), AllocError> {
         let name = String::from_str(alloc, name)?;
         self.files.push(Named { name, content })?;
         Ok(())
     }
 
     /// What the file of this name holds: the last that was put.
-    pub fn find(&self, name: &str) -> Option<&Content> {
+    pub fn find(&self, name: &str) -> Option<&FileContent> {
         for file in self.files.iter().rev() {
             if file.name.as_str() == name {
                 return Some(&file.content);
@@ -55,8 +60,8 @@ impl Shelf {
     /// The bytes of the file of this name.
     pub fn bytes(&self, name: &str) -> Option<&[u8]> {
         match self.find(name) {
-            Some(Content::Bytes(bytes)) => Some(bytes.as_slice()),
-            Some(Content::Unreadable) | None => None,
+            Some(FileContent::Bytes(bytes)) => Some(bytes.as_slice()),
+            Some(FileContent::Unreadable) | None => None,
         }
     }
 
@@ -65,7 +70,7 @@ impl Shelf {
         match self.files.last_mut() {
             Some(
                 Named {
-                    content: Content::Bytes(bytes),
+                    content: FileContent::Bytes(bytes),
                     ..
                 },
             ) => Some(bytes),
@@ -82,43 +87,43 @@ impl Shelf {
 impl Folder for Shelf {
     fn read(&self, alloc: Global, name: &str) -> io::Result<Vec<u8>> {
         match self.find(name) {
-            Some(Content::Bytes(bytes)) => Ok(bytes.as_slice().to_vec(alloc)?),
-            Some(Content::Unreadable) | None => Err(io::Error::from(ErrorKind::NotFound)),
+            Some(FileContent::Bytes(bytes)) => Ok(bytes.as_slice().to_vec(alloc)?),
+            Some(FileContent::Unreadable) | None => Err(io::Error::from(ErrorKind::NotFound)),
         }
     }
 }
 
 /// A file that is read.
 #[derive(Clone, Copy, Drop)]
-pub enum Input<'a> {
+pub enum FileInput<'a> {
     /// These bytes.
     Bytes(&'a [u8]),
     /// Each read fails.
     Unreadable,
 }
 
-impl Content {
+impl FileContent {
     /// The file as it is read.
-    pub fn input(&self) -> Input<'_> {
+    pub fn input(&self) -> FileInput<'_> {
         match self {
-            Content::Bytes(bytes) => Input::Bytes(bytes.as_slice()),
-            Content::Unreadable => Input::Unreadable,
+            FileContent::Bytes(bytes) => FileInput::Bytes(bytes.as_slice()),
+            FileContent::Unreadable => FileInput::Unreadable,
         }
     }
 }
 
-impl Read for Input<'_> {
+impl Read for FileInput<'_> {
     fn read(&mut self, buf: &mut [u8]) -> io::Result<usize> {
         match self {
-            Input::Bytes(bytes) => bytes.read(buf),
-            Input::Unreadable => Err(io::Error::from(ErrorKind::Other)),
+            FileInput::Bytes(bytes) => bytes.read(buf),
+            FileInput::Unreadable => Err(io::Error::from(ErrorKind::Other)),
         }
     }
 }
 
 /// Where an answer is written.
 #[derive(Drop)]
-pub enum Output {
+pub enum AnswerOutput {
     /// It is kept.
     Kept(Vec<u8>),
     /// Each write fails.
@@ -140,23 +145,23 @@ fn take(taken: &mut Vec<u8>, bytes: &[u8], most: usize) -> Result<usize, AllocEr
     Ok(few)
 }
 
-impl Output {
+impl AnswerOutput {
     /// What was written.
     pub fn into_bytes(self, alloc: Global) -> Vec<u8> {
         match self {
-            Output::Kept(bytes) => bytes,
-            Output::Full => Vec::new(alloc),
-            Output::Unflushed { bytes, .. } => bytes,
+            AnswerOutput::Kept(bytes) => bytes,
+            AnswerOutput::Full => Vec::new(alloc),
+            AnswerOutput::Unflushed { bytes, .. } => bytes,
         }
     }
 }
 
-impl Write for Output {
+impl Write for AnswerOutput {
     fn write(&mut self, buf: &[u8]) -> io::Result<usize> {
         match self {
-            Output::Kept(bytes) => bytes.write(buf),
-            Output::Full => Err(io::Error::from(ErrorKind::Other)),
-            Output::Unflushed { most, bytes } => match take(bytes, buf, *most) {
+            AnswerOutput::Kept(bytes) => bytes.write(buf),
+            AnswerOutput::Full => Err(io::Error::from(ErrorKind::Other)),
+            AnswerOutput::Unflushed { most, bytes } => match take(bytes, buf, *most) {
                 Ok(length) => Ok(length),
                 Err(_) => Err(io::Error::from(ErrorKind::OutOfMemory)),
             },
@@ -165,8 +170,10 @@ impl Write for Output {
 
     fn flush(&mut self) -> io::Result<()> {
         match self {
-            Output::Kept(_) => Ok(()),
-            Output::Full | Output::Unflushed { .. } => Err(io::Error::from(ErrorKind::Other)),
+            AnswerOutput::Kept(_) => Ok(()),
+            AnswerOutput::Full | AnswerOutput::Unflushed { .. } => Err(io::Error::from(
+                ErrorKind::Other,
+            )),
         }
     }
 }

@@ -11,7 +11,7 @@ use Rattle.scenario.specs.declared.fault.ScenarioError.TheVariants as errors
 use Rattle.scenario.specs.Flaws.{Flaw, Fails, Gives, OrMemory}
 use Rattle.scenario.specs.Checks.{Head, tables}
 use Rattle.scenario.specs.Tables.{Seats, table}
-use Rattle.roster.specs.Scenario.{Scenario}
+use Rattle.round.specs.Scenario.{Scenario}
 use Rattle.scenario.specs.declared.messages.Campaign.{Campaign}
 use Rattle.scenario.specs.Reading.{TableGives, Answers, Begun, Headed, Answered, scenario_of, campaign_by, campaign_of, unseated}
 use Rattle.scenario.proofs.Items.{drop_all}

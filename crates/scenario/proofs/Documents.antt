@@ -5,9 +5,9 @@ use Rattle.toml.specs.Data.{Data, Items, Members, array}
 use Rattle.toml.specs.View.{items_view, view}
 use Rattle.toml.specs.declared.value.Value.{Value, Array}
 use Rattle.toml.proofs.Views.{view-Array}
-use Rattle.references.specs.Members.{put}
-use Rattle.references.specs.Names.{File}
-use Rattle.references.specs.Resolved.{IsPrinted, ResolvesList, refers, resolved}
+use Rattle.scenario.specs.Members.{put}
+use Rattle.scenario.specs.ReferenceNames.{File}
+use Rattle.scenario.specs.Resolved.{IsPrinted, ResolvesList, refers, resolved}
 
 module _ (files : List File) (ms : Members) (o : Option Items) where
   -- there is no list

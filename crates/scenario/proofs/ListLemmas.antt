@@ -5,10 +5,10 @@ use Rattle.std.specs.Prelude.{Some}
 use Rattle.toml.specs.View.{items_view, view}
 use Rattle.toml.specs.declared.value.Value.{Value}
 use Rattle.toml.proofs.Views.{items_view-drop, items_view-push}
-use Rattle.references.specs.Asking.{Asked, asked_in, asked_of}
-use Rattle.references.specs.Members.{join}
-use Rattle.references.specs.Names.{File}
-use Rattle.references.specs.Resolved.{one_each, rebuilt, resolved, tables_of}
+use Rattle.scenario.specs.Asking.{Asked, asked_in, asked_of}
+use Rattle.scenario.specs.Members.{join}
+use Rattle.scenario.specs.ReferenceNames.{File}
+use Rattle.scenario.specs.Resolved.{one_each, rebuilt, resolved, tables_of}
 
 pub join_push : (ds es : Items) (d : Data) → join (push_item ds d) es ≡ join ds (item d es)
 join_push no_items es d = refl

@@ -9,7 +9,7 @@ use Rattle.toml.specs.Data.{get_member}
 use Rattle.toml.specs.View.{members_view, view}
 use Rattle.toml.specs.declared.value.Value.{Value}
 use Rattle.toml.proofs.Views.{Entry, table_get}
-use Rattle.references.specs.Members.{put}
+use Rattle.scenario.specs.Members.{put}
 
 members_by_order : (o : Ordering) (a b c : List Entry) → members_view (match_ordering o a b c) ≡ match_ordering o (members_view a) (members_view b) (members_view c)
 members_by_order Less a b c = refl

@@ -2,7 +2,7 @@
 use Rattle.std.proofs.Common.{◌≡◌, suc, List, [], ◌∷◌, length, refl, ap}
 use Rattle.toml.specs.View.{items_view}
 use Rattle.toml.specs.declared.value.Value.{Value}
-use Rattle.references.specs.Origins.{count}
+use Rattle.scenario.specs.Origins.{count}
 
 pub counted : (vs : List Value) → length vs ≡ count (items_view vs)
 counted [] = refl

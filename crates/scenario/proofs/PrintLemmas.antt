@@ -6,8 +6,8 @@ use Rattle.toml.specs.Data.{Members, members_depth, members_have_valid_dates}
 use Rattle.toml.specs.Parse.{parse_document}
 use Rattle.toml.specs.declared.ser.error.Error.{Error as PrintError}
 use Rattle.toml.specs.declared.ser.error.Error.TheVariants.{DateInvalid}
-use Rattle.references.specs.Parsed.{IsTextBy}
-use Rattle.references.specs.Resolved.{IsPrinted}
+use Rattle.scenario.specs.Parsed.{IsTextBy}
+use Rattle.scenario.specs.Resolved.{IsPrinted}
 
 pub told_so : (ms : Members) (printed : Result (String Global) PrintError) (answer : Result (Option (String Global)) AllocError)
     → IsTextBy printed answer

@@ -4,14 +4,14 @@ use Rattle.std.specs.Option.{option_map, ok_or}
 use Rattle.toml.specs.Data.{get_member, get_item}
 use Rattle.toml.specs.Parse.{parse_document}
 use Rattle.toml.proofs.OnLiterals.{toml_on_literals}
-use Rattle.combine.specs.declared.chosen.Rule.TheVariants.{Majority, Median}
+use Rattle.combine.specs.declared.campaign_rule.Rule.TheVariants.{Majority, Median}
 use Rattle.scenario.specs.declared.messages.Messages.TheVariants.{Oral, Signed}
 use Rattle.scenario.specs.declared.messages.Kinds.TheVariants.{OralAlone, Both}
-use Rattle.scenario.specs.declared.place.Name.TheVariants as names
-use Rattle.scenario.specs.declared.place.Place.{Place}
-use Rattle.scenario.specs.declared.place.Place.TheVariants as places
-use Rattle.scenario.specs.declared.fault.Fault.{Fault}
-use Rattle.scenario.specs.declared.fault.Fault.TheVariants as faults
+use Rattle.scenario.specs.declared.place.ScenarioKey.TheVariants as names
+use Rattle.scenario.specs.declared.place.ScenarioPlace.{ScenarioPlace}
+use Rattle.scenario.specs.declared.place.ScenarioPlace.TheVariants as places
+use Rattle.scenario.specs.declared.fault.ScenarioFault.{ScenarioFault}
+use Rattle.scenario.specs.declared.fault.ScenarioFault.TheVariants as faults
 use Rattle.scenario.specs.Flaws.{Flaw, unknown, faulty, ◌>>=◌}
 use Rattle.scenario.specs.Checks.{Head, head, number, optional_number, general, rule, messages, board, board_words, over, word, tables}
 use Rattle.scenario.specs.Tables.{Table, Assembly, source, table_in, table}
@@ -21,7 +21,7 @@ checked : List (List ℕ) → Option (Result Head Flaw)
 checked lines = option_map (head Both) (parse_document (flat_map (λ l. l ++ 10 ∷ []) lines))
 
 -- a fault at a place
-stops : Fault → Place → Option (Result Head Flaw)
+stops : ScenarioFault → ScenarioPlace → Option (Result Head Flaw)
 stops fault place = Some (Err (faulty fault place))
 
 -- numbers out of their ranges, and what is missing
@@ -148,7 +148,7 @@ plain = refl
 tabled : ℕ → List (List ℕ) → Option (Result Table Flaw)
 tabled i ls = option_map (λ ms. tables (get_member (codes "traitor") ms) >>= λ ds. ok_or (get_item i ds) (unknown None []) >>= λ d. table 4 (None ∷ None ∷ None ∷ Some [] ∷ []) i d) (parse_document (flat_map (λ l. l ++ 10 ∷ []) ls))
 
-halts : Fault → Place → Option (Result Table Flaw)
+halts : ScenarioFault → ScenarioPlace → Option (Result Table Flaw)
 halts fault place = Some (Err (faulty fault place))
 
 -- a traitor has one table

@@ -1,22 +1,22 @@
 -- Which files the tables of a scenario name (own).
 use Rattle.std.specs.Prelude.{ℕ, ◌+◌, List, [], ◌∷◌, ◌++◌, Option, None, Some}
 use Rattle.toml.specs.Data.{Items, no_items, item, Members, as_table}
-use Rattle.references.specs.declared.key.Key.{Key}
-use Rattle.references.specs.declared.key.Key.TheVariants.{Assembly, Bytecode, Object}
-use Rattle.references.specs.Names.{function_at, name_at, traitors}
+use Rattle.scenario.specs.declared.reference_key.ReferenceKey.{ReferenceKey}
+use Rattle.scenario.specs.declared.reference_key.ReferenceKey.TheVariants.{Assembly, Bytecode, Object}
+use Rattle.scenario.specs.ReferenceNames.{function_at, name_at, traitors}
 
 -- the table of this number names a file by this key, and of an object the function
 pub record Asked : Type 0 where
   pub index : ℕ
-  pub key : Key
+  pub key : ReferenceKey
   pub name : List ℕ
   pub function : Option (List ℕ)
 
-abbrev pub asked_if : ℕ → Key → Option (List ℕ) → Option (List ℕ) → List Asked
+abbrev pub asked_if : ℕ → ReferenceKey → Option (List ℕ) → Option (List ℕ) → List Asked
 asked_if i key function None = []
 asked_if i key function (Some name) = record { index = i; key = key; name = name; function = function } ∷ []
 
-abbrev pub asked_by : ℕ → Members → Key → List Asked
+abbrev pub asked_by : ℕ → Members → ReferenceKey → List Asked
 asked_by i ms key = asked_if i key (function_at key ms) (name_at key ms)
 
 -- by an element of the list, where it is a table

@@ -2,18 +2,18 @@
 use Rattle.std.specs.Prelude.{ℕ, suc, ℤ, pos, negsuc, Bool, ◌+◌, ◌-◌, ◌<◌, ◌≤◌, min, nat_lt, nat_le, ◌&&◌, cond, if◌then◌else◌, List, slice_set, replicate, Option, Some, None, Result, Ok, Err, codes, bytes_eq}
 use Rattle.std.specs.Option.{ok_or}
 use Rattle.toml.specs.Data.{Data, Items, Members, no_items, item, no_members, member, get_member, as_integer, as_str, as_array}
-use Rattle.combine.specs.declared.chosen.Rule.{Rule}
+use Rattle.combine.specs.declared.campaign_rule.Rule.{Rule}
 use Rattle.combine.specs.Names.{default_rule, rule_named}
-use Rattle.roster.specs.Scenario.{IsPatience}
+use Rattle.round.specs.Scenario.{IsPatience}
 use Rattle.scenario.specs.declared.messages.Messages.{Messages}
 use Rattle.scenario.specs.declared.messages.Messages.TheVariants.{Oral, Signed}
 use Rattle.scenario.specs.declared.messages.Kinds.{Kinds}
 use Rattle.scenario.specs.declared.messages.Kinds.TheVariants.{OralAlone, Both}
-use Rattle.scenario.specs.declared.place.Name.TheVariants as names
-use Rattle.scenario.specs.declared.place.Place.{Place}
-use Rattle.scenario.specs.declared.place.Place.TheVariants as places
-use Rattle.scenario.specs.declared.fault.Fault.{Fault}
-use Rattle.scenario.specs.declared.fault.Fault.TheVariants as faults
+use Rattle.scenario.specs.declared.place.ScenarioKey.TheVariants as names
+use Rattle.scenario.specs.declared.place.ScenarioPlace.{ScenarioPlace}
+use Rattle.scenario.specs.declared.place.ScenarioPlace.TheVariants as places
+use Rattle.scenario.specs.declared.fault.ScenarioFault.{ScenarioFault}
+use Rattle.scenario.specs.declared.fault.ScenarioFault.TheVariants as faults
 use Rattle.scenario.specs.Names.{is_top_key}
 use Rattle.scenario.specs.Flaws.{Flaw, unknown, faulty, ◌>>=◌}
 
@@ -26,22 +26,22 @@ abbrev pub known : Option ℕ → Option (List ℕ) → Result (Unit {0}) Flaw
 known at None = Ok tt
 known at (Some k) = Err (unknown at k)
 
-abbrev pub required : Place → Option Data → Result Data Flaw
+abbrev pub required : ScenarioPlace → Option Data → Result Data Flaw
 required s None = Err (faulty faults.Key s)
 required s (Some d) = Ok d
 
-abbrev pub whole : Place → Data → Result ℤ Flaw
+abbrev pub whole : ScenarioPlace → Data → Result ℤ Flaw
 whole s d = ok_or (as_integer d) (faulty faults.Kind s)
 
-abbrev pub natural : Fault → Place → ℤ → Result ℕ Flaw
+abbrev pub natural : ScenarioFault → ScenarioPlace → ℤ → Result ℕ Flaw
 natural f s (pos n) = Ok n
 natural f s (negsuc n) = Err (faulty f s)
 
-abbrev pub test : Bool → Fault → Place → Result (Unit {0}) Flaw
+abbrev pub test : Bool → ScenarioFault → ScenarioPlace → Result (Unit {0}) Flaw
 test b f s = cond b (Ok tt) (Err (faulty f s))
 
 -- a number between two others
-unfoldable pub number : Place → ℕ → ℕ → Option Data → Result ℕ Flaw
+unfoldable pub number : ScenarioPlace → ℕ → ℕ → Option Data → Result ℕ Flaw
 number s least most o = do
   d ← required s o
   z ← whole s d
@@ -49,14 +49,14 @@ number s least most o = do
   within ← test (nat_le least n && nat_le n most) faults.Range s
   Ok n
 
-unfoldable pub optional_number : Place → ℕ → ℕ → Option Data → Result (Option ℕ) Flaw
+unfoldable pub optional_number : ScenarioPlace → ℕ → ℕ → Option Data → Result (Option ℕ) Flaw
 optional_number s least most None = Ok None
 optional_number s least most (Some d) = do
   n ← number s least most (Some d)
   Ok (Some n)
 
 -- one of n generals; low is the fault of a number below 0
-unfoldable pub general : Place → Fault → ℕ → Option Data → Result ℕ Flaw
+unfoldable pub general : ScenarioPlace → ScenarioFault → ℕ → Option Data → Result ℕ Flaw
 general s low n o = do
   d ← required s o
   z ← whole s d
@@ -86,7 +86,7 @@ items_length no_items = 0
 items_length (item d ds) = suc (items_length ds)
 
 -- the items of an array
-abbrev pub elements : Place → Data → Result Items Flaw
+abbrev pub elements : ScenarioPlace → Data → Result Items Flaw
 elements s d = ok_or (as_array d) (faulty faults.Kind s)
 
 unfoldable pub board_words : Items → Result (List ℕ) Flaw

@@ -5,22 +5,22 @@ use Rattle.asm.specs.ErrorText as asm
 use Rattle.codec.specs.ErrorText as codec
 use Rattle.verify.specs.ErrorText as verify
 use Rattle.scenario.specs.Names.{text_of}
-use Rattle.scenario.specs.declared.place.Place.{Place}
-use Rattle.scenario.specs.declared.place.Place.TheVariants as place
-use Rattle.scenario.specs.declared.fault.Fault.{Fault}
-use Rattle.scenario.specs.declared.fault.Fault.TheVariants.{Key, Kind, Range, General, Twice}
+use Rattle.scenario.specs.declared.place.ScenarioPlace.{ScenarioPlace}
+use Rattle.scenario.specs.declared.place.ScenarioPlace.TheVariants as place
+use Rattle.scenario.specs.declared.fault.ScenarioFault.{ScenarioFault}
+use Rattle.scenario.specs.declared.fault.ScenarioFault.TheVariants.{Key, Kind, Range, General, Twice}
 use Rattle.scenario.specs.declared.fault.ProgramFault.{ProgramFault}
 use Rattle.scenario.specs.declared.fault.ProgramFault.TheVariants.{Asm, Hex, Code, Verifier}
 use Rattle.scenario.specs.declared.fault.ScenarioError.{ScenarioError}
 use Rattle.scenario.specs.declared.fault.ScenarioError.TheVariants.{Toml, Unknown, At, Program, Memory}
 
-abbrev pub place_text : Place → List ℕ
+abbrev pub place_text : ScenarioPlace → List ℕ
 place_text (place.Key name) = text_of name
 place_text (place.Word index) = codes "board[" ++ decimal index ++ codes "]"
 place_text (place.Table index) = codes "traitor[" ++ decimal index ++ codes "]"
 place_text (place.Entry index name) = codes "traitor[" ++ decimal index ++ codes "]." ++ text_of name
 
-abbrev pub code_of : Fault → List ℕ
+abbrev pub code_of : ScenarioFault → List ℕ
 code_of Key = codes "S2"
 code_of Kind = codes "S3"
 code_of Range = codes "S4"

@@ -1,14 +1,14 @@
 -- The first fault of a scenario's keys, and how an answer tells it (own).
 use Rattle.std.specs.Prelude.{◌≡◌, ℕ, List, Option, Result, Ok, Err, string_bytes}
-use Rattle.scenario.specs.declared.place.Place.{Place}
-use Rattle.scenario.specs.declared.fault.Fault.{Fault}
+use Rattle.scenario.specs.declared.place.ScenarioPlace.{ScenarioPlace}
+use Rattle.scenario.specs.declared.fault.ScenarioFault.{ScenarioFault}
 use Rattle.scenario.specs.declared.fault.ScenarioError.{ScenarioError}
 use Rattle.scenario.specs.declared.fault.ScenarioError.TheVariants as errors
 
 -- an unknown key, at the top or of a traitor's table, or a fault at a place
 pub data Flaw : Type 0 where
   unknown : Option ℕ → List ℕ → Flaw
-  faulty : Fault → Place → Flaw
+  faulty : ScenarioFault → ScenarioPlace → Flaw
 
 -- one check behind another that found no fault
 infixl 10 ◌>>=◌

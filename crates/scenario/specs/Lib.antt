@@ -1,3 +1,9 @@
+pub mod Parsed
+pub mod ReferenceNames
+pub mod Members
+pub mod Asking
+pub mod Resolved
+pub mod Origins
 pub mod Names
 pub mod Flaws
 pub mod Checks

@@ -1,10 +1,10 @@
 -- The keys of a scenario, as they are written (own).
 use Rattle.std.specs.Prelude.{ℕ, Bool, ◌||◌, List, codes}
 use Rattle.std.specs.Str.{bytes_eq}
-use Rattle.scenario.specs.declared.place.Name.{Name}
-use Rattle.scenario.specs.declared.place.Name.TheVariants.{Generals, Bound, Commander, Order, Board, Patience, Rule, Messages, Traitor, General, Asm, Code}
+use Rattle.scenario.specs.declared.place.ScenarioKey.{ScenarioKey}
+use Rattle.scenario.specs.declared.place.ScenarioKey.TheVariants.{Generals, Bound, Commander, Order, Board, Patience, Rule, Messages, Traitor, General, Asm, Code}
 
-abbrev pub text_of : Name → List ℕ
+abbrev pub text_of : ScenarioKey → List ℕ
 text_of Generals = codes "generals"
 text_of Bound = codes "bound"
 text_of Commander = codes "commander"

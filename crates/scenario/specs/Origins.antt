@@ -1,7 +1,7 @@
 -- From which element of the list of traitors a table comes that stands in the resolved list (own).
 use Rattle.std.specs.Prelude.{ℕ, suc, ℤ, pos, ◌+◌, ◌-◌, ◌==◌, ◌||◌, Bool, false, nat_lt, if◌then◌else◌, List, Option, None, Some, codes, option_and_then}
 use Rattle.toml.specs.Data.{Data, Items, no_items, item, Members, as_integer, as_table, get_member}
-use Rattle.references.specs.Names.{seats, traitors}
+use Rattle.scenario.specs.ReferenceNames.{seats, traitors}
 
 abbrev pub count : Items → ℕ
 count no_items = 0

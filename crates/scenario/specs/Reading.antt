@@ -9,7 +9,7 @@ use Rattle.asm.specs.declared.fault.AsmError.TheVariants as assembler
 use Rattle.codec.specs.Program.{SpellsProgram, IsFirstFault}
 use Rattle.verify.specs.Judgement.{judged}
 use Rattle.verify.specs.declared.error.VerifyError.TheVariants as verifier
-use Rattle.roster.specs.Scenario.{Scenario}
+use Rattle.round.specs.Scenario.{Scenario}
 use Rattle.scenario.specs.declared.messages.Messages.{Messages}
 use Rattle.scenario.specs.declared.messages.Messages.TheVariants as messages
 use Rattle.scenario.specs.declared.messages.Kinds.TheVariants.{OralAlone, Both}

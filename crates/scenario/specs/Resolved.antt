@@ -2,13 +2,13 @@
 use Rattle.std.specs.Prelude.{◌≡◌, ◌≤◌, ℕ, Bool, true, false, ◌||◌, ◌&&◌, cond, if◌then◌else◌, List, Option, None, Some, is_some, option_map, option_and_then, codes, bytes_eq}
 use Rattle.toml.specs.Data.{Data, string, array, table, Items, no_items, item, Members, no_members, member, as_table, get_member, members_depth, members_have_valid_dates}
 use Rattle.toml.specs.Parse.{parse_document}
-use Rattle.references.specs.declared.key.Key.{Key}
-use Rattle.references.specs.declared.key.Key.TheVariants.{Object}
-use Rattle.references.specs.Names.{File, function_at, key_of, name_at, place_of, seats, text_named, traitors}
-use Rattle.references.specs.Members.{join, put}
+use Rattle.scenario.specs.declared.reference_key.ReferenceKey.{ReferenceKey}
+use Rattle.scenario.specs.declared.reference_key.ReferenceKey.TheVariants.{Object}
+use Rattle.scenario.specs.ReferenceNames.{File, function_at, key_of, name_at, place_of, seats, text_named, traitors}
+use Rattle.scenario.specs.Members.{join, put}
 
 -- what stands in the place of the file that a table names by the key k: of which program, and its text
-abbrev pub program : List File → Members → List ℕ → Option (Key × List ℕ)
+abbrev pub program : List File → Members → List ℕ → Option (ReferenceKey × List ℕ)
 program files ms k =
     option_and_then (λ key. option_and_then
     (λ name. option_map (λ t. (key, t)) (text_named files key name (function_at key ms))) (name_at key ms))
@@ -24,7 +24,7 @@ abbrev pub kept : Option Data → List ℕ → Data → Members → Members
 kept None k d done = put k d done
 kept (Some g) k d done = if bytes_eq k (codes "generals") then put (codes "general") g done else put k d done
 
-abbrev pub entry_by : Option (Key × List ℕ) → Option Data → List ℕ → Data → Members → Members
+abbrev pub entry_by : Option (ReferenceKey × List ℕ) → Option Data → List ℕ → Data → Members → Members
 entry_by None general k d done = kept general k d done
 entry_by (Some p) general k d done = put (place_of p.0) (string p.1) done
 

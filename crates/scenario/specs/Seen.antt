@@ -3,8 +3,8 @@ use Rattle.std.specs.Prelude.{◌≡◌, ℕ, List, None, Some, Result, Ok, Err}
 use Rattle.insn.specs.declared.insn.Insn.{Insn}
 use Rattle.verify.specs.Judgement.{judged}
 use Rattle.verify.specs.declared.error.VerifyError.TheVariants as verifier
-use Rattle.scenario.specs.declared.programs.Written.{Written}
-use Rattle.scenario.specs.declared.programs.Written.TheVariants as written
+use Rattle.scenario.specs.declared.programs.ProgramText.{ProgramText}
+use Rattle.scenario.specs.declared.programs.ProgramText.TheVariants as written
 use Rattle.asm.specs.declared.fault.AsmError.{AsmError}
 use Rattle.asm.specs.declared.fault.AsmError.TheVariants as assembler
 use Rattle.codec.specs.declared.fault.CodecError.{CodecError}
@@ -20,7 +20,7 @@ use Rattle.scenario.specs.Tables.{Source, Assembly, Hex}
 use Rattle.scenario.specs.Reading.{IsProgramOf, IsFaultOf}
 
 -- a program as it is written, seen as its text
-abbrev pub source_of : Written → Source
+abbrev pub source_of : ProgramText → Source
 source_of (written.Asm text) = Assembly text.now
 source_of (written.Code text) = Hex text.now
 

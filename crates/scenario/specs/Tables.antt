@@ -3,9 +3,9 @@ use Rattle.std.specs.Prelude.{ℕ, Bool, not, is_some, List, slice_index_or, Opt
 use Rattle.std.specs.Option.{ok_or}
 use Rattle.toml.specs.Data.{Data, Members, get_member, as_str, as_table}
 use Rattle.insn.specs.declared.insn.Insn.{Insn}
-use Rattle.scenario.specs.declared.place.Name.TheVariants as names
-use Rattle.scenario.specs.declared.place.Place.TheVariants as places
-use Rattle.scenario.specs.declared.fault.Fault.TheVariants as faults
+use Rattle.scenario.specs.declared.place.ScenarioKey.TheVariants as names
+use Rattle.scenario.specs.declared.place.ScenarioPlace.TheVariants as places
+use Rattle.scenario.specs.declared.fault.ScenarioFault.TheVariants as faults
 use Rattle.scenario.specs.Names.{is_entry_key}
 use Rattle.scenario.specs.Flaws.{Flaw, faulty, ◌>>=◌}
 use Rattle.scenario.specs.Checks.{first_unknown, known, general, test}

@@ -3,14 +3,14 @@ ghost use Rattle.std.specs.Prelude.{◌≡◌};
 ghost use Rattle.scenario.specs.ErrorText.{scenario_code};
 ghost use Rattle.scenario.specs.declared.fault.ScenarioError.TheVariants.{Memory};
 
-use crate::place::Place;
+use crate::place::ScenarioPlace;
 use std::alloc::{AllocError, AllocFailed};
 use std::fmt;
 use verify::Reason;
 
 /// What is wrong at a place.
 #[derive(Clone, Copy, Debug, PartialEq, Eq)]
-pub enum Fault {
+pub enum ScenarioFault {
     /// The key is missing; with `asm`, both or neither of `asm` and `code` are there.
     Key,
     /// The value is of another kind.
@@ -23,7 +23,7 @@ pub enum Fault {
     Twice,
 }
 
-impl fmt::Display for Fault {
+impl fmt::Display for ScenarioFault {
     ghost use Rattle.std.specs.Prelude.{Some};
     ghost use Rattle.scenario.specs.ErrorText.{code_of};
 
@@ -31,11 +31,11 @@ impl fmt::Display for Fault {
 
     fn fmt<W: fmt::Write>(&self, f: &mut fmt::Formatter<W>) -> fmt::Result {
         f.write_str(match self {
-            Fault::Key => "S2",
-            Fault::Kind => "S3",
-            Fault::Range => "S4",
-            Fault::General => "S5",
-            Fault::Twice => "S6",
+            ScenarioFault::Key => "S2",
+            ScenarioFault::Kind => "S3",
+            ScenarioFault::Range => "S4",
+            ScenarioFault::General => "S5",
+            ScenarioFault::Twice => "S6",
         })
     }
 }
@@ -44,11 +44,11 @@ impl fmt::Display for Fault {
 #[derive(Clone, Copy, Debug, PartialEq, Eq)]
 pub enum ProgramFault {
     /// The assembler's fault and its line.
-    Asm(asm::Fault, u64),
+    Asm(asm::AsmFault, u64),
     /// The text is no list of bytes in hex.
     Hex,
     /// The decoder's fault and its unit.
-    Code(codec::Fault, usize),
+    Code(codec::CodecFault, usize),
     /// The verifier's reason and its unit.
     Verifier(Reason, usize),
 }
@@ -89,7 +89,7 @@ pub enum ScenarioError {
     /// S2: a key at the top, or of the traitor's table of this number, is none.
     Unknown(Option<usize>, String),
     /// S2 to S6: a fault at a place.
-    At(Fault, Place),
+    At(ScenarioFault, ScenarioPlace),
     /// S7 and S8: a fault of this general's program.
     Program(u8, ProgramFault),
     /// Memory was refused.

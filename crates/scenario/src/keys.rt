@@ -8,8 +8,8 @@ ghost use Rattle.scenario.specs.Checks.{first_unknown, known, required, whole, e
 ghost use Rattle.scenario.specs.Flaws.{Gives, OrMemory};
 ghost use Rattle.scenario.specs.declared.fault.ScenarioError.TheVariants.{Unknown, Memory};
 
-use crate::fault::{Fault, ScenarioError};
-use crate::place::{Name, Place};
+use crate::fault::{ScenarioError, ScenarioFault};
+use crate::place::{ScenarioKey, ScenarioPlace};
 use std::alloc::{AllocError, Global};
 use toml::{Table, Value};
 
@@ -92,44 +92,48 @@ pub fn entry_is_known(alloc: Global, index: usize, table: &Table) -> Result<(), 
 }
 
 /// The value at a key.
-pub fn at<'a>(table: &'a Table, name: Name) -> Option<&'a Value>
+pub fn at<'a>(table: &'a Table, name: ScenarioKey) -> Option<&'a Value>
     ensures { option_map (λ v. view v.now) result ≡ get_member (text_of name) (table_view table.now) }
 {
     table.get(name.text())
 }
 
 /// The value of a required key.
-fn required(place: Place, value: Option<&Value>) -> Result<&Value, ScenarioError>
+fn required(place: ScenarioPlace, value: Option<&Value>) -> Result<&Value, ScenarioError>
     ensures { Gives (λ v. view v.now) result (required place (option_map (λ v. view v.now) value.entry)) }
 {
     match value {
         Some(value) => Ok(value),
-        None => Err(ScenarioError::At(Fault::Key, place)),
+        None => Err(ScenarioError::At(ScenarioFault::Key, place)),
     }
 }
 
 /// An integer.
-pub fn whole(place: Place, value: &Value) -> Result<i64, ScenarioError>
+pub fn whole(place: ScenarioPlace, value: &Value) -> Result<i64, ScenarioError>
     ensures { Gives (λ z. z) result (whole place (view value.now)) }
 {
     match value.as_integer() {
         Some(integer) => Ok(integer),
-        None => Err(ScenarioError::At(Fault::Kind, place)),
+        None => Err(ScenarioError::At(ScenarioFault::Kind, place)),
     }
 }
 
 /// The elements of an array.
-pub fn elements(place: Place, value: &Value) -> Result<&[Value], ScenarioError>
+pub fn elements(place: ScenarioPlace, value: &Value) -> Result<&[Value], ScenarioError>
     ensures { Gives (λ a. items_view a.now) result (elements place (view value.now)) }
 {
     match value.as_array() {
         Some(array) => Ok(array.as_slice()),
-        None => Err(ScenarioError::At(Fault::Kind, place)),
+        None => Err(ScenarioError::At(ScenarioFault::Kind, place)),
     }
 }
 
 /// An integer that is not below 0.
-pub fn natural(fault: Fault, place: Place, integer: i64) -> Result<u64, ScenarioError>
+pub fn natural(
+    fault: ScenarioFault,
+    place: ScenarioPlace,
+    integer: i64,
+) -> Result<u64, ScenarioError>
     ensures { Gives (λ n. n) result (natural fault place integer) }
 {
     match u64::try_from(integer) {
@@ -141,7 +145,7 @@ pub fn natural(fault: Fault, place: Place, integer: i64) -> Result<u64, Scenario
 /// A number between two others.
 #[tactic(auto, unfolding(crate::specs::Checks::number))]
 pub fn number(
-    place: Place,
+    place: ScenarioPlace,
     least: u32,
     most: u32,
     value: Option<&Value>,
@@ -151,17 +155,17 @@ pub fn number(
 {
     let value = required(place, value)?;
     let integer = whole(place, value)?;
-    let number = natural(Fault::Range, place, integer)?;
+    let number = natural(ScenarioFault::Range, place, integer)?;
     if u64::from(least) <= number && number <= u64::from(most) {
         return Ok(number as u32);
     }
-    Err(ScenarioError::At(Fault::Range, place))
+    Err(ScenarioError::At(ScenarioFault::Range, place))
 }
 
 /// A number between two others, if there is one.
 #[tactic(auto, unfolding(crate::specs::Checks::optional_number))]
 pub fn optional_number(
-    place: Place,
+    place: ScenarioPlace,
     least: u32,
     most: u32,
     value: Option<&Value>,
@@ -179,8 +183,8 @@ pub fn optional_number(
 /// One of the generals.
 #[tactic(auto, unfolding(crate::specs::Checks::general))]
 pub fn general(
-    place: Place,
-    low: Fault,
+    place: ScenarioPlace,
+    low: ScenarioFault,
     generals: u8,
     value: Option<&Value>,
 ) -> Result<u8, ScenarioError>
@@ -193,5 +197,5 @@ pub fn general(
     if number < u64::from(generals) {
         return Ok(number as u8);
     }
-    Err(ScenarioError::At(Fault::General, place))
+    Err(ScenarioError::At(ScenarioFault::General, place))
 }

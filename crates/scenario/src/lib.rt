@@ -1,3 +1,5 @@
+//! Programs that a scenario names by their files, and traitors that share a program: the text in which each stands
+//! where it is named, which a reader of scenarios takes.
 //! Scenarios: the campaigns that texts tell.
 #![tactic(auto)]
 
@@ -5,16 +7,27 @@ mod fault;
 mod head;
 mod keys;
 mod messages;
+mod neighbour_files;
+mod origins;
 mod place;
 mod programs;
 mod reader;
+mod reference;
+mod reference_key;
+mod resolution;
 mod sources;
 mod tables;
+mod text_tables;
 mod words;
 
-pub use fault::{Fault, ProgramFault, ScenarioError};
+pub use fault::{ProgramFault, ScenarioError, ScenarioFault};
 pub use messages::{Campaign, Messages};
-pub use place::{Name, Place};
-pub use programs::{Written, program};
+pub use neighbour_files::LoadedFile;
+pub use origins::{origin, seat};
+pub use place::{ScenarioKey, ScenarioPlace};
+pub use programs::{ProgramText, program};
 pub use reader::{read, read_any};
+pub use reference::{Reference, asked};
+pub use reference_key::ReferenceKey;
+pub use resolution::resolved;
 pub use sources::written_by;

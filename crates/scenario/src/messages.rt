@@ -1,5 +1,5 @@
 //! How the generals of a campaign send orders.
-use roster::Scenario;
+use round::Scenario;
 
 /// How orders are sent.
 #[derive(Clone, Copy, PartialEq, Eq)]

@@ -1,27 +1,27 @@
 //! Files that were read beside a scenario.
 ghost use Rattle.std.specs.Prelude.{◌≡◌, ◌∷◌, [], IfOk, None, option_map, string_bytes};
 ghost use Rattle.hex.specs.Hex.{encode_lower};
-ghost use Rattle.references.specs.Names.{are_same, text_named};
-ghost use Rattle.references.specs.declared.key.Key.TheVariants.{Assembly, Bytecode, Object};
+ghost use Rattle.scenario.specs.ReferenceNames.{are_same, text_named};
+ghost use Rattle.scenario.specs.declared.reference_key.ReferenceKey.TheVariants.{Assembly, Bytecode, Object};
 
-use crate::asking::copied;
-use crate::key::Key;
+use crate::reference::copied;
+use crate::reference_key::ReferenceKey;
 use std::alloc::{AllocError, Global};
 use std::marker::Model;
 
 /// A file that was read beside a scenario: by which key it is named, its name, which function of an object, and the
 /// text that stands in its place.
 #[derive(Drop)]
-pub struct Beside {
-    key: Key,
+pub struct LoadedFile {
+    key: ReferenceKey,
     name: String,
     function: Option<String>,
     text: String,
 }
 
-impl Model for Beside {
+impl Model for LoadedFile {
     ghost use Rattle.std.specs.Prelude.{option_map, string_bytes};
-    ghost use Rattle.references.specs.Names.{File};
+    ghost use Rattle.scenario.specs.ReferenceNames.{File};
 
     ghost Value = { File };
 
@@ -33,9 +33,9 @@ impl Model for Beside {
     } };
 }
 
-impl Beside {
+impl LoadedFile {
     /// A file of assembly with this text.
-    pub fn assembly(name: String, text: String) -> Beside
+    pub fn assembly(name: String, text: String) -> LoadedFile
         ensures { result ≡ record {
           key = Assembly;
           name = string_bytes name;
@@ -43,8 +43,8 @@ impl Beside {
           text = string_bytes text;
         } }
     {
-        Beside {
-            key: Key::Assembly,
+        LoadedFile {
+            key: ReferenceKey::Assembly,
             name,
             function: None,
             text,
@@ -56,7 +56,7 @@ impl Beside {
     /// # Errors
     ///
     /// `AllocError` where the memory for the digits is refused.
-    pub fn bytecode(alloc: Global, name: String, bytes: &[u8]) -> Result<Beside, AllocError>
+    pub fn bytecode(alloc: Global, name: String, bytes: &[u8]) -> Result<LoadedFile, AllocError>
         ensures { IfOk result (λ f. f ≡ record {
           key = Bytecode;
           name = string_bytes name;
@@ -65,8 +65,8 @@ impl Beside {
         }) }
     {
         let text = hex::encode(alloc, bytes)?;
-        Ok(Beside {
-            key: Key::Bytecode,
+        Ok(LoadedFile {
+            key: ReferenceKey::Bytecode,
             name,
             function: None,
             text,
@@ -84,7 +84,7 @@ impl Beside {
         name: String,
         function: Option<&str>,
         code: &[u8],
-    ) -> Result<Beside, AllocError>
+    ) -> Result<LoadedFile, AllocError>
         ensures { IfOk result (λ f. f ≡ record {
           key = Object;
           name = string_bytes name;
@@ -93,8 +93,8 @@ impl Beside {
         }) }
     {
         let text = hex::encode(alloc, code)?;
-        Ok(Beside {
-            key: Key::Object,
+        Ok(LoadedFile {
+            key: ReferenceKey::Object,
             name,
             function: copied(alloc, function)?,
             text,
@@ -102,7 +102,7 @@ impl Beside {
     }
 
     /// Its text, where it is named so.
-    fn text_if(&self, key: Key, name: &str, function: Option<&str>) -> Option<&str>
+    fn text_if(&self, key: ReferenceKey, name: &str, function: Option<&str>) -> Option<&str>
         ensures { option_map (λ t. t.now) result
             ≡ text_named (self.now ∷ []) key name.now (option_map (λ f. f.now) function.entry) }
     {
@@ -129,8 +129,8 @@ fn are_same(own: Option<&str>, other: Option<&str>) -> bool
 
 /// The text of the first file that is named so.
 pub(crate) fn text_named<'a>(
-    files: &'a [Beside],
-    key: Key,
+    files: &'a [LoadedFile],
+    key: ReferenceKey,
     name: &str,
     function: Option<&str>,
 ) -> Option<&'a str>

@@ -2,11 +2,11 @@
 ghost use Rattle.std.specs.Prelude.{◌≡◌, IfOk};
 ghost use Rattle.toml.specs.Parse.{parse_document};
 ghost use Rattle.toml.specs.View.{items_view, table_view, view};
-ghost use Rattle.references.specs.Names.{seats};
-ghost use Rattle.references.specs.Origins.{has_general, is_among, is_general, is_seat, origin, origin_from, seat, seat_from, stands_for};
+ghost use Rattle.scenario.specs.ReferenceNames.{seats};
+ghost use Rattle.scenario.specs.Origins.{has_general, is_among, is_general, is_seat, origin, origin_from, seat, seat_from, stands_for};
 ghost use Rattle.toml.specs.Data.{as_table};
 
-use crate::tables::{document, seats, traitors, value_at};
+use crate::text_tables::{document, seats, traitors, value_at};
 use std::alloc::{AllocError, Global};
 use toml::{Table, Value};
 

@@ -6,7 +6,7 @@ use std::fmt;
 
 /// A key that a scenario may have.
 #[derive(Clone, Copy, Debug, PartialEq, Eq)]
-pub enum Name {
+pub enum ScenarioKey {
     Generals,
     Bound,
     Commander,
@@ -21,42 +21,42 @@ pub enum Name {
     Code,
 }
 
-impl Name {
+impl ScenarioKey {
     /// The key as it is written.
     pub fn text(self) -> &'static str
         ensures { result.now ≡ text_of self }
     {
         match self {
-            Name::Generals => "generals",
-            Name::Bound => "bound",
-            Name::Commander => "commander",
-            Name::Order => "order",
-            Name::Board => "board",
-            Name::Patience => "patience",
-            Name::Rule => "rule",
-            Name::Messages => "messages",
-            Name::Traitor => "traitor",
-            Name::General => "general",
-            Name::Asm => "asm",
-            Name::Code => "code",
+            ScenarioKey::Generals => "generals",
+            ScenarioKey::Bound => "bound",
+            ScenarioKey::Commander => "commander",
+            ScenarioKey::Order => "order",
+            ScenarioKey::Board => "board",
+            ScenarioKey::Patience => "patience",
+            ScenarioKey::Rule => "rule",
+            ScenarioKey::Messages => "messages",
+            ScenarioKey::Traitor => "traitor",
+            ScenarioKey::General => "general",
+            ScenarioKey::Asm => "asm",
+            ScenarioKey::Code => "code",
         }
     }
 }
 
 /// A place in a scenario.
 #[derive(Clone, Copy, Debug, PartialEq, Eq)]
-pub enum Place {
+pub enum ScenarioPlace {
     /// A key at the top.
-    Key(Name),
+    Key(ScenarioKey),
     /// A word of the board, counted from 0.
     Word(usize),
     /// An element of the list of traitors, counted from 0.
     Table(usize),
     /// A key of a traitor's table.
-    Entry(usize, Name),
+    Entry(usize, ScenarioKey),
 }
 
-impl fmt::Display for Place {
+impl fmt::Display for ScenarioPlace {
     ghost use Rattle.std.specs.Prelude.{Some};
     ghost use Rattle.scenario.specs.ErrorText.{place_text};
 
@@ -64,10 +64,10 @@ impl fmt::Display for Place {
 
     fn fmt<W: fmt::Write>(&self, f: &mut fmt::Formatter<W>) -> fmt::Result {
         match *self {
-            Place::Key(name) => write!(f, "{}", name.text()),
-            Place::Word(index) => write!(f, "board[{index}]"),
-            Place::Table(index) => write!(f, "traitor[{index}]"),
-            Place::Entry(index, name) => write!(f, "traitor[{index}].{}", name.text()),
+            ScenarioPlace::Key(name) => write!(f, "{}", name.text()),
+            ScenarioPlace::Word(index) => write!(f, "board[{index}]"),
+            ScenarioPlace::Table(index) => write!(f, "traitor[{index}]"),
+            ScenarioPlace::Entry(index, name) => write!(f, "traitor[{index}].{}", name.text()),
         }
     }
 }

@@ -14,7 +14,7 @@ use verify::{Refused, Verified, VerifyError, verify};
 
 /// A program as a table has it.
 #[derive(Clone, Copy)]
-pub enum Written<'a> {
+pub enum ProgramText<'a> {
     /// Assembly.
     Asm(&'a str),
     /// Bytecode in hex.
@@ -82,12 +82,16 @@ fn undecoded(general: u8, error: CodecError) -> ScenarioError
 }
 
 /// The program of a table.
-pub fn program(alloc: Global, general: u8, written: Written<'_>) -> Result<Program, ScenarioError>
+pub fn program(
+    alloc: Global,
+    general: u8,
+    written: ProgramText<'_>,
+) -> Result<Program, ScenarioError>
     ensures { OrMemory (Makes general (source_of written.entry)) result }
 {
     match written {
-        Written::Asm(text) => said(alloc, general, text),
-        Written::Code(text) => spelled(alloc, general, text),
+        ProgramText::Asm(text) => said(alloc, general, text),
+        ProgramText::Code(text) => spelled(alloc, general, text),
     }
 }
 

@@ -7,15 +7,15 @@ ghost use Rattle.scenario.specs.Checks.{head, rule_by_name, rule, messages_by_na
 ghost use Rattle.scenario.specs.Reading.{Answers, scenario_of, campaign_by, unseated, Reads, ReadsAny};
 ghost use Rattle.scenario.specs.declared.fault.ScenarioError.TheVariants.{Memory, Toml};
 
-use crate::fault::{Fault, ScenarioError};
+use crate::fault::{ScenarioError, ScenarioFault};
 use crate::head::Head;
 use crate::keys::{at, elements, general, number, optional_number, top_is_known};
 use crate::messages::{Campaign, Kinds, Messages};
-use crate::place::{Name, Place};
+use crate::place::{ScenarioKey, ScenarioPlace};
 use crate::tables::traitor;
 use crate::words::board;
 use combine::Rule;
-use roster::{Scenario, Seat};
+use round::{Player, Scenario};
 use std::alloc::{AllocError, Global};
 use std::sync::Arc;
 use toml::{Table, Value};
@@ -27,7 +27,7 @@ fn rule_by_name(text: &str) -> Result<Rule, ScenarioError>
 {
     match Rule::named(text.as_bytes()) {
         Some(rule) => Ok(rule),
-        None => Err(ScenarioError::At(Fault::Range, Place::Key(Name::Rule))),
+        None => Err(ScenarioError::At(ScenarioFault::Range, ScenarioPlace::Key(ScenarioKey::Rule))),
     }
 }
 
@@ -41,7 +41,7 @@ fn rule(value: Option<&Value>) -> Result<Rule, ScenarioError>
     };
     match value.as_str() {
         Some(text) => rule_by_name(text),
-        None => Err(ScenarioError::At(Fault::Kind, Place::Key(Name::Rule))),
+        None => Err(ScenarioError::At(ScenarioFault::Kind, ScenarioPlace::Key(ScenarioKey::Rule))),
     }
 }
 
@@ -53,7 +53,10 @@ fn messages_by_name(kinds: Kinds, text: &str) -> Result<Messages, ScenarioError>
         Kinds::OralAlone | Kinds::Both if text == "oral" => Ok(Messages::Oral),
         Kinds::Both if text == "signed" => Ok(Messages::Signed),
         Kinds::OralAlone | Kinds::Both => {
-            Err(ScenarioError::At(Fault::Range, Place::Key(Name::Messages)))
+            Err(ScenarioError::At(
+                ScenarioFault::Range,
+                ScenarioPlace::Key(ScenarioKey::Messages),
+            ))
         }
     }
 }
@@ -68,7 +71,10 @@ fn messages(kinds: Kinds, value: Option<&Value>) -> Result<Messages, ScenarioErr
     };
     match value.as_str() {
         Some(text) => messages_by_name(kinds, text),
-        None => Err(ScenarioError::At(Fault::Kind, Place::Key(Name::Messages))),
+        None => Err(ScenarioError::At(
+            ScenarioFault::Kind,
+            ScenarioPlace::Key(ScenarioKey::Messages),
+        )),
     }
 }
 
@@ -78,7 +84,7 @@ fn fitting(messages: Messages, rule: Option<&Value>) -> Result<(), ScenarioError
 {
     match (messages, rule) {
         (Messages::Signed, Some(_)) => {
-            Err(ScenarioError::At(Fault::Key, Place::Key(Name::Rule)))
+            Err(ScenarioError::At(ScenarioFault::Key, ScenarioPlace::Key(ScenarioKey::Rule)))
         }
         (Messages::Signed, None) | (Messages::Oral, _) => Ok(()),
     }
@@ -97,22 +103,42 @@ fn head(alloc: Global, table: &Table, kinds: Kinds) -> Result<Head, ScenarioErro
     ensures { OrMemory (λ r. Gives (λ h. h) r (head kinds (table_view table.now))) result }
 {
     top_is_known(alloc, table)?;
-    let generals = number(Place::Key(Name::Generals), 2, 13, at(table, Name::Generals))? as u8;
+    let generals = number(
+        ScenarioPlace::Key(ScenarioKey::Generals),
+        2,
+        13,
+        at(table, ScenarioKey::Generals),
+    )? as u8;
     let most = u32::from(greatest_bound(generals));
-    let bound = number(Place::Key(Name::Bound), 0, most, at(table, Name::Bound))? as u8;
-    let place = Place::Key(Name::Commander);
-    let commander = general(place, Fault::Range, generals, at(table, Name::Commander))?;
-    let order = number(Place::Key(Name::Order), 0, u32::MAX, at(table, Name::Order))?;
-    let board = board(at(table, Name::Board))?;
+    let bound = number(
+        ScenarioPlace::Key(ScenarioKey::Bound),
+        0,
+        most,
+        at(table, ScenarioKey::Bound),
+    )? as u8;
+    let place = ScenarioPlace::Key(ScenarioKey::Commander);
+    let commander = general(
+        place,
+        ScenarioFault::Range,
+        generals,
+        at(table, ScenarioKey::Commander),
+    )?;
+    let order = number(
+        ScenarioPlace::Key(ScenarioKey::Order),
+        0,
+        u32::MAX,
+        at(table, ScenarioKey::Order),
+    )?;
+    let board = board(at(table, ScenarioKey::Board))?;
     let patience = optional_number(
-        Place::Key(Name::Patience),
+        ScenarioPlace::Key(ScenarioKey::Patience),
         1,
         4096,
-        at(table, Name::Patience),
+        at(table, ScenarioKey::Patience),
     )?;
-    let rule = rule(at(table, Name::Rule))?;
-    let messages = messages(kinds, at(table, Name::Messages))?;
-    fitting(messages, at(table, Name::Rule))?;
+    let rule = rule(at(table, ScenarioKey::Rule))?;
+    let messages = messages(kinds, at(table, ScenarioKey::Messages))?;
+    fitting(messages, at(table, ScenarioKey::Rule))?;
     Ok(Head {
         generals,
         bound,
@@ -132,26 +158,26 @@ fn tables(value: Option<&Value>) -> Result<&[Value], ScenarioError>
 {
     match value {
         None => Ok(&[]),
-        Some(value) => elements(Place::Key(Name::Traitor), value),
+        Some(value) => elements(ScenarioPlace::Key(ScenarioKey::Traitor), value),
     }
 }
 
 /// A seat for each general, nobody's yet.
-fn unseated(alloc: Global, generals: u8) -> Result<Vec<Seat>, AllocError>
+fn unseated(alloc: Global, generals: u8) -> Result<Vec<Player>, AllocError>
     ensures { IfOk result (λ seats. seats.items ≡ replicate generals None) }
 {
     let mut seats = Vec::with_capacity(alloc, usize::from(generals))?;
     for _general in 0..generals {
-        seats.push(Seat::new(None))?;
+        seats.push(Player::new(None))?;
     }
     Ok(seats)
 }
 
 /// The seat of a traitor with this program.
-fn seat_of(alloc: Global, program: Verified) -> Result<Seat, ScenarioError>
+fn seat_of(alloc: Global, program: Verified) -> Result<Player, ScenarioError>
     ensures { MatchResult result (λ seat. seat ≡ Some program) (λ e. e ≡ Memory) }
 {
-    Ok(Seat::new(Some(Arc::new(alloc, program)?)))
+    Ok(Player::new(Some(Arc::new(alloc, program)?)))
 }
 
 /// The scenario with the tables' traitors in their seats.
@@ -183,7 +209,7 @@ fn scenario(alloc: Global, table: &Table) -> Result<Scenario, ScenarioError>
     ensures { Reads (Some (table_view table.now)) result }
 {
     let head = head(alloc, table, Kinds::OralAlone)?;
-    let values = tables(at(table, Name::Traitor))?;
+    let values = tables(at(table, ScenarioKey::Traitor))?;
     seated(alloc, head, values)
 }
 
@@ -203,7 +229,7 @@ fn campaign(alloc: Global, table: &Table) -> Result<Campaign, ScenarioError>
 {
     let head = head(alloc, table, Kinds::Both)?;
     let messages = head.messages;
-    let values = tables(at(table, Name::Traitor))?;
+    let values = tables(at(table, ScenarioKey::Traitor))?;
     let scenario = seated(alloc, head, values)?;
     Ok(campaign_by(messages, scenario))
 }

@@ -3,10 +3,10 @@ ghost use Rattle.std.specs.Prelude.{◌≡◌, ◌++◌, IfOk, OnOk, option_map,
 ghost use Rattle.toml.specs.Data.{as_table};
 ghost use Rattle.toml.specs.Parse.{parse_document};
 ghost use Rattle.toml.specs.View.{items_view, table_view, view};
-ghost use Rattle.references.specs.Asking.{asked, asked_by, asked_in, asked_of};
+ghost use Rattle.scenario.specs.Asking.{asked, asked_by, asked_in, asked_of};
 
-use crate::key::Key;
-use crate::tables::{document, function_at, name_at, traitors};
+use crate::reference_key::ReferenceKey;
+use crate::text_tables::{document, function_at, name_at, traitors};
 use std::alloc::{AllocError, Global};
 use std::marker::Model;
 use toml::{Table, Value};
@@ -16,7 +16,7 @@ use toml::{Table, Value};
 pub struct Reference {
     /// The number of the table, counted from 0.
     pub index: usize,
-    pub key: Key,
+    pub key: ReferenceKey,
     pub name: String,
     /// Of an object the function that is the program; none where its only global one is.
     pub function: Option<String>,
@@ -24,7 +24,7 @@ pub struct Reference {
 
 impl Model for Reference {
     ghost use Rattle.std.specs.Prelude.{option_map, string_bytes};
-    ghost use Rattle.references.specs.Asking.{Asked};
+    ghost use Rattle.scenario.specs.Asking.{Asked};
 
     ghost Value = { Asked };
 
@@ -52,7 +52,7 @@ fn ask(
     done: &mut Vec<Reference>,
     index: usize,
     table: &Table,
-    key: Key,
+    key: ReferenceKey,
 ) -> Result<(), AllocError>
     ensures { OnOk result (done.new.items ≡ done.old.items ++ asked_by index (table_view table.now) key) }
 {
@@ -79,9 +79,9 @@ fn ask_all(
     let Some(table) = value.as_table() else {
         return Ok(());
     };
-    ask(alloc, done, index, table, Key::Assembly)?;
-    ask(alloc, done, index, table, Key::Bytecode)?;
-    ask(alloc, done, index, table, Key::Object)
+    ask(alloc, done, index, table, ReferenceKey::Assembly)?;
+    ask(alloc, done, index, table, ReferenceKey::Bytecode)?;
+    ask(alloc, done, index, table, ReferenceKey::Object)
 }
 
 /// The files that the list names.

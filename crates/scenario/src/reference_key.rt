@@ -1,10 +1,10 @@
 //! The keys by which a traitor's table names a file.
 ghost use Rattle.std.specs.Prelude.{◌≡◌};
-ghost use Rattle.references.specs.Names.{is_same, key_of, place_of, reference_of};
+ghost use Rattle.scenario.specs.ReferenceNames.{is_same, key_of, place_of, reference_of};
 
 /// How a file is named, and so what it has.
 #[derive(Clone, Copy, PartialEq, Eq)]
-pub enum Key {
+pub enum ReferenceKey {
     /// Assembly.
     Assembly,
     /// Bytecode.
@@ -13,15 +13,15 @@ pub enum Key {
     Object,
 }
 
-impl Key {
+impl ReferenceKey {
     /// The key that names the file.
     pub fn reference(self) -> &'static str
         ensures { result.now ≡ reference_of self }
     {
         match self {
-            Key::Assembly => "asm_file",
-            Key::Bytecode => "code_file",
-            Key::Object => "elf",
+            ReferenceKey::Assembly => "asm_file",
+            ReferenceKey::Bytecode => "code_file",
+            ReferenceKey::Object => "elf",
         }
     }
 
@@ -30,35 +30,35 @@ impl Key {
         ensures { result.now ≡ place_of self }
     {
         match self {
-            Key::Assembly => "asm",
-            Key::Bytecode | Key::Object => "code",
+            ReferenceKey::Assembly => "asm",
+            ReferenceKey::Bytecode | ReferenceKey::Object => "code",
         }
     }
 
     /// The key that is written so, if it names a file.
-    pub(crate) fn of(text: &str) -> Option<Key>
+    pub(crate) fn of(text: &str) -> Option<ReferenceKey>
         ensures { result ≡ key_of text.now }
     {
         if text == "asm_file" {
-            return Some(Key::Assembly);
+            return Some(ReferenceKey::Assembly);
         }
         if text == "code_file" {
-            return Some(Key::Bytecode);
+            return Some(ReferenceKey::Bytecode);
         }
         if text == "elf" {
-            return Some(Key::Object);
+            return Some(ReferenceKey::Object);
         }
         None
     }
 
     /// Whether both are the same.
-    pub(crate) fn is_same(self, other: Key) -> bool
+    pub(crate) fn is_same(self, other: ReferenceKey) -> bool
         ensures { result ≡ is_same self other }
     {
         match self {
-            Key::Assembly => matches!(other, Key::Assembly),
-            Key::Bytecode => matches!(other, Key::Bytecode),
-            Key::Object => matches!(other, Key::Object),
+            ReferenceKey::Assembly => matches!(other, ReferenceKey::Assembly),
+            ReferenceKey::Bytecode => matches!(other, ReferenceKey::Bytecode),
+            ReferenceKey::Object => matches!(other, ReferenceKey::Object),
         }
     }
 }

@@ -3,35 +3,35 @@ ghost use Rattle.std.specs.Prelude.{◌≡◌, IfOk, OnOk, option_map, string_by
 ghost use Rattle.toml.specs.Data.{item, no_items};
 ghost use Rattle.toml.specs.Parse.{parse_document};
 ghost use Rattle.toml.specs.View.{items_view, table_view, view};
-ghost use Rattle.references.specs.Members.{join};
-ghost use Rattle.references.specs.Names.{traitors};
-ghost use Rattle.references.specs.Parsed.{IsTextBy};
-ghost use Rattle.references.specs.Resolved.{IsPrinted, Resolves, ResolvesList, element_refers, entry, is_spent, one_each, program, rebuilt, refers, resolved, table_refers, tables, tables_of};
+ghost use Rattle.scenario.specs.Members.{join};
+ghost use Rattle.scenario.specs.ReferenceNames.{traitors};
+ghost use Rattle.scenario.specs.Parsed.{IsTextBy};
+ghost use Rattle.scenario.specs.Resolved.{IsPrinted, Resolves, ResolvesList, element_refers, entry, is_spent, one_each, program, rebuilt, refers, resolved, table_refers, tables, tables_of};
 
-use crate::beside::{Beside, text_named};
-use crate::key::Key;
-use crate::tables::{document, function_at, has, name_at, put, seats, traitors};
+use crate::neighbour_files::{LoadedFile, text_named};
+use crate::reference_key::ReferenceKey;
+use crate::text_tables::{document, function_at, has, name_at, put, seats, traitors};
 use std::alloc::{AllocError, Global};
 use toml::ser::Error;
 use toml::{Table, Value};
 
 /// What stands in the place of the file that a table names by this key: the key of its program and its text; nothing
 /// where the key names none, or the file was not read.
-fn program<'a>(files: &'a [Beside], table: &Table, key: &str) -> Option<(Key, &'a str)>
+fn program<'a>(files: &'a [LoadedFile], table: &Table, key: &str) -> Option<(ReferenceKey, &'a str)>
     ensures { option_map (λ p. (p.0, (p.1).now)) result ≡ program files.now (table_view table.now) key.now }
 {
-    let of = Key::of(key)?;
+    let of = ReferenceKey::of(key)?;
     let name = name_at(table, of)?;
     let text = text_named(files, of, name, function_at(table, of))?;
     Some((of, text))
 }
 
 /// Whether the key names the function of an object that stands in its place.
-fn is_spent(files: &[Beside], table: &Table, key: &str) -> bool
+fn is_spent(files: &[LoadedFile], table: &Table, key: &str) -> bool
     ensures { result ≡ is_spent files.now (table_view table.now) key.now }
 {
     key == "entry"
-        && function_at(table, Key::Object).is_some()
+        && function_at(table, ReferenceKey::Object).is_some()
         && program(files, table, "elf").is_some()
 }
 
@@ -40,7 +40,7 @@ fn is_spent(files: &[Beside], table: &Table, key: &str) -> bool
 fn put_entry(
     alloc: Global,
     done: &mut Table,
-    files: &[Beside],
+    files: &[LoadedFile],
     general: Option<&Value>,
     table: &Table,
     key: &str,
@@ -63,7 +63,7 @@ fn put_entry(
 /// A traitor's table with the programs in place of their files, of this general where it is shared.
 fn rebuilt(
     alloc: Global,
-    files: &[Beside],
+    files: &[LoadedFile],
     general: Option<&Value>,
     table: &Table,
 ) -> Result<Table, AllocError>
@@ -88,7 +88,7 @@ fn push(done: &mut Vec<Value>, value: Value) -> Result<(), AllocError>
 fn push_each(
     alloc: Global,
     done: &mut Vec<Value>,
-    files: &[Beside],
+    files: &[LoadedFile],
     generals: &[Value],
     table: &Table,
 ) -> Result<(), AllocError>
@@ -106,7 +106,7 @@ fn push_each(
 fn push_tables(
     alloc: Global,
     done: &mut Vec<Value>,
-    files: &[Beside],
+    files: &[LoadedFile],
     table: &Table,
 ) -> Result<(), AllocError>
     ensures { OnOk result (items_view done.new.items
@@ -122,7 +122,7 @@ fn push_tables(
 fn push_element(
     alloc: Global,
     done: &mut Vec<Value>,
-    files: &[Beside],
+    files: &[LoadedFile],
     value: &Value,
 ) -> Result<(), AllocError>
     ensures { OnOk result (items_view done.new.items
@@ -137,7 +137,7 @@ fn push_element(
 /// The list of traitors in which each has a table of his own, and his program.
 fn resolved_list(
     alloc: Global,
-    files: &[Beside],
+    files: &[LoadedFile],
     values: &[Value],
 ) -> Result<Vec<Value>, AllocError>
     ensures { IfOk result (λ all. items_view all.items ≡ resolved files.now (items_view values.now)) }
@@ -201,7 +201,7 @@ fn printed(alloc: Global, table: &Table) -> Result<Option<String>, AllocError>
 /// own; none where no table names a file or several generals.
 fn resolved_document(
     alloc: Global,
-    files: &[Beside],
+    files: &[LoadedFile],
     table: Table,
 ) -> Result<Option<String>, AllocError>
     ensures { IfOk result (λ new. ResolvesList files.now (table_view table) (traitors (table_view table))
@@ -228,7 +228,11 @@ fn resolved_document(
 /// # Errors
 ///
 /// `AllocError` where memory is refused.
-pub fn resolved(alloc: Global, text: &str, files: &[Beside]) -> Result<Option<String>, AllocError>
+pub fn resolved(
+    alloc: Global,
+    text: &str,
+    files: &[LoadedFile],
+) -> Result<Option<String>, AllocError>
     ensures { IfOk result (λ new. Resolves files.now (parse_document text.now) (option_map string_bytes new)) }
 {
     match document(alloc, text)? {

@@ -5,8 +5,8 @@ ghost use Rattle.scenario.specs.Seen.{source_of};
 ghost use Rattle.scenario.specs.Sources.{is_general, is_number, members_of, source_among, source_by, source_in, text_in};
 
 use crate::keys::at;
-use crate::place::Name;
-use crate::programs::Written;
+use crate::place::ScenarioKey;
+use crate::programs::ProgramText;
 use toml::{Table, Value};
 
 /// Whether the number is that of this general.
@@ -43,13 +43,13 @@ fn text_in(value: Option<&Value>) -> Option<&str>
 }
 
 /// The program of a table.
-fn written_in(table: &Table) -> Option<Written<'_>>
+fn written_in(table: &Table) -> Option<ProgramText<'_>>
     ensures { option_map source_of result ≡ source_in (table_view table.now) }
 {
-    match text_in(at(table, Name::Asm)) {
-        Some(text) => Some(Written::Asm(text)),
-        None => match text_in(at(table, Name::Code)) {
-            Some(text) => Some(Written::Code(text)),
+    match text_in(at(table, ScenarioKey::Asm)) {
+        Some(text) => Some(ProgramText::Asm(text)),
+        None => match text_in(at(table, ScenarioKey::Code)) {
+            Some(text) => Some(ProgramText::Code(text)),
             None => None,
         },
     }
@@ -60,13 +60,13 @@ fn table_of(value: &Value, general: u8) -> Option<&Table>
     ensures { option_map (λ t. table_view t.now) result ≡ members_of general (view value.now) }
 {
     match value.as_table() {
-        Some(table) if is_general(at(table, Name::General), general) => Some(table),
+        Some(table) if is_general(at(table, ScenarioKey::General), general) => Some(table),
         _ => None,
     }
 }
 
 /// That of the first of these tables which is of this general.
-fn written_among(values: &[Value], general: u8) -> Option<Written<'_>>
+fn written_among(values: &[Value], general: u8) -> Option<ProgramText<'_>>
     ensures { option_map source_of result ≡ source_among general (items_view values.now) }
 {
     for index in 0..values.len() {
@@ -78,10 +78,10 @@ fn written_among(values: &[Value], general: u8) -> Option<Written<'_>>
 }
 
 /// The program of this general as the scenario's table has it: that of the first traitor's table with his number.
-pub fn written_by(table: &Table, general: u8) -> Option<Written<'_>>
+pub fn written_by(table: &Table, general: u8) -> Option<ProgramText<'_>>
     ensures { option_map source_of result ≡ source_by general (table_view table.now) }
 {
-    match at(table, Name::Traitor) {
+    match at(table, ScenarioKey::Traitor) {
         Some(value) => match value.as_array() {
             Some(values) => written_among(values.as_slice(), general),
             None => None,

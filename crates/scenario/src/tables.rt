@@ -8,11 +8,11 @@ ghost use Rattle.scenario.specs.Tables.{is_seated, source, table_in, table};
 ghost use Rattle.scenario.specs.Reading.{TableGives};
 ghost use Rattle.scenario.specs.Seen.{source_of};
 
-use crate::fault::{Fault, ScenarioError};
+use crate::fault::{ScenarioError, ScenarioFault};
 use crate::keys::{at, entry_is_known, general};
-use crate::place::{Name, Place};
-use crate::programs::{Written, accepted, program};
-use roster::Seat;
+use crate::place::{ScenarioKey, ScenarioPlace};
+use crate::programs::{ProgramText, accepted, program};
+use round::Player;
 use std::alloc::Global;
 use toml::{Table, Value};
 use verify::Verified;
@@ -23,27 +23,36 @@ fn written<'a>(
     index: usize,
     asm: Option<&'a Value>,
     code: Option<&'a Value>,
-) -> Result<Written<'a>, ScenarioError>
+) -> Result<ProgramText<'a>, ScenarioError>
     ensures { Gives source_of result
         (source index (option_map (λ v. view v.now) asm.entry) (option_map (λ v. view v.now) code.entry)) }
 {
     match (asm, code) {
         (Some(asm), None) => match asm.as_str() {
-            Some(text) => Ok(Written::Asm(text)),
-            None => Err(ScenarioError::At(Fault::Kind, Place::Entry(index, Name::Asm))),
+            Some(text) => Ok(ProgramText::Asm(text)),
+            None => Err(ScenarioError::At(
+                ScenarioFault::Kind,
+                ScenarioPlace::Entry(index, ScenarioKey::Asm),
+            )),
         },
         (None, Some(code)) => match code.as_str() {
-            Some(text) => Ok(Written::Code(text)),
-            None => Err(ScenarioError::At(Fault::Kind, Place::Entry(index, Name::Code))),
+            Some(text) => Ok(ProgramText::Code(text)),
+            None => Err(ScenarioError::At(
+                ScenarioFault::Kind,
+                ScenarioPlace::Entry(index, ScenarioKey::Code),
+            )),
         },
         (Some(_), Some(_)) | (None, None) => {
-            Err(ScenarioError::At(Fault::Key, Place::Entry(index, Name::Asm)))
+            Err(ScenarioError::At(
+                ScenarioFault::Key,
+                ScenarioPlace::Entry(index, ScenarioKey::Asm),
+            ))
         }
     }
 }
 
 /// Whether a table before seated the general.
-fn is_seated(seats: &[Seat], general: u8) -> bool
+fn is_seated(seats: &[Player], general: u8) -> bool
     requires { general < length seats.now }
     ensures { result ≡ is_seated seats.now general }
 {
@@ -51,12 +60,12 @@ fn is_seated(seats: &[Seat], general: u8) -> bool
 }
 
 /// No table before seated the general.
-fn once(place: Place, seats: &[Seat], general: u8) -> Result<(), ScenarioError>
+fn once(place: ScenarioPlace, seats: &[Player], general: u8) -> Result<(), ScenarioError>
     requires { general < length seats.now }
     ensures { Gives (λ _. tt) result (test (not (is_seated seats.now general)) Fault.Twice place) }
 {
     if is_seated(seats, general) {
-        return Err(ScenarioError::At(Fault::Twice, place));
+        return Err(ScenarioError::At(ScenarioFault::Twice, place));
     }
     Ok(())
 }
@@ -68,7 +77,7 @@ fn as_table(index: usize, value: &Value) -> Result<&Table, ScenarioError>
 {
     match value.as_table() {
         Some(table) => Ok(table),
-        None => Err(ScenarioError::At(Fault::Kind, Place::Table(index))),
+        None => Err(ScenarioError::At(ScenarioFault::Kind, ScenarioPlace::Table(index))),
     }
 }
 
@@ -77,10 +86,10 @@ fn as_table(index: usize, value: &Value) -> Result<&Table, ScenarioError>
 fn in_table<'a>(
     alloc: Global,
     generals: u8,
-    seats: &[Seat],
+    seats: &[Player],
     index: usize,
     table: &'a Table,
-) -> Result<(u8, Written<'a>), ScenarioError>
+) -> Result<(u8, ProgramText<'a>), ScenarioError>
     requires { length seats.now ≡ generals }
     ensures gives { OrMemory (λ r. Gives (λ t. record {
       general = t.0;
@@ -89,10 +98,19 @@ fn in_table<'a>(
     ensures small { IfOk result (λ t. t.0 < generals) }
 {
     entry_is_known(alloc, index, table)?;
-    let place = Place::Entry(index, Name::General);
-    let general = general(place, Fault::General, generals, at(table, Name::General))?;
+    let place = ScenarioPlace::Entry(index, ScenarioKey::General);
+    let general = general(
+        place,
+        ScenarioFault::General,
+        generals,
+        at(table, ScenarioKey::General),
+    )?;
     once(place, seats, general)?;
-    let written = written(index, at(table, Name::Asm), at(table, Name::Code))?;
+    let written = written(
+        index,
+        at(table, ScenarioKey::Asm),
+        at(table, ScenarioKey::Code),
+    )?;
     Ok((general, written))
 }
 
@@ -101,10 +119,10 @@ fn in_table<'a>(
 fn table<'a>(
     alloc: Global,
     generals: u8,
-    seats: &[Seat],
+    seats: &[Player],
     index: usize,
     value: &'a Value,
-) -> Result<(u8, Written<'a>), ScenarioError>
+) -> Result<(u8, ProgramText<'a>), ScenarioError>
     requires { length seats.now ≡ generals }
     ensures gives { OrMemory (λ r. Gives (λ t. record {
       general = t.0;
@@ -119,7 +137,7 @@ fn table<'a>(
 pub fn traitor(
     alloc: Global,
     generals: u8,
-    seats: &[Seat],
+    seats: &[Player],
     index: usize,
     value: &Value,
 ) -> Result<(u8, Verified), ScenarioError>

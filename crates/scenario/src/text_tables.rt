@@ -3,11 +3,11 @@ ghost use Rattle.std.specs.Prelude.{◌≡◌, IfOk, OnOk, is_some, option_and_t
 ghost use Rattle.toml.specs.Data.{as_array, as_str, get_member};
 ghost use Rattle.toml.specs.Parse.{parse_document};
 ghost use Rattle.toml.specs.View.{items_view, table_view, view};
-ghost use Rattle.references.specs.Names.{function_at, is_taken, name_at, seats, traitors};
-ghost use Rattle.references.specs.Members.{put};
-ghost use Rattle.references.specs.Parsed.{IsDocumentOf};
+ghost use Rattle.scenario.specs.ReferenceNames.{function_at, is_taken, name_at, seats, traitors};
+ghost use Rattle.scenario.specs.Members.{put};
+ghost use Rattle.scenario.specs.Parsed.{IsDocumentOf};
 
-use crate::key::Key;
+use crate::reference_key::ReferenceKey;
 use std::alloc::{AllocError, Global};
 use toml::de::Error;
 use toml::{Table, Value};
@@ -62,17 +62,17 @@ fn list_at<'a>(table: &'a Table, key: &str) -> Option<&'a [Value]>
 }
 
 /// Whether a traitor's table has a program in the place of such a file, or two files for it.
-fn is_taken(table: &Table, key: Key) -> bool
+fn is_taken(table: &Table, key: ReferenceKey) -> bool
     ensures { result ≡ is_taken key (table_view table.now) }
 {
     match key {
-        Key::Object => has(table, "code") || has(table, "code_file"),
-        Key::Assembly | Key::Bytecode => has(table, key.place()),
+        ReferenceKey::Object => has(table, "code") || has(table, "code_file"),
+        ReferenceKey::Assembly | ReferenceKey::Bytecode => has(table, key.place()),
     }
 }
 
 /// The file that a traitor's table names by a key, where it has no program in its place.
-pub(crate) fn name_at<'a>(table: &'a Table, key: Key) -> Option<&'a str>
+pub(crate) fn name_at<'a>(table: &'a Table, key: ReferenceKey) -> Option<&'a str>
     ensures { option_map (λ n. n.now) result ≡ name_at key (table_view table.now) }
 {
     if is_taken(table, key) {
@@ -82,12 +82,12 @@ pub(crate) fn name_at<'a>(table: &'a Table, key: Key) -> Option<&'a str>
 }
 
 /// The function of its object that a traitor's table names.
-pub(crate) fn function_at<'a>(table: &'a Table, key: Key) -> Option<&'a str>
+pub(crate) fn function_at<'a>(table: &'a Table, key: ReferenceKey) -> Option<&'a str>
     ensures { option_map (λ f. f.now) result ≡ function_at key (table_view table.now) }
 {
     match key {
-        Key::Object => text_at(table, "entry"),
-        Key::Assembly | Key::Bytecode => None,
+        ReferenceKey::Object => text_at(table, "entry"),
+        ReferenceKey::Assembly | ReferenceKey::Bytecode => None,
     }
 }
 

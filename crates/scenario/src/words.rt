@@ -5,16 +5,16 @@ ghost use Rattle.toml.specs.View.{view, items_view};
 ghost use Rattle.scenario.specs.Checks.{over, is_integer, word, set_word, board_words, board};
 ghost use Rattle.scenario.specs.Flaws.{Gives};
 
-use crate::fault::{Fault, ScenarioError};
+use crate::fault::{ScenarioError, ScenarioFault};
 use crate::keys::{elements, natural, whole};
-use crate::place::{Name, Place};
+use crate::place::{ScenarioKey, ScenarioPlace};
 use toml::Value;
 
 fn are_integers(values: &[Value]) -> Result<(), ScenarioError>
     ensures { Gives (λ _. tt) result (over is_integer 0 tt (items_view values.now)) }
 {
     for index in 0..values.len() {
-        whole(Place::Word(index), &values[index])?;
+        whole(ScenarioPlace::Word(index), &values[index])?;
     }
     Ok(())
 }
@@ -23,8 +23,8 @@ fn are_integers(values: &[Value]) -> Result<(), ScenarioError>
 fn word(index: usize, value: &Value) -> Result<u64, ScenarioError>
     ensures { Gives (λ n. n) result (word index (view value.now)) }
 {
-    let integer = whole(Place::Word(index), value)?;
-    natural(Fault::Range, Place::Word(index), integer)
+    let integer = whole(ScenarioPlace::Word(index), value)?;
+    natural(ScenarioFault::Range, ScenarioPlace::Word(index), integer)
 }
 
 fn words(values: &[Value]) -> Result<[u64; 64], ScenarioError>
@@ -44,7 +44,7 @@ fn board_words(values: &[Value]) -> Result<[u64; 64], ScenarioError>
 {
     are_integers(values)?;
     if 64 < values.len() {
-        return Err(ScenarioError::At(Fault::Range, Place::Key(Name::Board)));
+        return Err(ScenarioError::At(ScenarioFault::Range, ScenarioPlace::Key(ScenarioKey::Board)));
     }
     words(values)
 }
@@ -56,6 +56,6 @@ pub fn board(value: Option<&Value>) -> Result<[u64; 64], ScenarioError>
 {
     match value {
         None => Ok([0; 64]),
-        Some(value) => board_words(elements(Place::Key(Name::Board), value)?),
+        Some(value) => board_words(elements(ScenarioPlace::Key(ScenarioKey::Board), value)?),
     }
 }

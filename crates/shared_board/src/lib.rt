@@ -4,9 +4,9 @@
 mod desk;
 mod law;
 mod room;
-mod shared;
+mod shared_board;
 mod witness;
 
 pub use room::Room;
-pub use shared::{SharedBoard, Unshared};
+pub use shared_board::{SharedBoard, Unshared};
 pub use witness::Witness;

@@ -4,7 +4,7 @@ use Rattle.std.specs.Prelude.{◌==◌, bytes_eq, filter}
 use Rattle.std.proofs.lemmas.Bool.{and_from, or_left, or_right, eq-eqb}
 use Rattle.std.proofs.lemmas.Slice.Eq.{bytes_eq-Decides}
 use Rattle.label.specs.Labels.{on}
-use Rattle.roster.specs.Scenario.{Scenario, IsScenario, is_traitor}
+use Rattle.round.specs.Scenario.{Scenario, IsScenario, is_traitor}
 use Rattle.world.specs.Agreement.{IsFinished}
 use Rattle.world.specs.declared.event.Event.{Event}
 use Rattle.signed.specs.Accepted.{loyal_chains}
@@ -16,9 +16,9 @@ use Rattle.signed.proofs.Along.{sent_length}
 use Rattle.signed.proofs.Concluding.{same_scenario, told_in}
 use Rattle.signed.proofs.Finishing.{loyal_in}
 use Rattle.signed.proofs.Worlds.{full_in}
-use Rattle.signed_diagram.specs.Laws.{OnlyTraitorsDiffer}
-use Rattle.signed_diagram.specs.Owed.{is_among, is_same, owed_to, sent_to}
-use Rattle.signed_diagram.specs.Strokes.{grouped, told_between, way}
+use Rattle.show_chains.specs.Laws.{OnlyTraitorsDiffer}
+use Rattle.show_chains.specs.Owed.{is_among, is_same, owed_to, sent_to}
+use Rattle.show_chains.specs.Strokes.{grouped, told_between, way}
 
 same_as_itself : (ch : Chain) → is_same ch ch ≡ true
 same_as_itself ch = and_from (ch.order == ch.order) (bytes_eq ch.signers ch.signers) (eq-eqb ch.order ch.order refl) ((bytes_eq-Decides ch.signers ch.signers).1 refl)

@@ -10,12 +10,12 @@ use Rattle.signed.specs.Accepted.{firsts}
 use Rattle.signed.specs.Chains.{Chain, orders}
 use Rattle.signed.proofs.Decided.{firsts_distinct}
 use Rattle.signed.proofs.Lists.{firsts_in}
-use Rattle.diagram.specs.Order.{arranged}
-use Rattle.diagram.proofs.OrderLemmas.{count_arranged}
-use Rattle.signed_diagram.specs.declared.stroke.Way.{Way}
-use Rattle.signed_diagram.specs.Laws.{tells_of}
-use Rattle.signed_diagram.specs.Owed.{is_among, is_same}
-use Rattle.signed_diagram.specs.Strokes.{Drawn, grouped, in_row, is_lie, made, numbered, of_order, sender, told_between, way}
+use Rattle.show_diagram.specs.Order.{arranged}
+use Rattle.show_diagram.proofs.OrderLemmas.{count_arranged}
+use Rattle.show_chains.specs.declared.stroke.Way.{Way}
+use Rattle.show_chains.specs.Laws.{tells_of}
+use Rattle.show_chains.specs.Owed.{is_among, is_same}
+use Rattle.show_chains.specs.Strokes.{Drawn, grouped, in_row, is_lie, made, numbered, of_order, sender, told_between, way}
 
 -- ---- chains
 

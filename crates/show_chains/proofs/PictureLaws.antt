@@ -4,33 +4,33 @@ use Rattle.std.proofs.lemmas.Bool.{cond_both}
 use Rattle.std.specs.Prelude.{codes, ◌==◌, nat_lt, min}
 use Rattle.std.specs.Fmt.{decimal}
 use Rattle.std.specs.List.{flat_map, range_with_len}
-use Rattle.markup.specs.Grammar.{IsText, no_text, IsContent, text, joined}
-use Rattle.markup.specs.Tags.{element}
-use Rattle.markup.proofs.TextLemmas.{bare_text, decimal_text, text-flat_map}
+use Rattle.html.specs.Grammar.{IsText, no_text, IsContent, text, joined}
+use Rattle.html.specs.Tags.{element}
+use Rattle.html.proofs.TextLemmas.{bare_text, decimal_text, text-flat_map}
 use Rattle.board.specs.Board.{Access}
 use Rattle.book.specs.Explained.{dotted}
-use Rattle.roster.specs.Scenario.{Scenario}
+use Rattle.round.specs.Scenario.{Scenario}
 use Rattle.world.specs.Chronicle.{Chronicle}
 use Rattle.world.specs.declared.verdict.Verdict.{Verdict}
-use Rattle.diagram.specs.declared.mark.Marks.{Marks}
-use Rattle.diagram.specs.declared.stroke.Stroke.{Stroke}
-use Rattle.diagram.specs.Bands.{accesses_from, lives, round_words}
-use Rattle.diagram.specs.Foot.{alike_words, decided_all, obeyed_words}
-use Rattle.diagram.specs.Layout.{column, fan_top, height, rows_top, top_of, width}
-use Rattle.diagram.specs.Left.{cut_words, is_cut, mores}
-use Rattle.diagram.specs.Legend.{foot_height, marks_of, shape_key}
-use Rattle.diagram.specs.Shapes.{line, mark, said_if, text_at, title}
-use Rattle.diagram.specs.Svg.{campaign_words, heads, key_end, look}
-use Rattle.diagram.specs.Words.{copied_words, in_full, kind, outline}
-use Rattle.diagram.proofs.SvgLaws.{accesses_content, alike_text, all, attributes, campaign_text, copied_text, cut_text, decisions_content, described_content, feed, full_text, group_content, heads_content, kind_text, legend_of_content, line_content, lives_content, look_content, many, mark_content, mores_content, name, numbered, obeyed_text, outline_text, picture_is, round_text, said_text, shape_key_text, small, stroke_content, svg_tag, text_content, three_texts, title_content}
+use Rattle.show_diagram.specs.declared.mark.DiagramMarks.{DiagramMarks}
+use Rattle.show_diagram.specs.declared.stroke.Stroke.{Stroke}
+use Rattle.show_diagram.specs.Bands.{accesses_from, lives, round_words}
+use Rattle.show_diagram.specs.Foot.{alike_words, decided_all, obeyed_words}
+use Rattle.show_diagram.specs.Layout.{column, fan_top, height, rows_top, top_of, width}
+use Rattle.show_diagram.specs.Left.{cut_words, is_cut, mores}
+use Rattle.show_diagram.specs.Legend.{foot_height, marks_of, shape_key}
+use Rattle.show_diagram.specs.Shapes.{line, mark, said_if, text_at, title}
+use Rattle.show_diagram.specs.Svg.{campaign_words, heads, key_end, look}
+use Rattle.show_diagram.specs.Words.{copied_words, in_full, kind, outline}
+use Rattle.show_diagram.proofs.SvgLaws.{accesses_content, alike_text, all, attributes, campaign_text, copied_text, cut_text, decisions_content, described_content, feed, full_text, group_content, heads_content, kind_text, legend_of_content, line_content, lives_content, look_content, many, mark_content, mores_content, name, numbered, obeyed_text, outline_text, picture_is, round_text, said_text, shape_key_text, small, stroke_content, svg_tag, text_content, three_texts, title_content}
 use Rattle.signed.specs.Chains.{Chain}
-use Rattle.signed_diagram.specs.Bands.{band, bands, drawn, inside, row, stroke_line}
-use Rattle.signed_diagram.specs.Foot.{bound_words, foot, verdict_lines}
-use Rattle.signed_diagram.specs.Laws.{SignedDiagramsAreElements}
-use Rattle.signed_diagram.specs.Legend.{differs_meaning, legend, missing_meaning, sent_meaning, wide_meaning}
-use Rattle.signed_diagram.specs.Strokes.{Drawn, bare, strokes_of, with_rows}
-use Rattle.signed_diagram.specs.Svg.{description, head, headline, key_start, signed_svg, signed_words, stroke_key}
-use Rattle.signed_diagram.specs.Words.{chain_words, chains_words, count_words, differs_words, first_words, further_words, lead_words, row_words, sends_words, several_words, short_words, stroke_words, withholds_words}
+use Rattle.show_chains.specs.Bands.{band, bands, drawn, inside, row, stroke_line}
+use Rattle.show_chains.specs.Foot.{bound_words, foot, verdict_lines}
+use Rattle.show_chains.specs.Laws.{SignedDiagramsAreElements}
+use Rattle.show_chains.specs.Legend.{differs_meaning, legend, missing_meaning, sent_meaning, wide_meaning}
+use Rattle.show_chains.specs.Strokes.{Drawn, bare, strokes_of, with_rows}
+use Rattle.show_chains.specs.Svg.{description, head, headline, key_start, signed_svg, signed_words, stroke_key}
+use Rattle.show_chains.specs.Words.{chain_words, chains_words, count_words, differs_words, first_words, further_words, lead_words, row_words, sends_words, several_words, short_words, stroke_words, withholds_words}
 
 -- ---- words
 
@@ -155,13 +155,13 @@ verdict_content v =
     (joined a b (text_content (codes "name") 120 64 (alike_words v.alike) name (alike_text v.alike)) (text_content (codes "name") 120 84 (obeyed_words v.obeyed) name (obeyed_text v.obeyed)))
     (text_content (codes "name") 120 104 (bound_words v.bound) name (bound_text v.bound))
 
-legend_content : (marks : Marks) → IsContent (legend marks)
+legend_content : (marks : DiagramMarks) → IsContent (legend marks)
 unfolding sent_meaning differs_meaning missing_meaning wide_meaning
 legend_content marks =
     legend_of_content marks sent_meaning differs_meaning missing_meaning wide_meaning (bare_text sent_meaning refl) (bare_text differs_meaning refl)
     (bare_text missing_meaning refl) (bare_text wide_meaning refl)
 
-foot_content : (c : Chronicle) (marks : Marks) (wide top : ℕ) → IsContent (foot c marks wide top)
+foot_content : (c : Chronicle) (marks : DiagramMarks) (wide top : ℕ) → IsContent (foot c marks wide top)
 foot_content c marks wide top =
     let a : List ℕ = line (codes "rule") 16 0 wide 0 in
     let b : List ℕ = text_at (codes "round") 16 28 (codes "decisions") in
@@ -182,7 +182,7 @@ key_words =
     ++ codes "stands in the column of the receiver what he was sent: the order, and who signed it, the commander "
     ++ codes "first and the sender last."
 
-stroke_key_text : (marks : Marks) → IsText (stroke_key marks)
+stroke_key_text : (marks : DiagramMarks) → IsText (stroke_key marks)
 stroke_key_text marks =
     let one : List ℕ = codes " Circle and plain line: a loyal general in place of the sender would send so." in
     let two : List ℕ = codes " Diamond and dashes: a loyal general would not send so." in
@@ -197,7 +197,7 @@ several_text strokes =
 five_words : (start a b c d e end : List ℕ) → start ++ (a ++ b ++ c ++ d ++ e) ++ end ≡ start ++ a ++ b ++ c ++ d ++ e ++ end
 five_words start a b c d e end = simp append_assoc
 
-description_content : (strokes : List Drawn) (accesses : List Access) (marks : Marks) (cut : Bool) → IsContent (description strokes accesses marks cut)
+description_content : (strokes : List Drawn) (accesses : List Access) (marks : DiagramMarks) (cut : Bool) → IsContent (description strokes accesses marks cut)
 unfolding key_start
 description_content strokes accesses marks cut =
     let a : List ℕ = stroke_key marks in
@@ -210,7 +210,7 @@ description_content strokes accesses marks cut =
     (many (a ++ b ++ c ++ d) e
     (many (a ++ b ++ c) d (many (a ++ b) c (many a b (stroke_key_text marks) (shape_key_text marks)) (said_text cut cut_words cut_text)) (several_text strokes)) (copied_text accesses)))
 
-head_content : (s : Scenario) (strokes : List Drawn) (accesses : List Access) (marks : Marks) (cut : Bool) → IsContent (head s strokes accesses marks cut)
+head_content : (s : Scenario) (strokes : List Drawn) (accesses : List Access) (marks : DiagramMarks) (cut : Bool) → IsContent (head s strokes accesses marks cut)
 head_content s strokes accesses marks cut =
     let w : List ℕ = signed_words s in
     let n : List ℕ = campaign_words s.generals s.bound s.commander s.order in
@@ -234,7 +234,7 @@ proved_signed_diagrams_are_elements c =
     let bottom : ℕ = top_of s.generals shown c.accesses (s.bound + 1) in
     let wide : ℕ = width s.generals c.accesses in
     let w : ℕ = wide + 16 in
-    let marks : Marks = marks_of s c.accesses shown in
+    let marks : DiagramMarks = marks_of s c.accesses shown in
     let h : ℕ = bottom + foot_height marks in
     let a : List ℕ = head s drawn c.accesses marks (is_cut plain) in
     let b : List ℕ = heads s c.accesses in

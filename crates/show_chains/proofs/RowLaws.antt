@@ -10,20 +10,20 @@ use Rattle.label.proofs.Places.{all-append}
 use Rattle.world.specs.Chronicle.{Chronicle}
 use Rattle.signed.specs.Accepted.{firsts}
 use Rattle.signed.specs.Chains.{Among, Chain, orders}
-use Rattle.diagram.specs.declared.stroke.Stroke.{Stroke}
-use Rattle.diagram.specs.Left.{is_left, is_left_lie, is_past}
-use Rattle.diagram.specs.Lists.{has_row, is_lie_to, is_to, with_rows as strokes_with_rows}
-use Rattle.diagram.specs.Order.{arranged, most_rows}
-use Rattle.diagram.proofs.ExactLaws.{kept}
-use Rattle.diagram.proofs.LiesLemmas.{is_lie_of, liar_before, no_honest_before}
-use Rattle.diagram.proofs.OrderLemmas.{all_arranged, any_arranged}
-use Rattle.diagram.proofs.RowLemmas.{all_kept, all_range, filter_flat, filters_swap, none_kept, none_of, one_of}
-use Rattle.signed_diagram.specs.declared.stroke.Way.{Way}
-use Rattle.signed_diagram.specs.Laws.{IsTold, RowsAreExact, StrokesAreExact, drawn_in, is_lie_by, list_in, tells_of}
-use Rattle.signed_diagram.specs.Owed.{is_among, owed_to, sent_to}
-use Rattle.signed_diagram.specs.Strokes.{Drawn, bare, behind, between, grouped, in_round, in_row, is_lie, list_to, made, numbered, sender, strokes_of, told_between, told_to, way, with_rows}
-use Rattle.signed_diagram.proofs.LoyalLaws.{among_them}
-use Rattle.signed_diagram.proofs.OnceLemmas.{kept_arranged, kept_numbered, one_between, other_between}
+use Rattle.show_diagram.specs.declared.stroke.Stroke.{Stroke}
+use Rattle.show_diagram.specs.Left.{is_left, is_left_lie, is_past}
+use Rattle.show_diagram.specs.Lists.{has_row, is_lie_to, is_to, with_rows as strokes_with_rows}
+use Rattle.show_diagram.specs.Order.{arranged, most_rows}
+use Rattle.show_diagram.proofs.ExactLaws.{kept}
+use Rattle.show_diagram.proofs.LiesLemmas.{is_lie_of, liar_before, no_honest_before}
+use Rattle.show_diagram.proofs.OrderLemmas.{all_arranged, any_arranged}
+use Rattle.show_diagram.proofs.RowLemmas.{all_kept, all_range, filter_flat, filters_swap, none_kept, none_of, one_of}
+use Rattle.show_chains.specs.declared.stroke.Way.{Way}
+use Rattle.show_chains.specs.Laws.{IsTold, RowsAreExact, StrokesAreExact, drawn_in, is_lie_by, list_in, tells_of}
+use Rattle.show_chains.specs.Owed.{is_among, owed_to, sent_to}
+use Rattle.show_chains.specs.Strokes.{Drawn, bare, behind, between, grouped, in_round, in_row, is_lie, list_to, made, numbered, sender, strokes_of, told_between, told_to, way, with_rows}
+use Rattle.show_chains.proofs.LoyalLaws.{among_them}
+use Rattle.show_chains.proofs.OnceLemmas.{kept_arranged, kept_numbered, one_between, other_between}
 
 -- ---- strokes in their rows
 

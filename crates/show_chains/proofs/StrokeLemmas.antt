@@ -11,8 +11,8 @@ use Rattle.signed.specs.Chains.{Chain, orders}
 use Rattle.signed.specs.Accepted.{firsts}
 use Rattle.signed.specs.Sending.{added_also}
 use Rattle.signed.proofs.Adding.{at_the_end, firsts_alike}
-use Rattle.signed_diagram.specs.Owed.{is_among}
-use Rattle.signed_diagram.specs.Strokes.{Drawn, grouped, in_row, numbered, told_between, way}
+use Rattle.show_chains.specs.Owed.{is_among}
+use Rattle.show_chains.specs.Strokes.{Drawn, grouped, in_row, numbered, told_between, way}
 
 -- a list for each number, with that of one number more
 pub range_items : {A : Type 0} (f : ℕ → List A) (n : ℕ) (old : List A) → (old ++ flat_map f (range_with_len 0 n)) ++ f n ≡ old ++ flat_map f (range_with_len 0 (n + 1))

@@ -2,13 +2,13 @@
 use Rattle.std.specs.Prelude.{ℕ, ◌+◌, ◌*◌, ◌==◌, min, if◌then◌else◌, List, [], ◌++◌, flat_map, codes}
 use Rattle.std.specs.List.{range_with_len}
 use Rattle.board.specs.Board.{Access}
-use Rattle.diagram.specs.Bands.{accesses_from, lives, round_words}
-use Rattle.diagram.specs.Layout.{column, fan_top, height, rows_top, top_of}
-use Rattle.diagram.specs.Shapes.{group_at, line, mark, stroke_at, text_at, title}
-use Rattle.diagram.specs.Words.{kind, outline}
-use Rattle.diagram.specs.declared.stroke.Stroke.{Stroke}
-use Rattle.signed_diagram.specs.Strokes.{Drawn}
-use Rattle.signed_diagram.specs.Words.{row_words, stroke_words}
+use Rattle.show_diagram.specs.Bands.{accesses_from, lives, round_words}
+use Rattle.show_diagram.specs.Layout.{column, fan_top, height, rows_top, top_of}
+use Rattle.show_diagram.specs.Shapes.{group_at, line, mark, stroke_at, text_at, title}
+use Rattle.show_diagram.specs.Words.{kind, outline}
+use Rattle.show_diagram.specs.declared.stroke.Stroke.{Stroke}
+use Rattle.show_chains.specs.Strokes.{Drawn}
+use Rattle.show_chains.specs.Words.{row_words, stroke_words}
 
 -- a stroke from its sender to its receiver, as wide as it has chains, up to 5
 abbrev pub stroke_line : ℕ → ℕ → Drawn → List ℕ

@@ -3,10 +3,10 @@
 use Rattle.std.specs.Prelude.{ℕ, Bool, true, false, List, ◌++◌, codes}
 use Rattle.world.specs.Chronicle.{Chronicle}
 use Rattle.world.specs.declared.verdict.Verdict.{Verdict}
-use Rattle.diagram.specs.Foot.{alike_words, decided_all, obeyed_words, bound_words as oral_bound}
-use Rattle.diagram.specs.Shapes.{group_at, line, text_at}
-use Rattle.diagram.specs.declared.mark.Marks.{Marks}
-use Rattle.signed_diagram.specs.Legend.{legend}
+use Rattle.show_diagram.specs.Foot.{alike_words, decided_all, obeyed_words, bound_words as oral_bound}
+use Rattle.show_diagram.specs.Shapes.{group_at, line, text_at}
+use Rattle.show_diagram.specs.declared.mark.DiagramMarks.{DiagramMarks}
+use Rattle.show_chains.specs.Legend.{legend}
 
 abbrev pub bound_words : Bool → List ℕ
 bound_words true = oral_bound true
@@ -18,7 +18,7 @@ verdict_lines v =
     ++ text_at (codes "name") 120 84 (obeyed_words v.obeyed)
     ++ text_at (codes "name") 120 104 (bound_words v.bound)
 
-abbrev pub foot : Chronicle → Marks → ℕ → ℕ → List ℕ
+abbrev pub foot : Chronicle → DiagramMarks → ℕ → ℕ → List ℕ
 foot c marks wide top =
     group_at 0 top
     (line (codes "rule") 16 0 wide 0

@@ -2,21 +2,21 @@
 use Rattle.std.specs.Prelude.{ℕ, ◌+◌, ◌<◌, ◌≤◌, ◌≡◌, ◌==◌, ◌&&◌, ◌||◌, Bool, true, false, not, if◌then◌else◌, is_some, List, ◌++◌, codes, count_by, drop, filter, length, map, take}
 use Rattle.std.specs.Bool.{beq}
 use Rattle.std.specs.List.{All, list_any, range_with_len}
-use Rattle.markup.specs.Grammar.{IsElement}
-use Rattle.roster.specs.Scenario.{Scenario, IsScenario, is_traitor}
+use Rattle.html.specs.Grammar.{IsElement}
+use Rattle.round.specs.Scenario.{Scenario, IsScenario, is_traitor}
 use Rattle.world.specs.Agreement.{IsFinished}
 use Rattle.world.specs.Chronicle.{Chronicle}
 use Rattle.world.specs.declared.event.Event.{Event}
 use Rattle.signed.specs.Chronicle.{signed_chronicle_of}
 use Rattle.signed.specs.Chains.{Chain}
 use Rattle.signed.specs.Kind.{played}
-use Rattle.diagram.specs.declared.stroke.Stroke.{Stroke}
-use Rattle.diagram.specs.Left.{is_left, is_left_lie}
-use Rattle.diagram.specs.Lists.{is_to}
-use Rattle.diagram.specs.Order.{most_rows}
-use Rattle.signed_diagram.specs.Owed.{is_among, owed_to, sent_to}
-use Rattle.signed_diagram.specs.Strokes.{Drawn, bare, between, grouped, is_lie, strokes_of, way, with_rows}
-use Rattle.signed_diagram.specs.Svg.{signed_svg}
+use Rattle.show_diagram.specs.declared.stroke.Stroke.{Stroke}
+use Rattle.show_diagram.specs.Left.{is_left, is_left_lie}
+use Rattle.show_diagram.specs.Lists.{is_to}
+use Rattle.show_diagram.specs.Order.{most_rows}
+use Rattle.show_chains.specs.Owed.{is_among, owed_to, sent_to}
+use Rattle.show_chains.specs.Strokes.{Drawn, bare, between, grouped, is_lie, strokes_of, way, with_rows}
+use Rattle.show_chains.specs.Svg.{signed_svg}
 
 -- each picture is one element of XML, and a line feed
 abbrev pub SignedDiagramsAreElements : Type 0

@@ -1,7 +1,7 @@
 -- What the marks mean that stand in a picture of signed messages, below its foot.
 use Rattle.std.specs.Prelude.{ℕ, List, codes}
-use Rattle.diagram.specs.Legend.{legend_of}
-use Rattle.diagram.specs.declared.mark.Marks.{Marks}
+use Rattle.show_diagram.specs.Legend.{legend_of}
+use Rattle.show_diagram.specs.declared.mark.DiagramMarks.{DiagramMarks}
 
 unfoldable pub sent_meaning : List ℕ
 sent_meaning = codes "sent as a loyal general would send it"
@@ -15,5 +15,5 @@ missing_meaning = codes "not sent, and a loyal general would send it"
 unfoldable pub wide_meaning : List ℕ
 wide_meaning = codes "A line leads down, as wide as it has chains, up to 5; its row has the first, and how many."
 
-abbrev pub legend : Marks → List ℕ
+abbrev pub legend : DiagramMarks → List ℕ
 legend marks = legend_of marks sent_meaning differs_meaning missing_meaning wide_meaning

@@ -2,14 +2,14 @@
 -- would send so.
 use Rattle.std.specs.Prelude.{ℕ, suc, ◌+◌, ◌==◌, Bool, true, false, not, List, [], ◌∷◌, ◌++◌, map, filter, flat_map, length, Option, None, Some}
 use Rattle.std.specs.List.{range_with_len}
-use Rattle.diagram.specs.declared.stroke.Stroke.{Stroke}
-use Rattle.diagram.specs.Lists.{has_row}
-use Rattle.diagram.specs.Order.{arranged}
+use Rattle.show_diagram.specs.declared.stroke.Stroke.{Stroke}
+use Rattle.show_diagram.specs.Lists.{has_row}
+use Rattle.show_diagram.specs.Order.{arranged}
 use Rattle.world.specs.Chronicle.{Chronicle}
 use Rattle.signed.specs.Chains.{Chain, orders}
 use Rattle.signed.specs.Accepted.{firsts}
-use Rattle.signed_diagram.specs.declared.stroke.Way.{Way}
-use Rattle.signed_diagram.specs.Owed.{is_among, owed_to, sent_to}
+use Rattle.show_chains.specs.declared.stroke.Way.{Way}
+use Rattle.show_chains.specs.Owed.{is_among, owed_to, sent_to}
 
 -- a stroke, and its chains
 pub record Drawn : Type 0 where

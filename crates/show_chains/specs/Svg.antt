@@ -1,19 +1,19 @@
 -- A campaign of signed messages as a picture in SVG.
 use Rattle.std.specs.Prelude.{ℕ, ◌+◌, Bool, List, ◌++◌, flat_map, codes}
 use Rattle.board.specs.Board.{Access}
-use Rattle.roster.specs.Scenario.{Scenario}
+use Rattle.round.specs.Scenario.{Scenario}
 use Rattle.world.specs.Chronicle.{Chronicle}
-use Rattle.diagram.specs.Layout.{top_of, width}
-use Rattle.diagram.specs.Left.{cut_words, is_cut, mores}
-use Rattle.diagram.specs.Legend.{foot_height, marks_of, shape_key}
-use Rattle.diagram.specs.Shapes.{said_if, text_at, title}
-use Rattle.diagram.specs.Svg.{campaign_words, heads, key_end, look, picture}
-use Rattle.diagram.specs.Words.{copied_words}
-use Rattle.diagram.specs.declared.mark.Marks.{Marks}
-use Rattle.signed_diagram.specs.Bands.{bands}
-use Rattle.signed_diagram.specs.Foot.{foot}
-use Rattle.signed_diagram.specs.Strokes.{Drawn, bare, strokes_of, with_rows}
-use Rattle.signed_diagram.specs.Words.{several_words}
+use Rattle.show_diagram.specs.Layout.{top_of, width}
+use Rattle.show_diagram.specs.Left.{cut_words, is_cut, mores}
+use Rattle.show_diagram.specs.Legend.{foot_height, marks_of, shape_key}
+use Rattle.show_diagram.specs.Shapes.{said_if, text_at, title}
+use Rattle.show_diagram.specs.Svg.{campaign_words, heads, key_end, look, picture}
+use Rattle.show_diagram.specs.Words.{copied_words}
+use Rattle.show_diagram.specs.declared.mark.DiagramMarks.{DiagramMarks}
+use Rattle.show_chains.specs.Bands.{bands}
+use Rattle.show_chains.specs.Foot.{foot}
+use Rattle.show_chains.specs.Strokes.{Drawn, bare, strokes_of, with_rows}
+use Rattle.show_chains.specs.Words.{several_words}
 
 -- the campaign's numbers
 abbrev pub signed_words : Scenario → List ℕ
@@ -28,13 +28,13 @@ key_start =
     ++ codes "first and the sender last."
 
 -- of each mark that stands in the picture
-abbrev pub stroke_key : Marks → List ℕ
+abbrev pub stroke_key : DiagramMarks → List ℕ
 stroke_key marks =
     said_if marks.circle (codes " Circle and plain line: a loyal general in place of the sender would send so.")
     ++ said_if marks.diamond (codes " Diamond and dashes: a loyal general would not send so.")
     ++ said_if marks.cross (codes " Cross and dots: a loyal general would send so, and it was not sent.")
 
-abbrev pub description : List Drawn → List Access → Marks → Bool → List ℕ
+abbrev pub description : List Drawn → List Access → DiagramMarks → Bool → List ℕ
 description strokes accesses marks cut =
     key_start ++ stroke_key marks ++ shape_key marks ++ said_if cut cut_words ++ flat_map several_words strokes
     ++ flat_map copied_words accesses ++ key_end
@@ -45,7 +45,7 @@ headline s =
     text_at (codes "head") 16 28 (campaign_words s.generals s.bound s.commander s.order)
     ++ text_at (codes "small") 16 58 (codes "signed") ++ text_at (codes "small") 16 72 (codes "messages")
 
-abbrev pub head : Scenario → List Drawn → List Access → Marks → Bool → List ℕ
+abbrev pub head : Scenario → List Drawn → List Access → DiagramMarks → Bool → List ℕ
 head s strokes accesses marks cut =
     title (signed_words s) ++ description strokes accesses marks cut ++ look ++ headline s
 

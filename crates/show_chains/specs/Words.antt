@@ -2,9 +2,9 @@
 use Rattle.std.specs.Prelude.{ℕ, ◌==◌, nat_lt, Bool, true, false, if◌then◌else◌, List, [], ◌∷◌, ◌++◌, flat_map, codes, Option, None, Some}
 use Rattle.std.specs.Fmt.{decimal}
 use Rattle.book.specs.Explained.{dotted}
-use Rattle.diagram.specs.Words.{in_full}
+use Rattle.show_diagram.specs.Words.{in_full}
 use Rattle.signed.specs.Chains.{Chain}
-use Rattle.signed_diagram.specs.Strokes.{Drawn}
+use Rattle.show_chains.specs.Strokes.{Drawn}
 
 -- a chain: its order, and its signers as a chronicle writes them
 abbrev pub chain_words : Chain → List ℕ

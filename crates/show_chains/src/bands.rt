@@ -1,20 +1,20 @@
 //! The bands of a picture, one for each round.
 ghost use Rattle.std.specs.Prelude.{◌≡◌, ◌++◌, ◌+◌, ◌<◌, ◌^◌, codes, flat_map, string_bytes, OnOk};
-ghost use Rattle.diagram.specs.Shapes.{text_at, title};
-ghost use Rattle.signed_diagram.specs.Bands.{band, bands, drawn, drawn_at, inside, row, stroke_line};
-ghost use Rattle.signed_diagram.specs.Words.{row_words, stroke_words};
+ghost use Rattle.show_diagram.specs.Shapes.{text_at, title};
+ghost use Rattle.show_chains.specs.Bands.{band, bands, drawn, drawn_at, inside, row, stroke_line};
+ghost use Rattle.show_chains.specs.Words.{row_words, stroke_words};
 
 use crate::stroke::ChainStroke;
 use crate::words::{put_row_words, put_stroke_words};
 use board::Access;
-use diagram::Stroke;
-use diagram::bands::{put_accesses, put_lives, put_round_text};
-use diagram::layout::{column, fan_top, height, rows_top, top_of};
-use diagram::shapes::{
+use show_diagram::Stroke;
+use show_diagram::bands::{put_accesses, put_lives, put_round_text};
+use show_diagram::layout::{column, fan_top, height, rows_top, top_of};
+use show_diagram::shapes::{
     put_group_end, put_group_start, put_line, put_mark, put_stroke_end, put_stroke_start,
     put_text_end, put_text_start, put_title_end, put_title_start,
 };
-use diagram::words::{kind, outline};
+use show_diagram::words::{kind, outline};
 use std::alloc::AllocError;
 
 /// Adds the bands of so many rounds: the heights are those of the strokes without their chains.

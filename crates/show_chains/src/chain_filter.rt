@@ -1,8 +1,8 @@
 //! Those of some chains that pass a test.
 ghost use Rattle.std.specs.Prelude.{◌≡◌, ◌++◌, ◌∷◌, [], cond, not, filter, IfOk, OnOk};
 ghost use Rattle.label.specs.Labels.{on};
-ghost use Rattle.signed_diagram.specs.Owed.{is_among};
-ghost use Rattle.signed_diagram.specs.Strokes.{of_order};
+ghost use Rattle.show_chains.specs.Owed.{is_among};
+ghost use Rattle.show_chains.specs.Strokes.{of_order};
 
 use crate::signed_order::SignedOrder;
 use std::alloc::{AllocError, Global};

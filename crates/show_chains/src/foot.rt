@@ -1,11 +1,13 @@
 //! What stands below the bands of a picture: the decisions, the verdict, and what the marks mean.
 ghost use Rattle.std.specs.Prelude.{◌≡◌, ◌++◌, string_bytes, OnOk};
-ghost use Rattle.signed_diagram.specs.Foot.{bound_words, foot, verdict_lines};
+ghost use Rattle.show_chains.specs.Foot.{bound_words, foot, verdict_lines};
 
 use crate::legend::put_legend;
-use diagram::Marks;
-use diagram::foot::{alike_words, bound_words as oral_bound_words, obeyed_words, put_decisions};
-use diagram::shapes::{put_group_end, put_group_start, put_line, put_words};
+use show_diagram::DiagramMarks;
+use show_diagram::foot::{
+    alike_words, bound_words as oral_bound_words, obeyed_words, put_decisions,
+};
+use show_diagram::shapes::{put_group_end, put_group_start, put_line, put_words};
 use signed::SignedChronicle;
 use std::alloc::AllocError;
 use world::Verdict;
@@ -14,7 +16,7 @@ use world::Verdict;
 pub(crate) fn put_foot(
     out: &mut String,
     chronicle: &SignedChronicle,
-    marks: Marks,
+    marks: DiagramMarks,
     wide: u128,
     top: u128,
 ) -> Result<(), AllocError>

@@ -1,5 +1,5 @@
 //! Laws of what is drawn: each function does nothing, and its contract is the law.
-ghost use Rattle.signed_diagram.specs.Laws.{OnlyTraitorsDiffer, RowsAreExact, SignedDiagramsAreElements, StrokesAreExact};
+ghost use Rattle.show_chains.specs.Laws.{OnlyTraitorsDiffer, RowsAreExact, SignedDiagramsAreElements, StrokesAreExact};
 
 /// A picture is one element of XML, whatever the chronicle.
 pub fn signed_diagrams_are_elements()

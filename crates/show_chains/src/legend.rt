@@ -1,13 +1,13 @@
 //! What the marks of a picture of signed messages mean, below its foot.
 ghost use Rattle.std.specs.Prelude.{◌≡◌, ◌++◌, string_bytes, OnOk};
-ghost use Rattle.signed_diagram.specs.Legend.{differs_meaning, legend, missing_meaning, sent_meaning, wide_meaning};
+ghost use Rattle.show_chains.specs.Legend.{differs_meaning, legend, missing_meaning, sent_meaning, wide_meaning};
 
-use diagram::Marks;
-use diagram::legend::put_legend_of;
+use show_diagram::DiagramMarks;
+use show_diagram::legend::put_legend_of;
 use std::alloc::AllocError;
 
 /// Adds what those of these marks mean that stand in the picture.
-pub(crate) fn put_legend(out: &mut String, marks: Marks) -> Result<(), AllocError>
+pub(crate) fn put_legend(out: &mut String, marks: DiagramMarks) -> Result<(), AllocError>
     ensures { OnOk result (string_bytes out.new ≡ string_bytes out.old ++ legend marks) }
 {
     put_legend_of(

@@ -3,12 +3,12 @@
 #![tactic(auto)]
 
 mod bands;
+mod chain_filter;
 mod foot;
-mod kept;
 mod laws;
 mod legend;
 mod order;
-mod owed;
+mod owed_chains;
 mod signed_order;
 mod stroke;
 mod strokes;

@@ -1,13 +1,13 @@
 //! In which order the rows of a list stand, and which of them are drawn.
 ghost use Rattle.std.specs.Prelude.{◌≡◌, ◌++◌, ◌∷◌, [], cond, IfOk, OnOk};
 ghost use Rattle.std.specs.List.{list_any};
-ghost use Rattle.diagram.specs.Lists.{has_row};
-ghost use Rattle.diagram.specs.Order.{arranged, is_by_one, lies_first, most_rows};
-ghost use Rattle.signed_diagram.specs.Strokes.{is_lie, numbered, sender, with_rows};
+ghost use Rattle.show_diagram.specs.Lists.{has_row};
+ghost use Rattle.show_diagram.specs.Order.{arranged, is_by_one, lies_first, most_rows};
+ghost use Rattle.show_chains.specs.Strokes.{is_lie, numbered, sender, with_rows};
 
 use crate::stroke::ChainStroke;
-use diagram::left::has_row;
-use diagram::order::MOST;
+use show_diagram::order::MOST;
+use show_diagram::overflow::has_row;
 use std::alloc::{AllocError, Global};
 
 /// A list as its rows stand: by sender, or where not all are drawn, the first lie of each sender, then the other lies,
@@ -29,7 +29,7 @@ pub(crate) fn arranged(
 }
 
 /// The first lie of each sender, then the other lies, then what is honest.
-#[tactic(auto, unfolding(diagram::specs::Order::firsts, diagram::specs::Order::repeats))]
+#[tactic(auto, unfolding(show_diagram::specs::Order::firsts, show_diagram::specs::Order::repeats))]
 fn lies_first(alloc: Global, list: Vec<ChainStroke>) -> Result<Vec<ChainStroke>, AllocError>
     ensures { IfOk result (λ rows. rows.items ≡ lies_first is_lie sender list.items) }
 {

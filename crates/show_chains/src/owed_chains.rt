@@ -6,9 +6,9 @@ ghost use Rattle.signed.specs.Chains.{signed_alone, signed_also};
 ghost use Rattle.signed.specs.Entries.{received};
 ghost use Rattle.signed.specs.Sending.{dispatch_of, lent};
 ghost use Rattle.signed.specs.Sent.{delivered, sent_in};
-ghost use Rattle.signed_diagram.specs.Owed.{owed, owed_to, sent_to};
+ghost use Rattle.show_chains.specs.Owed.{owed, owed_to, sent_to};
 
-use crate::kept::unsigned;
+use crate::chain_filter::unsigned;
 use crate::signed_order::SignedOrder;
 use signed::{Chain, SignedChronicle, bringing_in};
 use std::alloc::{AllocError, Global};

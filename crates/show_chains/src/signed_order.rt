@@ -1,7 +1,7 @@
 ghost use Rattle.std.specs.Prelude.{◌≡◌, IfOk};
 ghost use Rattle.label.specs.Labels.{on};
 ghost use Rattle.signed.specs.Chains.{signed_alone, signed_also};
-ghost use Rattle.signed_diagram.specs.Owed.{is_among, is_same};
+ghost use Rattle.show_chains.specs.Owed.{is_among, is_same};
 
 use signed::Chain;
 use std::alloc::{AllocError, Global};

@@ -1,9 +1,9 @@
 //! What a picture says of the chains of a round.
 ghost use Rattle.std.specs.Prelude.{◌≡◌};
-ghost use Rattle.signed_diagram.specs.Strokes.{in_row};
+ghost use Rattle.show_chains.specs.Strokes.{in_row};
 
 use crate::signed_order::SignedOrder;
-use diagram::Stroke;
+use show_diagram::Stroke;
 use std::marker::Model;
 
 /// Who sends whom in which round, and how: what one stroke has beside its chains.
@@ -30,7 +30,7 @@ pub struct ChainStroke {
 }
 
 impl Model for ChainStroke {
-    ghost use Rattle.signed_diagram.specs.Strokes.{Drawn};
+    ghost use Rattle.show_chains.specs.Strokes.{Drawn};
 
     ghost Value = { Drawn };
 

@@ -4,14 +4,14 @@ ghost use Rattle.label.specs.Labels.{on};
 ghost use Rattle.signed.specs.Accepted.{firsts};
 ghost use Rattle.signed.specs.Chains.{orders};
 ghost use Rattle.signed.specs.Sending.{added_also};
-ghost use Rattle.signed_diagram.specs.Strokes.{bare, between, grouped, in_round, list_to, made, plain, strokes_of, told_between, told_if, told_to};
+ghost use Rattle.show_chains.specs.Strokes.{bare, between, grouped, in_round, list_to, made, plain, strokes_of, told_between, told_if, told_to};
 
-use crate::kept::{among, apart, of_order};
+use crate::chain_filter::{among, apart, of_order};
 use crate::order::{arranged, numbered};
-use crate::owed::{owed_to, sent_to};
+use crate::owed_chains::{owed_to, sent_to};
 use crate::signed_order::SignedOrder;
 use crate::stroke::{ChainStroke, Way};
-use diagram::Stroke;
+use show_diagram::Stroke;
 use signed::SignedChronicle;
 use std::alloc::{AllocError, Global};
 

@@ -1,8 +1,8 @@
 //! A campaign of signed messages as a picture in SVG.
 ghost use Rattle.std.specs.Prelude.{◌≡◌, ◌++◌, string_bytes, IfOk, OnOk};
-ghost use Rattle.diagram.specs.Shapes.{title};
-ghost use Rattle.diagram.specs.Svg.{campaign_words};
-ghost use Rattle.signed_diagram.specs.Svg.{description, head, headline, key_start, signed_svg, signed_words, stroke_key};
+ghost use Rattle.show_diagram.specs.Shapes.{title};
+ghost use Rattle.show_diagram.specs.Svg.{campaign_words};
+ghost use Rattle.show_chains.specs.Svg.{description, head, headline, key_start, signed_svg, signed_words, stroke_key};
 
 use crate::bands::put_bands;
 use crate::foot::put_foot;
@@ -11,16 +11,16 @@ use crate::stroke::ChainStroke;
 use crate::strokes::{bare, strokes};
 use crate::words::put_several;
 use board::Access;
-use diagram::Marks;
-use diagram::layout::{top_of, width};
-use diagram::left::{is_cut, put_cut, put_mores};
-use diagram::legend::{foot_height, marks, put_shape_key};
-use diagram::shapes::{
+use round::Scenario;
+use show_diagram::DiagramMarks;
+use show_diagram::layout::{top_of, width};
+use show_diagram::legend::{foot_height, marks, put_shape_key};
+use show_diagram::overflow::{is_cut, put_cut, put_mores};
+use show_diagram::shapes::{
     put_if, put_text_end, put_text_start, put_title_end, put_title_start, put_words,
 };
-use diagram::svg::{look, put_box, put_campaign, put_heads, put_key_end, start};
-use diagram::words::put_copied;
-use roster::Scenario;
+use show_diagram::svg::{look, put_box, put_campaign, put_heads, put_key_end, start};
+use show_diagram::words::put_copied;
 use signed::SignedChronicle;
 use std::alloc::{AllocError, Global};
 
@@ -79,7 +79,7 @@ fn put_head(
     scenario: &Scenario,
     strokes: &[ChainStroke],
     accesses: &[Access],
-    marks: Marks,
+    marks: DiagramMarks,
     is_cut: bool,
 ) -> Result<(), AllocError>
     ensures { OnOk result (string_bytes out.new ≡ string_bytes out.old
@@ -143,7 +143,7 @@ fn put_description(
     out: &mut String,
     strokes: &[ChainStroke],
     accesses: &[Access],
-    marks: Marks,
+    marks: DiagramMarks,
     is_cut: bool,
 ) -> Result<(), AllocError>
     ensures { OnOk result (string_bytes out.new ≡ string_bytes out.old
@@ -169,7 +169,7 @@ fn key_start() -> &'static str
 }
 
 /// Adds what the marks of strokes mean.
-fn put_stroke_key(out: &mut String, marks: Marks) -> Result<(), AllocError>
+fn put_stroke_key(out: &mut String, marks: DiagramMarks) -> Result<(), AllocError>
     ensures { OnOk result (string_bytes out.new ≡ string_bytes out.old ++ stroke_key marks) }
 {
     put_if(

@@ -2,7 +2,7 @@
 ghost use Rattle.std.specs.Prelude.{◌≡◌, ◌++◌, codes, flat_map, string_bytes, OnOk};
 ghost use Rattle.std.specs.Fmt.{decimal};
 ghost use Rattle.book.specs.Explained.{dotted};
-ghost use Rattle.signed_diagram.specs.Words.{chain_words, chains_words, count_words, differs_words, first_words, further_words, lead_words, row_words, sends_words, several_words, short_words, stroke_words, withholds_words};
+ghost use Rattle.show_chains.specs.Words.{chain_words, chains_words, count_words, differs_words, first_words, further_words, lead_words, row_words, sends_words, several_words, short_words, stroke_words, withholds_words};
 
 use crate::signed_order::SignedOrder;
 use crate::stroke::ChainStroke;

@@ -9,17 +9,17 @@ use Rattle.label.specs.Labels.{on, others}
 use Rattle.label.proofs.Counting.{others-on}
 use Rattle.book.specs.Table.{MessageTable}
 use Rattle.book.proofs.Places.{all_flat}
-use Rattle.diagram.specs.declared.stroke.Stroke.{Stroke}
-use Rattle.diagram.specs.declared.telling.Telling.{Telling}
-use Rattle.diagram.specs.Facts.{strokes_of, telling_at, tellings_below, tellings_by, tellings_of}
-use Rattle.diagram.specs.Laws.{RowsAreExact, StrokesAreExact, drawn_in, has_lied, has_lied_as, is_of, labels_told, list_in, told_by}
-use Rattle.diagram.specs.Left.{is_past}
-use Rattle.diagram.specs.Lists.{has_row, is_in, is_lie, is_lie_to, is_same, is_to, labels_of, list_behind, list_of, list_to, lists_of, lists_to, stroke_of, strokes_from, teller, with_rows}
-use Rattle.diagram.specs.Order.{arranged, firsts, most_rows}
-use Rattle.diagram.proofs.LiesLemmas.{is_lie_of, liar_before, no_honest_before}
-use Rattle.diagram.proofs.OnceLemmas.{count_within_told, told_once}
-use Rattle.diagram.proofs.OrderLemmas.{all_filter, all_firsts, any_arranged, count_arranged}
-use Rattle.diagram.proofs.RowLemmas.{IsWithin, all_range, all_strokes, any_stroke, count_strokes, count_within, drop_strokes, filters_swap, first_rows, his_list, rows_are, take_strokes}
+use Rattle.show_diagram.specs.declared.stroke.Stroke.{Stroke}
+use Rattle.show_diagram.specs.declared.told_order.Telling.{Telling}
+use Rattle.show_diagram.specs.Facts.{strokes_of, telling_at, tellings_below, tellings_by, tellings_of}
+use Rattle.show_diagram.specs.Laws.{RowsAreExact, StrokesAreExact, drawn_in, has_lied, has_lied_as, is_of, labels_told, list_in, told_by}
+use Rattle.show_diagram.specs.Left.{is_past}
+use Rattle.show_diagram.specs.Lists.{has_row, is_in, is_lie, is_lie_to, is_same, is_to, labels_of, list_behind, list_of, list_to, lists_of, lists_to, stroke_of, strokes_from, teller, with_rows}
+use Rattle.show_diagram.specs.Order.{arranged, firsts, most_rows}
+use Rattle.show_diagram.proofs.LiesLemmas.{is_lie_of, liar_before, no_honest_before}
+use Rattle.show_diagram.proofs.OnceLemmas.{count_within_told, told_once}
+use Rattle.show_diagram.proofs.OrderLemmas.{all_filter, all_firsts, any_arranged, count_arranged}
+use Rattle.show_diagram.proofs.RowLemmas.{IsWithin, all_range, all_strokes, any_stroke, count_strokes, count_within, drop_strokes, filters_swap, first_rows, his_list, rows_are, take_strokes}
 
 -- ---- what is told at all
 

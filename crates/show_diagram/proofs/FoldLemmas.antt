@@ -2,8 +2,8 @@
 use Rattle.std.proofs.Common.{ℕ, suc, ◌+◌, ◌<◌, ◌≤◌, ◌≡◌, List, ◌∷◌, ◌++◌, length, drop, get_or, ap, sym, ◌∙◌, append_assoc, append-nil, arith}
 use Rattle.std.proofs.lemmas.List.{drop_all, drop_more}
 use Rattle.board.specs.Board.{Access}
-use Rattle.diagram.specs.Bands.{access_at, accesses_from}
-use Rattle.diagram.specs.Layout.{access_top}
+use Rattle.show_diagram.specs.Bands.{access_at, accesses_from}
+use Rattle.show_diagram.specs.Layout.{access_top}
 
 -- one access more, and all of them
 pub access_more : (n round place : ℕ) (xs : List Access) (a : Access) (old new whole : List ℕ) → place < length xs → a ≡ get_or xs place a

@@ -1,8 +1,8 @@
 -- Bands below each other.
 use Rattle.std.proofs.Common.{ℕ, zero, suc, ◌+◌, ◌≡◌, List, refl, sym, ap, ◌∙◌, arith}
 use Rattle.board.specs.Board.{Access}
-use Rattle.diagram.specs.declared.stroke.Stroke.{Stroke}
-use Rattle.diagram.specs.Layout.{height, top_of}
+use Rattle.show_diagram.specs.declared.stroke.Stroke.{Stroke}
+use Rattle.show_diagram.specs.Layout.{height, top_of}
 
 -- above the first
 pub none_above : (n : ℕ) (strokes : List Stroke) (accesses : List Access) (r : ℕ) → r ≡ 0 → 80 ≡ top_of n strokes accesses r

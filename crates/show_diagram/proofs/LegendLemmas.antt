@@ -1,9 +1,9 @@
 -- What the marks of a picture mean, one behind the other.
 use Rattle.std.proofs.Common.{ℕ, ◌+◌, ◌*◌, ◌≡◌, Bool, true, false, List, ◌++◌, append_assoc, codes, None, Some}
-use Rattle.diagram.specs.declared.mark.Marks.{Marks}
-use Rattle.diagram.specs.Legend.{legend_of, meaning_if, one_if, rows, shape_if, shape_meanings, stroke_meanings, stroke_rows}
-use Rattle.diagram.specs.Shapes.{shape_of, text_at}
-use Rattle.diagram.specs.Words.{outline_of}
+use Rattle.show_diagram.specs.declared.mark.DiagramMarks.{DiagramMarks}
+use Rattle.show_diagram.specs.Legend.{legend_of, meaning_if, one_if, rows, shape_if, shape_meanings, stroke_meanings, stroke_rows}
+use Rattle.show_diagram.specs.Shapes.{shape_of, text_at}
+use Rattle.show_diagram.specs.Words.{outline_of}
 
 regrouped : (s a b c : List ℕ) → ((s ++ a) ++ b) ++ c ≡ s ++ ((a ++ b) ++ c)
 regrouped s a b c = simp append_assoc
@@ -11,7 +11,7 @@ regrouped s a b c = simp append_assoc
 pub three_parts : (start a b c one two three : List ℕ) → one ≡ start ++ a → two ≡ one ++ b → three ≡ two ++ c → three ≡ start ++ ((a ++ b) ++ c)
 three_parts start a b c one two three e1 e2 e3 = rw (e3, e2, e1) (regrouped start a b c)
 
-pub three_strokes : (marks : Marks) (told differs missing circle diamond cross : List ℕ) (a b : ℕ) (start one two three : List ℕ) → a ≡ one_if marks.circle → b ≡ one_if marks.diamond
+pub three_strokes : (marks : DiagramMarks) (told differs missing circle diamond cross : List ℕ) (a b : ℕ) (start one two three : List ℕ) → a ≡ one_if marks.circle → b ≡ one_if marks.diamond
     → circle ≡ outline_of false None → diamond ≡ outline_of true (Some 0) → cross ≡ outline_of true None
     → one ≡ start ++ meaning_if marks.circle 0 (codes "told key") circle told
     → two ≡ one ++ meaning_if marks.diamond a (codes "lie key") diamond differs
@@ -23,7 +23,7 @@ three_strokes marks told differs missing circle diamond cross a b start one two 
     (meaning_if marks.diamond (one_if marks.circle) (codes "lie key") (outline_of true (Some 0)) differs)
     (meaning_if marks.cross (one_if marks.circle + one_if marks.diamond) (codes "none key") (outline_of true None) missing))
 
-pub three_shapes : (marks : Marks) (place : ℕ) (square circle point : List ℕ) (a b : ℕ) (start one two three : List ℕ) → a ≡ one_if marks.square → b ≡ one_if marks.loyal
+pub three_shapes : (marks : DiagramMarks) (place : ℕ) (square circle point : List ℕ) (a b : ℕ) (start one two three : List ℕ) → a ≡ one_if marks.square → b ≡ one_if marks.loyal
     → square ≡ shape_of true → circle ≡ shape_of false → point ≡ outline_of false None
     → one ≡ start ++ shape_if marks.square place (codes "traitor key") square (codes "a traitor")
     → two ≡ one ++ shape_if marks.loyal (place + a) (codes "loyal key") circle (codes "a loyal general")
@@ -35,7 +35,7 @@ three_shapes marks place square circle point a b start one two three ea eb es ec
     (shape_if marks.loyal (place + one_if marks.square) (codes "loyal key") (shape_of false) (codes "a loyal general"))
     (shape_if marks.point (place + one_if marks.square + one_if marks.loyal) (codes "point key") (outline_of false None) (codes "an access to the board")))
 
-pub whole_legend : (marks : Marks) (told differs missing wide : List ℕ) (place high : ℕ) (start one two three : List ℕ) → place ≡ stroke_rows marks → high ≡ rows marks
+pub whole_legend : (marks : DiagramMarks) (told differs missing wide : List ℕ) (place high : ℕ) (start one two three : List ℕ) → place ≡ stroke_rows marks → high ≡ rows marks
     → one ≡ start ++ stroke_meanings marks told differs missing → two ≡ one ++ shape_meanings marks place → three ≡ two ++ text_at (codes "small") 120 (136 + 20 * high) wide
     → three ≡ start ++ legend_of marks told differs missing wide
 whole_legend marks told differs missing wide place high start one two three ep eh e1 e2 e3 =

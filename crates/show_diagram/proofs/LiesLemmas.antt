@@ -9,8 +9,8 @@ use Rattle.label.specs.Labels.{is_distinct, on}
 use Rattle.label.specs.Oral.{AllBelow}
 use Rattle.label.proofs.Places.{all-append}
 use Rattle.label.proofs.Ranks.{others-count}
-use Rattle.diagram.specs.Order.{arranged, firsts, is_by_one, lies_first, most_rows, repeats}
-use Rattle.diagram.proofs.OrderLemmas.{all_filter, all_firsts, all_passed, all_repeats, any_of, firsts_any}
+use Rattle.show_diagram.specs.Order.{arranged, firsts, is_by_one, lies_first, most_rows, repeats}
+use Rattle.show_diagram.proofs.OrderLemmas.{all_filter, all_firsts, all_passed, all_repeats, any_of, firsts_any}
 
 -- ---- no more tellers than generals
 

@@ -2,11 +2,11 @@
 use Rattle.std.proofs.Common.{ℕ, ◌+◌, ◌<◌, ◌≤◌, ◌≡◌, not, List, [], ◌∷◌, ◌++◌, length, get_or, suc, refl, sym, ap, ◌∙◌, append_assoc, arith}
 use Rattle.std.proofs.lemmas.List.{length-take, take_all, take_more}
 use Rattle.std.specs.Prelude.{take, filter}
-use Rattle.diagram.specs.declared.stroke.Stroke.{Stroke}
-use Rattle.diagram.specs.declared.telling.Telling.{Telling}
-use Rattle.diagram.specs.Lists.{is_in, is_lie, is_same, labels_of, list_behind, stroke_of, strokes_from, teller}
-use Rattle.diagram.specs.Order.{arranged, firsts, is_by_one, lies_first, repeats}
-use Rattle.diagram.proofs.OrderLemmas.{parted_whole}
+use Rattle.show_diagram.specs.declared.stroke.Stroke.{Stroke}
+use Rattle.show_diagram.specs.declared.told_order.Telling.{Telling}
+use Rattle.show_diagram.specs.Lists.{is_in, is_lie, is_same, labels_of, list_behind, stroke_of, strokes_from, teller}
+use Rattle.show_diagram.specs.Order.{arranged, firsts, is_by_one, lies_first, repeats}
+use Rattle.show_diagram.proofs.OrderLemmas.{parted_whole}
 
 -- lies that are parted, and the honest behind them
 pub parted_all : (list xs rows others honest two three : List Telling) (i : ℕ) → length xs ≤ i → xs ≡ filter is_lie list → rows ≡ firsts (is_by_one teller) [] (take i xs) → others ≡ repeats (is_by_one teller) [] (take i xs)

@@ -12,22 +12,22 @@ use Rattle.book.specs.Grammar.{is_place}
 use Rattle.book.specs.Table.{MessageTable, told}
 use Rattle.book.proofs.Places.{all_flat}
 use Rattle.book.proofs.TreeLemmas.{place_of_tree}
-use Rattle.drawing.proofs.PlaceLemmas.{place_next, teller_told}
-use Rattle.letter.specs.Letters.{messages}
-use Rattle.roster.specs.Scenario.{Scenario, is_traitor}
-use Rattle.tables.specs.Laws.{IsTableOf}
-use Rattle.tables.proofs.Reread.{apart_first, first_label, place_from}
+use Rattle.show_tree.proofs.PlaceLemmas.{place_next, teller_told}
+use Rattle.round.specs.Letters.{messages}
+use Rattle.round.specs.Scenario.{Scenario, is_traitor}
+use Rattle.book.specs.WrittenLaws.{IsTableOf}
+use Rattle.book.proofs.Reread.{apart_first, first_label, place_from}
 use Rattle.world.specs.World.{opening, run}
 use Rattle.world.proofs.Agreeing.{proved_worlds_agree}
-use Rattle.diagram.specs.declared.stroke.Stroke.{Stroke}
-use Rattle.diagram.specs.declared.telling.Telling.{Telling}
-use Rattle.diagram.specs.Facts.{strokes_of, telling_at, tellings_below, tellings_by, tellings_of}
-use Rattle.diagram.specs.Laws.{BlamesTraitors, IsDrawnHonest, OnlyTraitorsDiffer}
-use Rattle.diagram.specs.Lists.{is_in, is_lie, is_same, labels_of, list_behind, lists_of, lists_to, teller}
-use Rattle.diagram.specs.Order.{arranged, firsts}
-use Rattle.diagram.specs.Words.{kind_of}
-use Rattle.diagram.proofs.OrderLemmas.{all_arranged, all_filter, all_firsts}
-use Rattle.diagram.proofs.RowLemmas.{all_range, all_strokes}
+use Rattle.show_diagram.specs.declared.stroke.Stroke.{Stroke}
+use Rattle.show_diagram.specs.declared.told_order.Telling.{Telling}
+use Rattle.show_diagram.specs.Facts.{strokes_of, telling_at, tellings_below, tellings_by, tellings_of}
+use Rattle.show_diagram.specs.Laws.{BlamesTraitors, IsDrawnHonest, OnlyTraitorsDiffer}
+use Rattle.show_diagram.specs.Lists.{is_in, is_lie, is_same, labels_of, list_behind, lists_of, lists_to, teller}
+use Rattle.show_diagram.specs.Order.{arranged, firsts}
+use Rattle.show_diagram.specs.Words.{kind_of}
+use Rattle.show_diagram.proofs.OrderLemmas.{all_arranged, all_filter, all_firsts}
+use Rattle.show_diagram.proofs.RowLemmas.{all_range, all_strokes}
 
 -- who tells what he took does not differ
 told_so : (order : ℕ) (o : Option ℕ) → o ≡ Some order → not (is_told order o) ≡ false

@@ -5,10 +5,10 @@ use Rattle.std.proofs.lemmas.List.Folds.{list_any-append}
 use Rattle.std.proofs.lemmas.List.Sums.{sum_by-append, sum_by-cons}
 use Rattle.std.specs.List.{list_any}
 use Rattle.std.specs.Prelude.{count_by, filter, if◌then◌else◌}
-use Rattle.diagram.specs.declared.telling.Telling.{Telling}
-use Rattle.diagram.specs.Lists.{is_same}
-use Rattle.diagram.specs.Order.{firsts}
-use Rattle.diagram.proofs.Sameness.{same_is}
+use Rattle.show_diagram.specs.declared.told_order.Telling.{Telling}
+use Rattle.show_diagram.specs.Lists.{is_same}
+use Rattle.show_diagram.specs.Order.{firsts}
+use Rattle.show_diagram.proofs.Sameness.{same_is}
 
 count_append : (f : Telling → Bool) (xs ys : List Telling) → count_by f (xs ++ ys) ≡ count_by f xs + count_by f ys
 count_append f xs ys = sum_by-append (λ x. cond {A = ℕ} (f x) 1 0) xs ys

@@ -9,7 +9,7 @@ use Rattle.std.proofs.lemmas.List.Sums.{sum_by-append, sum_by-cons}
 use Rattle.std.specs.List.{AllByRecursion, list_any}
 use Rattle.std.specs.Prelude.{◌==◌, nat_le, count_by, take, filter, if◌then◌else◌}
 use Rattle.label.proofs.Places.{all-append}
-use Rattle.diagram.specs.Order.{arranged, firsts, is_by_one, lies_first, most_rows, repeats}
+use Rattle.show_diagram.specs.Order.{arranged, firsts, is_by_one, lies_first, most_rows, repeats}
 
 or_none : (b : Bool) → (b || false) ≡ b
 or_none true = refl

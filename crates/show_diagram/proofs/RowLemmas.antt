@@ -8,11 +8,11 @@ use Rattle.std.specs.List.{AllByRecursion, flat_map, list_any, range_with_len}
 use Rattle.std.specs.Prelude.{◌==◌, nat_lt, count_by, drop, take, filter, if◌then◌else◌}
 use Rattle.label.proofs.Places.{all-append}
 use Rattle.label.proofs.Ranks.{range_push}
-use Rattle.diagram.specs.declared.stroke.Stroke.{Stroke}
-use Rattle.diagram.specs.declared.telling.Telling.{Telling}
-use Rattle.diagram.specs.Lists.{all_lists, has_row, is_in, is_lie, is_same, is_to, labels_of, list_behind, list_of, list_to, lists_of, lists_to, stroke_of, strokes_from, teller, with_rows}
-use Rattle.diagram.specs.Order.{arranged, firsts, most_rows}
-use Rattle.diagram.proofs.OrderLemmas.{all_arranged, all_firsts, all_passed}
+use Rattle.show_diagram.specs.declared.stroke.Stroke.{Stroke}
+use Rattle.show_diagram.specs.declared.told_order.Telling.{Telling}
+use Rattle.show_diagram.specs.Lists.{all_lists, has_row, is_in, is_lie, is_same, is_to, labels_of, list_behind, list_of, list_to, lists_of, lists_to, stroke_of, strokes_from, teller, with_rows}
+use Rattle.show_diagram.specs.Order.{arranged, firsts, most_rows}
+use Rattle.show_diagram.proofs.OrderLemmas.{all_arranged, all_firsts, all_passed}
 
 -- ---- one of many lists
 

@@ -4,30 +4,30 @@ use Rattle.std.proofs.lemmas.Bool.{and_parts, cond_both}
 use Rattle.std.specs.Prelude.{codes, count_by, ◌==◌, min, slice_get, slice_index_or}
 use Rattle.std.specs.Fmt.{decimal}
 use Rattle.std.specs.List.{flat_map, list_all, range_with_len}
-use Rattle.markup.specs.Grammar.{IsText, no_text, no_attributes, attributed, IsTag, IsContent, text, nested, alone, joined, is_name}
-use Rattle.markup.specs.Tags.{attribute, element, empty}
-use Rattle.markup.proofs.TextLemmas.{bare_text, decimal_text, is_bare, text-append, text-flat_map}
+use Rattle.html.specs.Grammar.{IsText, no_text, no_attributes, attributed, IsTag, IsContent, text, nested, alone, joined, is_name}
+use Rattle.html.specs.Tags.{attribute, element, empty}
+use Rattle.html.proofs.TextLemmas.{bare_text, decimal_text, is_bare, text-append, text-flat_map}
 use Rattle.semantics.specs.declared.request.Request.{Request}
-use Rattle.asking.specs.Wording.{Row, numbers_asked, row_asked}
-use Rattle.asking.proofs.RowLemmas.{row_has}
+use Rattle.board.specs.Wording.{Row, numbers_asked, row_asked}
+use Rattle.board.proofs.RowLemmas.{row_has}
 use Rattle.board.specs.Board.{Access}
-use Rattle.roster.specs.Scenario.{Scenario, is_traitor}
+use Rattle.round.specs.Scenario.{Scenario, is_traitor}
 use Rattle.world.specs.Chronicle.{Chronicle}
 use Rattle.world.specs.declared.verdict.Verdict.{Verdict}
-use Rattle.diagram.specs.declared.mark.Marks.{Marks}
-use Rattle.diagram.specs.declared.stroke.Stroke.{Stroke}
-use Rattle.diagram.specs.Bands.{access_at, accesses_from, band, bands, board_line, drawn, general_life, inside, life, lives, point, round_words, row, stroke_line}
-use Rattle.diagram.specs.Facts.{strokes_of}
-use Rattle.diagram.specs.Foot.{alike_words, bound_words, decided, decided_all, decided_if, decides_words, foot, obeyed_words, place_of, verdict_lines}
-use Rattle.diagram.specs.Laws.{DiagramsAreElements}
-use Rattle.diagram.specs.Legend.{differs_meaning, foot_height, legend, legend_of, marks_of, meaning_at, meaning_if, missing_meaning, one_if, rows, shape_if, shape_key, shape_meanings, stroke_meanings, stroke_rows, told_meaning, wide_meaning}
-use Rattle.diagram.specs.Layout.{access_top, board, column, fan_top, height, rows_top, top_of, width}
-use Rattle.diagram.specs.Left.{cut_words, is_cut, is_left, is_left_lie, left_in_full, left_words, more_at, more_of, more_told, more_top, mores, mores_in}
-use Rattle.diagram.specs.Lists.{with_rows}
-use Rattle.diagram.specs.Order.{most_rows}
-use Rattle.diagram.specs.Shapes.{group_at, group_start, line, mark, said_if, shape_of, sort_of, stroke_at, stroke_open, stroke_way, text_at, text_start, title}
-use Rattle.diagram.specs.Svg.{board_head, box_words, campaign_words, description, general_head, head, head_of, heads, key_end, key_start, look, picture, start, stroke_key, svg_text}
-use Rattle.diagram.specs.Words.{access_words, answer_words, asked_words, copied_words, differs_words, from_words, general_words, in_full, is_copy, kind, kind_of, labels_words, order_words, outline, outline_of, piece_words, role_words, row_words, shown_words, stroke_words, tells_words, word_words}
+use Rattle.show_diagram.specs.declared.mark.DiagramMarks.{DiagramMarks}
+use Rattle.show_diagram.specs.declared.stroke.Stroke.{Stroke}
+use Rattle.show_diagram.specs.Bands.{access_at, accesses_from, band, bands, board_line, drawn, general_life, inside, life, lives, point, round_words, row, stroke_line}
+use Rattle.show_diagram.specs.Facts.{strokes_of}
+use Rattle.show_diagram.specs.Foot.{alike_words, bound_words, decided, decided_all, decided_if, decides_words, foot, obeyed_words, place_of, verdict_lines}
+use Rattle.show_diagram.specs.Laws.{DiagramsAreElements}
+use Rattle.show_diagram.specs.Legend.{differs_meaning, foot_height, legend, legend_of, marks_of, meaning_at, meaning_if, missing_meaning, one_if, rows, shape_if, shape_key, shape_meanings, stroke_meanings, stroke_rows, told_meaning, wide_meaning}
+use Rattle.show_diagram.specs.Layout.{access_top, board, column, fan_top, height, rows_top, top_of, width}
+use Rattle.show_diagram.specs.Left.{cut_words, is_cut, is_left, is_left_lie, left_in_full, left_words, more_at, more_of, more_told, more_top, mores, mores_in}
+use Rattle.show_diagram.specs.Lists.{with_rows}
+use Rattle.show_diagram.specs.Order.{most_rows}
+use Rattle.show_diagram.specs.Shapes.{group_at, group_start, line, mark, said_if, shape_of, sort_of, stroke_at, stroke_open, stroke_way, text_at, text_start, title}
+use Rattle.show_diagram.specs.Svg.{board_head, box_words, campaign_words, description, general_head, head, head_of, heads, key_end, key_start, look, picture, start, stroke_key, svg_text}
+use Rattle.show_diagram.specs.Words.{access_words, answer_words, asked_words, copied_words, differs_words, from_words, general_words, in_full, is_copy, kind, kind_of, labels_words, order_words, outline, outline_of, piece_words, role_words, row_words, shown_words, stroke_words, tells_words, word_words}
 
 -- ---- words
 
@@ -489,7 +489,7 @@ shape_if_content true place kind outline words k o w =
     group_content 172 (132 + 20 * place) (m ++ t) (joined m t (mark_content kind outline k o) (text_content (codes "small") 12 4 words small w))
 shape_if_content false place kind outline words k o w = text [] no_text
 
-strokes_content : (marks : Marks) (told differs missing : List ℕ) → IsText told → IsText differs → IsText missing → IsContent (stroke_meanings marks told differs missing)
+strokes_content : (marks : DiagramMarks) (told differs missing : List ℕ) → IsText told → IsText differs → IsText missing → IsContent (stroke_meanings marks told differs missing)
 strokes_content marks told differs missing a b c =
     let one : List ℕ = meaning_if marks.circle 0 (codes "told key") (outline_of false None) told in
     let two : List ℕ = meaning_if marks.diamond (one_if marks.circle) (codes "lie key") (outline_of true (Some 0)) differs in
@@ -499,7 +499,7 @@ strokes_content marks told differs missing a b c =
     (meaning_if_content marks.diamond (one_if marks.circle) (codes "lie key") (outline_of true (Some 0)) differs (bare_text (codes "lie key") refl) (outline_text true (Some 0)) b))
     (meaning_if_content marks.cross third (codes "none key") (outline_of true None) missing (bare_text (codes "none key") refl) (outline_text true None) c)
 
-shapes_content : (marks : Marks) (place : ℕ) → IsContent (shape_meanings marks place)
+shapes_content : (marks : DiagramMarks) (place : ℕ) → IsContent (shape_meanings marks place)
 shapes_content marks place =
     let second : ℕ = place + one_if marks.square in
     let third : ℕ = place + one_if marks.square + one_if marks.loyal in
@@ -510,7 +510,7 @@ shapes_content marks place =
     (shape_if_content marks.loyal second (codes "loyal key") (shape_of false) (codes "a loyal general") (bare_text (codes "loyal key") refl) (shape_text false) (bare_text (codes "a loyal general") refl)))
     (shape_if_content marks.point third (codes "point key") (outline_of false None) (codes "an access to the board") (bare_text (codes "point key") refl) (outline_text false None) (bare_text (codes "an access to the board") refl))
 
-pub legend_of_content : (marks : Marks) (told differs missing wide : List ℕ) → IsText told → IsText differs → IsText missing → IsText wide → IsContent (legend_of marks told differs missing wide)
+pub legend_of_content : (marks : DiagramMarks) (told differs missing wide : List ℕ) → IsText told → IsText differs → IsText missing → IsText wide → IsContent (legend_of marks told differs missing wide)
 legend_of_content marks told differs missing wide a b c d =
     let one : List ℕ = stroke_meanings marks told differs missing in
     let two : List ℕ = shape_meanings marks (stroke_rows marks) in
@@ -518,13 +518,13 @@ legend_of_content marks told differs missing wide a b c d =
     (joined one two (strokes_content marks told differs missing a b c) (shapes_content marks (stroke_rows marks)))
     (text_content (codes "small") 120 (136 + 20 * rows marks) wide small d)
 
-legend_content : (marks : Marks) → IsContent (legend marks)
+legend_content : (marks : DiagramMarks) → IsContent (legend marks)
 unfolding told_meaning differs_meaning missing_meaning wide_meaning
 legend_content marks =
     legend_of_content marks told_meaning differs_meaning missing_meaning wide_meaning (bare_text told_meaning refl) (bare_text differs_meaning refl)
     (bare_text missing_meaning refl) (bare_text wide_meaning refl)
 
-foot_content : (c : Chronicle) (marks : Marks) (wide top : ℕ) → IsContent (foot c marks wide top)
+foot_content : (c : Chronicle) (marks : DiagramMarks) (wide top : ℕ) → IsContent (foot c marks wide top)
 foot_content c marks wide top =
     let a : List ℕ = line (codes "rule") 16 0 wide 0 in
     let b : List ℕ = text_at (codes "round") 16 28 (codes "decisions") in
@@ -554,14 +554,14 @@ said_text false words t = no_text
 pub three_texts : (a b c : Bool) (x y z : List ℕ) → IsText x → IsText y → IsText z → IsText (said_if a x ++ said_if b y ++ said_if c z)
 three_texts a b c x y z tx ty tz = many (said_if a x ++ said_if b y) (said_if c z) (many (said_if a x) (said_if b y) (said_text a x tx) (said_text b y ty)) (said_text c z tz)
 
-stroke_key_text : (marks : Marks) → IsText (stroke_key marks)
+stroke_key_text : (marks : DiagramMarks) → IsText (stroke_key marks)
 stroke_key_text marks =
     let one : List ℕ = codes " Circle and plain line: as an honest relay tells it." in
     let two : List ℕ = codes " Diamond and dashes: something else." in
     let three : List ℕ = codes " Cross and dots: nothing, where something was to be told." in
     three_texts marks.circle marks.diamond marks.cross one two three (bare_text one refl) (bare_text two refl) (bare_text three refl)
 
-pub shape_key_text : (marks : Marks) → IsText (shape_key marks)
+pub shape_key_text : (marks : DiagramMarks) → IsText (shape_key marks)
 shape_key_text marks =
     let one : List ℕ = codes " Above the lines stand the accesses to the board, in its order." in
     let two : List ℕ = codes " Square: a traitor." in
@@ -595,7 +595,7 @@ described_content words more w m =
 pub description_whole : (start a b c d end : List ℕ) → start ++ (a ++ b ++ c ++ d) ++ end ≡ start ++ a ++ b ++ c ++ d ++ end
 description_whole start a b c d end = simp append_assoc
 
-description_content : (accesses : List Access) (marks : Marks) (cut : Bool) → IsContent (description accesses marks cut)
+description_content : (accesses : List Access) (marks : DiagramMarks) (cut : Bool) → IsContent (description accesses marks cut)
 unfolding key_start
 description_content accesses marks cut =
     let a : List ℕ = stroke_key marks in
@@ -625,7 +625,7 @@ pub look_content : IsContent look
 unfolding look
 look_content = fed (element (codes "style") [] look_words) (nested (codes "style") [] look_words (bare_tag (codes "style") refl) (text look_words (bare_text look_words refl)))
 
-head_content : (s : Scenario) (accesses : List Access) (marks : Marks) (cut : Bool) → IsContent (head s accesses marks cut)
+head_content : (s : Scenario) (accesses : List Access) (marks : DiagramMarks) (cut : Bool) → IsContent (head s accesses marks cut)
 head_content s accesses marks cut =
     let w : List ℕ = campaign_words s.generals s.bound s.commander s.order in
     let t : IsText w = campaign_text s.generals s.bound s.commander s.order in
@@ -704,7 +704,7 @@ proved_diagrams_are_elements t c =
     let bottom : ℕ = top_of s.generals drawn c.accesses (s.bound + 1) in
     let wide : ℕ = width s.generals c.accesses in
     let w : ℕ = wide + 16 in
-    let marks : Marks = marks_of s c.accesses drawn in
+    let marks : DiagramMarks = marks_of s c.accesses drawn in
     let h : ℕ = bottom + foot_height marks in
     let a : List ℕ = head s c.accesses marks (is_cut strokes) in
     let b : List ℕ = heads s c.accesses in

@@ -6,9 +6,9 @@ use Rattle.std.proofs.lemmas.List.Folds.{list_any_more}
 use Rattle.std.proofs.lemmas.List.Sums.{count_by-le-length, count_by_more_no, count_by_more_yes}
 use Rattle.std.specs.List.{list_any}
 use Rattle.std.specs.Prelude.{◌==◌, take, count_by, if◌then◌else◌}
-use Rattle.diagram.proofs.Sameness.{same_back, same_is}
-use Rattle.diagram.specs.declared.telling.Telling.{Telling}
-use Rattle.diagram.specs.Lists.{is_same}
+use Rattle.show_diagram.proofs.Sameness.{same_back, same_is}
+use Rattle.show_diagram.specs.declared.told_order.Telling.{Telling}
+use Rattle.show_diagram.specs.Lists.{is_same}
 
 cond_or : (a b : Bool) → cond a true b ≡ (b || a)
 cond_or true true = refl

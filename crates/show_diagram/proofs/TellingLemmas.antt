@@ -3,8 +3,8 @@ use Rattle.std.proofs.Common.{ℕ, zero, suc, ◌≡◌, List, [], ◌∷◌, �
 use Rattle.std.specs.List.{flat_map}
 use Rattle.label.specs.Labels.{others}
 use Rattle.book.specs.Table.{MessageTable}
-use Rattle.diagram.specs.declared.telling.Telling.{Telling}
-use Rattle.diagram.specs.Facts.{telling_at, tellings_below, tellings_by}
+use Rattle.show_diagram.specs.declared.told_order.Telling.{Telling}
+use Rattle.show_diagram.specs.Facts.{telling_at, tellings_below, tellings_by}
 
 -- where no relay is left
 pub below_last : (t : MessageTable) (r : ℕ) (w : List ℕ) (p : ℕ) → r ≡ 0 → tellings_below t r w p ≡ []

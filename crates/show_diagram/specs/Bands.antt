@@ -3,10 +3,10 @@ use Rattle.std.specs.Prelude.{ℕ, ◌+◌, ◌-◌, ◌*◌, ◌==◌, min, if�
 use Rattle.std.specs.Fmt.{decimal}
 use Rattle.std.specs.List.{range_with_len}
 use Rattle.board.specs.Board.{Access}
-use Rattle.diagram.specs.declared.stroke.Stroke.{Stroke}
-use Rattle.diagram.specs.Layout.{access_top, board, column, fan_top, height, rows_top, top_of}
-use Rattle.diagram.specs.Shapes.{group_at, line, mark, stroke_at, text_at, title}
-use Rattle.diagram.specs.Words.{access_words, kind, outline, row_words, shown_words, stroke_words}
+use Rattle.show_diagram.specs.declared.stroke.Stroke.{Stroke}
+use Rattle.show_diagram.specs.Layout.{access_top, board, column, fan_top, height, rows_top, top_of}
+use Rattle.show_diagram.specs.Shapes.{group_at, line, mark, stroke_at, text_at, title}
+use Rattle.show_diagram.specs.Words.{access_words, kind, outline, row_words, shown_words, stroke_words}
 
 unfoldable pub round_words : ℕ → List ℕ
 round_words round = codes "round " ++ decimal round

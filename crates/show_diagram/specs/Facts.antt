@@ -5,9 +5,9 @@ use Rattle.label.specs.Labels.{others}
 use Rattle.label.specs.Oral.{taken}
 use Rattle.book.specs.Conditions.{is_told}
 use Rattle.book.specs.Table.{MessageTable, told}
-use Rattle.diagram.specs.declared.stroke.Stroke.{Stroke}
-use Rattle.diagram.specs.declared.telling.Telling.{Telling}
-use Rattle.diagram.specs.Lists.{all_lists}
+use Rattle.show_diagram.specs.declared.stroke.Stroke.{Stroke}
+use Rattle.show_diagram.specs.declared.told_order.Telling.{Telling}
+use Rattle.show_diagram.specs.Lists.{all_lists}
 
 -- what j tells p of the label w; an honest relay tells what he took
 abbrev pub telling_at : MessageTable → List ℕ → ℕ → ℕ → Telling

@@ -3,13 +3,13 @@
 use Rattle.std.specs.Prelude.{ℕ, ◌-◌, ◌==◌, nat_lt, Bool, true, false, if◌then◌else◌, List, [], ◌++◌, flat_map, codes, slice_get, Option, None, Some}
 use Rattle.std.specs.Fmt.{decimal}
 use Rattle.std.specs.List.{range_with_len}
-use Rattle.roster.specs.Scenario.{Scenario, is_traitor}
+use Rattle.round.specs.Scenario.{Scenario, is_traitor}
 use Rattle.world.specs.Chronicle.{Chronicle}
 use Rattle.world.specs.declared.verdict.Verdict.{Verdict}
-use Rattle.diagram.specs.declared.mark.Marks.{Marks}
-use Rattle.diagram.specs.Layout.{column}
-use Rattle.diagram.specs.Legend.{legend}
-use Rattle.diagram.specs.Shapes.{group_at, line, mark, shape_of, sort_of, text_at}
+use Rattle.show_diagram.specs.declared.mark.DiagramMarks.{DiagramMarks}
+use Rattle.show_diagram.specs.Layout.{column}
+use Rattle.show_diagram.specs.Legend.{legend}
+use Rattle.show_diagram.specs.Shapes.{group_at, line, mark, shape_of, sort_of, text_at}
 
 unfoldable pub decides_words : ℕ → List ℕ
 decides_words order = codes "decides " ++ decimal order
@@ -51,7 +51,7 @@ verdict_lines v =
     text_at (codes "name") 120 64 (alike_words v.alike) ++ text_at (codes "name") 120 84 (obeyed_words v.obeyed)
     ++ text_at (codes "name") 120 104 (bound_words v.bound)
 
-abbrev pub foot : Chronicle → Marks → ℕ → ℕ → List ℕ
+abbrev pub foot : Chronicle → DiagramMarks → ℕ → ℕ → List ℕ
 foot c marks wide top =
     group_at 0 top
     (line (codes "rule") 16 0 wide 0 ++ text_at (codes "round") 16 28 (codes "decisions")

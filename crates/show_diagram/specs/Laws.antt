@@ -2,23 +2,23 @@
 use Rattle.std.specs.Prelude.{ℕ, ◌+◌, ◌≡◌, ◌≢◌, ◌<◌, ◌≤◌, ◌↔◌, ◌==◌, ◌&&◌, Bool, true, false, if◌then◌else◌, List, [], ◌∷◌, ◌++◌, length, map, take, drop, count_by, codes, Some}
 use Rattle.std.specs.List.{All, list_any, range_with_len}
 use Rattle.label.specs.Oral.{taken}
-use Rattle.markup.specs.Grammar.{IsElement}
+use Rattle.html.specs.Grammar.{IsElement}
 use Rattle.book.specs.Table.{MessageTable, told}
-use Rattle.letter.specs.Letters.{messages}
-use Rattle.roster.specs.Scenario.{Scenario, IsScenario, is_traitor}
-use Rattle.tables.specs.Laws.{IsTableOf}
+use Rattle.round.specs.Letters.{messages}
+use Rattle.round.specs.Scenario.{Scenario, IsScenario, is_traitor}
+use Rattle.book.specs.WrittenLaws.{IsTableOf}
 use Rattle.world.specs.Agreement.{IsFinished}
 use Rattle.world.specs.Chronicle.{Chronicle}
 use Rattle.world.specs.World.{opening, run}
 use Rattle.world.specs.declared.event.Event.{Event}
-use Rattle.diagram.specs.declared.stroke.Stroke.{Stroke}
-use Rattle.diagram.specs.declared.telling.Telling.{Telling}
-use Rattle.diagram.specs.Facts.{first_telling, strokes_of, telling_at, tellings_of}
-use Rattle.diagram.specs.Left.{is_left, is_left_lie}
-use Rattle.diagram.specs.Lists.{is_lie_to, is_same, is_to, labels_of, list_to, with_rows}
-use Rattle.diagram.specs.Order.{most_rows}
-use Rattle.diagram.specs.Svg.{svg_text}
-use Rattle.diagram.specs.Words.{kind}
+use Rattle.show_diagram.specs.declared.stroke.Stroke.{Stroke}
+use Rattle.show_diagram.specs.declared.told_order.Telling.{Telling}
+use Rattle.show_diagram.specs.Facts.{first_telling, strokes_of, telling_at, tellings_of}
+use Rattle.show_diagram.specs.Left.{is_left, is_left_lie}
+use Rattle.show_diagram.specs.Lists.{is_lie_to, is_same, is_to, labels_of, list_to, with_rows}
+use Rattle.show_diagram.specs.Order.{most_rows}
+use Rattle.show_diagram.specs.Svg.{svg_text}
+use Rattle.show_diagram.specs.Words.{kind}
 
 -- each picture is one element of XML, and a line feed
 abbrev pub DiagramsAreElements : Type 0

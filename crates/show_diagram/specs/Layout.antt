@@ -1,8 +1,8 @@
 -- Where the parts of a picture stand, in units of it: a column for each general, and a band for each round.
 use Rattle.std.specs.Prelude.{ℕ, zero, suc, ◌+◌, ◌-◌, ◌*◌, ◌==◌, nat_lt, Bool, max, if◌then◌else◌, List, [], ◌∷◌, length, count_by}
 use Rattle.board.specs.Board.{Access}
-use Rattle.diagram.specs.declared.stroke.Stroke.{Stroke}
-use Rattle.diagram.specs.Words.{shown_words}
+use Rattle.show_diagram.specs.declared.stroke.Stroke.{Stroke}
+use Rattle.show_diagram.specs.Words.{shown_words}
 
 abbrev pub column : ℕ → ℕ
 column g = 120 + 208 * g

@@ -4,11 +4,11 @@ use Rattle.std.specs.Prelude.{ℕ, ◌+◌, ◌*◌, ◌==◌, ◌&&◌, nat_le,
 use Rattle.std.specs.Fmt.{decimal}
 use Rattle.std.specs.List.{list_any, range_with_len}
 use Rattle.board.specs.Board.{Access}
-use Rattle.diagram.specs.declared.stroke.Stroke.{Stroke}
-use Rattle.diagram.specs.Layout.{column, rows_top, top_of}
-use Rattle.diagram.specs.Lists.{is_lie_to, is_to}
-use Rattle.diagram.specs.Order.{most_rows}
-use Rattle.diagram.specs.Shapes.{group_at, text_at, title}
+use Rattle.show_diagram.specs.declared.stroke.Stroke.{Stroke}
+use Rattle.show_diagram.specs.Layout.{column, rows_top, top_of}
+use Rattle.show_diagram.specs.Lists.{is_lie_to, is_to}
+use Rattle.show_diagram.specs.Order.{most_rows}
+use Rattle.show_diagram.specs.Shapes.{group_at, text_at, title}
 
 -- which strokes are not drawn
 abbrev pub is_past : Stroke → Bool

@@ -3,11 +3,11 @@ use Rattle.std.specs.Prelude.{ℕ, ◌+◌, ◌*◌, nat_lt, Bool, true, false, 
 use Rattle.std.specs.List.{list_any}
 use Rattle.board.specs.Board.{Access}
 use Rattle.label.specs.Labels.{generals}
-use Rattle.roster.specs.Scenario.{Scenario, is_traitor}
-use Rattle.diagram.specs.declared.mark.Marks.{Marks}
-use Rattle.diagram.specs.declared.stroke.Stroke.{Stroke}
-use Rattle.diagram.specs.Shapes.{group_at, mark, said_if, shape_of, stroke_at, text_at}
-use Rattle.diagram.specs.Words.{outline_of}
+use Rattle.round.specs.Scenario.{Scenario, is_traitor}
+use Rattle.show_diagram.specs.declared.mark.DiagramMarks.{DiagramMarks}
+use Rattle.show_diagram.specs.declared.stroke.Stroke.{Stroke}
+use Rattle.show_diagram.specs.Shapes.{group_at, mark, said_if, shape_of, stroke_at, text_at}
+use Rattle.show_diagram.specs.Words.{outline_of}
 
 -- which strokes have a circle, a diamond, a cross
 abbrev pub has_circle : Stroke → Bool
@@ -23,7 +23,7 @@ abbrev pub traitors : Scenario → ℕ
 traitors s = count_by (is_traitor s) (generals s.generals)
 
 -- the marks that stand in the picture of these strokes and accesses
-abbrev pub marks_of : Scenario → List Access → List Stroke → Marks
+abbrev pub marks_of : Scenario → List Access → List Stroke → DiagramMarks
 marks_of s accesses strokes = record {
   circle = list_any has_circle strokes;
   diamond = list_any has_diamond strokes;
@@ -37,13 +37,13 @@ abbrev pub one_if : Bool → ℕ
 one_if stands = if stands then 1 else 0
 
 -- how many rows those of the strokes have, and all; and how high the legend is, with the foot above it
-abbrev pub stroke_rows : Marks → ℕ
+abbrev pub stroke_rows : DiagramMarks → ℕ
 stroke_rows marks = one_if marks.circle + one_if marks.diamond + one_if marks.cross
 
-abbrev pub rows : Marks → ℕ
+abbrev pub rows : DiagramMarks → ℕ
 rows marks = stroke_rows marks + one_if marks.square + one_if marks.loyal + one_if marks.point
 
-abbrev pub foot_height : Marks → ℕ
+abbrev pub foot_height : DiagramMarks → ℕ
 foot_height marks = 152 + 20 * rows marks
 
 -- a stroke and its mark, or a mark alone, and what they mean
@@ -63,7 +63,7 @@ abbrev pub shape_if : Bool → ℕ → List ℕ → List ℕ → List ℕ → Li
 shape_if stands place kind outline words = if stands then shape_at (132 + 20 * place) kind outline words else []
 
 -- of what is told as it should be, of something else, and of nothing in its place
-abbrev pub stroke_meanings : Marks → List ℕ → List ℕ → List ℕ → List ℕ
+abbrev pub stroke_meanings : DiagramMarks → List ℕ → List ℕ → List ℕ → List ℕ
 stroke_meanings marks told differs missing =
     meaning_if marks.circle 0 (codes "told key") (outline_of false None) told
     ++ meaning_if marks.diamond (one_if marks.circle) (codes "lie key") (outline_of true (Some 0)) differs
@@ -71,7 +71,7 @@ stroke_meanings marks told differs missing =
     missing
 
 -- of generals and of accesses, from this place on
-abbrev pub shape_meanings : Marks → ℕ → List ℕ
+abbrev pub shape_meanings : DiagramMarks → ℕ → List ℕ
 shape_meanings marks place =
     shape_if marks.square place (codes "traitor key") (shape_of true) (codes "a traitor")
     ++ shape_if marks.loyal (place + one_if marks.square) (codes "loyal key") (shape_of false)
@@ -80,14 +80,14 @@ shape_meanings marks place =
     (outline_of false None) (codes "an access to the board")
 
 -- these, and what the width of a line tells
-abbrev pub legend_of : Marks → List ℕ → List ℕ → List ℕ → List ℕ → List ℕ
+abbrev pub legend_of : DiagramMarks → List ℕ → List ℕ → List ℕ → List ℕ → List ℕ
 legend_of marks told differs missing wide =
     stroke_meanings marks told differs missing
     ++ shape_meanings marks (stroke_rows marks)
     ++ text_at (codes "small") 120 (136 + 20 * rows marks) wide
 
 -- the last of them for those who do not see the picture
-abbrev pub shape_key : Marks → List ℕ
+abbrev pub shape_key : DiagramMarks → List ℕ
 shape_key marks =
     said_if marks.point (codes " Above the lines stand the accesses to the board, in its order.")
     ++ said_if marks.square (codes " Square: a traitor.")
@@ -106,5 +106,5 @@ missing_meaning = codes "nothing told, where something was to be told"
 unfoldable pub wide_meaning : List ℕ
 wide_meaning = codes "A line leads down to who is told, as wide as it has labels, up to 5."
 
-abbrev pub legend : Marks → List ℕ
+abbrev pub legend : DiagramMarks → List ℕ
 legend marks = legend_of marks told_meaning differs_meaning missing_meaning wide_meaning

@@ -4,19 +4,19 @@ use Rattle.std.specs.Fmt.{decimal}
 use Rattle.std.specs.List.{range_with_len}
 use Rattle.board.specs.Board.{Access}
 use Rattle.book.specs.Table.{MessageTable}
-use Rattle.roster.specs.Scenario.{Scenario, is_traitor}
+use Rattle.round.specs.Scenario.{Scenario, is_traitor}
 use Rattle.world.specs.Chronicle.{Chronicle}
-use Rattle.diagram.specs.declared.mark.Marks.{Marks}
-use Rattle.diagram.specs.declared.stroke.Stroke.{Stroke}
-use Rattle.diagram.specs.Bands.{bands}
-use Rattle.diagram.specs.Facts.{strokes_of}
-use Rattle.diagram.specs.Foot.{foot}
-use Rattle.diagram.specs.Layout.{board, column, top_of, width}
-use Rattle.diagram.specs.Left.{cut_words, is_cut, mores}
-use Rattle.diagram.specs.Legend.{foot_height, marks_of, shape_key}
-use Rattle.diagram.specs.Lists.{with_rows}
-use Rattle.diagram.specs.Shapes.{group_at, mark, said_if, shape_of, sort_of, text_at, title}
-use Rattle.diagram.specs.Words.{copied_words, general_words, role_words}
+use Rattle.show_diagram.specs.declared.mark.DiagramMarks.{DiagramMarks}
+use Rattle.show_diagram.specs.declared.stroke.Stroke.{Stroke}
+use Rattle.show_diagram.specs.Bands.{bands}
+use Rattle.show_diagram.specs.Facts.{strokes_of}
+use Rattle.show_diagram.specs.Foot.{foot}
+use Rattle.show_diagram.specs.Layout.{board, column, top_of, width}
+use Rattle.show_diagram.specs.Left.{cut_words, is_cut, mores}
+use Rattle.show_diagram.specs.Legend.{foot_height, marks_of, shape_key}
+use Rattle.show_diagram.specs.Lists.{with_rows}
+use Rattle.show_diagram.specs.Shapes.{group_at, mark, said_if, shape_of, sort_of, text_at, title}
+use Rattle.show_diagram.specs.Words.{copied_words, general_words, role_words}
 
 -- what every picture begins with, and its size, with its units
 unfoldable pub start : List ℕ
@@ -42,7 +42,7 @@ key_start =
     ++ codes "in the column of the receiver what he was told."
 
 -- of each mark that stands in the picture
-abbrev pub stroke_key : Marks → List ℕ
+abbrev pub stroke_key : DiagramMarks → List ℕ
 stroke_key marks =
     said_if marks.circle (codes " Circle and plain line: as an honest relay tells it.")
     ++ said_if marks.diamond (codes " Diamond and dashes: something else.")
@@ -51,7 +51,7 @@ stroke_key marks =
 abbrev pub key_end : List ℕ
 key_end = codes "</desc>\n"
 
-abbrev pub description : List Access → Marks → Bool → List ℕ
+abbrev pub description : List Access → DiagramMarks → Bool → List ℕ
 description accesses marks cut =
     key_start ++ stroke_key marks ++ shape_key marks ++ said_if cut cut_words ++ flat_map copied_words accesses
     ++ key_end
@@ -73,7 +73,7 @@ look =
     ++ codes ".mark.lie{fill:#ff8095;stroke:#ff8095}.mark.traitor{fill:#ff8095}}</style>\n"
 
 -- what stands before the columns
-abbrev pub head : Scenario → List Access → Marks → Bool → List ℕ
+abbrev pub head : Scenario → List Access → DiagramMarks → Bool → List ℕ
 head s accesses marks cut =
     title (campaign_words s.generals s.bound s.commander s.order) ++ description accesses marks cut ++ look
     ++ text_at (codes "head") 16 28 (campaign_words s.generals s.bound s.commander s.order)

@@ -2,9 +2,9 @@
 use Rattle.std.specs.Prelude.{ℕ, ◌==◌, Bool, true, false, if◌then◌else◌, List, [], ◌++◌, flat_map, codes, slice_index_or, Option, None, Some}
 use Rattle.std.specs.Fmt.{decimal}
 use Rattle.semantics.specs.declared.request.Request.{Request}
-use Rattle.asking.specs.Wording.{numbers_asked, row_asked}
+use Rattle.board.specs.Wording.{numbers_asked, row_asked}
 use Rattle.board.specs.Board.{Access}
-use Rattle.diagram.specs.declared.stroke.Stroke.{Stroke}
+use Rattle.show_diagram.specs.declared.stroke.Stroke.{Stroke}
 
 abbrev pub order_words : Option ℕ → List ℕ
 order_words None = codes "nothing"

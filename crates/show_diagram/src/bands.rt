@@ -1,9 +1,9 @@
 //! The bands of a picture, one for each round.
 ghost use Rattle.std.specs.Prelude.{◌≡◌, ◌++◌, ◌+◌, ◌<◌, ◌≤◌, ◌^◌, codes, length, flat_map, string_bytes, OnOk};
 ghost use Rattle.std.specs.List.{range_with_len};
-ghost use Rattle.diagram.specs.Shapes.{text_at, title};
-ghost use Rattle.diagram.specs.Words.{access_words, row_words, shown_words, stroke_words};
-ghost use Rattle.diagram.specs.Bands.{access_at, accesses_from, band, bands, board_line, drawn, drawn_at, general_life, inside, life, lives, point, round_words, row, stroke_line};
+ghost use Rattle.show_diagram.specs.Shapes.{text_at, title};
+ghost use Rattle.show_diagram.specs.Words.{access_words, row_words, shown_words, stroke_words};
+ghost use Rattle.show_diagram.specs.Bands.{access_at, accesses_from, band, bands, board_line, drawn, drawn_at, general_life, inside, life, lives, point, round_words, row, stroke_line};
 
 use crate::layout::{
     access_top, accesses_before, board, column, fan_top, height, rows_top, top_of,

@@ -1,11 +1,11 @@
 //! The strokes of a campaign, by the message table that its letters tell.
 ghost use Rattle.std.specs.Prelude.{◌≡◌, ◌<◌, ◌+◌, ◌++◌, IfOk, OnOk};
-ghost use Rattle.diagram.specs.Facts.{strokes_of, tellings_of};
-ghost use Rattle.diagram.specs.Lists.{lists_to};
+ghost use Rattle.show_diagram.specs.Facts.{strokes_of, tellings_of};
+ghost use Rattle.show_diagram.specs.Lists.{lists_to};
 
 use crate::lists::push_lists;
 use crate::stroke::Stroke;
-use crate::tellings::tellings;
+use crate::told_orders::tellings;
 use book::Heard;
 use std::alloc::{AllocError, Global};
 

@@ -1,16 +1,16 @@
 //! What stands below the bands of a picture: the decisions, the verdict, and what the marks mean.
 ghost use Rattle.std.specs.Prelude.{◌≡◌, ◌≤◌, ◌<◌, ◌++◌, flat_map, string_bytes, OnOk, slice_get};
 ghost use Rattle.std.specs.List.{range_with_len};
-ghost use Rattle.diagram.specs.Foot.{alike_words, bound_words, decided, decided_all, decided_at, decides_words, foot, obeyed_words, place_of, verdict_lines};
+ghost use Rattle.show_diagram.specs.Foot.{alike_words, bound_words, decided, decided_all, decided_at, decides_words, foot, obeyed_words, place_of, verdict_lines};
 
 use crate::layout::column;
 use crate::legend::put_legend;
-use crate::mark::Marks;
+use crate::mark::DiagramMarks;
 use crate::shapes::{
     put_group_end, put_group_start, put_line, put_mark, put_text_end, put_text_start, put_words,
     shape_of, sort_of,
 };
-use roster::Scenario;
+use round::Scenario;
 use std::alloc::AllocError;
 use world::{Chronicle, Verdict};
 
@@ -18,7 +18,7 @@ use world::{Chronicle, Verdict};
 pub(crate) fn put_foot(
     out: &mut String,
     chronicle: &Chronicle,
-    marks: Marks,
+    marks: DiagramMarks,
     wide: u128,
     top: u128,
 ) -> Result<(), AllocError>

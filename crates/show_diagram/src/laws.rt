@@ -1,5 +1,5 @@
 //! Laws of what is drawn: each function does nothing, and its contract is the law.
-ghost use Rattle.diagram.specs.Laws.{DiagramsAreElements, OnlyTraitorsDiffer, RowsAreExact, StrokesAreExact};
+ghost use Rattle.show_diagram.specs.Laws.{DiagramsAreElements, OnlyTraitorsDiffer, RowsAreExact, StrokesAreExact};
 
 /// A picture is one element of XML, whatever the table and the chronicle.
 pub fn diagrams_are_elements()

@@ -1,6 +1,6 @@
 //! Where the parts of a picture stand, in units of it: a column for each general, and a band for each round.
 ghost use Rattle.std.specs.Prelude.{◌≡◌, ◌<◌, ◌+◌, ◌-◌, ◌*◌, ◌^◌, count_by, IfOk};
-ghost use Rattle.diagram.specs.Layout.{board, column, fan_top, height, is_earlier, is_in, most, reach, rows_top, room, top_of, widest, width};
+ghost use Rattle.show_diagram.specs.Layout.{board, column, fan_top, height, is_earlier, is_in, most, reach, rows_top, room, top_of, widest, width};
 
 use crate::stroke::Stroke;
 use crate::words::put_shown;

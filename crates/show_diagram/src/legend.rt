@@ -1,10 +1,10 @@
 //! What the marks of a picture mean, below its foot: a row for each mark that stands in it.
 ghost use Rattle.std.specs.Prelude.{◌≡◌, ◌≤◌, ◌<◌, ◌^◌, ◌++◌, string_bytes, OnOk};
 ghost use Rattle.std.specs.List.{list_any};
-ghost use Rattle.diagram.specs.Legend.{differs_meaning, foot_height, has_circle, has_cross, has_diamond, legend, legend_of, marks_of, meaning_at, meaning_if, missing_meaning, one_if, rows, shape_at, shape_if, shape_key, shape_meanings, stroke_meanings, stroke_rows, told_meaning, wide_meaning};
-ghost use Rattle.diagram.specs.Shapes.{stroke_at};
+ghost use Rattle.show_diagram.specs.Legend.{differs_meaning, foot_height, has_circle, has_cross, has_diamond, legend, legend_of, marks_of, meaning_at, meaning_if, missing_meaning, one_if, rows, shape_at, shape_if, shape_key, shape_meanings, stroke_meanings, stroke_rows, told_meaning, wide_meaning};
+ghost use Rattle.show_diagram.specs.Shapes.{stroke_at};
 
-use crate::mark::Marks;
+use crate::mark::DiagramMarks;
 use crate::shapes::{
     put_group_end, put_group_start, put_if, put_mark, put_stroke_end, put_stroke_start,
     put_title_end, put_title_start, put_words, shape_of,
@@ -12,16 +12,16 @@ use crate::shapes::{
 use crate::stroke::Stroke;
 use crate::words::outline_of;
 use board::Access;
-use roster::Scenario;
+use round::Scenario;
 use std::alloc::AllocError;
-use world::judging::traitors;
+use world::judgement::traitors;
 
 /// Which marks stand in the picture of these strokes and accesses.
-pub fn marks(scenario: &Scenario, accesses: &[Access], strokes: &[Stroke]) -> Marks
+pub fn marks(scenario: &Scenario, accesses: &[Access], strokes: &[Stroke]) -> DiagramMarks
     ensures { result ≡ marks_of scenario.now accesses.now strokes.now }
 {
     let traitors = traitors(scenario);
-    Marks {
+    DiagramMarks {
         circle: any_circle(strokes),
         diamond: any_diamond(strokes),
         cross: any_cross(strokes),
@@ -82,7 +82,7 @@ fn one_if(stands: bool) -> u128
 }
 
 /// How many rows the marks of strokes have.
-fn stroke_rows(marks: Marks) -> u128
+fn stroke_rows(marks: DiagramMarks) -> u128
     ensures value { result ≡ stroke_rows marks }
     ensures few { result ≤ 3 }
 {
@@ -90,7 +90,7 @@ fn stroke_rows(marks: Marks) -> u128
 }
 
 /// How many rows there are.
-fn rows(marks: Marks) -> u128
+fn rows(marks: DiagramMarks) -> u128
     ensures value { result ≡ rows marks }
     ensures few { result ≤ 6 }
 {
@@ -98,7 +98,7 @@ fn rows(marks: Marks) -> u128
 }
 
 /// How high the foot is, with what these marks mean.
-pub fn foot_height(marks: Marks) -> u128
+pub fn foot_height(marks: DiagramMarks) -> u128
     ensures value { result ≡ foot_height marks }
     ensures few { result ≤ 272 }
 {
@@ -113,7 +113,7 @@ pub fn foot_height(marks: Marks) -> u128
 /// No memory for the text; so of every function here.
 pub fn put_legend_of(
     out: &mut String,
-    marks: Marks,
+    marks: DiagramMarks,
     told: &str,
     differs: &str,
     missing: &str,
@@ -133,7 +133,7 @@ pub fn put_legend_of(
 /// Adds what the marks of strokes mean.
 fn put_stroke_meanings(
     out: &mut String,
-    marks: Marks,
+    marks: DiagramMarks,
     told: &str,
     differs: &str,
     missing: &str,
@@ -153,7 +153,7 @@ fn put_stroke_meanings(
 }
 
 /// Adds what the marks of generals and of accesses mean, in rows from this place on.
-fn put_shape_meanings(out: &mut String, marks: Marks, place: u128) -> Result<(), AllocError>
+fn put_shape_meanings(out: &mut String, marks: DiagramMarks, place: u128) -> Result<(), AllocError>
     requires { place < 2 ^ 99 }
     ensures { OnOk result (string_bytes out.new ≡ string_bytes out.old ++ shape_meanings marks place) }
 {
@@ -269,7 +269,7 @@ fn put_sample(out: &mut String, kind: &str, words: &str) -> Result<(), AllocErro
 }
 
 /// Adds what the marks of generals and accesses mean, for those who do not see the picture.
-pub fn put_shape_key(out: &mut String, marks: Marks) -> Result<(), AllocError>
+pub fn put_shape_key(out: &mut String, marks: DiagramMarks) -> Result<(), AllocError>
     ensures { OnOk result (string_bytes out.new ≡ string_bytes out.old ++ shape_key marks) }
 {
     put_if(
@@ -283,7 +283,7 @@ pub fn put_shape_key(out: &mut String, marks: Marks) -> Result<(), AllocError>
 }
 
 /// Adds what the marks of a campaign of oral messages mean.
-pub(crate) fn put_legend(out: &mut String, marks: Marks) -> Result<(), AllocError>
+pub(crate) fn put_legend(out: &mut String, marks: DiagramMarks) -> Result<(), AllocError>
     ensures { OnOk result (string_bytes out.new ≡ string_bytes out.old ++ legend marks) }
 {
     put_legend_of(

@@ -1,12 +1,12 @@
 //! The lists of what a lieutenant was told, one for each round.
 ghost use Rattle.std.specs.Prelude.{ℕ, ◌≡◌, ◌+◌, ◌<◌, ◌^◌, ◌++◌, [], false, IfOk, OnOk, count_by, filter};
-ghost use Rattle.diagram.specs.Lists.{count_of, is_in, is_lie, is_same, lists_of, stroke_of, strokes_from, teller};
-ghost use Rattle.diagram.specs.Order.{arranged, firsts};
-ghost use Rattle.diagram.specs.declared.telling.Telling.{Telling};
+ghost use Rattle.show_diagram.specs.Lists.{count_of, is_in, is_lie, is_same, lists_of, stroke_of, strokes_from, teller};
+ghost use Rattle.show_diagram.specs.Order.{arranged, firsts};
+ghost use Rattle.show_diagram.specs.declared.told_order.Telling.{Telling};
 
 use crate::order::{arranged, told_in};
 use crate::stroke::Stroke;
-use crate::telling::Telling;
+use crate::told_order::Telling;
 use std::alloc::{AllocError, Global};
 use std::collections::{HashMap, HashSet};
 

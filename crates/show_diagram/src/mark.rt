@@ -2,7 +2,7 @@
 
 /// Which marks stand in a picture.
 #[derive(Clone, Copy, Drop)]
-pub struct Marks {
+pub struct DiagramMarks {
     /// A circle and a plain line: of what was told as it should be.
     pub circle: bool,
     /// A diamond and dashes: of something else.

@@ -1,10 +1,10 @@
 //! In which order the rows of a list stand.
 ghost use Rattle.std.specs.Prelude.{◌≡◌, ◌++◌, ◌∷◌, [], cond, filter, not, IfOk, OnOk};
 ghost use Rattle.std.specs.List.{list_any};
-ghost use Rattle.diagram.specs.Lists.{is_in, is_lie, teller};
-ghost use Rattle.diagram.specs.Order.{arranged, firsts, is_by_one, lies_first, most_rows};
+ghost use Rattle.show_diagram.specs.Lists.{is_in, is_lie, teller};
+ghost use Rattle.show_diagram.specs.Order.{arranged, firsts, is_by_one, lies_first, most_rows};
 
-use crate::telling::Telling;
+use crate::told_order::Telling;
 use std::alloc::{AllocError, Global};
 
 /// How many rows of a list are drawn at most.

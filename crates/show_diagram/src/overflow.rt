@@ -1,9 +1,9 @@
 //! The strokes that a picture has room for, and how many it has none for.
 ghost use Rattle.std.specs.Prelude.{◌≡◌, ◌<◌, ◌++◌, ◌∷◌, [], codes, cond, count_by, string_bytes, IfOk, OnOk};
 ghost use Rattle.std.specs.List.{list_any};
-ghost use Rattle.diagram.specs.Shapes.{said_if, text_at, title};
-ghost use Rattle.diagram.specs.Lists.{has_row, with_rows};
-ghost use Rattle.diagram.specs.Left.{cut_words, is_cut, is_left, is_left_lie, is_past, left_in_full, left_words, more_at, more_of, more_told, more_top, mores, mores_in, mores_of};
+ghost use Rattle.show_diagram.specs.Shapes.{said_if, text_at, title};
+ghost use Rattle.show_diagram.specs.Lists.{has_row, with_rows};
+ghost use Rattle.show_diagram.specs.Left.{cut_words, is_cut, is_left, is_left_lie, is_past, left_in_full, left_words, more_at, more_of, more_told, more_top, mores, mores_in, mores_of};
 
 use crate::layout::{column, rows_top, top_of};
 use crate::order::MOST;

@@ -1,17 +1,17 @@
 //! A campaign as a picture in SVG.
 ghost use Rattle.std.specs.Prelude.{◌≡◌, ◌<◌, ◌++◌, codes, flat_map, string_bytes, IfOk, OnOk};
 ghost use Rattle.std.specs.List.{range_with_len};
-ghost use Rattle.diagram.specs.Shapes.{text_at, title};
-ghost use Rattle.diagram.specs.Words.{general_words};
-ghost use Rattle.diagram.specs.Svg.{board_head, box_words, campaign_words, description, general_head, head, head_of, heads, key_end, key_start, look, start, stroke_key, svg_text};
+ghost use Rattle.show_diagram.specs.Shapes.{text_at, title};
+ghost use Rattle.show_diagram.specs.Words.{general_words};
+ghost use Rattle.show_diagram.specs.Svg.{board_head, box_words, campaign_words, description, general_head, head, head_of, heads, key_end, key_start, look, start, stroke_key, svg_text};
 
 use crate::bands::put_bands;
 use crate::facts::strokes;
 use crate::foot::put_foot;
 use crate::layout::{board, column, top_of, width};
-use crate::left::{is_cut, put_cut, put_mores, with_rows};
 use crate::legend::{foot_height, marks, put_shape_key};
-use crate::mark::Marks;
+use crate::mark::DiagramMarks;
+use crate::overflow::{is_cut, put_cut, put_mores, with_rows};
 use crate::shapes::{
     put_group_end, put_group_start, put_if, put_mark, put_text_end, put_text_start, put_title_end,
     put_title_start, put_words, shape_of, sort_of,
@@ -20,7 +20,7 @@ use crate::stroke::Stroke;
 use crate::words::{put_copied, put_general, role_words};
 use board::Access;
 use book::Heard;
-use roster::Scenario;
+use round::Scenario;
 use std::alloc::{AllocError, Global};
 use world::Chronicle;
 
@@ -100,7 +100,7 @@ fn put_head(
     out: &mut String,
     scenario: &Scenario,
     accesses: &[Access],
-    marks: Marks,
+    marks: DiagramMarks,
     is_cut: bool,
 ) -> Result<(), AllocError>
     ensures { OnOk result (string_bytes out.new ≡ string_bytes out.old
@@ -167,7 +167,7 @@ pub fn put_campaign(
 fn put_description(
     out: &mut String,
     accesses: &[Access],
-    marks: Marks,
+    marks: DiagramMarks,
     is_cut: bool,
 ) -> Result<(), AllocError>
     ensures { OnOk result (string_bytes out.new ≡ string_bytes out.old ++ description accesses.now marks is_cut) }
@@ -198,7 +198,7 @@ fn key_start() -> &'static str
 }
 
 /// Adds what the marks of strokes mean.
-fn put_stroke_key(out: &mut String, marks: Marks) -> Result<(), AllocError>
+fn put_stroke_key(out: &mut String, marks: DiagramMarks) -> Result<(), AllocError>
     ensures { OnOk result (string_bytes out.new ≡ string_bytes out.old ++ stroke_key marks) }
 {
     put_if(

@@ -2,9 +2,9 @@
 ghost use Rattle.std.specs.Prelude.{◌≡◌, ◌≢◌, ◌<◌, ◌+◌, ◌++◌, ◌∷◌, [], length, true, IfOk, OnOk};
 ghost use Rattle.book.specs.Conditions.{is_told};
 ghost use Rattle.book.specs.Grammar.{is_place};
-ghost use Rattle.diagram.specs.Facts.{first_telling, telling_at, tellings_below, tellings_of};
+ghost use Rattle.show_diagram.specs.Facts.{first_telling, telling_at, tellings_below, tellings_of};
 
-use crate::telling::Telling;
+use crate::told_order::Telling;
 use book::Heard;
 use label::Label;
 use std::alloc::{AllocError, Global};

@@ -5,44 +5,44 @@ use Rattle.std.specs.Fmt.{decimal}
 use Rattle.std.specs.List.{AllByRecursion, flat_map, list_all, range_with_len}
 use Rattle.std.proofs.lemmas.Bool.{cond_both}
 use Rattle.std.proofs.lemmas.List.Elements.{All-from_recursion}
-use Rattle.markup.specs.Grammar.{IsContent, IsElement, joined, no_text, text}
-use Rattle.markup.proofs.TagLaws.{proved_elements_are_elements}
-use Rattle.markup.proofs.TextLemmas.{bare_text}
-use Rattle.page.specs.Page.{begun_lines, cell, fold, heading, item, lines, list, paragraph, picture, table, text_item}
-use Rattle.page.specs.Laws.{IsFilled}
-use Rattle.page.specs.Sections.{Section, sections_in}
-use Rattle.page.proofs.PageLaws.{proved_pages_are_elements, proved_parts_are_content}
-use Rattle.page.proofs.SectionLaws.{proved_sections_are_fitted}
+use Rattle.html.specs.Grammar.{IsContent, IsElement, joined, no_text, text}
+use Rattle.html.proofs.TagLaws.{proved_elements_are_elements}
+use Rattle.html.proofs.TextLemmas.{bare_text}
+use Rattle.html.specs.Page.{begun_lines, cell, fold, heading, item, lines, list, paragraph, picture, table, text_item}
+use Rattle.html.specs.Laws.{IsFilled}
+use Rattle.html.specs.Sections.{Section, sections_in}
+use Rattle.html.proofs.PageLaws.{proved_pages_are_elements, proved_parts_are_content}
+use Rattle.html.proofs.SectionLaws.{proved_sections_are_fitted}
 use Rattle.board.specs.Board.{Access}
 use Rattle.book.specs.Decisions.{decision_of}
 use Rattle.book.specs.Explained.{explained_one}
 use Rattle.book.specs.Table.{MessageTable}
-use Rattle.diagram.specs.Foot.{alike_words, bound_words, obeyed_words}
-use Rattle.diagram.specs.Svg.{svg_text}
-use Rattle.diagram.proofs.SvgLaws.{proved_diagrams_are_elements}
-use Rattle.diagram.specs.Words.{answered_words, asked_words}
-use Rattle.drawing.specs.Shown.{deeper, is_open}
-use Rattle.drawing.specs.Words.{said}
-use Rattle.drawing.specs.declared.node.Node.{Node}
-use Rattle.drawing.specs.declared.node.View.{View}
+use Rattle.show_diagram.specs.Foot.{alike_words, bound_words, obeyed_words}
+use Rattle.show_diagram.specs.Svg.{svg_text}
+use Rattle.show_diagram.proofs.SvgLaws.{proved_diagrams_are_elements}
+use Rattle.show_diagram.specs.Words.{answered_words, asked_words}
+use Rattle.show_tree.specs.Shown.{deeper, is_open}
+use Rattle.show_tree.specs.Words.{said}
+use Rattle.show_tree.specs.declared.node.Node.{Node}
+use Rattle.show_tree.specs.declared.node.View.{View}
 use Rattle.explain.specs.Explained.{explained_at}
-use Rattle.explore.specs.Text.{schedule_text}
+use Rattle.campaign_orders.specs.Text.{schedule_text}
 use Rattle.label.specs.Labels.{on, others}
 use Rattle.insn.specs.declared.insn.Insn.{Insn}
 use Rattle.insn.specs.Program.{slots_of}
-use Rattle.retold.specs.Retold.{traitors_of}
-use Rattle.roster.specs.Scenario.{Scenario, program_of}
+use Rattle.show_table.specs.Retold.{traitors_of}
+use Rattle.round.specs.Scenario.{Scenario, program_of}
 use Rattle.trace.specs.Text.{chronicle_text}
 use Rattle.world.specs.Chronicle.{Chronicle}
 use Rattle.world.specs.declared.schedule.Repeat.{Repeat}
 use Rattle.world.specs.declared.verdict.Verdict.{Verdict}
-use Rattle.campaign_page.specs.Account.{access_heads, access_row, accesses_heading, accesses_section, accesses_told, behind_words, bound_told, chronicle_heading, chronicle_section, course_told, diagram_section, each_lieutenant, each_program, elsewhere_words, explained_told, general_name, hinted, is_wide, lieutenant_part, lieutenant_told, lieutenant_words, lieutenants_heading, lieutenants_roomed, no_programs, parts, picture_heading, picture_hint, picture_name, picture_section, program_if, program_part, programs_section, programs_told, recorded_words, scenario_instead, scenario_section, schedule_heading, schedule_section, sections, story_told, title, unscheduled_words, verdict_heading, verdict_part, verdict_told, view_of, why_part}
-use Rattle.campaign_page.specs.Calls.{named_calls}
-use Rattle.campaign_page.specs.Printers.{accesses_printer, chronicle_printer, lieutenants_printer, picture_printer, programs_printer, scenario_printer, schedule_printer}
-use Rattle.campaign_page.specs.Room.{fitted, lines_told, over, over_words, room_for_accesses, room_for_chronicle, room_for_lieutenants, room_for_picture, room_for_programs, room_for_scenario, room_for_schedule, room_for_sections, room_for_story, room_for_units, roomed, share, units_words}
-use Rattle.campaign_page.specs.Story.{behind_story, story}
-use Rattle.campaign_page.specs.Trees.{item_by, items_below, label_item, node_by, root_told, tree_told}
-use Rattle.campaign_page.specs.Laws.{CampaignPagesAreElements}
+use Rattle.show_page.specs.Account.{access_heads, access_row, accesses_heading, accesses_section, accesses_told, behind_words, bound_told, chronicle_heading, chronicle_section, course_told, diagram_section, each_lieutenant, each_program, elsewhere_words, explained_told, general_name, hinted, is_wide, lieutenant_part, lieutenant_told, lieutenant_words, lieutenants_heading, lieutenants_roomed, no_programs, parts, picture_heading, picture_hint, picture_name, picture_section, program_if, program_part, programs_section, programs_told, recorded_words, scenario_instead, scenario_section, schedule_heading, schedule_section, sections, story_told, title, unscheduled_words, verdict_heading, verdict_part, verdict_told, view_of, why_part}
+use Rattle.show_page.specs.Calls.{named_calls}
+use Rattle.show_page.specs.Printers.{accesses_printer, chronicle_printer, lieutenants_printer, picture_printer, programs_printer, scenario_printer, schedule_printer}
+use Rattle.show_page.specs.Room.{fitted, lines_told, over, over_words, room_for_accesses, room_for_chronicle, room_for_lieutenants, room_for_picture, room_for_programs, room_for_scenario, room_for_schedule, room_for_sections, room_for_story, room_for_units, roomed, share, units_words}
+use Rattle.show_page.specs.Story.{behind_story, story}
+use Rattle.show_page.specs.Trees.{item_by, items_below, label_item, node_by, root_told, tree_told}
+use Rattle.show_page.specs.Laws.{CampaignPagesAreElements}
 
 pub all : (f : ℕ → List ℕ) (xs : List ℕ) → ((x : ℕ) → IsContent (f x)) → IsContent (flat_map f xs)
 all f [] h = text [] no_text

@@ -7,7 +7,7 @@ use Rattle.std.proofs.lemmas.Option.{slice_get_past}
 use Rattle.insn.specs.declared.insn.Insn.{Insn}
 use Rattle.insn.specs.Program.{instruction_at, joined, slots_of}
 use Rattle.explain.specs.Units.{in_lists, text_or_none}
-use Rattle.campaign_page.specs.Calls.{call_if, named_calls}
+use Rattle.show_page.specs.Calls.{call_if, named_calls}
 
 -- the texts of the first units are those of their calls
 pub record AreNamed (program : List Insn) (texts : List (String Global)) (count : ℕ) : Type 0 where

@@ -1,6 +1,6 @@
 -- Pieces of a text, one behind the other.
 use Rattle.std.proofs.Common.{ℕ, ◌≡◌, ◌∙◌, List, [], ◌∷◌, ◌++◌, ap, append_assoc}
-use Rattle.page.specs.Sections.{Section}
+use Rattle.html.specs.Sections.{Section}
 
 -- one piece more
 pub chained : (start so_far piece old new : List ℕ) → old ≡ start ++ so_far → new ≡ old ++ piece → new ≡ start ++ (so_far ++ piece)

@@ -6,26 +6,26 @@ use Rattle.std.proofs.lemmas.Bool.{cond-false, eqb-true, ne_eqb, or_cases}
 use Rattle.std.proofs.lemmas.List.Elements.{All-from_recursion}
 use Rattle.book.specs.Decisions.{decision_of}
 use Rattle.book.specs.Table.{MessageTable}
-use Rattle.drawing.specs.Facts.{mark_at, node_at}
-use Rattle.drawing.specs.Shown.{deeper, is_open, nodes_below, nodes_by, nodes_of, root_node}
-use Rattle.drawing.specs.Words.{said}
-use Rattle.drawing.specs.declared.node.Node.{Node}
-use Rattle.drawing.specs.declared.node.View.{View}
+use Rattle.show_tree.specs.Facts.{mark_at, node_at}
+use Rattle.show_tree.specs.Shown.{deeper, is_open, nodes_below, nodes_by, nodes_of, root_node}
+use Rattle.show_tree.specs.Words.{said}
+use Rattle.show_tree.specs.declared.node.Node.{Node}
+use Rattle.show_tree.specs.declared.node.View.{View}
 use Rattle.label.specs.Labels.{on, others}
 use Rattle.label.proofs.Counting.{range-on}
 use Rattle.label.proofs.Places.{all-append}
-use Rattle.page.specs.Page.{fold, fold_end, fold_start, item, item_end, item_start, list, list_end, list_start, page_end, page_start, paragraph, shown, text_item}
-use Rattle.page.specs.Laws.{StandsIn}
-use Rattle.page.specs.Sections.{Section, sections_in}
-use Rattle.page.proofs.SectionLaws.{ahead, behind, proved_sections_are_fitted}
-use Rattle.retold.specs.Retold.{traitors_of}
+use Rattle.html.specs.Page.{fold, fold_end, fold_start, item, item_end, item_start, list, list_end, list_start, page_end, page_start, paragraph, shown, text_item}
+use Rattle.html.specs.Laws.{StandsIn}
+use Rattle.html.specs.Sections.{Section, sections_in}
+use Rattle.html.proofs.SectionLaws.{ahead, behind, proved_sections_are_fitted}
+use Rattle.show_table.specs.Retold.{traitors_of}
 use Rattle.trace.specs.Text.{chronicle_text}
 use Rattle.world.specs.Chronicle.{Chronicle}
 use Rattle.world.specs.declared.schedule.Repeat.{Repeat}
-use Rattle.campaign_page.specs.Account.{accesses_section, chronicle_section, diagram_section, each_lieutenant, lieutenant_part, lieutenant_told, lieutenant_words, lieutenants_section, page_text, parts, programs_section, scenario_section, schedule_section, sections, title, verdict_part, view_of, why_part}
-use Rattle.campaign_page.specs.Room.{room_for_lieutenants, room_for_sections}
-use Rattle.campaign_page.specs.Laws.{FoldsHideNothing, IsShownIn as Shows}
-use Rattle.campaign_page.specs.Trees.{item_by, items_below, tree_told}
+use Rattle.show_page.specs.Account.{accesses_section, chronicle_section, diagram_section, each_lieutenant, lieutenant_part, lieutenant_told, lieutenant_words, lieutenants_section, page_text, parts, programs_section, scenario_section, schedule_section, sections, title, verdict_part, view_of, why_part}
+use Rattle.show_page.specs.Room.{room_for_lieutenants, room_for_sections}
+use Rattle.show_page.specs.Laws.{FoldsHideNothing, IsShownIn as Shows}
+use Rattle.show_page.specs.Trees.{item_by, items_below, tree_told}
 
 between : (part whole before after : List ℕ) → StandsIn part whole → StandsIn part (before ++ whole ++ after)
 between part whole before after is = ahead part (before ++ whole) after (behind part whole before is)

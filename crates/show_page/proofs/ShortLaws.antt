@@ -8,25 +8,25 @@ use Rattle.std.proofs.lemmas.Fmt.{length-decimal-le}
 use Rattle.std.proofs.lemmas.List.Elements.{All-from_recursion}
 use Rattle.board.specs.Board.{Access}
 use Rattle.book.specs.Table.{MessageTable}
-use Rattle.diagram.specs.Foot.{alike_words, bound_words, obeyed_words}
-use Rattle.diagram.specs.Svg.{campaign_words, svg_text}
+use Rattle.show_diagram.specs.Foot.{alike_words, bound_words, obeyed_words}
+use Rattle.show_diagram.specs.Svg.{campaign_words, svg_text}
 use Rattle.insn.specs.declared.insn.Insn.{Insn}
-use Rattle.page.specs.Laws.{IsRoomy}
-use Rattle.page.specs.Page.{fold_end, fold_start, head_end, head_middle, heading, look, look_end, page, page_end, page_start, paragraph, preamble, shown}
-use Rattle.page.specs.Sections.{Section, heading_bytes, rooms, sections_in}
-use Rattle.page.proofs.SectionLaws.{proved_sections_are_fitted}
-use Rattle.retold.specs.Retold.{traitors_of}
-use Rattle.roster.specs.Scenario.{IsScenario, Scenario, program_of}
+use Rattle.html.specs.Laws.{IsRoomy}
+use Rattle.html.specs.Page.{fold_end, fold_start, head_end, head_middle, heading, look, look_end, page, page_end, page_start, paragraph, preamble, shown}
+use Rattle.html.specs.Sections.{Section, heading_bytes, rooms, sections_in}
+use Rattle.html.proofs.SectionLaws.{proved_sections_are_fitted}
+use Rattle.show_table.specs.Retold.{traitors_of}
+use Rattle.round.specs.Scenario.{IsScenario, Scenario, program_of}
 use Rattle.trace.specs.Text.{chronicle_text}
 use Rattle.world.specs.Chronicle.{Chronicle}
 use Rattle.world.specs.declared.schedule.Repeat.{Repeat}
 use Rattle.world.specs.declared.verdict.Verdict.{Verdict}
-use Rattle.campaign_page.specs.Account.{accesses_heading, accesses_section, accesses_told, bound_told, chronicle_heading, chronicle_section, course_told, each_lieutenant, each_program, explained_told, general_name, hinted, is_wide, lieutenants_heading, lieutenants_roomed, parts, picture_heading, picture_section, program_if, program_part, programs_heading, programs_section, programs_told, promise_words, scenario_heading, scenario_section, schedule_heading, schedule_section, sections, story_told, title, verdict_heading, verdict_part, verdict_told, view_of}
-use Rattle.campaign_page.specs.Laws.{CampaignPagesAreShort}
-use Rattle.campaign_page.specs.Printers.{accesses_printer, chronicle_printer, lieutenants_printer, picture_printer, programs_printer, scenario_printer, schedule_printer}
-use Rattle.campaign_page.specs.Room.{fitted, lines_told, over, over_words, room_for_sections, roomed, share}
-use Rattle.campaign_page.specs.Story.{story}
-use Rattle.campaign_page.proofs.ShortLemmas.{both, known, shown_short}
+use Rattle.show_page.specs.Account.{accesses_heading, accesses_section, accesses_told, bound_told, chronicle_heading, chronicle_section, course_told, each_lieutenant, each_program, explained_told, general_name, hinted, is_wide, lieutenants_heading, lieutenants_roomed, parts, picture_heading, picture_section, program_if, program_part, programs_heading, programs_section, programs_told, promise_words, scenario_heading, scenario_section, schedule_heading, schedule_section, sections, story_told, title, verdict_heading, verdict_part, verdict_told, view_of}
+use Rattle.show_page.specs.Laws.{CampaignPagesAreShort}
+use Rattle.show_page.specs.Printers.{accesses_printer, chronicle_printer, lieutenants_printer, picture_printer, programs_printer, scenario_printer, schedule_printer}
+use Rattle.show_page.specs.Room.{fitted, lines_told, over, over_words, room_for_sections, roomed, share}
+use Rattle.show_page.specs.Story.{story}
+use Rattle.show_page.proofs.ShortLemmas.{both, known, shown_short}
 
 -- a text between two that are written out
 pub paragraph_short : (text : List ℕ) (n : ℕ) → length text ≤ n → length (paragraph text) ≤ 9 * n + 8

@@ -6,9 +6,9 @@ use Rattle.std.proofs.Math.Utf8.{encode}
 use Rattle.std.proofs.lemmas.Bool.{agree_below_at, cond_both, leb-true}
 use Rattle.std.proofs.lemmas.Grind.{flat_map-append}
 use Rattle.std.proofs.lemmas.Str.{encodes-append, len_utf8_bounds, length-encode}
-use Rattle.markup.specs.Escaped.{escaped, reference, shown as character, written}
-use Rattle.page.specs.Page.{shown}
-use Rattle.page.specs.Visible.{digit, fifth, is_hidden, made_visible, numbered, visible}
+use Rattle.html.specs.Escaped.{escaped, reference, shown as character, written}
+use Rattle.html.specs.Page.{shown}
+use Rattle.html.specs.Visible.{digit, fifth, is_hidden, made_visible, numbered, visible}
 
 -- characters as they are written, in bytes
 abbrev E : List ℕ → List ℕ

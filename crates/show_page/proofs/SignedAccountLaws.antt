@@ -2,21 +2,21 @@
 use Rattle.std.proofs.Common.{ℕ, ◌==◌, false, List, [], Option}
 use Rattle.std.specs.List.{range_with_len}
 use Rattle.std.proofs.lemmas.Bool.{cond_both}
-use Rattle.markup.specs.Grammar.{IsContent, joined, no_text, text}
-use Rattle.page.specs.Laws.{IsFilled}
-use Rattle.page.specs.Page.{lines}
-use Rattle.page.proofs.PageLaws.{proved_pages_are_elements, proved_parts_are_content}
+use Rattle.html.specs.Grammar.{IsContent, joined, no_text, text}
+use Rattle.html.specs.Laws.{IsFilled}
+use Rattle.html.specs.Page.{lines}
+use Rattle.html.proofs.PageLaws.{proved_pages_are_elements, proved_parts_are_content}
 use Rattle.signed.specs.Explained.{acceptance_of}
-use Rattle.signed_diagram.specs.Foot.{bound_words}
-use Rattle.signed_diagram.specs.Svg.{signed_svg, signed_words}
-use Rattle.signed_diagram.proofs.PictureLaws.{proved_signed_diagrams_are_elements}
+use Rattle.show_chains.specs.Foot.{bound_words}
+use Rattle.show_chains.specs.Svg.{signed_svg, signed_words}
+use Rattle.show_chains.proofs.PictureLaws.{proved_signed_diagrams_are_elements}
 use Rattle.trace.specs.SignedText.{signed_text}
 use Rattle.world.specs.Chronicle.{Chronicle}
 use Rattle.world.specs.declared.schedule.Repeat.{Repeat}
-use Rattle.campaign_page.specs.Account.{bound_told, is_wide}
-use Rattle.campaign_page.proofs.AccountLaws.{accesses_filled, all, chronicle_filled, lieutenants_filled, picture_filled, programs_filled, scenario_filled, schedule_filled, sections_content, verdict_content}
-use Rattle.signed_page.specs.Account.{diagram_section, each_lieutenant, lieutenant_heading, lieutenant_part, lieutenant_told, lieutenants_heading, parts, sections, verdict_part}
-use Rattle.signed_page.specs.Laws.{SignedPagesAreElements}
+use Rattle.show_page.specs.Account.{bound_told, is_wide}
+use Rattle.show_page.proofs.AccountLaws.{accesses_filled, all, chronicle_filled, lieutenants_filled, picture_filled, programs_filled, scenario_filled, schedule_filled, sections_content, verdict_content}
+use Rattle.show_page.specs.SignedAccount.{diagram_section, each_lieutenant, lieutenant_heading, lieutenant_part, lieutenant_told, lieutenants_heading, parts, sections, verdict_part}
+use Rattle.show_page.specs.SignedLaws.{SignedPagesAreElements}
 
 diagram_filled : (c : Chronicle) → IsFilled (diagram_section c)
 diagram_filled c = let drawn = proved_signed_diagrams_are_elements c in picture_filled (is_wide c.scenario c.accesses) (signed_svg c) drawn.0 drawn.1 drawn.2

@@ -3,21 +3,21 @@ use Rattle.std.proofs.Common.{◌+◌, ◌≤◌, ℕ, Bool, true, false, List, 
 use Rattle.std.specs.List.{All}
 use Rattle.std.proofs.lemmas.Bool.{leb-true}
 use Rattle.std.proofs.lemmas.List.Elements.{All-from_recursion}
-use Rattle.page.specs.Laws.{IsRoomy}
-use Rattle.page.specs.Page.{heading}
-use Rattle.page.specs.Sections.{Section, rooms}
-use Rattle.roster.specs.Scenario.{IsScenario, Scenario}
-use Rattle.signed_diagram.specs.Foot.{bound_words}
-use Rattle.signed_diagram.specs.Svg.{signed_svg, signed_words}
+use Rattle.html.specs.Laws.{IsRoomy}
+use Rattle.html.specs.Page.{heading}
+use Rattle.html.specs.Sections.{Section, rooms}
+use Rattle.round.specs.Scenario.{IsScenario, Scenario}
+use Rattle.show_chains.specs.Foot.{bound_words}
+use Rattle.show_chains.specs.Svg.{signed_svg, signed_words}
 use Rattle.trace.specs.SignedText.{signed_text}
 use Rattle.world.specs.Chronicle.{Chronicle}
 use Rattle.world.specs.declared.schedule.Repeat.{Repeat}
-use Rattle.campaign_page.specs.Account.{accesses_heading, chronicle_heading, is_wide, picture_heading, programs_heading, scenario_heading, schedule_heading, title, bound_told}
-use Rattle.campaign_page.proofs.ShortLemmas.{both, known}
-use Rattle.campaign_page.proofs.ShortLaws.{accesses_headed, accesses_roomy, chronicle_headed, chronicle_roomy, heading_short, lieutenants_roomy, page_short, picture_headed, picture_roomy, programs_headed, programs_roomy, bound_short, scenario_headed, scenario_roomy, schedule_headed, schedule_roomy, sections_short, title_short, verdict_short}
-use Rattle.campaign_page.specs.Story.{story}
-use Rattle.signed_page.specs.Account.{each_lieutenant, lieutenants_heading, parts, sections, verdict_part}
-use Rattle.signed_page.specs.Laws.{SignedPagesAreShort}
+use Rattle.show_page.specs.Account.{accesses_heading, chronicle_heading, is_wide, picture_heading, programs_heading, scenario_heading, schedule_heading, title, bound_told}
+use Rattle.show_page.proofs.ShortLemmas.{both, known}
+use Rattle.show_page.proofs.ShortLaws.{accesses_headed, accesses_roomy, chronicle_headed, chronicle_roomy, heading_short, lieutenants_roomy, page_short, picture_headed, picture_roomy, programs_headed, programs_roomy, bound_short, scenario_headed, scenario_roomy, schedule_headed, schedule_roomy, sections_short, title_short, verdict_short}
+use Rattle.show_page.specs.Story.{story}
+use Rattle.show_page.specs.SignedAccount.{each_lieutenant, lieutenants_heading, parts, sections, verdict_part}
+use Rattle.show_page.specs.SignedLaws.{SignedPagesAreShort}
 
 lieutenants_headed : length (heading lieutenants_heading) ≤ 487
 unfolding lieutenants_heading

@@ -5,7 +5,7 @@ use Rattle.std.specs.Str.{IsCharBoundary, IsUtf8}
 use Rattle.std.proofs.lemmas.Bool.{cases_Bool, cond_both, cond-false, cond-true, eqb-true, or_cases, or_parts, true≢false}
 use Rattle.std.proofs.lemmas.Str.{IsCharBoundary-after_ascii, IsCharBoundary-end, IsCharBoundary-start}
 use Rattle.label.specs.Labels.{on}
-use Rattle.campaign_page.specs.Story.{bytes_on, head_bytes, is_blank, story_bytes}
+use Rattle.show_page.specs.Story.{bytes_on, head_bytes, is_blank, story_bytes}
 
 -- so many bytes end where the text does, or begins, or behind a character of one byte
 Ends : Bool → List ℕ → ℕ → Type 0

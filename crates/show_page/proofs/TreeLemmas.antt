@@ -4,14 +4,14 @@ use Rattle.std.specs.Prelude.{if◌then◌else◌}
 use Rattle.std.specs.List.{flat_map}
 use Rattle.label.specs.Labels.{others}
 use Rattle.book.specs.Table.{MessageTable}
-use Rattle.drawing.specs.declared.node.Mark.{Mark}
-use Rattle.drawing.specs.declared.node.Node.{Node}
-use Rattle.drawing.specs.declared.node.View.{View}
-use Rattle.drawing.specs.Facts.{mark_at, node_at}
-use Rattle.drawing.specs.Shown.{deeper, is_open}
-use Rattle.drawing.specs.Words.{said}
-use Rattle.page.specs.Page.{fold_start, fold_end, fold, item, item_start, item_end, list, list_start, list_end, text_item}
-use Rattle.campaign_page.specs.Trees.{item_by, items_below, label_item}
+use Rattle.show_tree.specs.declared.node.Trust.{Trust}
+use Rattle.show_tree.specs.declared.node.Node.{Node}
+use Rattle.show_tree.specs.declared.node.View.{View}
+use Rattle.show_tree.specs.Facts.{mark_at, node_at}
+use Rattle.show_tree.specs.Shown.{deeper, is_open}
+use Rattle.show_tree.specs.Words.{said}
+use Rattle.html.specs.Page.{fold_start, fold_end, fold, item, item_start, item_end, list, list_start, list_end, text_item}
+use Rattle.show_page.specs.Trees.{item_by, items_below, label_item}
 
 -- where no relay is left
 pub items_last : (t : MessageTable) (traitors : List ℕ) (view : View) (r : ℕ) (w : List ℕ) (p : ℕ) → r ≡ 0 → items_below t traitors view r w p ≡ []
@@ -26,7 +26,7 @@ unfolding items_below
 items_more t traitors view r k w p e = ap (λ (i : ℕ). items_below t traitors view i w p) e
 
 -- that of a general who goes on with a label
-pub item_same : (t : MessageTable) (traitors : List ℕ) (view : View) (k : ℕ) (w : List ℕ) (j p : ℕ) (v next : List ℕ) (mark : Mark) (node : Node)
+pub item_same : (t : MessageTable) (traitors : List ℕ) (view : View) (k : ℕ) (w : List ℕ) (j p : ℕ) (v next : List ℕ) (mark : Trust) (node : Node)
     → v ≡ w ++ j ∷ [] → next ≡ w ++ j ∷ [] → mark ≡ mark_at t traitors w j p → node ≡ node_at t traitors view mark k v p
     → label_item node (items_below t traitors (deeper view) k next p) ≡ item_by t traitors view k w p j
 item_same t traitors view k w j p v next mark node same_v same_next same_mark same_node =

@@ -6,29 +6,29 @@ use Rattle.board.specs.Board.{Access}
 use Rattle.book.specs.Decisions.{decision_of}
 use Rattle.book.specs.Explained.{explained_one}
 use Rattle.book.specs.Table.{MessageTable}
-use Rattle.diagram.specs.Foot.{alike_words, bound_words, obeyed_words}
-use Rattle.diagram.specs.Layout.{width}
-use Rattle.diagram.specs.Svg.{campaign_words, svg_text}
-use Rattle.diagram.specs.Words.{answered_words, asked_words}
-use Rattle.drawing.specs.declared.node.View.{View}
+use Rattle.show_diagram.specs.Foot.{alike_words, bound_words, obeyed_words}
+use Rattle.show_diagram.specs.Layout.{width}
+use Rattle.show_diagram.specs.Svg.{campaign_words, svg_text}
+use Rattle.show_diagram.specs.Words.{answered_words, asked_words}
+use Rattle.show_tree.specs.declared.node.View.{View}
 use Rattle.explain.specs.Explained.{explained_at}
-use Rattle.explore.specs.Text.{schedule_text}
+use Rattle.campaign_orders.specs.Text.{schedule_text}
 use Rattle.insn.specs.declared.insn.Insn.{Insn}
 use Rattle.insn.specs.Program.{slots_of}
 use Rattle.label.specs.Labels.{on}
-use Rattle.page.specs.Page.{begun_lines, cell, fold, head, heading, lines, page, paragraph, picture, row, table}
-use Rattle.page.specs.Sections.{Section, sections_in}
-use Rattle.retold.specs.Retold.{traitors_of}
-use Rattle.roster.specs.Scenario.{Scenario, program_of}
+use Rattle.html.specs.Page.{begun_lines, cell, fold, head, heading, lines, page, paragraph, picture, row, table}
+use Rattle.html.specs.Sections.{Section, sections_in}
+use Rattle.show_table.specs.Retold.{traitors_of}
+use Rattle.round.specs.Scenario.{Scenario, program_of}
 use Rattle.trace.specs.Text.{chronicle_text}
 use Rattle.world.specs.Chronicle.{Chronicle}
 use Rattle.world.specs.declared.schedule.Repeat.{Repeat}
 use Rattle.world.specs.declared.verdict.Verdict.{Verdict}
-use Rattle.campaign_page.specs.Calls.{named_calls}
-use Rattle.campaign_page.specs.Printers.{accesses_printer, chronicle_printer, lieutenants_printer, picture_printer, programs_printer, scenario_printer, schedule_printer}
-use Rattle.campaign_page.specs.Room.{fitted, lines_told, narrow_sheet, over, room_for_accesses, room_for_chronicle, room_for_lieutenants, room_for_picture, room_for_programs, room_for_scenario, room_for_schedule, room_for_sections, room_for_story, room_for_units, roomed, share, units_words}
-use Rattle.campaign_page.specs.Story.{behind_story, story}
-use Rattle.campaign_page.specs.Trees.{tree_told}
+use Rattle.show_page.specs.Calls.{named_calls}
+use Rattle.show_page.specs.Printers.{accesses_printer, chronicle_printer, lieutenants_printer, picture_printer, programs_printer, scenario_printer, schedule_printer}
+use Rattle.show_page.specs.Room.{fitted, lines_told, narrow_sheet, over, room_for_accesses, room_for_chronicle, room_for_lieutenants, room_for_picture, room_for_programs, room_for_scenario, room_for_schedule, room_for_sections, room_for_story, room_for_units, roomed, share, units_words}
+use Rattle.show_page.specs.Story.{behind_story, story}
+use Rattle.show_page.specs.Trees.{tree_told}
 
 -- ---- headings
 

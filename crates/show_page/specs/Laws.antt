@@ -1,19 +1,19 @@
 -- Laws of such pages, each the contract of a function of this crate.
 use Rattle.std.specs.Prelude.{ℕ, ◌≡◌, ◌≢◌, ◌<◌, ◌≤◌, List, ◌++◌, length, Option, codes}
 use Rattle.std.specs.List.{All}
-use Rattle.markup.specs.Grammar.{IsElement}
+use Rattle.html.specs.Grammar.{IsElement}
 use Rattle.book.specs.Table.{MessageTable}
-use Rattle.drawing.specs.Shown.{nodes_of}
-use Rattle.drawing.specs.Words.{said}
-use Rattle.drawing.specs.declared.node.Node.{Node}
-use Rattle.page.specs.Laws.{StandsIn}
-use Rattle.page.specs.Page.{shown}
-use Rattle.retold.specs.Retold.{traitors_of}
-use Rattle.roster.specs.Scenario.{IsScenario}
+use Rattle.show_tree.specs.Shown.{nodes_of}
+use Rattle.show_tree.specs.Words.{said}
+use Rattle.show_tree.specs.declared.node.Node.{Node}
+use Rattle.html.specs.Laws.{StandsIn}
+use Rattle.html.specs.Page.{shown}
+use Rattle.show_table.specs.Retold.{traitors_of}
+use Rattle.round.specs.Scenario.{IsScenario}
 use Rattle.world.specs.Chronicle.{Chronicle}
 use Rattle.world.specs.declared.schedule.Repeat.{Repeat}
-use Rattle.campaign_page.specs.Account.{each_lieutenant, page_text, view_of}
-use Rattle.campaign_page.specs.Room.{longest_page, room_for_lieutenants}
+use Rattle.show_page.specs.Account.{each_lieutenant, page_text, view_of}
+use Rattle.show_page.specs.Room.{longest_page, room_for_lieutenants}
 
 -- a page is one element of XML, between the line that says that it is HTML and a line feed, whatever stands in the
 -- scenario

@@ -1,8 +1,8 @@
 -- How long a page may be: its sections' own rooms, and what stands in place of a section that there is no room for.
 use Rattle.std.specs.Prelude.{ℕ, ◌+◌, ◌/◌, nat_lt, if◌then◌else◌, List, length, ◌++◌, codes}
 use Rattle.std.specs.Fmt.{decimal}
-use Rattle.page.specs.Page.{lines, paragraph}
-use Rattle.page.specs.Sections.{Section}
+use Rattle.html.specs.Page.{lines, paragraph}
+use Rattle.html.specs.Sections.{Section}
 
 -- no page is longer, in bytes: the room of its sections, their headings, and what stands before and behind them
 abbrev pub longest_page : ℕ

@@ -2,19 +2,19 @@
 use Rattle.std.specs.Prelude.{ℕ, ◌==◌, Bool, true, false, if◌then◌else◌, List, [], ◌∷◌, ◌++◌, flat_map, codes, slice_get, Option, None, Some}
 use Rattle.std.specs.Fmt.{decimal}
 use Rattle.std.specs.List.{range_with_len}
-use Rattle.diagram.specs.Foot.{place_of}
-use Rattle.page.specs.Page.{fold, lines, page}
-use Rattle.page.specs.Sections.{Section, sections_in}
-use Rattle.roster.specs.Scenario.{Scenario, is_traitor}
+use Rattle.show_diagram.specs.Foot.{place_of}
+use Rattle.html.specs.Page.{fold, lines, page}
+use Rattle.html.specs.Sections.{Section, sections_in}
+use Rattle.round.specs.Scenario.{Scenario, is_traitor}
 use Rattle.signed.specs.Explained.{acceptance_of}
-use Rattle.signed_diagram.specs.Foot.{bound_words}
-use Rattle.signed_diagram.specs.Svg.{signed_svg, signed_words}
+use Rattle.show_chains.specs.Foot.{bound_words}
+use Rattle.show_chains.specs.Svg.{signed_svg, signed_words}
 use Rattle.trace.specs.SignedText.{signed_text}
 use Rattle.world.specs.Chronicle.{Chronicle}
 use Rattle.world.specs.declared.schedule.Repeat.{Repeat}
 use Rattle.world.specs.declared.verdict.Verdict.{Verdict}
-use Rattle.campaign_page.specs.Account.{accesses_section, bound_told, chronicle_section, is_wide, lieutenant_words, lieutenants_roomed, picture_section, programs_section, scenario_section, schedule_section, verdict_told}
-use Rattle.campaign_page.specs.Room.{room_for_sections}
+use Rattle.show_page.specs.Account.{accesses_section, bound_told, chronicle_section, is_wide, lieutenant_words, lieutenants_roomed, picture_section, programs_section, scenario_section, schedule_section, verdict_told}
+use Rattle.show_page.specs.Room.{room_for_sections}
 
 -- the picture
 abbrev pub diagram_section : Chronicle → Section

@@ -1,11 +1,11 @@
 -- Laws of such pages, each the contract of a function of this crate.
 use Rattle.std.specs.Prelude.{ℕ, ◌≡◌, ◌≤◌, List, ◌++◌, length, Option, codes}
-use Rattle.markup.specs.Grammar.{IsElement}
-use Rattle.roster.specs.Scenario.{IsScenario}
+use Rattle.html.specs.Grammar.{IsElement}
+use Rattle.round.specs.Scenario.{IsScenario}
 use Rattle.world.specs.Chronicle.{Chronicle}
 use Rattle.world.specs.declared.schedule.Repeat.{Repeat}
-use Rattle.campaign_page.specs.Room.{longest_page}
-use Rattle.signed_page.specs.Account.{signed_page_text}
+use Rattle.show_page.specs.Room.{longest_page}
+use Rattle.show_page.specs.SignedAccount.{signed_page_text}
 
 -- a page is one element of XML, between the line that says that it is HTML and a line feed, whatever stands in the
 -- scenario

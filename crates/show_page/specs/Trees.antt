@@ -4,12 +4,12 @@ use Rattle.std.specs.Prelude.{ℕ, zero, suc, if◌then◌else◌, List, [], ◌
 use Rattle.std.specs.List.{flat_map}
 use Rattle.label.specs.Labels.{others}
 use Rattle.book.specs.Table.{MessageTable}
-use Rattle.drawing.specs.Facts.{mark_at, node_at}
-use Rattle.drawing.specs.Shown.{deeper, is_open, root_node}
-use Rattle.drawing.specs.Words.{said}
-use Rattle.drawing.specs.declared.node.Node.{Node}
-use Rattle.drawing.specs.declared.node.View.{View}
-use Rattle.page.specs.Page.{fold, item, list, paragraph, text_item}
+use Rattle.show_tree.specs.Facts.{mark_at, node_at}
+use Rattle.show_tree.specs.Shown.{deeper, is_open, root_node}
+use Rattle.show_tree.specs.Words.{said}
+use Rattle.show_tree.specs.declared.node.Node.{Node}
+use Rattle.show_tree.specs.declared.node.View.{View}
+use Rattle.html.specs.Page.{fold, item, list, paragraph, text_item}
 
 -- a label, with the items below it
 abbrev pub label_item : Node → List ℕ → List ℕ

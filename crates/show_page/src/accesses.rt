@@ -1,18 +1,18 @@
 //! The accesses to the board, as a table.
 ghost use Rattle.std.specs.Prelude.{◌≡◌, ◌++◌, decimal, flat_map, string_bytes, IfOk, OnOk};
 ghost use Rattle.semantics.specs.Replies.{words_in};
-ghost use Rattle.diagram.specs.Words.{answered_words, asked_words};
-ghost use Rattle.page.specs.Page.{cell, head, row};
-ghost use Rattle.campaign_page.specs.Account.{access_heads, access_row, access_table, accesses_heading, accesses_section, accesses_told};
+ghost use Rattle.show_diagram.specs.Words.{answered_words, asked_words};
+ghost use Rattle.html.specs.Page.{cell, head, row};
+ghost use Rattle.show_page.specs.Account.{access_heads, access_row, access_table, accesses_heading, accesses_section, accesses_told};
 
 use crate::printers::accesses_printer;
 use crate::room::{ROOM_FOR_ACCESSES, roomed};
 use board::Access;
-use diagram::words::{put_answered, put_asked};
-use page::{
+use html::{
     Section, put_cell, put_head, put_row_end, put_row_start, put_table_end, put_table_start,
 };
 use semantics::{Reply, Request};
+use show_diagram::words::{put_answered, put_asked};
 use std::alloc::{AllocError, Global};
 
 /// These accesses to the board, if there are any.

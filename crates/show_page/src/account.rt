@@ -1,6 +1,6 @@
 //! A campaign as a page.
 ghost use Rattle.std.specs.Prelude.{◌≡◌, ◌++◌, encode_utf8, flat_map, option_map, string_bytes, IfOk, OnOk};
-ghost use Rattle.campaign_page.specs.Account.{accesses_section, chronicle_heading, chronicle_section, diagram_section, hinted, is_wide, page_text, parts, picture_heading, picture_hint, picture_name, picture_section, programs_section, title};
+ghost use Rattle.show_page.specs.Account.{accesses_section, chronicle_heading, chronicle_section, diagram_section, hinted, is_wide, page_text, parts, picture_heading, picture_hint, picture_name, picture_section, programs_section, title};
 ghost use Rattle.trace.specs.Text.{chronicle_text};
 
 use crate::accesses::accesses_section;
@@ -14,11 +14,11 @@ use crate::sections::{lieutenants_section, programs_section};
 use crate::verdict::put_verdict;
 use board::Access;
 use book::Heard;
-use diagram::campaign_svg;
-use diagram::layout::width;
-use diagram::svg::put_campaign;
-use page::{Section, finish, put_paragraph, put_picture, put_sections, start};
-use roster::Scenario;
+use html::{Section, finish, put_paragraph, put_picture, put_sections, start};
+use round::Scenario;
+use show_diagram::campaign_svg;
+use show_diagram::layout::width;
+use show_diagram::svg::put_campaign;
 use std::alloc::{AllocError, Global};
 use trace::{Latch, write_chronicle};
 use world::{Chronicle, Schedule};

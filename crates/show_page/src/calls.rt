@@ -2,9 +2,9 @@
 ghost use Rattle.std.specs.Prelude.{◌≡◌, [], IfOk, string_bytes};
 ghost use Rattle.explain.specs.Explained.{explained_at};
 ghost use Rattle.explain.specs.Units.{in_lists};
-ghost use Rattle.campaign_page.specs.Calls.{call_if, call_of, call_text, named_calls};
+ghost use Rattle.show_page.specs.Calls.{call_if, call_of, call_text, named_calls};
 
-use explain::{Written, explanation_at, helper_name};
+use explain::{UnitTexts, explanation_at, helper_name};
 use helper::{Helper, helper_of};
 use insn::{Insn, Program};
 use std::alloc::{AllocError, Global};
@@ -14,7 +14,7 @@ pub(crate) fn explanation(alloc: Global, program: &Program) -> Result<String, Al
     ensures { IfOk result (λ text. string_bytes text ≡ explained_at (named_calls program.now) program.now) }
 {
     let statements = statements(alloc, program)?;
-    let written = Written {
+    let written = UnitTexts {
         places: &[],
         statements: statements.as_slice(),
     };

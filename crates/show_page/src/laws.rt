@@ -1,5 +1,5 @@
 //! Laws of such pages: each function does nothing, and its contract is the law.
-ghost use Rattle.campaign_page.specs.Laws.{CampaignPagesAreElements, CampaignPagesAreShort, FoldsHideNothing};
+ghost use Rattle.show_page.specs.Laws.{CampaignPagesAreElements, CampaignPagesAreShort, FoldsHideNothing};
 
 /// A campaign's page is a line that says that it is HTML, and one element, whatever the scenario's text, the table and
 /// the chronicle.

@@ -1,11 +1,33 @@
+//! A campaign as a page of HTML: its scenario, the programs, the picture, the trees, the chronicle and the verdict. Its
+//! parts are public, for pages of other campaigns.
 //! A campaign of signed messages as a page of HTML: its scenario, the programs, the picture, what each lieutenant
 //! accepted, the chronicle and the verdict.
 #![tactic(auto)]
 
+mod accesses;
 mod account;
+mod calls;
 mod laws;
 mod lieutenants;
+mod nested_lists;
+mod printers;
+mod room;
+mod scenario;
+mod schedule;
+mod sections;
+mod signed_account;
+mod signed_laws;
+mod signed_verdict;
+mod story;
 mod verdict;
 
-pub use account::signed_page_text;
-pub use laws::{signed_pages_are_elements, signed_pages_are_short};
+pub use accesses::accesses_section;
+pub use account::{chronicle_section, is_wide, page_text, picture_section};
+pub use laws::{campaign_pages_are_elements, campaign_pages_are_short, folds_hide_nothing};
+pub use room::ROOM_FOR_SECTIONS;
+pub use scenario::scenario_section;
+pub use schedule::schedule_section;
+pub use sections::{lieutenant_name, lieutenants_roomed, programs_section};
+pub use signed_account::signed_page_text;
+pub use signed_laws::{signed_pages_are_elements, signed_pages_are_short};
+pub use verdict::{bound_told, put_verdict_told};

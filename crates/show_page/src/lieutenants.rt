@@ -1,11 +1,11 @@
 //! What each lieutenant of a signed campaign accepted, and why he decides so.
 ghost use Rattle.std.specs.Prelude.{◌≡◌, ◌<◌, ◌++◌, slice_get, string_bytes, IfOk, OnOk};
-ghost use Rattle.diagram.specs.Foot.{place_of};
-ghost use Rattle.signed_page.specs.Account.{deciding_words, each_lieutenant, lieutenant_part, lieutenants_heading, lieutenants_section};
+ghost use Rattle.show_diagram.specs.Foot.{place_of};
+ghost use Rattle.show_page.specs.SignedAccount.{deciding_words, each_lieutenant, lieutenant_part, lieutenants_heading, lieutenants_section};
 
-use campaign_page::{lieutenant_name, lieutenants_roomed};
-use diagram::foot::place_of;
-use page::{Section, put_fold_end, put_fold_start, put_lines};
+use crate::sections::{lieutenant_name, lieutenants_roomed};
+use html::{Section, put_fold_end, put_fold_start, put_lines};
+use show_diagram::foot::place_of;
 use signed::{SignedChronicle, explain_one_signed};
 use std::alloc::{AllocError, Global};
 
@@ -81,7 +81,7 @@ fn deciding_name(
 }
 
 /// The heading of the lieutenants.
-#[tactic(auto, unfolding(crate::specs::Account::lieutenants_heading))]
+#[tactic(auto, unfolding(crate::specs::SignedAccount::lieutenants_heading))]
 fn lieutenants_heading() -> &'static str
     ensures { result.now ≡ lieutenants_heading }
 {

@@ -1,17 +1,17 @@
 //! A lieutenant's tree as nested lists.
 ghost use Rattle.std.specs.Prelude.{◌≡◌, ◌≢◌, ◌<◌, ◌+◌, ◌++◌, length, true, string_bytes, IfOk, OnOk};
 ghost use Rattle.book.specs.Grammar.{is_place};
-ghost use Rattle.drawing.specs.Shown.{deeper};
-ghost use Rattle.drawing.specs.Words.{said};
-ghost use Rattle.campaign_page.specs.Trees.{items_below, label_item, root_told, tree_told};
+ghost use Rattle.show_tree.specs.Shown.{deeper};
+ghost use Rattle.show_tree.specs.Words.{said};
+ghost use Rattle.show_page.specs.Trees.{items_below, label_item, root_told, tree_told};
 
 use book::Heard;
-use drawing::{Node, View, deeper, is_open, mark_at, node_at, put_said, root_node};
-use label::Label;
-use page::{
+use html::{
     put_fold_end, put_fold_start, put_item_end, put_item_start, put_list_end, put_list_start,
     put_paragraph, put_text_item,
 };
+use label::Label;
+use show_tree::{Node, View, deeper, is_open, mark_at, node_at, put_said, root_node};
 use std::alloc::{AllocError, Global};
 
 /// Adds what a lieutenant was told, as far as it is shown, where these generals are named as traitors.

@@ -1,6 +1,6 @@
 //! What prints a part that a page has no room for, by the same schedule or of the same chronicle.
 ghost use Rattle.std.specs.Prelude.{◌≡◌};
-ghost use Rattle.campaign_page.specs.Printers.{accesses_printer, chronicle_printer, lieutenants_printer, picture_printer, programs_printer, scenario_printer, schedule_printer};
+ghost use Rattle.show_page.specs.Printers.{accesses_printer, chronicle_printer, lieutenants_printer, picture_printer, programs_printer, scenario_printer, schedule_printer};
 
 /// Of the scenario.
 #[tactic(auto, unfolding(crate::specs::Printers::scenario_printer))]

@@ -1,8 +1,8 @@
 //! How long a page may be: its sections' own rooms, and what stands in place of a section that there is no room for.
 ghost use Rattle.std.specs.Prelude.{◌≡◌, ◌++◌, string_bytes, IfOk, OnOk};
-ghost use Rattle.campaign_page.specs.Room.{fitted, lines_told, over, over_words, roomed, share, units_words};
+ghost use Rattle.show_page.specs.Room.{fitted, lines_told, over, over_words, roomed, share, units_words};
 
-use page::{Section, put_lines, put_paragraph};
+use html::{Section, put_lines, put_paragraph};
 use std::alloc::{AllocError, Global};
 
 /// How many bytes of HTML sections have together: their own rooms. What one leaves of it is for those that are longer.

@@ -1,11 +1,11 @@
 //! The scenario of a campaign, with the story at its head.
 ghost use Rattle.std.specs.Prelude.{◌≡◌, string_bytes, IfOk};
-ghost use Rattle.campaign_page.specs.Account.{scenario_heading, scenario_instead, scenario_section, scenario_told, story_told};
+ghost use Rattle.show_page.specs.Account.{scenario_heading, scenario_instead, scenario_section, scenario_told, story_told};
 
 use crate::printers::scenario_printer;
 use crate::room::{ROOM_FOR_SCENARIO, ROOM_FOR_SECTIONS, ROOM_FOR_STORY, put_fitted, put_over};
 use crate::story::parted;
-use page::{Section, put_lines};
+use html::{Section, put_lines};
 use std::alloc::{AllocError, Global};
 
 /// The scenario's text, its story apart; or, where there is no room for it, the story.

@@ -1,15 +1,15 @@
 //! The schedule of a campaign.
 ghost use Rattle.std.specs.Prelude.{◌≡◌, ◌==◌, length, option_map, string_bytes, IfOk};
 ghost use Rattle.std.specs.List.{list_all};
-ghost use Rattle.page.specs.Page.{paragraph};
-ghost use Rattle.campaign_page.specs.Account.{behind_words, course_told, recorded_words, schedule_heading, schedule_section, schedule_told, unscheduled_words};
+ghost use Rattle.html.specs.Page.{paragraph};
+ghost use Rattle.show_page.specs.Account.{behind_words, course_told, recorded_words, schedule_heading, schedule_section, schedule_told, unscheduled_words};
 
 use crate::printers::schedule_printer;
 use crate::room::{ROOM_FOR_SCHEDULE, lines_told, roomed};
-use explore::schedule_text;
-use page::{Section, put_paragraph};
+use campaign_orders::schedule_text;
+use html::{Section, put_paragraph};
 use std::alloc::{AllocError, Global};
-use world::{Entries, Schedule};
+use world::{Schedule, ScheduleLine};
 
 /// The schedule by which the campaign was played, or that its course is a chronicle's.
 ///
@@ -60,7 +60,7 @@ fn is_silent(schedule: &Schedule) -> bool
 }
 
 /// Whether a line has no entry.
-fn is_empty(line: &Entries) -> bool
+fn is_empty(line: &ScheduleLine) -> bool
     ensures { result ≡ (length line.now == 0) }
 {
     line.repeats.is_empty()

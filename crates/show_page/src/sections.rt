@@ -1,23 +1,23 @@
 //! Sections with a part for each general.
 ghost use Rattle.std.specs.Prelude.{◌≡◌, ◌<◌, ◌++◌, string_bytes, IfOk, OnOk};
-ghost use Rattle.campaign_page.specs.Account.{each_lieutenant, each_program, elsewhere_words, explained_told, general_name, lieutenant_part, lieutenant_words, lieutenants_heading, lieutenants_roomed, lieutenants_section, no_programs, program_part, program_told, programs_heading, programs_section, programs_shared, programs_told, traitor_words, view_of, why_part};
-ghost use Rattle.campaign_page.specs.Room.{room_for_sections};
+ghost use Rattle.show_page.specs.Account.{each_lieutenant, each_program, elsewhere_words, explained_told, general_name, lieutenant_part, lieutenant_words, lieutenants_heading, lieutenants_roomed, lieutenants_section, no_programs, program_part, program_told, programs_heading, programs_section, programs_shared, programs_told, traitor_words, view_of, why_part};
+ghost use Rattle.show_page.specs.Room.{room_for_sections};
 ghost use Rattle.label.specs.Labels.{on};
-ghost use Rattle.retold.specs.Retold.{traitors_of};
+ghost use Rattle.show_table.specs.Retold.{traitors_of};
 
 use crate::calls::explanation;
-use crate::listing::put_tree;
+use crate::nested_lists::put_tree;
 use crate::printers::{lieutenants_printer, programs_printer};
 use crate::room::{
     ROOM_FOR_LIEUTENANTS, ROOM_FOR_PROGRAMS, ROOM_FOR_SECTIONS, ROOM_FOR_UNITS, put_fitted, roomed,
     share, units_words,
 };
 use book::{Heard, decision, explain_one};
-use drawing::View;
+use html::{Section, put_begun_lines, put_fold_end, put_fold_start, put_lines, put_paragraph};
 use insn::Program;
-use page::{Section, put_begun_lines, put_fold_end, put_fold_start, put_lines, put_paragraph};
-use retold::traitors;
-use roster::Scenario;
+use round::Scenario;
+use show_table::traitors;
+use show_tree::View;
 use std::alloc::{AllocError, Global};
 use world::Chronicle;
 

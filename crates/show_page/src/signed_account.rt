@@ -1,20 +1,22 @@
 //! A campaign of signed messages as a page.
 ghost use Rattle.std.specs.Prelude.{◌≡◌, ◌++◌, codes, option_map, string_bytes, IfOk, OnOk};
-ghost use Rattle.campaign_page.specs.Account.{accesses_section, chronicle_section, programs_section};
-ghost use Rattle.signed_diagram.specs.Svg.{signed_words};
-ghost use Rattle.signed_page.specs.Account.{diagram_section, parts, signed_page_text, verdict_part};
+ghost use Rattle.show_page.specs.Account.{accesses_section, chronicle_section, programs_section};
+ghost use Rattle.show_chains.specs.Svg.{signed_words};
+ghost use Rattle.show_page.specs.SignedAccount.{diagram_section, parts, signed_page_text, verdict_part};
 ghost use Rattle.trace.specs.SignedText.{signed_text};
 
+use crate::accesses::accesses_section;
+use crate::account::{chronicle_section, is_wide, picture_section};
 use crate::lieutenants::lieutenants_section;
-use crate::verdict::put_verdict;
-use campaign_page::{
-    ROOM_FOR_SECTIONS, accesses_section, chronicle_section, is_wide, picture_section,
-    programs_section, scenario_section, schedule_section,
-};
-use page::{Section, finish, put_sections, start};
-use roster::Scenario;
+use crate::room::ROOM_FOR_SECTIONS;
+use crate::scenario::scenario_section;
+use crate::schedule::schedule_section;
+use crate::sections::programs_section;
+use crate::signed_verdict::put_verdict;
+use html::{Section, finish, put_sections, start};
+use round::Scenario;
+use show_chains::{put_signed_words, signed_campaign_svg};
 use signed::SignedChronicle;
-use signed_diagram::{put_signed_words, signed_campaign_svg};
 use std::alloc::{AllocError, Global};
 use trace::{Latch, write_signed};
 use world::Schedule;

@@ -1,5 +1,5 @@
 //! Laws of such pages: each function does nothing, and its contract is the law.
-ghost use Rattle.signed_page.specs.Laws.{SignedPagesAreElements, SignedPagesAreShort};
+ghost use Rattle.show_page.specs.SignedLaws.{SignedPagesAreElements, SignedPagesAreShort};
 
 /// A signed campaign's page is a line that says that it is HTML, and one element, whatever the scenario's text and the
 /// chronicle.

@@ -1,9 +1,9 @@
 //! The verdict on a signed campaign, and what was promised.
 ghost use Rattle.std.specs.Prelude.{◌≡◌, ◌++◌, string_bytes, OnOk};
-ghost use Rattle.signed_page.specs.Account.{verdict_part};
+ghost use Rattle.show_page.specs.SignedAccount.{verdict_part};
 
-use campaign_page::{bound_told, put_verdict_told};
-use signed_diagram::bound_words;
+use crate::verdict::{bound_told, put_verdict_told};
+use show_chains::bound_words;
 use std::alloc::AllocError;
 use world::Verdict;
 

@@ -1,6 +1,6 @@
 //! The story of a scenario, the comments and blank lines at its head, and the text behind it.
 ghost use Rattle.std.specs.Prelude.{◌≡◌, ◌≤◌, length};
-ghost use Rattle.campaign_page.specs.Story.{behind_story, head_bytes, is_blank, story, story_bytes};
+ghost use Rattle.show_page.specs.Story.{behind_story, head_bytes, is_blank, story, story_bytes};
 ghost use Rattle.label.specs.Labels.{on};
 
 /// The story of a scenario, and the text behind it.

@@ -1,9 +1,9 @@
 //! The verdict on a campaign, and what was promised.
 ghost use Rattle.std.specs.Prelude.{◌≡◌, ◌++◌, string_bytes, OnOk};
-ghost use Rattle.campaign_page.specs.Account.{bound_told, promise_words, verdict_heading, verdict_part, verdict_told};
+ghost use Rattle.show_page.specs.Account.{bound_told, promise_words, verdict_heading, verdict_part, verdict_told};
 
-use diagram::foot::{alike_words, bound_words, obeyed_words};
-use page::{put_heading, put_paragraph};
+use html::{put_heading, put_paragraph};
+use show_diagram::foot::{alike_words, bound_words, obeyed_words};
 use std::alloc::AllocError;
 use world::{Chronicle, Verdict};
 

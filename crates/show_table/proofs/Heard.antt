@@ -7,13 +7,13 @@ use Rattle.label.specs.Oral.{IsLabel}
 use Rattle.book.specs.Table.{MessageTable}
 use Rattle.book.proofs.Places.{is_place_of}
 use Rattle.book.proofs.TreeLemmas.{place_of_tree}
-use Rattle.combine.specs.declared.chosen.Rule.TheVariants.{Majority}
+use Rattle.combine.specs.declared.campaign_rule.Rule.TheVariants.{Majority}
 use Rattle.tree.specs.LieutenantTree.{LieutenantTree, IsCampaign, IsPlace}
-use Rattle.roster.specs.Scenario.{Scenario, IsScenario}
-use Rattle.letter.specs.Letters.{Letter, messages}
-use Rattle.delivery.specs.Told.{IsTreeOf, ToldSeen, WasTold, lieutenant_at}
-use Rattle.tables.specs.Hearing.{heard}
-use Rattle.tables.proofs.Hearing.{heard_at, value_told}
+use Rattle.round.specs.Scenario.{Scenario, IsScenario}
+use Rattle.round.specs.Letters.{Letter, messages}
+use Rattle.round.specs.Told.{IsTreeOf, ToldSeen, WasTold, lieutenant_at}
+use Rattle.book.specs.Hearing.{heard}
+use Rattle.book.proofs.Hearing.{heard_at, value_told}
 
 -- none of the first trees is the general's
 none_upto : (p : ℕ) (trees : List LieutenantTree) (i : ℕ) → ((j : ℕ) (t : LieutenantTree) → j < i → slice_get trees j ≡ Some t → (t.general == p) ≡ false) → find (λ t. t.general == p) (take i trees) ≡ None

@@ -3,9 +3,9 @@ use Rattle.std.proofs.Common.{ℕ, zero, suc, ◌+◌, ◌≡◌, List, [], ◌�
 use Rattle.std.specs.Prelude.{slice_get, sum_by}
 use Rattle.insn.specs.declared.insn.Insn.{Insn}
 use Rattle.board.specs.Board.{Access}
-use Rattle.roster.specs.Scenario.{Scenario, IsScenario, program_of, shape_of}
-use Rattle.letter.specs.Letters.{Letter}
-use Rattle.letter.specs.Origin.{AreLettersOf, AreRoundsOf}
+use Rattle.round.specs.Scenario.{Scenario, IsScenario, program_of, shape_of}
+use Rattle.round.specs.Letters.{Letter}
+use Rattle.round.specs.Origin.{AreLettersOf, AreRoundsOf}
 use Rattle.world.specs.Accounted.{IsLetterOf, IsAccountedRound, AreAccounted}
 use Rattle.world.specs.Chronicle.{Chronicle, chronicle_of}
 use Rattle.world.specs.Lists.{listed, replayed}
@@ -14,8 +14,8 @@ use Rattle.world.proofs.Campaigns.{oral_campaigns}
 use Rattle.world.proofs.Lasting.{lists_are_complete}
 use Rattle.world.proofs.Punctual.{run_scenario}
 use Rattle.world.proofs.Replaying.{runs_are_accounted}
-use Rattle.retold.specs.Retold.{IsWhole}
-use Rattle.retold.specs.Laws.{RunsAreWhole}
+use Rattle.show_table.specs.Retold.{IsWhole}
+use Rattle.show_table.specs.Laws.{RunsAreWhole}
 
 whose : (s : Scenario) (before : List (List Letter)) (g : ℕ) (o : Option (List Insn)) (l : Letter) → IsLetterOf s before g o l → (l.round ≡ suc (length before)) × (l.outbox.relay.shape ≡ shape_of s l.general (suc (length before)))
 whose s before g None l e = (

@@ -4,7 +4,7 @@ use Rattle.std.specs.declared.alloc.AllocError.{AllocError}
 use Rattle.std.specs.declared.alloc.Global.{Global}
 use Rattle.std.specs.Prelude.{◌==◌}
 use Rattle.std.proofs.lemmas.Bool.{eq-eqb, or_left, true≢false}
-use Rattle.combine.specs.declared.chosen.Rule.{Rule}
+use Rattle.combine.specs.declared.campaign_rule.Rule.{Rule}
 use Rattle.combine.specs.Rule.{combined_by}
 use Rattle.label.specs.Labels.{on}
 use Rattle.label.specs.Lieutenants.{lieutenants}
@@ -15,17 +15,17 @@ use Rattle.book.specs.Grammar.{table_told}
 use Rattle.book.specs.Table.{AreNumbersWithin, MessageTable}
 use Rattle.book.proofs.Places.{is_place_of}
 use Rattle.tree.specs.LieutenantTree.{LieutenantTree}
-use Rattle.letter.specs.Letters.{Letter, messages}
-use Rattle.roster.specs.Scenario.{Scenario, IsScenario}
-use Rattle.delivery.specs.Told.{ToldSeen, WasTold}
+use Rattle.round.specs.Letters.{Letter, messages}
+use Rattle.round.specs.Scenario.{Scenario, IsScenario}
+use Rattle.round.specs.Told.{ToldSeen, WasTold}
 use Rattle.world.specs.Chronicle.{Chronicle, decision, decisions}
-use Rattle.tables.specs.Hearing.{heard}
-use Rattle.tables.specs.Laws.{IsTableOf}
-use Rattle.tables.specs.Written.{table_text}
-use Rattle.tables.proofs.Flattened.{tables_same}
-use Rattle.tables.proofs.Reread.{decides_same}
-use Rattle.retold.specs.Retold.{IsRetold, IsWhole}
-use Rattle.retold.proofs.Heard.{heard_is}
+use Rattle.book.specs.Hearing.{heard}
+use Rattle.book.specs.WrittenLaws.{IsTableOf}
+use Rattle.book.specs.Written.{table_text}
+use Rattle.book.proofs.Flattened.{tables_same}
+use Rattle.book.proofs.Reread.{decides_same}
+use Rattle.show_table.specs.Retold.{IsRetold, IsWhole}
+use Rattle.show_table.proofs.Heard.{heard_is}
 
 -- a scenario's numbers are those of a table
 pub numbers_within : (s : Scenario) → IsScenario s → AreNumbersWithin s.generals s.bound s.commander

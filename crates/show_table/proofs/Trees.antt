@@ -6,7 +6,7 @@ use Rattle.std.specs.Prelude.{nat_lt, option_map, slice_get}
 use Rattle.std.proofs.lemmas.List.{length-map}
 use Rattle.std.proofs.lemmas.Option.{slice_get-map}
 use Rattle.std.proofs.lemmas.Bool.{cases_lt, cond-true, cond-false, lt-ltb, le-ltb}
-use Rattle.combine.specs.declared.chosen.Rule.{Rule}
+use Rattle.combine.specs.declared.campaign_rule.Rule.{Rule}
 use Rattle.label.specs.Labels.{others}
 use Rattle.label.specs.Lieutenants.{lieutenants}
 use Rattle.label.specs.Oral.{Messages}
@@ -17,15 +17,15 @@ use Rattle.book.specs.Table.{AreNumbersWithin, MessageTable}
 use Rattle.book.specs.Trees.{tree_of}
 use Rattle.book.proofs.Places.{is_place_of}
 use Rattle.book.proofs.TreeLemmas.{lieutenant_at as stands_at, tree_is}
-use Rattle.letter.specs.Letters.{Letter, messages}
-use Rattle.roster.specs.Scenario.{Scenario, IsScenario}
-use Rattle.delivery.specs.Told.{IsTreeOf, ToldSeen, WasTold, lieutenant_at}
+use Rattle.round.specs.Letters.{Letter, messages}
+use Rattle.round.specs.Scenario.{Scenario, IsScenario}
+use Rattle.round.specs.Told.{IsTreeOf, ToldSeen, WasTold, lieutenant_at}
 use Rattle.world.specs.Chronicle.{Chronicle}
-use Rattle.tables.specs.Hearing.{heard}
-use Rattle.tables.specs.Written.{table_text}
-use Rattle.tables.proofs.Flattened.{tables_same}
-use Rattle.retold.specs.Retold.{Explains, ExplainsAsked, explained_of, table_of, traitors_of}
-use Rattle.retold.proofs.Heard.{heard_is}
+use Rattle.book.specs.Hearing.{heard}
+use Rattle.book.specs.Written.{table_text}
+use Rattle.book.proofs.Flattened.{tables_same}
+use Rattle.show_table.specs.Retold.{Explains, ExplainsAsked, explained_of, table_of, traitors_of}
+use Rattle.show_table.proofs.Heard.{heard_is}
 
 -- lists that are the same at each place
 list_same : {A : Type 0} (xs ys : List A) → length xs ≡ length ys → ((i : ℕ) (x : A) → slice_get xs i ≡ Some x → slice_get ys i ≡ Some x) → xs ≡ ys

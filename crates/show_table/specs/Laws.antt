@@ -1,11 +1,11 @@
 -- Which chronicles have a table. The statement is the contract of a function of this crate.
 use Rattle.std.specs.Prelude.{List}
-use Rattle.roster.specs.Scenario.{Scenario, IsScenario}
+use Rattle.round.specs.Scenario.{Scenario, IsScenario}
 use Rattle.world.specs.declared.event.Event.{Event}
 use Rattle.world.specs.Chronicle.{chronicle_of}
 use Rattle.world.specs.Lists.{IsComplete}
 use Rattle.world.specs.World.{opening, run}
-use Rattle.retold.specs.Retold.{IsWhole}
+use Rattle.show_table.specs.Retold.{IsWhole}
 
 -- the chronicle of a complete run is whole
 abbrev pub RunsAreWhole : Type 0

@@ -5,12 +5,12 @@ use Rattle.book.specs.Decisions.{decisions_of}
 use Rattle.book.specs.Explained.{explained, explained_one}
 use Rattle.book.specs.Grammar.{table_told}
 use Rattle.book.specs.Table.{MessageTable}
-use Rattle.letter.specs.Letters.{messages}
-use Rattle.roster.specs.Scenario.{Scenario, is_traitor}
-use Rattle.letter.specs.Origin.{AreRoundsOf}
+use Rattle.round.specs.Letters.{messages}
+use Rattle.round.specs.Scenario.{Scenario, is_traitor}
+use Rattle.round.specs.Origin.{AreRoundsOf}
 use Rattle.world.specs.Chronicle.{Chronicle, decisions}
-use Rattle.tables.specs.Answers.{ExplainsOne, ExplainsTable}
-use Rattle.tables.specs.Written.{table_text}
+use Rattle.book.specs.Answers.{ExplainsOne, ExplainsTable}
+use Rattle.book.specs.Written.{table_text}
 
 -- the table of a campaign's messages: of each label, the shorter ones first, for each receiver who is off it what its
 -- last general told him of the rest by his letter, and no line where he told him nothing

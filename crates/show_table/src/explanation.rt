@@ -1,12 +1,11 @@
 //! How the decisions of a campaign come about.
 ghost use Rattle.std.specs.Prelude.{◌≡◌, IfOk, string_bytes};
-ghost use Rattle.retold.specs.Retold.{Explains, IsWhole, explained_of, traitors_of};
+ghost use Rattle.show_table.specs.Retold.{Explains, IsWhole, explained_of, traitors_of};
 
-use crate::retelling::{hearing, told_table};
-use book::{explain, explain_one};
-use roster::Scenario;
+use crate::letter_table::{hearing, told_table};
+use book::{TreeTable, explain, explain_one};
+use round::Scenario;
 use std::alloc::{AllocError, Global};
-use tables::TreeTable;
 use world::Chronicle;
 
 /// How the lieutenants of a campaign come to their decisions, or this general alone to his: what `book` says of its

@@ -1,15 +1,13 @@
 //! The message table that a campaign's letters tell.
 ghost use Rattle.std.specs.Prelude.{suc, ◌≡◌, IfOk, Ok, length, string_bytes};
 ghost use Rattle.book.specs.Grammar.{table_told};
-ghost use Rattle.retold.specs.Retold.{IsRetold, IsWhole, table_of};
-ghost use Rattle.letter.specs.Origin.{AreRoundsOf};
-ghost use Rattle.delivery.specs.Told.{WasTold};
+ghost use Rattle.show_table.specs.Retold.{IsRetold, IsWhole, table_of};
+ghost use Rattle.round.specs.Origin.{AreRoundsOf};
+ghost use Rattle.round.specs.Told.{WasTold};
 
-use delivery::Told;
-use letter::Round;
-use roster::Scenario;
+use book::{TreeTable, table_of};
+use round::{Received, Round, Scenario};
 use std::alloc::{AllocError, Global};
-use tables::{TreeTable, table_of};
 use world::Chronicle;
 
 /// The message table of a campaign: for each label, the shorter ones first, and each receiver a line where he was told
@@ -40,7 +38,7 @@ pub fn table(alloc: Global, chronicle: &Chronicle) -> Result<String, AllocError>
 /// # Errors
 ///
 /// `AllocError` where memory is refused.
-pub fn hearing(alloc: Global, chronicle: &Chronicle) -> Result<Told, AllocError>
+pub fn hearing(alloc: Global, chronicle: &Chronicle) -> Result<Received, AllocError>
     requires { IsWhole chronicle.now }
     ensures { IfOk result (WasTold chronicle.now.scenario chronicle.now.letters) }
 {
@@ -48,7 +46,7 @@ pub fn hearing(alloc: Global, chronicle: &Chronicle) -> Result<Told, AllocError>
 }
 
 /// The message table of a campaign, as what its lieutenants were told tells it: that which its text is read as.
-pub fn told_table<'a>(told: &'a Told, chronicle: &Chronicle) -> TreeTable<'a>
+pub fn told_table<'a>(told: &'a Received, chronicle: &Chronicle) -> TreeTable<'a>
     requires whole { IsWhole chronicle.now }
     requires told { WasTold chronicle.now.scenario chronicle.now.letters told.now }
     ensures { table_told (table_of chronicle.now) ≡ Ok result }
@@ -66,12 +64,12 @@ pub fn told_table<'a>(told: &'a Told, chronicle: &Chronicle) -> TreeTable<'a>
 }
 
 /// What the letters of all rounds have told the lieutenants.
-fn hear(alloc: Global, scenario: &Scenario, letters: &[Round]) -> Result<Told, AllocError>
+fn hear(alloc: Global, scenario: &Scenario, letters: &[Round]) -> Result<Received, AllocError>
     requires rounds { length letters.now ≡ suc scenario.now.bound }
     requires letters { AreRoundsOf scenario.now letters.now }
     ensures { IfOk result (WasTold scenario.now letters.now) }
 {
-    let mut told = Told::new(alloc, scenario)?;
+    let mut told = Received::new(alloc, scenario)?;
     for round in letters {
         told.deliver(scenario, round.letters());
     }

@@ -1,10 +1,10 @@
 //! Campaigns as message tables, which show how their decisions come about.
 #![tactic(auto)]
 
-mod explaining;
+mod explanation;
 mod laws;
-mod retelling;
+mod letter_table;
 
-pub use explaining::{explained, traitors};
+pub use explanation::{explained, traitors};
 pub use laws::runs_are_whole;
-pub use retelling::{hearing, table, told_table};
+pub use letter_table::{hearing, table, told_table};

@@ -17,7 +17,7 @@ use Rattle.book.specs.Grammar.{is_place}
 use Rattle.book.specs.Table.{MessageTable, told}
 use Rattle.book.specs.Trees.{tree_of}
 use Rattle.book.proofs.TreeLemmas.{place_of_tree}
-use Rattle.drawing.proofs.PlaceLemmas.{place_parts}
+use Rattle.show_tree.proofs.PlaceLemmas.{place_parts}
 
 -- a part of a list, by what stands there
 part_is : {A B : Type 0} (xs : List B) (G : A → B) (d : B) (js : List A) (a : ℕ) → ((i : ℕ) (j : A) → slice_get js i ≡ Some j → slice_get xs (a + i) ≡ Some (G j)) → take (length js) (drop a xs) ≡ map G js

@@ -7,7 +7,7 @@ use Rattle.label.specs.Labels.{others}
 use Rattle.label.specs.Oral.{om}
 use Rattle.book.specs.Explained.{held, list_of}
 use Rattle.book.specs.Table.{MessageTable}
-use Rattle.drawing.specs.Facts.{below, is_alike, is_alike_by}
+use Rattle.show_tree.specs.Facts.{below, is_alike, is_alike_by}
 
 -- ---- how many labels are below
 

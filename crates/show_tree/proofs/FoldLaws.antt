@@ -8,7 +8,7 @@ use Rattle.std.proofs.lemmas.List.Concat.{length-flat_map}
 use Rattle.std.proofs.lemmas.List.Elements.{All-from_recursion}
 use Rattle.std.proofs.lemmas.List.Sums.{sum_by-cons}
 use Rattle.std.proofs.Math.Nat.{suc-mul}
-use Rattle.combine.specs.declared.chosen.Rule.{Rule}
+use Rattle.combine.specs.declared.campaign_rule.Rule.{Rule}
 use Rattle.combine.specs.Laws.{chosen_is_rule}
 use Rattle.combine.specs.Rule.{combined_by, outcome_of}
 use Rattle.combine.proofs.RuleLaws.{outcomes_law}
@@ -20,16 +20,16 @@ use Rattle.label.proofs.Ranks.{others-count}
 use Rattle.book.specs.Explained.{decided, element, list_of}
 use Rattle.book.specs.Table.{MessageTable, told}
 use Rattle.book.proofs.Places.{all_flat}
-use Rattle.drawing.specs.declared.node.Extent.TheVariants.{Cut, Folded, Last, Open}
-use Rattle.drawing.specs.declared.node.Mark.{Mark}
-use Rattle.drawing.specs.declared.node.Mark.TheVariants.{Honest, Lie, Traitor}
-use Rattle.drawing.specs.declared.node.Node.{Node}
-use Rattle.drawing.specs.declared.node.View.{View}
-use Rattle.drawing.specs.Facts.{below, extent_at, is_alike, is_honest, is_same, mark_at, node_at, outcome_at, tells}
-use Rattle.drawing.specs.Laws.{OutcomesAreExplained}
-use Rattle.drawing.specs.Folds.{FoldsAreAlike, IsLike, all_below, order_at}
-use Rattle.drawing.specs.Shown.{deeper, is_open, nodes_below, nodes_by, with_those}
-use Rattle.drawing.proofs.PlaceLemmas.{place_parts}
+use Rattle.show_tree.specs.declared.node.Extent.TheVariants.{Cut, Folded, Last, Open}
+use Rattle.show_tree.specs.declared.node.Trust.{Trust}
+use Rattle.show_tree.specs.declared.node.Trust.TheVariants.{Honest, Lie, Traitor}
+use Rattle.show_tree.specs.declared.node.Node.{Node}
+use Rattle.show_tree.specs.declared.node.View.{View}
+use Rattle.show_tree.specs.Facts.{below, extent_at, is_alike, is_honest, is_same, mark_at, node_at, outcome_at, tells}
+use Rattle.show_tree.specs.Laws.{OutcomesAreExplained}
+use Rattle.show_tree.specs.Folds.{FoldsAreAlike, IsLike, all_below, order_at}
+use Rattle.show_tree.specs.Shown.{deeper, is_open, nodes_below, nodes_by, with_those}
+use Rattle.show_tree.proofs.PlaceLemmas.{place_parts}
 
 -- ---- the same is told of each next label, and it is no lie
 
@@ -39,7 +39,7 @@ same_told None (Some y) e = absurd cc
 same_told (Some x) None e = absurd cc
 same_told (Some x) (Some y) e = ap Some (sym (eqb-true y x e))
 
-no_lie : (mark : Mark) → is_honest mark ≡ true → mark ≡ Honest
+no_lie : (mark : Trust) → is_honest mark ≡ true → mark ≡ Honest
 no_lie Honest e = refl
 no_lie Traitor e = absurd cc
 no_lie (Lie general took) e = absurd cc

@@ -1,10 +1,10 @@
 -- What the marks of a picture mean, one behind the other.
 use Rattle.std.proofs.Common.{ℕ, ◌+◌, ◌≡◌, List, ◌++◌, append_assoc, codes, None, Some}
 use Rattle.combine.specs.declared.outcome.Outcome.TheVariants.{Divided}
-use Rattle.drawing.specs.declared.node.Mark.{Mark}
-use Rattle.drawing.specs.declared.node.Mark.TheVariants.{Honest, Traitor, Lie}
-use Rattle.drawing.specs.declared.node.Marks.{Marks}
-use Rattle.drawing.specs.Legend.{meaning_if, meanings, one_if}
+use Rattle.show_tree.specs.declared.node.Trust.{Trust}
+use Rattle.show_tree.specs.declared.node.Trust.TheVariants.{Honest, Traitor, Lie}
+use Rattle.show_tree.specs.declared.node.DrawnMarks.{DrawnMarks}
+use Rattle.show_tree.specs.Legend.{meaning_if, meanings, one_if}
 
 regrouped : (s a b c d : List ℕ) → (((s ++ a) ++ b) ++ c) ++ d ≡ s ++ (((a ++ b) ++ c) ++ d)
 regrouped s a b c d = simp append_assoc
@@ -12,7 +12,7 @@ regrouped s a b c d = simp append_assoc
 pub four_parts : (start a b c d one two three four : List ℕ) → one ≡ start ++ a → two ≡ one ++ b → three ≡ two ++ c → four ≡ three ++ d → four ≡ start ++ (((a ++ b) ++ c) ++ d)
 four_parts start a b c d one two three four e1 e2 e3 e4 = rw (e4, e3, e2, e1) (regrouped start a b c d)
 
-pub four_meanings : (marks : Marks) (dashed : Mark) (place a b c : ℕ) (start one two three four : List ℕ) → a ≡ one_if marks.circle → b ≡ one_if marks.square → c ≡ one_if marks.diamond
+pub four_meanings : (marks : DrawnMarks) (dashed : Trust) (place a b c : ℕ) (start one two three four : List ℕ) → a ≡ one_if marks.circle → b ≡ one_if marks.square → c ≡ one_if marks.diamond
     → one ≡ start ++ meaning_if marks.circle place Honest None (codes "no lie is known")
     → two ≡ one ++ meaning_if marks.square (place + a) Traitor None (codes "a named commander, his word")
     → three ≡ two ++ meaning_if marks.diamond (place + a + b) (Lie 0 0) None (codes "a lie of a named traitor")

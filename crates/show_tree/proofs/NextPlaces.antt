@@ -3,7 +3,7 @@ use Rattle.std.proofs.Common.{ℕ, ◌+◌, ◌<◌, ◌≤◌, ◌≡◌, ◌�
 use Rattle.label.specs.Labels.{on}
 use Rattle.book.specs.Grammar.{is_place}
 use Rattle.book.specs.Table.{MessageTable}
-use Rattle.drawing.proofs.PlaceLemmas.{place_next}
+use Rattle.show_tree.proofs.PlaceLemmas.{place_next}
 
 pub next_fits : (t : MessageTable) (w v : List ℕ) (j p : ℕ) → is_place t w p ≡ true → length w ≤ t.bound → j < t.generals → on w j ≡ false → j ≢ p → v ≡ w ++ j ∷ []
     → (is_place t v p ≡ true) × (length v ≡ length w + 1)

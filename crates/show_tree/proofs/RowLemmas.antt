@@ -1,8 +1,8 @@
 -- Rows below each other.
 use Rattle.std.proofs.Common.{ℕ, ◌+◌, ◌<◌, ◌≤◌, ◌≡◌, List, ◌∷◌, ◌++◌, length, drop, get_or, ap, sym, ◌∙◌, append_assoc, append-nil}
 use Rattle.std.proofs.lemmas.List.{drop_all, drop_more}
-use Rattle.drawing.specs.declared.node.Node.{Node}
-use Rattle.drawing.specs.Rows.{row, rows_from}
+use Rattle.show_tree.specs.declared.node.Node.{Node}
+use Rattle.show_tree.specs.Rows.{row, rows_from}
 
 -- one row more
 pub row_more : (n p place : ℕ) (nodes : List Node) (node : Node) (old new whole : List ℕ) → place < length nodes → node ≡ get_or nodes place node

@@ -3,11 +3,11 @@ use Rattle.std.proofs.Common.{ℕ, zero, suc, ◌≡◌, List, [], ◌∷◌, �
 use Rattle.std.specs.List.{flat_map}
 use Rattle.label.specs.Labels.{others}
 use Rattle.book.specs.Table.{MessageTable}
-use Rattle.drawing.specs.declared.node.Mark.{Mark}
-use Rattle.drawing.specs.declared.node.Node.{Node}
-use Rattle.drawing.specs.declared.node.View.{View}
-use Rattle.drawing.specs.Facts.{mark_at, node_at}
-use Rattle.drawing.specs.Shown.{deeper, nodes_below, nodes_by, with_those}
+use Rattle.show_tree.specs.declared.node.Trust.{Trust}
+use Rattle.show_tree.specs.declared.node.Node.{Node}
+use Rattle.show_tree.specs.declared.node.View.{View}
+use Rattle.show_tree.specs.Facts.{mark_at, node_at}
+use Rattle.show_tree.specs.Shown.{deeper, nodes_below, nodes_by, with_those}
 
 -- where no relay is left
 pub below_last : (t : MessageTable) (traitors : List ℕ) (view : View) (r : ℕ) (w : List ℕ) (p : ℕ) → r ≡ 0 → nodes_below t traitors view r w p ≡ []
@@ -22,7 +22,7 @@ unfolding nodes_below
 below_more t traitors view r k w p e = ap (λ (i : ℕ). nodes_below t traitors view i w p) e
 
 -- those of a general who goes on with a label
-pub with_same : (t : MessageTable) (traitors : List ℕ) (view : View) (k : ℕ) (w : List ℕ) (j p : ℕ) (v next : List ℕ) (mark : Mark) (node : Node)
+pub with_same : (t : MessageTable) (traitors : List ℕ) (view : View) (k : ℕ) (w : List ℕ) (j p : ℕ) (v next : List ℕ) (mark : Trust) (node : Node)
     → v ≡ w ++ j ∷ [] → next ≡ w ++ j ∷ [] → mark ≡ mark_at t traitors w j p → node ≡ node_at t traitors view mark k v p
     → with_those node (nodes_below t traitors (deeper view) k next p) ≡ nodes_by t traitors view k w j p
 with_same t traitors view k w j p v next mark node same_v same_next same_mark same_node =

@@ -3,29 +3,29 @@ use Rattle.std.proofs.Common.{ℕ, ◌+◌, ◌-◌, ◌*◌, ◌≡◌, List, [
 use Rattle.std.specs.Prelude.{codes}
 use Rattle.std.specs.Fmt.{decimal}
 use Rattle.std.specs.List.{range_with_len}
-use Rattle.markup.specs.Grammar.{IsText, no_text, no_attributes, attributed, IsTag, IsContent, text, nested, alone, joined, is_name}
-use Rattle.markup.specs.Tags.{attribute, closing, element, empty}
-use Rattle.markup.proofs.TextLemmas.{bare_text, decimal_text, text-append, text-flat_map}
+use Rattle.html.specs.Grammar.{IsText, no_text, no_attributes, attributed, IsTag, IsContent, text, nested, alone, joined, is_name}
+use Rattle.html.specs.Tags.{attribute, closing, element, empty}
+use Rattle.html.proofs.TextLemmas.{bare_text, decimal_text, text-append, text-flat_map}
 use Rattle.book.specs.Decisions.{decision_of}
 use Rattle.book.specs.Explained.{dotted, order_words}
-use Rattle.drawing.specs.declared.node.Branch.{Branch}
-use Rattle.drawing.specs.declared.node.Branch.TheVariants.{Tee, Corner, Bar, Gap}
-use Rattle.drawing.specs.declared.node.Extent.{Extent}
-use Rattle.drawing.specs.declared.node.Extent.TheVariants.{Last, Open, Folded, Cut}
-use Rattle.drawing.specs.declared.node.Mark.{Mark}
-use Rattle.drawing.specs.declared.node.Mark.TheVariants.{Honest, Traitor, Lie}
-use Rattle.drawing.specs.declared.node.Marks.{Marks}
-use Rattle.drawing.specs.declared.node.Node.{Node}
+use Rattle.show_tree.specs.declared.node.Branch.{Branch}
+use Rattle.show_tree.specs.declared.node.Branch.TheVariants.{Tee, Corner, Bar, Gap}
+use Rattle.show_tree.specs.declared.node.Extent.{Extent}
+use Rattle.show_tree.specs.declared.node.Extent.TheVariants.{Last, Open, Folded, Cut}
+use Rattle.show_tree.specs.declared.node.Trust.{Trust}
+use Rattle.show_tree.specs.declared.node.Trust.TheVariants.{Honest, Traitor, Lie}
+use Rattle.show_tree.specs.declared.node.DrawnMarks.{DrawnMarks}
+use Rattle.show_tree.specs.declared.node.Node.{Node}
 use Rattle.combine.specs.declared.outcome.Outcome.{Outcome}
 use Rattle.combine.specs.declared.outcome.Outcome.TheVariants.{Agreed, Divided, Middle}
 use Rattle.combine.specs.Outcome.{outcome_head, outcome_order, outcome_words as list_words}
-use Rattle.drawing.specs.Laws.{PicturesAreElements}
-use Rattle.drawing.specs.Legend.{dashed_shape, legend, marks_of, meaning, meaning_if, meaning_words, meanings, one_if, rule, rule_at}
-use Rattle.drawing.specs.Places.{branch_at}
-use Rattle.drawing.specs.Rows.{branch_way, branch_ways, kind, lines_end, lines_start, outcome_class, outline, row, row_end, row_start, rows_from, shape, stub, way, word_text}
-use Rattle.drawing.specs.Shown.{nodes_of}
-use Rattle.drawing.specs.Svg.{breadth, head, heading, inside, key, key_start, look, picture, said_if, shape_words, size, start, svg_text, tallness, title, view_box}
-use Rattle.drawing.specs.Words.{counted_words, extent_words, mark_words, outcome_words, said, told_words, words}
+use Rattle.show_tree.specs.Laws.{PicturesAreElements}
+use Rattle.show_tree.specs.Legend.{dashed_shape, legend, marks_of, meaning, meaning_if, meaning_words, meanings, one_if, rule, rule_at}
+use Rattle.show_tree.specs.Places.{branch_at}
+use Rattle.show_tree.specs.Rows.{branch_way, branch_ways, kind, lines_end, lines_start, outcome_class, outline, row, row_end, row_start, rows_from, shape, stub, way, word_text}
+use Rattle.show_tree.specs.Shown.{nodes_of}
+use Rattle.show_tree.specs.Svg.{breadth, head, heading, inside, key, key_start, look, picture, said_if, shape_words, size, start, svg_text, tallness, title, view_box}
+use Rattle.show_tree.specs.Words.{counted_words, extent_words, mark_words, outcome_words, said, told_words, words}
 
 -- ---- words
 
@@ -55,7 +55,7 @@ outcome_text : (o : Option Outcome) → IsText (outcome_words stop o)
 outcome_text None = no_text
 outcome_text (Some o) = many stop (list_words o) stop_text (many (outcome_head o) (decimal (outcome_order o)) (head_text o) (decimal_text (outcome_order o)))
 
-mark_text : (m : Mark) → IsText (mark_words stop m)
+mark_text : (m : Trust) → IsText (mark_words stop m)
 mark_text Honest = no_text
 mark_text Traitor = bare_text (stop ++ codes "by a traitor") refl
 mark_text (Lie general took) =
@@ -111,7 +111,7 @@ stub_text left Last = no_text
 stub_text left (Folded count) = no_text
 stub_text left (Cut count) = no_text
 
-kind_text : (m : Mark) → IsText (kind m)
+kind_text : (m : Trust) → IsText (kind m)
 kind_text Honest = bare_text (codes "told") refl
 kind_text Traitor = bare_text (codes "word") refl
 kind_text (Lie general took) = bare_text (codes "lie") refl
@@ -122,7 +122,7 @@ class_text (Some (Agreed order)) = no_text
 class_text (Some (Divided order)) = bare_text (codes " split") refl
 class_text (Some (Middle order)) = no_text
 
-outline_text : (m : Mark) → IsText (outline m)
+outline_text : (m : Trust) → IsText (outline m)
 outline_text Honest = bare_text (codes " 6a6 6 0 0 1 0 12a6 6 0 0 1 0-12z") refl
 outline_text Traitor = bare_text (codes " 6h6v12h-12v-12z") refl
 outline_text (Lie general took) = bare_text (codes " 4l8 8l-8 8l-8-8z") refl
@@ -235,13 +235,13 @@ shape_content class way c w = alone (codes "path") (attribute (codes "class") cl
 words_content : (y words : List ℕ) → IsText y → IsText words → IsContent (words_at y words)
 words_content y words t u = nested (codes "text") (attribute (codes "x") (codes "14") ++ (attribute (codes "y") y ++ [])) words (text_tag (codes "14") y (bare_text (codes "14") refl) t) (text words u)
 
-abbrev row_of : ℕ → Mark → Option Outcome → List ℕ → List ℕ
+abbrev row_of : ℕ → Trust → Option Outcome → List ℕ → List ℕ
 row_of place mark outcome words = group_of (place_of place) (shape_of (kind mark ++ outcome_class outcome) (codes "M" ++ (decimal 0 ++ outline mark)) ++ words_at (codes "17") words)
 
 meaning_parts : (first shapes saying end feed : List ℕ) → first ++ shapes ++ saying ++ (end ++ feed) ≡ (first ++ ((shapes ++ saying) ++ end)) ++ feed
 meaning_parts first shapes saying end feed = simp append_assoc
 
-meaning_whole : (place : ℕ) (mark : Mark) (outcome : Option Outcome) (words : List ℕ) → meaning place mark outcome words ≡ row_of place mark outcome words ++ codes "\n"
+meaning_whole : (place : ℕ) (mark : Trust) (outcome : Option Outcome) (words : List ℕ) → meaning place mark outcome words ≡ row_of place mark outcome words ++ codes "\n"
 unfolding row_start shape meaning_words row_end
 meaning_whole place mark outcome words =
     let shapes : List ℕ = shape 0 mark outcome in
@@ -256,7 +256,7 @@ place_text : (place : ℕ) → IsText (place_of place)
 place_text place =
     many (codes "translate(16 ") (decimal (36 + 24 * place) ++ codes ")") (bare_text (codes "translate(16 ") refl) (many (decimal (36 + 24 * place)) (codes ")") (decimal_text (36 + 24 * place)) (bare_text (codes ")") refl))
 
-meaning_content : (place : ℕ) (mark : Mark) (outcome : Option Outcome) (words : List ℕ) → IsText words → IsContent (meaning place mark outcome words)
+meaning_content : (place : ℕ) (mark : Trust) (outcome : Option Outcome) (words : List ℕ) → IsText words → IsContent (meaning place mark outcome words)
 meaning_content place mark outcome words t =
     let class : List ℕ = kind mark ++ outcome_class outcome in
     let way : List ℕ = codes "M" ++ (decimal 0 ++ outline mark) in
@@ -268,11 +268,11 @@ meaning_content place mark outcome words t =
     (nested (codes "g") (attribute (codes "transform") (place_of place) ++ []) (shape_of class way ++ words_at (codes "17") words) (group_tag (place_of place) (place_text place)) inside)
     (text (codes "\n") (bare_text (codes "\n") refl)))
 
-meaning_if_content : (stands : Bool) (place : ℕ) (mark : Mark) (outcome : Option Outcome) (words : List ℕ) → IsText words → IsContent (meaning_if stands place mark outcome words)
+meaning_if_content : (stands : Bool) (place : ℕ) (mark : Trust) (outcome : Option Outcome) (words : List ℕ) → IsText words → IsContent (meaning_if stands place mark outcome words)
 meaning_if_content true place mark outcome words t = meaning_content place mark outcome words t
 meaning_if_content false place mark outcome words t = text [] no_text
 
-meanings_content : (marks : Marks) (dashed : Mark) (place : ℕ) → IsContent (meanings marks dashed place)
+meanings_content : (marks : DrawnMarks) (dashed : Trust) (place : ℕ) → IsContent (meanings marks dashed place)
 meanings_content marks dashed place =
     let second : ℕ = place + one_if marks.circle in
     let third : ℕ = second + one_if marks.square in
@@ -347,7 +347,7 @@ unfolding said_if
 said_if_text true words t = t
 said_if_text false words t = no_text
 
-shape_words_text : (marks : Marks) → IsText (shape_words marks)
+shape_words_text : (marks : DrawnMarks) → IsText (shape_words marks)
 shape_words_text marks =
     let circle : List ℕ = said_if marks.circle (codes " Circle: the word of a general who is not named as a traitor, or tells what he took.") in
     let square : List ℕ = said_if marks.square (codes " Square: the word of a commander who is named.") in
@@ -358,20 +358,20 @@ shape_words_text marks =
     (said_if_text marks.diamond (codes " Diamond: a lie.") (bare_text _ refl)))
     (said_if_text marks.dashes (codes " Dashes: no order has a majority.") (bare_text _ refl))
 
-abbrev key_words : Marks → List ℕ
+abbrev key_words : DrawnMarks → List ℕ
 key_words marks = rows_words ++ shape_words marks
 
-key_text : (marks : Marks) → IsText (key_words marks)
+key_text : (marks : DrawnMarks) → IsText (key_words marks)
 key_text marks = many rows_words (shape_words marks) (bare_text rows_words refl) (shape_words_text marks)
 
 key_parts : (first rows shapes end feed : List ℕ) → (first ++ rows) ++ shapes ++ (end ++ feed) ≡ (first ++ ((rows ++ shapes) ++ end)) ++ feed
 key_parts first rows shapes end feed = simp append_assoc
 
-key_whole : (marks : Marks) → key marks ≡ element (codes "desc") [] (key_words marks) ++ codes "\n"
+key_whole : (marks : DrawnMarks) → key marks ≡ element (codes "desc") [] (key_words marks) ++ codes "\n"
 unfolding key_start
 key_whole marks = key_parts (codes "<desc>") rows_words (shape_words marks) (codes "</desc>") (codes "\n")
 
-key_content : (marks : Marks) → IsContent (key marks)
+key_content : (marks : DrawnMarks) → IsContent (key marks)
 key_content marks =
     subst IsContent (sym (key_whole marks))
     (joined (element (codes "desc") [] (key_words marks)) (codes "\n") (nested (codes "desc") [] (key_words marks) (bare_tag (codes "desc") refl) (text (key_words marks) (key_text marks)))
@@ -389,7 +389,7 @@ look_content =
     joined (element (codes "style") [] look_words) (codes "\n") (nested (codes "style") [] look_words (bare_tag (codes "style") refl) (text look_words (bare_text look_words refl)))
     (text (codes "\n") (bare_text (codes "\n") refl))
 
-head_content : (marks : Marks) (p order : ℕ) → IsContent (head marks p order)
+head_content : (marks : DrawnMarks) (p order : ℕ) → IsContent (head marks p order)
 head_content marks p order =
     joined (title p order ++ key marks ++ look) (heading p order) (joined (title p order ++ key marks) look (joined (title p order) (key marks) (title_content p order) (key_content marks)) look_content) (heading_content p order)
 

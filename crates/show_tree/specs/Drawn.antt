@@ -2,25 +2,25 @@
 use Rattle.std.specs.Prelude.{ℕ, nat_lt, ◌≡◌, ◌==◌, ◌&&◌, not, if◌then◌else◌, List, [], Ok}
 use Rattle.book.specs.Grammar.{table_told}
 use Rattle.book.specs.Table.{MessageTable}
-use Rattle.drawing.specs.Graph.{graph_text}
-use Rattle.drawing.specs.Lines.{tree_text}
-use Rattle.drawing.specs.Svg.{svg_text}
-use Rattle.drawing.specs.declared.form.Form.{Form}
-use Rattle.drawing.specs.declared.form.Form.TheVariants.{Lines, Graph, Svg}
-use Rattle.drawing.specs.declared.node.View.{View}
+use Rattle.show_tree.specs.Graph.{graph_text}
+use Rattle.show_tree.specs.Lines.{tree_text}
+use Rattle.show_tree.specs.Svg.{svg_text}
+use Rattle.show_tree.specs.declared.form.TreeForm.{TreeForm}
+use Rattle.show_tree.specs.declared.form.TreeForm.TheVariants.{Lines, Graph, Svg}
+use Rattle.show_tree.specs.declared.node.View.{View}
 
 -- a lieutenant's tree in this form
-abbrev pub picture : MessageTable → List ℕ → View → Form → ℕ → List ℕ
+abbrev pub picture : MessageTable → List ℕ → View → TreeForm → ℕ → List ℕ
 picture t traitors view (Lines style) p = tree_text t traitors view style p
 picture t traitors view Graph p = graph_text t traitors view p
 picture t traitors view Svg p = svg_text t traitors view p
 
 -- of one who is no lieutenant there is none
-abbrev pub drawn : MessageTable → List ℕ → View → Form → ℕ → List ℕ
+abbrev pub drawn : MessageTable → List ℕ → View → TreeForm → ℕ → List ℕ
 drawn t traitors view form p =
     if nat_lt p t.generals && not (p == t.commander) then picture t traitors view form p else []
 
 -- the text tells a table, and this is the general's tree
-abbrev pub DrawsTable : List ℕ → List ℕ → View → Form → ℕ → List ℕ → Type 0
+abbrev pub DrawsTable : List ℕ → List ℕ → View → TreeForm → ℕ → List ℕ → Type 0
 DrawsTable text traitors view form p drawing =
     (table : MessageTable) × (table_told text ≡ Ok table) × (drawing ≡ drawn table traitors view form p)

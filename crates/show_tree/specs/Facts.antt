@@ -8,24 +8,24 @@ use Rattle.label.specs.Oral.{taken}
 use Rattle.book.specs.Conditions.{is_told}
 use Rattle.book.specs.Explained.{list_of}
 use Rattle.book.specs.Table.{MessageTable, told}
-use Rattle.drawing.specs.declared.node.Mark.{Mark}
-use Rattle.drawing.specs.declared.node.Mark.TheVariants.{Honest, Lie}
-use Rattle.drawing.specs.declared.node.Extent.{Extent}
-use Rattle.drawing.specs.declared.node.Extent.TheVariants.{Last, Open, Folded, Cut}
-use Rattle.drawing.specs.declared.node.View.{View}
-use Rattle.drawing.specs.declared.node.Node.{Node}
+use Rattle.show_tree.specs.declared.node.Trust.{Trust}
+use Rattle.show_tree.specs.declared.node.Trust.TheVariants.{Honest, Lie}
+use Rattle.show_tree.specs.declared.node.Extent.{Extent}
+use Rattle.show_tree.specs.declared.node.Extent.TheVariants.{Last, Open, Folded, Cut}
+use Rattle.show_tree.specs.declared.node.View.{View}
+use Rattle.show_tree.specs.declared.node.Node.{Node}
 
 -- what the list of a label comes to, if there is one
 abbrev pub outcome_at : MessageTable → ℕ → List ℕ → ℕ → Option Outcome
 outcome_at t k w p = if k == 0 then None else Some (outcome_of t.rule (list_of t (k - 1) w p))
 
 -- whether j lies, who tells p of w: he is named, and does not tell what he took
-abbrev pub mark_at : MessageTable → List ℕ → List ℕ → ℕ → ℕ → Mark
+abbrev pub mark_at : MessageTable → List ℕ → List ℕ → ℕ → ℕ → Trust
 mark_at t traitors w j p =
     if on traitors j && not (is_told (taken (told t.messages) w j) (told t.messages (w ++ j ∷ []) p))
     then Lie j (taken (told t.messages) w j) else Honest
 
-abbrev pub is_honest : Mark → Bool
+abbrev pub is_honest : Trust → Bool
 is_honest Honest = true
 is_honest _ = false
 
@@ -63,7 +63,7 @@ extent_at t traitors view k w p =
     else Open
 
 -- all of it
-unfoldable pub node_at : MessageTable → List ℕ → View → Mark → ℕ → List ℕ → ℕ → Node
+unfoldable pub node_at : MessageTable → List ℕ → View → Trust → ℕ → List ℕ → ℕ → Node
 node_at t traitors view mark k w p =
     record {
       label = w;

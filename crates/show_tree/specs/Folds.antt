@@ -3,14 +3,14 @@ use Rattle.std.specs.Prelude.{ℕ, ◌≡◌, true, false, All, List, length, Op
 use Rattle.label.specs.Oral.{order_of}
 use Rattle.book.specs.Grammar.{is_place}
 use Rattle.book.specs.Table.{MessageTable, told}
-use Rattle.drawing.specs.declared.node.Extent.TheVariants.{Folded}
-use Rattle.drawing.specs.declared.node.Mark.TheVariants.{Honest}
-use Rattle.drawing.specs.declared.node.Node.{Node}
+use Rattle.show_tree.specs.declared.node.Extent.TheVariants.{Folded}
+use Rattle.show_tree.specs.declared.node.Trust.TheVariants.{Honest}
+use Rattle.show_tree.specs.declared.node.Node.{Node}
 use Rattle.combine.specs.declared.outcome.Outcome.{Outcome}
 use Rattle.combine.specs.Outcome.{outcome_order}
-use Rattle.drawing.specs.declared.node.View.{View}
-use Rattle.drawing.specs.Facts.{extent_at, outcome_at}
-use Rattle.drawing.specs.Shown.{nodes_below}
+use Rattle.show_tree.specs.declared.node.View.{View}
+use Rattle.show_tree.specs.Facts.{extent_at, outcome_at}
+use Rattle.show_tree.specs.Shown.{nodes_below}
 
 -- the order that a label comes to: what he was told, where it has no list, and else what its list comes to
 abbrev pub order_at : Option Outcome → Option ℕ → ℕ

@@ -7,16 +7,16 @@ use Rattle.book.specs.Explained.{dotted}
 use Rattle.book.specs.Table.{MessageTable}
 use Rattle.combine.specs.declared.outcome.Outcome.{Outcome}
 use Rattle.combine.specs.declared.outcome.Outcome.TheVariants.{Divided}
-use Rattle.drawing.specs.declared.node.Mark.{Mark}
-use Rattle.drawing.specs.declared.node.Mark.TheVariants.{Honest, Traitor, Lie}
-use Rattle.drawing.specs.declared.node.Extent.{Extent}
-use Rattle.drawing.specs.declared.node.Extent.TheVariants.{Last, Open, Folded, Cut}
-use Rattle.drawing.specs.declared.node.Node.{Node}
-use Rattle.drawing.specs.declared.node.View.{View}
-use Rattle.drawing.specs.Shown.{nodes_of}
-use Rattle.drawing.specs.Words.{words}
+use Rattle.show_tree.specs.declared.node.Trust.{Trust}
+use Rattle.show_tree.specs.declared.node.Trust.TheVariants.{Honest, Traitor, Lie}
+use Rattle.show_tree.specs.declared.node.Extent.{Extent}
+use Rattle.show_tree.specs.declared.node.Extent.TheVariants.{Last, Open, Folded, Cut}
+use Rattle.show_tree.specs.declared.node.Node.{Node}
+use Rattle.show_tree.specs.declared.node.View.{View}
+use Rattle.show_tree.specs.Shown.{nodes_of}
+use Rattle.show_tree.specs.Words.{words}
 
-abbrev pub mark_style : Mark → List ℕ
+abbrev pub mark_style : Trust → List ℕ
 mark_style Honest = []
 mark_style Traitor = codes ", shape=octagon"
 mark_style (Lie general took) = codes ", shape=octagon, color=red, penwidth=2"

@@ -1,12 +1,12 @@
 -- Laws of what is said and drawn. Each is the contract of a function of this crate.
 use Rattle.std.specs.Prelude.{ℕ, suc, ◌≡◌, List, ◌++◌, codes, Some}
 use Rattle.combine.specs.Rule.{outcome_of}
-use Rattle.markup.specs.Grammar.{IsElement}
+use Rattle.html.specs.Grammar.{IsElement}
 use Rattle.book.specs.Explained.{list_of}
 use Rattle.book.specs.Table.{MessageTable}
-use Rattle.drawing.specs.declared.node.View.{View}
-use Rattle.drawing.specs.Facts.{outcome_at}
-use Rattle.drawing.specs.Svg.{svg_text}
+use Rattle.show_tree.specs.declared.node.View.{View}
+use Rattle.show_tree.specs.Facts.{outcome_at}
+use Rattle.show_tree.specs.Svg.{svg_text}
 
 -- what a label from which others go on comes to is what the list that is explained of it comes to
 abbrev pub OutcomesAreExplained : Type 0

@@ -3,18 +3,18 @@ use Rattle.std.specs.Prelude.{ℕ, ◌+◌, Bool, true, false, ◌&&◌, if◌th
 use Rattle.std.specs.List.{list_any}
 use Rattle.combine.specs.declared.outcome.Outcome.{Outcome}
 use Rattle.combine.specs.declared.outcome.Outcome.TheVariants.{Divided}
-use Rattle.drawing.specs.declared.node.Mark.{Mark}
-use Rattle.drawing.specs.declared.node.Mark.TheVariants.{Honest, Traitor, Lie}
-use Rattle.drawing.specs.declared.node.Marks.{Marks}
-use Rattle.drawing.specs.declared.node.Node.{Node}
-use Rattle.drawing.specs.Facts.{is_honest}
-use Rattle.drawing.specs.Rows.{row_end, row_start, shape}
+use Rattle.show_tree.specs.declared.node.Trust.{Trust}
+use Rattle.show_tree.specs.declared.node.Trust.TheVariants.{Honest, Traitor, Lie}
+use Rattle.show_tree.specs.declared.node.DrawnMarks.{DrawnMarks}
+use Rattle.show_tree.specs.declared.node.Node.{Node}
+use Rattle.show_tree.specs.Facts.{is_honest}
+use Rattle.show_tree.specs.Rows.{row_end, row_start, shape}
 
-abbrev pub is_word : Mark → Bool
+abbrev pub is_word : Trust → Bool
 is_word Traitor = true
 is_word _ = false
 
-abbrev pub is_lie : Mark → Bool
+abbrev pub is_lie : Trust → Bool
 is_lie (Lie general took) = true
 is_lie _ = false
 
@@ -42,14 +42,14 @@ abbrev pub has_dashed_square : Node → Bool
 has_dashed_square node = has_dashes node && has_square node
 
 -- which shape stands with dashes in the picture of these labels: a circle, if one does, else a square, else a diamond
-abbrev pub dashed_shape : List Node → Mark
+abbrev pub dashed_shape : List Node → Trust
 dashed_shape nodes =
     if list_any has_dashed_circle nodes then Honest
     else if list_any has_dashed_square nodes then Traitor
     else Lie 0 0
 
 -- the marks that stand in the picture of these labels
-abbrev pub marks_of : List Node → Marks
+abbrev pub marks_of : List Node → DrawnMarks
 marks_of nodes = record {
   circle = list_any has_circle nodes;
   square = list_any has_square nodes;
@@ -60,21 +60,21 @@ marks_of nodes = record {
 abbrev pub one_if : Bool → ℕ
 one_if stands = if stands then 1 else 0
 
-abbrev pub count_of : Marks → ℕ
+abbrev pub count_of : DrawnMarks → ℕ
 count_of marks = one_if marks.circle + one_if marks.square + one_if marks.diamond + one_if marks.dashes
 
 -- a row with a mark, and what it means
 unfoldable pub meaning_words : List ℕ → List ℕ
 meaning_words words = codes "<text x=\"14\" y=\"17\">" ++ (words ++ codes "</text>")
 
-abbrev pub meaning : ℕ → Mark → Option Outcome → List ℕ → List ℕ
+abbrev pub meaning : ℕ → Trust → Option Outcome → List ℕ → List ℕ
 meaning place mark outcome words = row_start place ++ shape 0 mark outcome ++ meaning_words words ++ row_end
 
-abbrev pub meaning_if : Bool → ℕ → Mark → Option Outcome → List ℕ → List ℕ
+abbrev pub meaning_if : Bool → ℕ → Trust → Option Outcome → List ℕ → List ℕ
 meaning_if stands place mark outcome words = if stands then meaning place mark outcome words else []
 
 -- those of these marks below each other, the first with this place; dashes are shown at a shape that has them
-abbrev pub meanings : Marks → Mark → ℕ → List ℕ
+abbrev pub meanings : DrawnMarks → Trust → ℕ → List ℕ
 meanings marks dashed place =
     meaning_if marks.circle place Honest None (codes "no lie is known")
     ++ meaning_if marks.square (place + one_if marks.circle) Traitor None (codes "a named commander, his word")

@@ -5,15 +5,15 @@ use Rattle.label.specs.Labels.{on}
 use Rattle.book.specs.Decisions.{decision_of}
 use Rattle.book.specs.Explained.{head_line, decision_line}
 use Rattle.book.specs.Table.{MessageTable}
-use Rattle.drawing.specs.declared.node.Branch.{Branch}
-use Rattle.drawing.specs.declared.node.Branch.TheVariants.{Tee, Corner, Bar, Gap}
-use Rattle.drawing.specs.declared.node.Node.{Node}
-use Rattle.drawing.specs.declared.node.Style.{Style}
-use Rattle.drawing.specs.declared.node.Style.TheVariants.{Ascii, Boxes}
-use Rattle.drawing.specs.declared.node.View.{View}
-use Rattle.drawing.specs.Places.{branch_at}
-use Rattle.drawing.specs.Shown.{nodes_of}
-use Rattle.drawing.specs.Words.{said}
+use Rattle.show_tree.specs.declared.node.Branch.{Branch}
+use Rattle.show_tree.specs.declared.node.Branch.TheVariants.{Tee, Corner, Bar, Gap}
+use Rattle.show_tree.specs.declared.node.Node.{Node}
+use Rattle.show_tree.specs.declared.node.Style.{Style}
+use Rattle.show_tree.specs.declared.node.Style.TheVariants.{Ascii, Boxes}
+use Rattle.show_tree.specs.declared.node.View.{View}
+use Rattle.show_tree.specs.Places.{branch_at}
+use Rattle.show_tree.specs.Shown.{nodes_of}
+use Rattle.show_tree.specs.Words.{said}
 
 -- box-drawing characters: U+251C, U+2514 and U+2502, and U+2500 twice, in UTF-8
 abbrev pub branch_text : Style → Branch → List ℕ

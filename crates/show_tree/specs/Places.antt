@@ -3,8 +3,8 @@ use Rattle.std.specs.Prelude.{ℕ, ◌+◌, ◌==◌, nat_le, Bool, true, false,
 use Rattle.std.specs.Fmt.{decimal}
 use Rattle.std.specs.List.{flat_map, list_all}
 use Rattle.label.specs.Labels.{others}
-use Rattle.drawing.specs.declared.node.Branch.{Branch}
-use Rattle.drawing.specs.declared.node.Branch.TheVariants.{Tee, Corner, Bar, Gap}
+use Rattle.show_tree.specs.declared.node.Branch.{Branch}
+use Rattle.show_tree.specs.declared.node.Branch.TheVariants.{Tee, Corner, Bar, Gap}
 
 -- generals behind the first of a label, as they are written
 abbrev pub later_names : List ℕ → List ℕ

@@ -2,17 +2,17 @@
 use Rattle.std.specs.Prelude.{ℕ, ◌+◌, ◌-◌, ◌*◌, max, List, [], ◌∷◌, ◌++◌, length, codes, Option, Some}
 use Rattle.std.specs.Fmt.{decimal}
 use Rattle.std.specs.List.{flat_map, range_with_len}
-use Rattle.drawing.specs.declared.node.Branch.{Branch}
-use Rattle.drawing.specs.declared.node.Branch.TheVariants.{Tee, Corner, Bar, Gap}
-use Rattle.drawing.specs.declared.node.Extent.{Extent}
-use Rattle.drawing.specs.declared.node.Extent.TheVariants.{Open}
-use Rattle.drawing.specs.declared.node.Mark.{Mark}
-use Rattle.drawing.specs.declared.node.Mark.TheVariants.{Honest, Traitor, Lie}
-use Rattle.drawing.specs.declared.node.Node.{Node}
+use Rattle.show_tree.specs.declared.node.Branch.{Branch}
+use Rattle.show_tree.specs.declared.node.Branch.TheVariants.{Tee, Corner, Bar, Gap}
+use Rattle.show_tree.specs.declared.node.Extent.{Extent}
+use Rattle.show_tree.specs.declared.node.Extent.TheVariants.{Open}
+use Rattle.show_tree.specs.declared.node.Trust.{Trust}
+use Rattle.show_tree.specs.declared.node.Trust.TheVariants.{Honest, Traitor, Lie}
+use Rattle.show_tree.specs.declared.node.Node.{Node}
 use Rattle.combine.specs.declared.outcome.Outcome.{Outcome}
 use Rattle.combine.specs.declared.outcome.Outcome.TheVariants.{Divided}
-use Rattle.drawing.specs.Places.{branch_at}
-use Rattle.drawing.specs.Words.{said}
+use Rattle.show_tree.specs.Places.{branch_at}
+use Rattle.show_tree.specs.Words.{said}
 
 -- how far a row reaches: 28 units a general of its label, and 8 a byte of its text
 abbrev pub reach : Node → ℕ
@@ -42,7 +42,7 @@ stub left Open = way left (codes " 18v6")
 stub left _ = []
 
 -- a circle, a square or a diamond, with dashes where no order has a majority
-abbrev pub kind : Mark → List ℕ
+abbrev pub kind : Trust → List ℕ
 kind Honest = codes "told"
 kind Traitor = codes "word"
 kind (Lie general took) = codes "lie"
@@ -51,12 +51,12 @@ abbrev pub outcome_class : Option Outcome → List ℕ
 outcome_class (Some (Divided order)) = codes " split"
 outcome_class _ = []
 
-abbrev pub outline : Mark → List ℕ
+abbrev pub outline : Trust → List ℕ
 outline Honest = codes " 6a6 6 0 0 1 0 12a6 6 0 0 1 0-12z"
 outline Traitor = codes " 6h6v12h-12v-12z"
 outline (Lie general took) = codes " 4l8 8l-8 8l-8-8z"
 
-unfoldable pub shape : ℕ → Mark → Option Outcome → List ℕ
+unfoldable pub shape : ℕ → Trust → Option Outcome → List ℕ
 shape left mark outcome = codes "<path class=\""
     ++ (kind mark ++ (outcome_class outcome ++ (codes "\" d=\"M" ++ (decimal left ++ (outline mark ++ codes "\"/>")))))
 

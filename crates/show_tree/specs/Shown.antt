@@ -4,13 +4,13 @@ use Rattle.std.specs.List.{flat_map}
 use Rattle.label.specs.Labels.{on, others}
 use Rattle.book.specs.Conditions.{is_told}
 use Rattle.book.specs.Table.{MessageTable, told}
-use Rattle.drawing.specs.declared.node.Mark.{Mark}
-use Rattle.drawing.specs.declared.node.Mark.TheVariants.{Honest, Lie, Traitor}
-use Rattle.drawing.specs.declared.node.Extent.{Extent}
-use Rattle.drawing.specs.declared.node.Extent.TheVariants.{Open}
-use Rattle.drawing.specs.declared.node.View.{View}
-use Rattle.drawing.specs.declared.node.Node.{Node}
-use Rattle.drawing.specs.Facts.{mark_at, node_at}
+use Rattle.show_tree.specs.declared.node.Trust.{Trust}
+use Rattle.show_tree.specs.declared.node.Trust.TheVariants.{Honest, Lie, Traitor}
+use Rattle.show_tree.specs.declared.node.Extent.{Extent}
+use Rattle.show_tree.specs.declared.node.Extent.TheVariants.{Open}
+use Rattle.show_tree.specs.declared.node.View.{View}
+use Rattle.show_tree.specs.declared.node.Node.{Node}
+use Rattle.show_tree.specs.Facts.{mark_at, node_at}
 
 abbrev pub is_open : Extent → Bool
 is_open Open = true
@@ -25,12 +25,12 @@ abbrev pub ordered : ℕ → View → View
 ordered order view = record { depth = view.depth; folds = view.folds; order = Some order }
 
 -- the mark of what a commander told who is named: a lie, where it is known to be another order than his own
-abbrev pub commander_mark : Option ℕ → ℕ → Option ℕ → Mark
+abbrev pub commander_mark : Option ℕ → ℕ → Option ℕ → Trust
 commander_mark None commander told = Traitor
 commander_mark (Some order) commander told = if is_told order told then Honest else Lie commander order
 
 -- the mark of the commander's own word
-abbrev pub root_mark : List ℕ → Option ℕ → ℕ → Option ℕ → Mark
+abbrev pub root_mark : List ℕ → Option ℕ → ℕ → Option ℕ → Trust
 root_mark traitors order commander told = if on traitors commander then commander_mark order commander told else Honest
 
 -- what is said of the commander's own word to p

@@ -3,12 +3,12 @@ use Rattle.std.specs.Prelude.{ℕ, ◌+◌, ◌*◌, max, Bool, if◌then◌else
 use Rattle.std.specs.Fmt.{decimal}
 use Rattle.book.specs.Decisions.{decision_of}
 use Rattle.book.specs.Table.{MessageTable}
-use Rattle.drawing.specs.declared.node.View.{View}
-use Rattle.drawing.specs.declared.node.Marks.{Marks}
-use Rattle.drawing.specs.declared.node.Node.{Node}
-use Rattle.drawing.specs.Legend.{count_of, legend, marks_of}
-use Rattle.drawing.specs.Rows.{rows_from, widest}
-use Rattle.drawing.specs.Shown.{nodes_of}
+use Rattle.show_tree.specs.declared.node.View.{View}
+use Rattle.show_tree.specs.declared.node.DrawnMarks.{DrawnMarks}
+use Rattle.show_tree.specs.declared.node.Node.{Node}
+use Rattle.show_tree.specs.Legend.{count_of, legend, marks_of}
+use Rattle.show_tree.specs.Rows.{rows_from, widest}
+use Rattle.show_tree.specs.Shown.{nodes_of}
 
 -- what every picture begins with
 unfoldable pub start : List ℕ
@@ -36,14 +36,14 @@ key_start =
 unfoldable pub said_if : Bool → List ℕ → List ℕ
 said_if stands words = if stands then words else []
 
-abbrev pub shape_words : Marks → List ℕ
+abbrev pub shape_words : DrawnMarks → List ℕ
 shape_words marks =
     said_if marks.circle (codes " Circle: the word of a general who is not named as a traitor, or tells what he took.")
     ++ said_if marks.square (codes " Square: the word of a commander who is named.")
     ++ said_if marks.diamond (codes " Diamond: a lie.")
     ++ said_if marks.dashes (codes " Dashes: no order has a majority.")
 
-abbrev pub key : Marks → List ℕ
+abbrev pub key : DrawnMarks → List ℕ
 key marks = key_start ++ shape_words marks ++ codes "</desc>\n"
 
 -- what the shapes look like: on paper, and on a dark ground where one is wished for
@@ -55,7 +55,7 @@ look =
     ++ codes "ld{fill:#111}}</style>\n"
 
 -- what stands before the rows
-abbrev pub head : Marks → ℕ → ℕ → List ℕ
+abbrev pub head : DrawnMarks → ℕ → ℕ → List ℕ
 head marks p order = title p order ++ key marks ++ look ++ heading p order
 
 -- a picture of this width and height, its head, and its rows

@@ -4,11 +4,11 @@ use Rattle.std.specs.Fmt.{decimal}
 use Rattle.book.specs.Explained.{dotted, order_words}
 use Rattle.combine.specs.declared.outcome.Outcome.{Outcome}
 use Rattle.combine.specs.Outcome.{outcome_words as list_words}
-use Rattle.drawing.specs.declared.node.Mark.{Mark}
-use Rattle.drawing.specs.declared.node.Mark.TheVariants.{Honest, Traitor, Lie}
-use Rattle.drawing.specs.declared.node.Extent.{Extent}
-use Rattle.drawing.specs.declared.node.Extent.TheVariants.{Last, Open, Folded, Cut}
-use Rattle.drawing.specs.declared.node.Node.{Node}
+use Rattle.show_tree.specs.declared.node.Trust.{Trust}
+use Rattle.show_tree.specs.declared.node.Trust.TheVariants.{Honest, Traitor, Lie}
+use Rattle.show_tree.specs.declared.node.Extent.{Extent}
+use Rattle.show_tree.specs.declared.node.Extent.TheVariants.{Last, Open, Folded, Cut}
+use Rattle.show_tree.specs.declared.node.Node.{Node}
 
 abbrev pub told_words : Option ℕ → List ℕ
 told_words told = codes "told " ++ order_words told
@@ -23,7 +23,7 @@ abbrev pub outcome_words : List ℕ → Option Outcome → List ℕ
 outcome_words stop None = []
 outcome_words stop (Some outcome) = stop ++ list_words outcome
 
-abbrev pub mark_words : List ℕ → Mark → List ℕ
+abbrev pub mark_words : List ℕ → Trust → List ℕ
 mark_words stop Honest = []
 mark_words stop Traitor = stop ++ codes "by a traitor"
 mark_words stop (Lie general took) = stop ++ codes "a lie, " ++ decimal general ++ codes " took " ++ decimal took

@@ -4,10 +4,10 @@ ghost use Rattle.label.specs.Labels.{on};
 ghost use Rattle.book.specs.Conditions.{is_told};
 ghost use Rattle.book.specs.Explained.{held, list_of};
 ghost use Rattle.book.specs.Grammar.{is_place};
-ghost use Rattle.drawing.specs.Facts.{below, extent_at, is_alike, is_alike_by, is_honest, is_same, mark_at, node_at, outcome_at, tells};
+ghost use Rattle.show_tree.specs.Facts.{below, extent_at, is_alike, is_alike_by, is_honest, is_same, mark_at, node_at, outcome_at, tells};
 
 use crate::children::last_orders;
-use crate::node::{Extent, Mark, Node, View};
+use crate::node::{Extent, Node, Trust, View};
 use arrayvec::ArrayVec;
 use book::Heard;
 use combine::{Combine, Outcome};
@@ -98,20 +98,20 @@ pub fn mark_at<H: Heard>(
     label: &Label,
     teller: u8,
     next: &Label,
-) -> Mark
+) -> Trust
     requires next { next.now ≡ label.now ++ teller ∷ [] }
     requires place { is_place (H.seen table.now) next.now general ≡ true }
     ensures { result ≡ mark_at (H.seen table.now) traitors.now label.now teller general }
 {
     if !is_named(traitors, teller) {
-        return Mark::Honest;
+        return Trust::Honest;
     }
     let _size = label.len();
     let took = table.told(label, teller).unwrap_or(0);
     if is_told(took, table.told(next, general)) {
-        Mark::Honest
+        Trust::Honest
     } else {
-        Mark::Lie(teller, took)
+        Trust::Lie(teller, took)
     }
 }
 
@@ -134,10 +134,10 @@ fn tells<H: Heard>(
 }
 
 /// Whether it is no lie.
-pub(crate) fn is_honest(mark: Mark) -> bool
+pub(crate) fn is_honest(mark: Trust) -> bool
     ensures { result ≡ is_honest mark }
 {
-    matches!(mark, Mark::Honest)
+    matches!(mark, Trust::Honest)
 }
 
 /// Whether the lieutenant is told the same of a label and of all that go on from it, with so many relays left, and none
@@ -230,7 +230,7 @@ pub fn node_at<H: Heard>(
     view: View,
     general: u8,
     label: Label,
-    mark: Mark,
+    mark: Trust,
     relays: u8,
 ) -> Node
     requires place { is_place (H.seen table.now) label general ≡ true }

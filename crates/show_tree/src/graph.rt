@@ -1,10 +1,10 @@
 //! A lieutenant's tree as a graph, for the program dot of Graphviz.
 ghost use Rattle.std.specs.Prelude.{◌≡◌, ◌≢◌, ◌<◌, ◌++◌, string_bytes, IfOk, OnOk};
-ghost use Rattle.drawing.specs.Graph.{edge, extent_style, graph_box, graph_head, graph_node, graph_nodes, graph_start, graph_styles, graph_text, graph_title, mark_style, outcome_style};
+ghost use Rattle.show_tree.specs.Graph.{edge, extent_style, graph_box, graph_head, graph_node, graph_nodes, graph_start, graph_styles, graph_text, graph_title, mark_style, outcome_style};
 
-use crate::node::{Extent, Mark, Node, View};
+use crate::node::{Extent, Node, Trust, View};
 use crate::places::put_label;
-use crate::shown::nodes;
+use crate::shown_labels::nodes;
 use crate::words::put_words;
 use book::{Heard, decision};
 use combine::Outcome;
@@ -118,13 +118,13 @@ fn put_edge(out: &mut String, label: &[u8]) -> Result<(), AllocError>
 }
 
 /// How a label is drawn by whose word it is.
-fn mark_style(mark: Mark) -> &'static str
+fn mark_style(mark: Trust) -> &'static str
     ensures { result.now ≡ mark_style mark }
 {
     match mark {
-        Mark::Honest => "",
-        Mark::Traitor => ", shape=octagon",
-        Mark::Lie(_, _) => ", shape=octagon, color=red, penwidth=2",
+        Trust::Honest => "",
+        Trust::Traitor => ", shape=octagon",
+        Trust::Lie(_, _) => ", shape=octagon, color=red, penwidth=2",
     }
 }
 

@@ -1,6 +1,6 @@
 //! Laws of what is said and drawn: each function does nothing, and its contract is the law.
-ghost use Rattle.drawing.specs.Folds.{FoldsAreAlike};
-ghost use Rattle.drawing.specs.Laws.{OutcomesAreExplained, PicturesAreElements};
+ghost use Rattle.show_tree.specs.Folds.{FoldsAreAlike};
+ghost use Rattle.show_tree.specs.Laws.{OutcomesAreExplained, PicturesAreElements};
 
 /// What is said that a label comes to is what `book::explain` says of its list.
 pub fn outcomes_are_explained()

@@ -1,19 +1,19 @@
 //! What the marks of a picture mean, below its rows.
 ghost use Rattle.std.specs.Prelude.{◌≡◌, ◌≤◌, ◌<◌, ◌^◌, ◌++◌, string_bytes, None, OnOk};
 ghost use Rattle.std.specs.List.{list_any};
-ghost use Rattle.drawing.specs.Legend.{count_of, dashed_shape, has_circle, has_dashed_circle, has_dashed_square, has_dashes, has_diamond, has_square, legend, marks_of, meaning, meaning_if, meaning_words, meanings, one_if, rule, rule_at};
+ghost use Rattle.show_tree.specs.Legend.{count_of, dashed_shape, has_circle, has_dashed_circle, has_dashed_square, has_dashes, has_diamond, has_square, legend, marks_of, meaning, meaning_if, meaning_words, meanings, one_if, rule, rule_at};
 
 use crate::facts::is_honest;
-use crate::node::{Mark, Marks, Node};
+use crate::node::{DrawnMarks, Node, Trust};
 use crate::rows::{put_shape, put_start, row_end};
 use combine::Outcome;
 use std::alloc::AllocError;
 
 /// Which marks stand in the picture of these labels.
-pub(crate) fn marks(nodes: &[Node]) -> Marks
+pub(crate) fn marks(nodes: &[Node]) -> DrawnMarks
     ensures { result ≡ marks_of nodes.now }
 {
-    Marks {
+    DrawnMarks {
         circle: any_circle(nodes),
         square: any_square(nodes),
         diamond: any_diamond(nodes),
@@ -50,15 +50,15 @@ fn any_dashes(nodes: &[Node]) -> bool
 }
 
 /// Which shape stands with dashes in their picture: a circle, if one does, else a square, else a diamond.
-fn dashed_shape(nodes: &[Node]) -> Mark
+fn dashed_shape(nodes: &[Node]) -> Trust
     ensures { result ≡ dashed_shape nodes.now }
 {
     if any_dashed_circle(nodes) {
-        Mark::Honest
+        Trust::Honest
     } else if any_dashed_square(nodes) {
-        Mark::Traitor
+        Trust::Traitor
     } else {
-        Mark::Lie(0, 0)
+        Trust::Lie(0, 0)
     }
 }
 
@@ -101,14 +101,14 @@ fn has_circle(node: &Node) -> bool
 fn has_square(node: &Node) -> bool
     ensures { result ≡ has_square node.now }
 {
-    matches!(node.mark, Mark::Traitor)
+    matches!(node.mark, Trust::Traitor)
 }
 
 /// Whether it is a lie.
 fn has_diamond(node: &Node) -> bool
     ensures { result ≡ has_diamond node.now }
 {
-    matches!(node.mark, Mark::Lie(_, _))
+    matches!(node.mark, Trust::Lie(_, _))
 }
 
 /// Whether in a label's list no order has a majority.
@@ -119,7 +119,7 @@ fn has_dashes(node: &Node) -> bool
 }
 
 /// How many marks these are.
-pub(crate) fn count(marks: Marks) -> u128
+pub(crate) fn count(marks: DrawnMarks) -> u128
     ensures value { result ≡ count_of marks }
     ensures few { result ≤ 4 }
 {
@@ -170,26 +170,31 @@ fn rule() -> &'static str
 }
 
 /// Adds what these marks mean, a row for each, the first with this place; dashes at a shape that has them.
-fn put_meanings(out: &mut String, marks: Marks, dashed: Mark, place: u128) -> Result<(), AllocError>
+fn put_meanings(
+    out: &mut String,
+    marks: DrawnMarks,
+    dashed: Trust,
+    place: u128,
+) -> Result<(), AllocError>
     requires { place < 2 ^ 99 }
     ensures { OnOk result (string_bytes out.new ≡ string_bytes out.old ++ meanings marks dashed place) }
 {
     let second = place + one_if(marks.circle);
     let third = second + one_if(marks.square);
     let last = third + one_if(marks.diamond);
-    put_shape_if(out, marks.circle, place, Mark::Honest, "no lie is known")?;
+    put_shape_if(out, marks.circle, place, Trust::Honest, "no lie is known")?;
     put_shape_if(
         out,
         marks.square,
         second,
-        Mark::Traitor,
+        Trust::Traitor,
         "a named commander, his word",
     )?;
     put_shape_if(
         out,
         marks.diamond,
         third,
-        Mark::Lie(0, 0),
+        Trust::Lie(0, 0),
         "a lie of a named traitor",
     )?;
     put_meaning_if(
@@ -208,7 +213,7 @@ fn put_shape_if(
     out: &mut String,
     stands: bool,
     place: u128,
-    mark: Mark,
+    mark: Trust,
     words: &str,
 ) -> Result<(), AllocError>
     requires { place < 2 ^ 100 }
@@ -223,7 +228,7 @@ fn put_meaning_if(
     out: &mut String,
     stands: bool,
     place: u128,
-    mark: Mark,
+    mark: Trust,
     outcome: Option<Outcome>,
     words: &str,
 ) -> Result<(), AllocError>
@@ -242,7 +247,7 @@ fn put_meaning_if(
 fn put_meaning(
     out: &mut String,
     place: u128,
-    mark: Mark,
+    mark: Trust,
     outcome: Option<Outcome>,
     words: &str,
 ) -> Result<(), AllocError>

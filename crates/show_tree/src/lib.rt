@@ -2,7 +2,6 @@
 //! of text, as a graph for Graphviz, and as SVG.
 #![tactic(auto)]
 
-mod by_table;
 mod children;
 mod facts;
 mod form;
@@ -13,17 +12,18 @@ mod lines;
 mod node;
 mod places;
 mod rows;
-mod shown;
+mod shown_labels;
 mod svg;
+mod table_tree;
 mod words;
 
-pub use by_table::{drawn, tree_drawn};
 pub use facts::{mark_at, node_at};
-pub use form::Form;
+pub use form::TreeForm;
 pub use graph::tree_graph;
 pub use laws::{folds_are_alike, outcomes_are_explained, pictures_are_elements};
 pub use lines::tree_text;
-pub use node::{Branch, Extent, Mark, Node, Style, View};
-pub use shown::{deeper, is_open, nodes, ordered, root_node};
+pub use node::{Branch, Extent, Node, Style, Trust, View};
+pub use shown_labels::{deeper, is_open, nodes, ordered, root_node};
 pub use svg::tree_svg;
+pub use table_tree::{drawn, tree_drawn};
 pub use words::put_said;

@@ -1,12 +1,12 @@
 //! A lieutenant's tree as lines of text.
 ghost use Rattle.std.specs.Prelude.{◌≡◌, ◌≢◌, ◌<◌, ◌++◌, string_bytes, IfOk, OnOk};
 ghost use Rattle.book.specs.Explained.{decision_line, mark};
-ghost use Rattle.drawing.specs.Lines.{branch_text, branches_text, node_line, node_lines, tree_text};
+ghost use Rattle.show_tree.specs.Lines.{branch_text, branches_text, node_line, node_lines, tree_text};
 
 use crate::facts::is_named;
 use crate::node::{Branch, Node, Style, View};
 use crate::places::branch_at;
-use crate::shown::nodes;
+use crate::shown_labels::nodes;
 use crate::words::put_said;
 use book::{Heard, decision};
 use std::alloc::{AllocError, Global};

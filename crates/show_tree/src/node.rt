@@ -4,7 +4,7 @@ use label::Label;
 
 /// Which marks stand in a picture.
 #[derive(Clone, Copy, Drop)]
-pub struct Marks {
+pub struct DrawnMarks {
     /// A circle: of a label no lie is known.
     pub circle: bool,
     /// A square: the word of a commander who is named as a traitor.
@@ -17,7 +17,7 @@ pub struct Marks {
 
 /// How far the word of a label's last general is to be trusted.
 #[derive(Clone, Copy, Drop)]
-pub enum Mark {
+pub enum Trust {
     /// He is not named as a traitor, or told what he took: the commander, his order.
     Honest,
     /// He is the commander, and named as a traitor, and his order is not known.
@@ -82,7 +82,7 @@ pub struct Node {
     /// What his list of the label comes to; nothing where no relay is left, so that what was told counts.
     pub outcome: Option<Outcome>,
     /// Whether what was told is a lie.
-    pub mark: Mark,
+    pub mark: Trust,
     /// Whether the labels below are shown.
     pub extent: Extent,
 }

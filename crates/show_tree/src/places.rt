@@ -2,7 +2,7 @@
 ghost use Rattle.std.specs.Prelude.{◌≡◌, ◌<◌, ◌+◌, ◌++◌, ◌∷◌, length, string_bytes, OnOk};
 ghost use Rattle.label.specs.Labels.{on};
 ghost use Rattle.book.specs.Explained.{dotted};
-ghost use Rattle.drawing.specs.Places.{branch_at, branch_of, is_last, later_names};
+ghost use Rattle.show_tree.specs.Places.{branch_at, branch_of, is_last, later_names};
 
 use crate::node::Branch;
 use std::alloc::AllocError;

@@ -1,8 +1,8 @@
 //! The rows of a picture, each 24 units high, with 28 units between a label and one that goes on from it.
 ghost use Rattle.std.specs.Prelude.{◌≡◌, ◌≤◌, ◌<◌, ◌^◌, ◌++◌, length, string_bytes, IfOk, OnOk};
-ghost use Rattle.drawing.specs.Rows.{branch_way, branch_ways, kind, lines_end, lines_start, outcome_class, outline, reach, row, row_end, row_start, rows_from, shape, stub, way, widest, word_text};
+ghost use Rattle.show_tree.specs.Rows.{branch_way, branch_ways, kind, lines_end, lines_start, outcome_class, outline, reach, row, row_end, row_start, rows_from, shape, stub, way, widest, word_text};
 
-use crate::node::{Branch, Extent, Mark, Node};
+use crate::node::{Branch, Extent, Node, Trust};
 use crate::places::branch_at;
 use crate::words::put_said;
 use combine::Outcome;
@@ -160,7 +160,7 @@ fn put_stub(out: &mut String, left: usize, extent: Extent) -> Result<(), AllocEr
 pub(crate) fn put_shape(
     out: &mut String,
     left: usize,
-    mark: Mark,
+    mark: Trust,
     outcome: Option<Outcome>,
 ) -> Result<(), AllocError>
     ensures { OnOk result (string_bytes out.new ≡ string_bytes out.old ++ shape left mark outcome) }
@@ -175,13 +175,13 @@ pub(crate) fn put_shape(
 }
 
 /// The class of a shape.
-fn kind(mark: Mark) -> &'static str
+fn kind(mark: Trust) -> &'static str
     ensures { result.now ≡ kind mark }
 {
     match mark {
-        Mark::Honest => "told",
-        Mark::Traitor => "word",
-        Mark::Lie(_, _) => "lie",
+        Trust::Honest => "told",
+        Trust::Traitor => "word",
+        Trust::Lie(_, _) => "lie",
     }
 }
 
@@ -196,12 +196,12 @@ fn outcome_class(outcome: Option<Outcome>) -> &'static str
 }
 
 /// Its outline: a circle, a square or a diamond.
-fn outline(mark: Mark) -> &'static str
+fn outline(mark: Trust) -> &'static str
     ensures { result.now ≡ outline mark }
 {
     match mark {
-        Mark::Honest => " 6a6 6 0 0 1 0 12a6 6 0 0 1 0-12z",
-        Mark::Traitor => " 6h6v12h-12v-12z",
-        Mark::Lie(_, _) => " 4l8 8l-8 8l-8-8z",
+        Trust::Honest => " 6a6 6 0 0 1 0 12a6 6 0 0 1 0-12z",
+        Trust::Traitor => " 6h6v12h-12v-12z",
+        Trust::Lie(_, _) => " 4l8 8l-8 8l-8-8z",
     }
 }

@@ -1,10 +1,10 @@
 //! The labels of a lieutenant's tree that are shown, each before those that go on from it.
 ghost use Rattle.std.specs.Prelude.{◌≡◌, ◌≢◌, ◌≤◌, ◌<◌, ◌+◌, ◌++◌, length, true, IfOk, OnOk};
 ghost use Rattle.book.specs.Grammar.{is_place};
-ghost use Rattle.drawing.specs.Shown.{deeper, is_open, nodes_below, nodes_of, ordered, root_mark, root_node, with_those};
+ghost use Rattle.show_tree.specs.Shown.{deeper, is_open, nodes_below, nodes_of, ordered, root_mark, root_node, with_those};
 
 use crate::facts::{is_named, is_told, mark_at, node_at};
-use crate::node::{Extent, Mark, Node, View};
+use crate::node::{Extent, Node, Trust, View};
 use book::Heard;
 use label::Label;
 use std::alloc::{AllocError, Global};
@@ -59,19 +59,19 @@ pub fn root_node<H: Heard>(table: &H, traitors: &[u8], view: View, general: u8) 
 }
 
 /// The mark of what the commander told, where these generals are named as traitors, and his order may be known.
-fn root_mark(traitors: &[u8], order: Option<u32>, commander: u8, told: Option<u32>) -> Mark
+fn root_mark(traitors: &[u8], order: Option<u32>, commander: u8, told: Option<u32>) -> Trust
     ensures { result ≡ root_mark traitors.now order commander told }
 {
     if !is_named(traitors, commander) {
-        return Mark::Honest;
+        return Trust::Honest;
     }
     match order {
-        None => Mark::Traitor,
+        None => Trust::Traitor,
         Some(order) => {
             if is_told(order, told) {
-                Mark::Honest
+                Trust::Honest
             } else {
-                Mark::Lie(commander, order)
+                Trust::Lie(commander, order)
             }
         }
     }

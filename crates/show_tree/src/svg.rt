@@ -1,11 +1,11 @@
 //! A lieutenant's tree as a picture in SVG: a row for each label, below that of the label that it goes on from.
 ghost use Rattle.std.specs.Prelude.{◌≡◌, ◌≢◌, ◌<◌, ◌^◌, ◌++◌, string_bytes, IfOk, OnOk};
-ghost use Rattle.drawing.specs.Svg.{head, heading, inside, key, key_start, look, said_if, shape_words, size, start, svg_text, title, view_box};
+ghost use Rattle.show_tree.specs.Svg.{head, heading, inside, key, key_start, look, said_if, shape_words, size, start, svg_text, title, view_box};
 
 use crate::legend::{count, marks, put_legend};
-use crate::node::{Marks, Node, View};
+use crate::node::{DrawnMarks, Node, View};
 use crate::rows::{put_rows, widest};
-use crate::shown::nodes;
+use crate::shown_labels::nodes;
 use book::{Heard, decision};
 use std::alloc::{AllocError, Global};
 
@@ -68,7 +68,7 @@ fn put_view_box(out: &mut String, width: u128, height: u128) -> Result<(), Alloc
 }
 
 /// Adds what stands before the rows: whose tree it is, what it shows, and how it looks.
-fn put_head(out: &mut String, marks: Marks, general: u8, order: u32) -> Result<(), AllocError>
+fn put_head(out: &mut String, marks: DrawnMarks, general: u8, order: u32) -> Result<(), AllocError>
     ensures { OnOk result (string_bytes out.new ≡ string_bytes out.old ++ head marks general order) }
 {
     put_title(out, general, order)?;
@@ -97,7 +97,7 @@ fn put_heading(out: &mut String, general: u8, order: u32) -> Result<(), AllocErr
 }
 
 /// Adds what is told of the shapes to those who do not see them, of each that stands in the picture.
-fn put_key(out: &mut String, marks: Marks) -> Result<(), AllocError>
+fn put_key(out: &mut String, marks: DrawnMarks) -> Result<(), AllocError>
     ensures { OnOk result (string_bytes out.new ≡ string_bytes out.old ++ key marks) }
 {
     out.push_str(key_start())?;
@@ -106,7 +106,7 @@ fn put_key(out: &mut String, marks: Marks) -> Result<(), AllocError>
 }
 
 /// Adds what each of these shapes means.
-fn put_shape_words(out: &mut String, marks: Marks) -> Result<(), AllocError>
+fn put_shape_words(out: &mut String, marks: DrawnMarks) -> Result<(), AllocError>
     ensures { OnOk result (string_bytes out.new ≡ string_bytes out.old ++ shape_words marks) }
 {
     put_if(

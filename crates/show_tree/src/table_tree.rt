@@ -2,9 +2,9 @@
 ghost use Rattle.std.specs.Prelude.{◌≡◌, ◌≢◌, IfErr, IfOk, Err, string_bytes};
 ghost use Rattle.book.specs.Grammar.{table_told};
 ghost use Rattle.book.specs.declared.fault.TableError.TheVariants.{Memory};
-ghost use Rattle.drawing.specs.Drawn.{DrawsTable, drawn};
+ghost use Rattle.show_tree.specs.Drawn.{DrawsTable, drawn};
 
-use crate::form::Form;
+use crate::form::TreeForm;
 use crate::graph::tree_graph;
 use crate::lines::tree_text;
 use crate::node::View;
@@ -23,7 +23,7 @@ pub fn drawn(
     text: &str,
     traitors: &[u8],
     view: View,
-    form: Form,
+    form: TreeForm,
     general: u8,
 ) -> Result<String, TableError>
     ensures drawn { IfOk result (λ picture. DrawsTable text.now traitors.now view form general (string_bytes picture)) }
@@ -43,7 +43,7 @@ pub fn tree_drawn<H: Heard>(
     table: &H,
     traitors: &[u8],
     view: View,
-    form: Form,
+    form: TreeForm,
     general: u8,
 ) -> Result<String, AllocError>
     ensures { IfOk result (λ picture. string_bytes picture ≡ drawn (H.seen table.now) traitors.now view form general) }
@@ -52,8 +52,8 @@ pub fn tree_drawn<H: Heard>(
         return Ok(String::new(alloc));
     }
     match form {
-        Form::Lines(style) => tree_text(alloc, table, traitors, view, style, general),
-        Form::Graph => tree_graph(alloc, table, traitors, view, general),
-        Form::Svg => tree_svg(alloc, table, traitors, view, general),
+        TreeForm::Lines(style) => tree_text(alloc, table, traitors, view, style, general),
+        TreeForm::Graph => tree_graph(alloc, table, traitors, view, general),
+        TreeForm::Svg => tree_svg(alloc, table, traitors, view, general),
     }
 }

@@ -1,8 +1,8 @@
 //! What is said of a label, in words.
 ghost use Rattle.std.specs.Prelude.{◌≡◌, ◌++◌, string_bytes, OnOk};
-ghost use Rattle.drawing.specs.Words.{counted_words, extent_words, mark_words, outcome_words, said, told_words, words};
+ghost use Rattle.show_tree.specs.Words.{counted_words, extent_words, mark_words, outcome_words, said, told_words, words};
 
-use crate::node::{Extent, Mark, Node};
+use crate::node::{Extent, Node, Trust};
 use crate::places::put_label;
 use combine::Outcome;
 use std::alloc::AllocError;
@@ -68,13 +68,13 @@ fn put_outcome(out: &mut String, stop: &str, outcome: Option<Outcome>) -> Result
 }
 
 /// Adds whose word it is, where he is named as a traitor, and lies or is the commander.
-fn put_mark(out: &mut String, stop: &str, mark: Mark) -> Result<(), AllocError>
+fn put_mark(out: &mut String, stop: &str, mark: Trust) -> Result<(), AllocError>
     ensures { OnOk result (string_bytes out.new ≡ string_bytes out.old ++ mark_words stop.now mark) }
 {
     match mark {
-        Mark::Honest => Ok(()),
-        Mark::Traitor => write!(out, "{stop}by a traitor"),
-        Mark::Lie(general, took) => write!(out, "{stop}a lie, {general} took {took}"),
+        Trust::Honest => Ok(()),
+        Trust::Traitor => write!(out, "{stop}by a traitor"),
+        Trust::Lie(general, took) => write!(out, "{stop}a lie, {general} took {took}"),
     }
 }
 

@@ -1,7 +1,7 @@
 -- What was sent, round by round.
 use Rattle.std.proofs.Common.{◌≡◌, ℕ, suc, ◌+◌, List, [], ◌∷◌, ◌++◌, length, refl, ◌∙◌, arith, length-append}
-use Rattle.roster.specs.Scenario.{Scenario}
-use Rattle.letter.specs.Letters.{Letter}
+use Rattle.round.specs.Scenario.{Scenario}
+use Rattle.round.specs.Letters.{Letter}
 use Rattle.signed.specs.Accepted.{held}
 use Rattle.signed.specs.Sent.{Sent, delivered, held_behind, round_sent, sent_along, sent_in}
 

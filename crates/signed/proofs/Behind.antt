@@ -4,12 +4,12 @@ use Rattle.std.specs.Prelude.{nat_lt}
 use Rattle.std.proofs.lemmas.List.Elements.{All-append}
 use Rattle.insn.specs.declared.insn.Insn.{Insn}
 use Rattle.semantics.specs.Relay.{signed}
-use Rattle.roster.specs.Scenario.{Scenario, program_of, shape_of}
-use Rattle.letter.specs.Letters.{Letter, letter_of}
-use Rattle.letter.specs.Contexts.{context_bytes, faithful_letter_with}
-use Rattle.letter.specs.Activation.{started}
-use Rattle.world.specs.declared.part.Part.{Part}
-use Rattle.world.specs.declared.part.Part.TheVariants.{Acting}
+use Rattle.round.specs.Scenario.{Scenario, program_of, shape_of}
+use Rattle.round.specs.Letters.{Letter, letter_of}
+use Rattle.round.specs.Contexts.{context_bytes, faithful_letter_with}
+use Rattle.round.specs.Activation.{started}
+use Rattle.world.specs.declared.part.Progress.{Progress}
+use Rattle.world.specs.declared.part.Progress.TheVariants.{Acting}
 use Rattle.world.specs.Kind.{each, begins, loyal_letter}
 use Rattle.signed.specs.Contexts.{signed_context_numbers, signer_bits}
 use Rattle.signed.specs.Entries.{Dispatch}
@@ -52,7 +52,7 @@ module _ (s : Scenario) (closed : List (List Letter)) where
   parts_behind =
       let same : each s.generals (λ g. begins_behind s (sent_in s closed) g (program_of s g) ∷ []) ≡ each s.generals (λ g. begins signed_kind s closed g (program_of s g) ∷ []) =
       each-same s.generals (λ g. begins_behind s (sent_in s closed) g (program_of s g) ∷ []) (λ g. begins signed_kind s closed g (program_of s g) ∷ [])
-      (λ g. ap (λ (p : Part). p ∷ []) (begun_behind g (program_of s g))) in
+      (λ g. ap (λ (p : Progress). p ∷ []) (begun_behind g (program_of s g))) in
       (λ i. cond (nat_lt (sent_length s closed i) (suc s.bound)) (same i) [])
 
 -- each round has a list for each general

@@ -4,14 +4,14 @@ use Rattle.std.specs.Prelude.{OnOk, OnErr, slice_get, replicate, ◌&&◌}
 use Rattle.std.specs.List.{list_all}
 use Rattle.board.specs.Board.{Access}
 use Rattle.board.specs.Ledger.{RecordedBoard}
-use Rattle.roster.specs.Scenario.{Scenario, IsScenario}
-use Rattle.letter.specs.Letters.{Letter}
+use Rattle.round.specs.Scenario.{Scenario, IsScenario}
+use Rattle.round.specs.Letters.{Letter}
 use Rattle.world.specs.declared.event.Event.TheVariants.{Tick, Post, Close}
 use Rattle.world.specs.Agreement.{IsFinished}
 use Rattle.world.specs.Kind.{World, opening, happen}
-use Rattle.world.specs.declared.part.Part.{Part}
+use Rattle.world.specs.declared.part.Progress.{Progress}
 use Rattle.world.specs.Part.{owes_no_letter}
-use Rattle.world.specs.declared.draft.Draft.{Draft}
+use Rattle.world.specs.declared.draft.LetterDraft.{LetterDraft}
 use Rattle.world.specs.Closing.{letters_from, AreDraftsOf}
 use Rattle.signed.specs.Entries.{Dispatch}
 use Rattle.signed.specs.Kind.{signed_kind}
@@ -30,12 +30,12 @@ use Rattle.signed.proofs.Worlds.{signed_campaigns}
 pub none_sent : (s : Scenario) → IsSent s []
 none_sent s = ([], sym (sent_none s))
 
-pub opened : (s : Scenario) (k : RecordedBoard) (ps : List Part) → k.words ≡ s.board → k.ledger ≡ [] → ps ≡ beginnings_behind s [] → world_of s [] k 0 ps true ≡ opening signed_kind s
+pub opened : (s : Scenario) (k : RecordedBoard) (ps : List Progress) → k.words ≡ s.board → k.ledger ≡ [] → ps ≡ beginnings_behind s [] → world_of s [] k 0 ps true ≡ opening signed_kind s
 opened s k ps words ledger parts =
     let is : ps ≡ beginnings signed_kind s [] = parts ∙ (ap (λ (sent : Sent). beginnings_behind s sent) (sym (sent_none s)) ∙ parts_behind s []) in
     (λ i. record { scenario = s; closed = []; words = words i; ledger = ledger i; opened = 0; parts = is i; full = true })
 
-pub opened_held : (s : Scenario) (k : RecordedBoard) (ps : List Part) (sent : Sent) (signers : List Signature) → k.opening ≡ s.board → k.words ≡ s.board → k.ledger ≡ [] → ps ≡ beginnings_behind s [] → sent ≡ [] →
+pub opened_held : (s : Scenario) (k : RecordedBoard) (ps : List Progress) (sent : Sent) (signers : List Signature) → k.opening ≡ s.board → k.words ≡ s.board → k.ledger ≡ [] → ps ≡ beginnings_behind s [] → sent ≡ [] →
     signers ≡ signatures s.generals s.commander → IsSignedHeld s [] k 0 ps true sent signers
 opened_held s k ps sent signers begun words ledger parts none all = record {
   reached = ([], sym (opened s k ps words ledger parts));
@@ -45,17 +45,17 @@ opened_held s k ps sent signers begun words ledger parts none all = record {
 }
 
 -- by what was lent of the world
-pub drafts_same : (s : Scenario) (x x' : Sent) (a a' : List Access) (p p' : List Part) (ds : List Draft) → ds ≡ drafts_behind s x' a' p' → x' ≡ x → a' ≡ a → p' ≡ p → ds ≡ drafts_behind s x a p
+pub drafts_same : (s : Scenario) (x x' : Sent) (a a' : List Access) (p p' : List Progress) (ds : List LetterDraft) → ds ≡ drafts_behind s x' a' p' → x' ≡ x → a' ≡ a → p' ≡ p → ds ≡ drafts_behind s x a p
 drafts_same s x x' a a' p p' ds is e f g = is ∙ (λ i. drafts_behind s (e i) (f i) (g i))
 
-pub sendings_same : (s : Scenario) (x x' : Sent) (d d' : List Draft) (p p' : List Part) (sendings : List (List Dispatch)) → sendings ≡ sent_drafted s x' d' p' → x' ≡ x → d' ≡ d → p' ≡ p → sendings ≡ sent_drafted s x d p
+pub sendings_same : (s : Scenario) (x x' : Sent) (d d' : List LetterDraft) (p p' : List Progress) (sendings : List (List Dispatch)) → sendings ≡ sent_drafted s x' d' p' → x' ≡ x → d' ≡ d → p' ≡ p → sendings ≡ sent_drafted s x d p
 sendings_same s x x' d d' p p' sendings is e f g = is ∙ (λ i. sent_drafted s (e i) (f i) (g i))
 
 -- what was sent was sent by events
-pub is_sent : (s : Scenario) (closed : List (List Letter)) (k : RecordedBoard) (opened : ℕ) (ps : List Part) (full : Bool) (sent : Sent) (signers : List Signature) → IsSignedHeld s closed k opened ps full sent signers → IsSent s sent
+pub is_sent : (s : Scenario) (closed : List (List Letter)) (k : RecordedBoard) (opened : ℕ) (ps : List Progress) (full : Bool) (sent : Sent) (signers : List Signature) → IsSignedHeld s closed k opened ps full sent signers → IsSent s sent
 is_sent s closed k opened ps full sent signers h = (h.reached.0, h.chains ∙ ap (λ (w : World). sent_in s w.closed) (sym h.reached.1))
 
-module _ (s : Scenario) (closed : List (List Letter)) (k : RecordedBoard) (opened : ℕ) (ps : List Part) (full : Bool) (sent : Sent) (signers : List Signature) (h : IsSignedHeld s closed k opened ps full sent signers) where
+module _ (s : Scenario) (closed : List (List Letter)) (k : RecordedBoard) (opened : ℕ) (ps : List Progress) (full : Bool) (sent : Sent) (signers : List Signature) (h : IsSignedHeld s closed k opened ps full sent signers) where
   pub as_held : IsHeld signed_kind s closed k opened ps full
   as_held = record { reached = h.reached; opening = h.opening }
 
@@ -72,17 +72,17 @@ module _ (s : Scenario) (closed : List (List Letter)) (k : RecordedBoard) (opene
       subst (λ (v : World). IsFinished v) same (record { closed = omega arith; full = filled })
 
   -- events that close no round leave what was sent
-  pub kept : (k' : RecordedBoard) (ps' : List Part) → IsHeld signed_kind s closed k' opened ps' full → IsSignedHeld s closed k' opened ps' full sent signers
+  pub kept : (k' : RecordedBoard) (ps' : List Progress) → IsHeld signed_kind s closed k' opened ps' full → IsSignedHeld s closed k' opened ps' full sent signers
   kept k' ps' held = record { reached = held.reached; opening = held.opening; chains = h.chains; signing = h.signing }
 
-  pub ticked_kept : {A E : Type 0} (result : Result A E) (g r : ℕ) (ps' : List Part) (k' : RecordedBoard) → r ≡ suc (length closed) → OnOk result ((ps', k') ≡ ticked_of g r ps k (slice_get ps g)) → OnErr result ((ps' ≡ ps) × (k' ≡ k)) →
+  pub ticked_kept : {A E : Type 0} (result : Result A E) (g r : ℕ) (ps' : List Progress) (k' : RecordedBoard) → r ≡ suc (length closed) → OnOk result ((ps', k') ≡ ticked_of g r ps k (slice_get ps g)) → OnErr result ((ps' ≡ ps) × (k' ≡ k)) →
       IsSignedHeld s closed k' opened ps' full sent signers
   ticked_kept result g r ps' k' counted done undone = kept k' ps' (tick_held signed_kind s closed k opened ps full result g r ps' k' counted as_held done undone)
 
-  pub posted_kept : (g : ℕ) (ps' : List Part) → ps' ≡ posted_of g ps (slice_get ps g) → IsSignedHeld s closed k opened ps' full sent signers
+  pub posted_kept : (g : ℕ) (ps' : List Progress) → ps' ≡ posted_of g ps (slice_get ps g) → IsSignedHeld s closed k opened ps' full sent signers
   posted_kept g ps' done = kept k ps' (held_on signed_kind s closed k opened ps full closed k opened ps' full (Post g ∷ []) as_held (post_is signed_kind s closed k opened ps full g ps' done) refl)
 
-  pub ahead_kept : (limit taken g : ℕ) (ps' : List Part) → AheadTo limit taken ps g (slice_get ps g) ps' → IsSignedHeld s closed k opened ps' full sent signers
+  pub ahead_kept : (limit taken g : ℕ) (ps' : List Progress) → AheadTo limit taken ps g (slice_get ps g) ps' → IsSignedHeld s closed k opened ps' full sent signers
   ahead_kept limit taken g ps' ahead =
       kept k ps' (held_on signed_kind s closed k opened ps full closed k opened ps' full (replicate taken (Tick g)) as_held (sym (ahead_is signed_kind s closed k opened full limit taken g ps ps' (slice_get ps g) refl ahead)) refl)
 
@@ -94,7 +94,7 @@ module _ (s : Scenario) (closed : List (List Letter)) (k : RecordedBoard) (opene
   closed_now = closed ++ row_now ∷ []
 
   -- the drafts, the row that is written of them, and what they send
-  module _ (ds : List Draft) (drafted : ds ≡ drafts_behind s sent (drop opened k.ledger) ps) where
+  module _ (ds : List LetterDraft) (drafted : ds ≡ drafts_behind s sent (drop opened k.ledger) ps) where
     drafted_in : ds ≡ drafts_behind s (sent_in s closed) (drop opened k.ledger) ps
     drafted_in = drafted ∙ ap (λ (x : Sent). drafts_behind s x (drop opened k.ledger) ps) h.chains
 
@@ -122,13 +122,13 @@ module _ (s : Scenario) (closed : List (List Letter)) (k : RecordedBoard) (opene
     sent_now closed' rounds = now ∙ ((λ i. h.chains i ++ round_sent s (h.chains i) row_now ∷ []) ∙ (sym (sent_more s closed row_now) ∙ ap (sent_in s) (sym rounds)))
 
     -- what closing makes is the event
-    pub closed_is : (closed' : List (List Letter)) (opened' : ℕ) (ps' : List Part) (full' : Bool) → closed' ≡ closed_now → ps' ≡ beginnings_behind s sent' → opened' ≡ length k.ledger → full' ≡ (full && list_all owes_no_letter ps) →
+    pub closed_is : (closed' : List (List Letter)) (opened' : ℕ) (ps' : List Progress) (full' : Bool) → closed' ≡ closed_now → ps' ≡ beginnings_behind s sent' → opened' ≡ length k.ledger → full' ≡ (full && list_all owes_no_letter ps) →
         world_of s closed' k opened' ps' full' ≡ happen signed_kind (world_of s closed k opened ps full) Close
     closed_is closed' opened' ps' full' rounds parts since posted =
         close_is signed_kind signed_campaigns signed_relays s closed k opened ps full row_now closed' opened' ps' full' is as_held le refl rounds
         (parts ∙ (ap (λ (x : Sent). beginnings_behind s x) (sent_now closed' rounds) ∙ parts_behind s closed')) since posted
 
-    pub closed_kept : (closed' : List (List Letter)) (opened' : ℕ) (ps' : List Part) (full' : Bool) → closed' ≡ closed_now → ps' ≡ beginnings_behind s sent' → opened' ≡ length k.ledger → full' ≡ (full && list_all owes_no_letter ps) →
+    pub closed_kept : (closed' : List (List Letter)) (opened' : ℕ) (ps' : List Progress) (full' : Bool) → closed' ≡ closed_now → ps' ≡ beginnings_behind s sent' → opened' ≡ length k.ledger → full' ≡ (full && list_all owes_no_letter ps) →
         IsSignedHeld s closed' k opened' ps' full' sent' signers
     closed_kept closed' opened' ps' full' rounds parts since posted =
         let held = held_on signed_kind s closed k opened ps full closed' k opened' ps' full' (Close ∷ []) as_held (closed_is closed' opened' ps' full' rounds parts since posted) refl in

@@ -2,7 +2,7 @@
 use Rattle.std.proofs.Common.{◌≡◌, ℕ, suc, ◌<◌, true, false, List, length, refl, sym, ap, subst, ◌∙◌, Option, None, Some, arith}
 use Rattle.std.specs.Prelude.{is_some}
 use Rattle.insn.specs.declared.insn.Insn.{Insn}
-use Rattle.roster.specs.Scenario.{Scenario, IsScenario, program_of, is_traitor}
+use Rattle.round.specs.Scenario.{Scenario, IsScenario, program_of, is_traitor}
 use Rattle.world.specs.declared.event.Event.{Event}
 use Rattle.world.specs.Kind.{opening}
 use Rattle.world.specs.Agreement.{IsFinished}

@@ -4,17 +4,17 @@ use Rattle.std.specs.Prelude.{slice_get, find, ◌==◌}
 use Rattle.std.specs.List.{range_with_len}
 use Rattle.std.proofs.lemmas.Bool.{cases_eq, ne_eqb, eq-eqb}
 use Rattle.board.specs.Board.{Access}
-use Rattle.roster.specs.Scenario.{Scenario}
-use Rattle.letter.specs.Letters.{Letter, letter_of}
-use Rattle.letter.specs.Activation.{Activation}
+use Rattle.round.specs.Scenario.{Scenario}
+use Rattle.round.specs.Letters.{Letter, letter_of}
+use Rattle.round.specs.Activation.{Activation}
 use Rattle.round.specs.Running.{letter_left}
-use Rattle.letter.specs.Runs.{IsLetter}
-use Rattle.world.specs.declared.draft.Draft.{Draft}
-use Rattle.world.specs.declared.draft.Draft.TheVariants.{Begun}
+use Rattle.round.specs.Runs.{IsLetter}
+use Rattle.world.specs.declared.draft.LetterDraft.{LetterDraft}
+use Rattle.world.specs.declared.draft.LetterDraft.TheVariants.{Begun}
 use Rattle.world.specs.Closing.{letter_from, letters_from, AreDraftsOf}
 use Rattle.world.specs.Kind.{each, accesses_of}
-use Rattle.world.specs.declared.part.Part.{Part}
-use Rattle.world.specs.declared.part.Part.TheVariants.{Acting, Silent, Posted}
+use Rattle.world.specs.declared.part.Progress.{Progress}
+use Rattle.world.specs.declared.part.Progress.TheVariants.{Acting, Silent, Posted}
 use Rattle.world.proofs.Listing.{each-get, each-get_only, each-length}
 use Rattle.signed.specs.Entries.{dispatched}
 use Rattle.signed.specs.Kind.{signed_kind}
@@ -55,25 +55,25 @@ each_found (suc n) t f g lt none = elim (cases_eq g n) [
   | inr ne ↦ let d : g ≢ n = ne in find_left t (each n f) (f n) (none n (λ s. d (sym s))) ∙ each_found n t f g (omega arith) none
 ]
 
-begun_by : (s : Scenario) (sent : Sent) (accesses : List Access) (g : ℕ) (o : Option Part) (t : List Access) (a : Activation) → o ≡ Some (Acting a) → Begun t ≡ draft_behind s sent accesses g o → t ≡ accesses_of g accesses
-begun_by s sent accesses g o t a acting is = (let e : Begun t ≡ Begun (accesses_of g accesses) = is ∙ ap (λ (p : Option Part). draft_behind s sent accesses g p) acting in cc)
+begun_by : (s : Scenario) (sent : Sent) (accesses : List Access) (g : ℕ) (o : Option Progress) (t : List Access) (a : Activation) → o ≡ Some (Acting a) → Begun t ≡ draft_behind s sent accesses g o → t ≡ accesses_of g accesses
+begun_by s sent accesses g o t a acting is = (let e : Begun t ≡ Begun (accesses_of g accesses) = is ∙ ap (λ (p : Option Progress). draft_behind s sent accesses g p) acting in cc)
 
 module _ (s : Scenario) (closed : List (List Letter)) (accesses : List Access) where
-  by_part : (g : ℕ) (o : Option Part) → letter_from g (suc (length closed)) (Some (draft_behind s (sent_in s closed) accesses g o)) o ≡ letter_held signed_kind s closed accesses g o
+  by_part : (g : ℕ) (o : Option Progress) → letter_from g (suc (length closed)) (Some (draft_behind s (sent_in s closed) accesses g o)) o ≡ letter_held signed_kind s closed accesses g o
   by_part g None = refl
   by_part g (Some (Acting a)) = refl
   by_part g (Some Silent) = refl
   by_part g (Some Posted) = ap (λ (l : Letter). l ∷ []) (written_behind s closed g)
 
   -- letters of others are not his
-  not_his : (g j : ℕ) (o : Option Part) → j ≢ g → find (λ l. l.general == g) (letter_held signed_kind s closed accesses j o) ≡ None
+  not_his : (g j : ℕ) (o : Option Progress) → j ≢ g → find (λ l. l.general == g) (letter_held signed_kind s closed accesses j o) ≡ None
   not_his g j None ne = refl
   not_his g j (Some (Acting a)) ne = rw (ne_eqb j g ne) refl
   not_his g j (Some Silent) ne = refl
   not_his g j (Some Posted) ne = rw (ne_eqb j g ne) refl
 
   -- what is entered by a draft and a part is in the letter
-  sent_by_part : (g : ℕ) (o : Option Part) →
+  sent_by_part : (g : ℕ) (o : Option Progress) →
       dispatched s.generals s.commander g (held_behind s.generals (sent_in s closed) g) (entries_drafted (Some (draft_behind s (sent_in s closed) accesses g o)) o)
       ≡ sends s (sent_in s closed) g (find (λ l. l.general == g) (letter_held signed_kind s closed accesses g o))
   sent_by_part g None = refl
@@ -82,12 +82,12 @@ module _ (s : Scenario) (closed : List (List Letter)) (accesses : List Access) w
   sent_by_part g (Some Posted) =
       rw (eq-eqb g g refl) (ap (λ (l : Letter). dispatched s.generals s.commander g (held_behind s.generals (sent_in s closed) g) l.outbox.entries) (written_behind s closed g))
 
-module _ (s : Scenario) (closed : List (List Letter)) (accesses : List Access) (ps : List Part) (ds : List Draft) (same : ds ≡ drafts_behind s (sent_in s closed) accesses ps) where
+module _ (s : Scenario) (closed : List (List Letter)) (accesses : List Access) (ps : List Progress) (ds : List LetterDraft) (same : ds ≡ drafts_behind s (sent_in s closed) accesses ps) where
   pub drafts_count : length ds ≡ s.generals
   drafts_count = ap length same ∙ each-length s.generals (λ g. draft_behind s (sent_in s closed) accesses g (slice_get ps g))
 
   drafted_at : (g : ℕ) → g < s.generals → slice_get ds g ≡ Some (draft_behind s (sent_in s closed) accesses g (slice_get ps g))
-  drafted_at g lt = ap (λ (l : List Draft). slice_get l g) same ∙ each-get s.generals (λ j. draft_behind s (sent_in s closed) accesses j (slice_get ps j)) g lt
+  drafted_at g lt = ap (λ (l : List LetterDraft). slice_get l g) same ∙ each-get s.generals (λ j. draft_behind s (sent_in s closed) accesses j (slice_get ps j)) g lt
 
   -- the row that is written
   pub row_is : (n round : ℕ) (row : List Letter) → n ≡ s.generals → round ≡ suc (length closed) → row ≡ letters_from n round ds ps → row ≡ letters_held signed_kind s closed accesses ps
@@ -98,7 +98,7 @@ module _ (s : Scenario) (closed : List (List Letter)) (accesses : List Access) (
 
   pub drafts_run : (round : ℕ) → round ≡ suc (length closed) → AreLetters (suc (length closed)) accesses ps → AreDraftsOf round ds ps
   drafts_run round counted runs g t a there acting =
-      let only = each-get_only s.generals (λ j. draft_behind s (sent_in s closed) accesses j (slice_get ps j)) g (Begun t) (ap (λ (l : List Draft). slice_get l g) (sym same) ∙ there) in
+      let only = each-get_only s.generals (λ j. draft_behind s (sent_in s closed) accesses j (slice_get ps j)) g (Begun t) (ap (λ (l : List LetterDraft). slice_get l g) (sym same) ∙ there) in
       let is : t ≡ accesses_of g accesses = begun_by s (sent_in s closed) accesses g (slice_get ps g) t a acting only.1 in
       subst (λ (n : ℕ). IsLetter (letter_left g n t a)) (sym counted) (subst (λ (l : List Access). IsLetter (letter_left g (suc (length closed)) l a)) (sym is) (runs g a acting))
 
@@ -111,7 +111,7 @@ module _ (s : Scenario) (closed : List (List Letter)) (accesses : List Access) (
       (λ g. dispatched s.generals s.commander g (held_behind s.generals sent g) (entries_drafted (slice_get ds g) (slice_get ps g)))
       (λ g. sends s sent g (letter_of row g))
       (λ g lt.
-      ap (λ (o : Option Draft). dispatched s.generals s.commander g (held_behind s.generals sent g) (entries_drafted o (slice_get ps g))) (drafted_at g (omega arith))
+      ap (λ (o : Option LetterDraft). dispatched s.generals s.commander g (held_behind s.generals sent g) (entries_drafted o (slice_get ps g))) (drafted_at g (omega arith))
       ∙ (sent_by_part s closed accesses g (slice_get ps g)
       ∙ ap (sends s sent g) (sym (each_found s.generals (λ l. l.general == g) (λ j. letter_held signed_kind s closed accesses j (slice_get ps j)) g (omega arith)
       (λ j ne. not_his s closed accesses g j (slice_get ps j) ne)))))

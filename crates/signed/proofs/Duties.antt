@@ -7,7 +7,7 @@ use Rattle.label.specs.Labels.{on}
 use Rattle.label.proofs.Ranks.{get_right}
 use Rattle.semantics.specs.Relay.{Relay}
 use Rattle.semantics.specs.Entries.{entered}
-use Rattle.roster.specs.Scenario.{Scenario, IsScenario}
+use Rattle.round.specs.Scenario.{Scenario, IsScenario}
 use Rattle.signed.specs.Chains.{Chain, orders, signed_also}
 use Rattle.signed.specs.Accepted.{Deliveries, came, held, counts, counted, firsts, accepted}
 use Rattle.signed.specs.Entries.{Entry, Sign, Pass, passed_on}

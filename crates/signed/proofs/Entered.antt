@@ -8,13 +8,13 @@ use Rattle.semantics.specs.declared.entry.Entry.{Entry}
 use Rattle.semantics.specs.Relay.{Relay}
 use Rattle.semantics.specs.Entries.{is_sendable}
 use Rattle.semantics.proofs.SafetyLaws.{safe_of_sound}
-use Rattle.roster.specs.Scenario.{Scenario, IsScenario, program_of}
-use Rattle.letter.specs.Letters.{Letter, letter_of}
-use Rattle.letter.specs.Activation.{Activation, started}
+use Rattle.round.specs.Scenario.{Scenario, IsScenario, program_of}
+use Rattle.round.specs.Letters.{Letter, letter_of}
+use Rattle.round.specs.Activation.{Activation, started}
 use Rattle.world.specs.declared.event.Event.{Event}
 use Rattle.world.specs.declared.event.Event.TheVariants.{Close}
-use Rattle.world.specs.declared.part.Part.{Part}
-use Rattle.world.specs.declared.part.Part.TheVariants.{Acting, Silent, Posted}
+use Rattle.world.specs.declared.part.Progress.{Progress}
+use Rattle.world.specs.declared.part.Progress.TheVariants.{Acting, Silent, Posted}
 use Rattle.world.specs.Kind.{World, accesses_of, opening, round_open, letters_at, round_letters, traitor_letter_with}
 use Rattle.world.proofs.Lasting.{close_open}
 use Rattle.world.proofs.Listing.{each-find}
@@ -75,7 +75,7 @@ has_entered s events g a is at =
     }
 
 -- letters of others are not his, and an acting general's is
-not_his : (w : World) (g j : ℕ) (o : Option Part) → j ≢ g → find (λ l. l.general == g) (letters_at signed_kind w j o) ≡ None
+not_his : (w : World) (g j : ℕ) (o : Option Progress) → j ≢ g → find (λ l. l.general == g) (letters_at signed_kind w j o) ≡ None
 not_his w g j None ne = refl
 not_his w g j (Some (Acting a)) ne = rw (ne_eqb j g ne) refl
 not_his w g j (Some Silent) ne = refl

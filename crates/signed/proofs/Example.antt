@@ -5,7 +5,7 @@ use Rattle.semantics.specs.Run.{IsSound}
 use Rattle.semantics.specs.Examples.{answer}
 use Rattle.semantics.proofs.SoundExample.{some_are}
 use Rattle.std.specs.Prelude.{List}
-use Rattle.roster.specs.Scenario.{Scenario, IsScenario, program_of}
+use Rattle.round.specs.Scenario.{Scenario, IsScenario, program_of}
 use Rattle.world.specs.KindLists.{IsComplete, listed}
 use Rattle.world.proofs.Example.{zeros}
 use Rattle.world.proofs.Lasting.{listed_complete}

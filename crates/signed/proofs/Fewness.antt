@@ -8,7 +8,7 @@ use Rattle.signed.specs.Chains.{Chain, Among, orders, signed_alone, signed_also}
 use Rattle.signed.specs.Accepted.{Deliveries, held, counted, accepted, added, loyal_chains}
 use Rattle.signed.specs.Agreement.{SignsForHimself}
 use Rattle.signed.specs.Entries.{Entry, most_entries, to_all_others}
-use Rattle.roster.specs.Scenario.{Scenario}
+use Rattle.round.specs.Scenario.{Scenario}
 use Rattle.signed.specs.Sent.{Sent, sent_by, delivered}
 use Rattle.signed.specs.Laws.{chains_in}
 use Rattle.signed.proofs.Lists.{orders_in, orders_out}

@@ -3,7 +3,7 @@ use Rattle.std.proofs.Common.{◌≡◌, ℕ, zero, suc, ◌<◌, Bool, true, fa
 use Rattle.std.specs.Prelude.{filter, nat_le, ◌==◌}
 use Rattle.std.proofs.lemmas.Bool.{cases_lt, lt-leb}
 use Rattle.label.specs.Labels.{on}
-use Rattle.roster.specs.Scenario.{Scenario, is_traitor}
+use Rattle.round.specs.Scenario.{Scenario, is_traitor}
 use Rattle.signed.specs.Chains.{Chain, signed_also}
 use Rattle.signed.specs.Accepted.{Deliveries, added, loyal_chains}
 use Rattle.signed.specs.Agreement.{IsLoyal}

@@ -7,7 +7,7 @@ use Rattle.signed.specs.Chains.{Chain, Among}
 use Rattle.signed.specs.Accepted.{Deliveries, held, loyal_chains}
 use Rattle.signed.specs.Agreement.{IsPassedOn, SignsForHimself}
 use Rattle.signed.specs.Entries.{Dispatch}
-use Rattle.roster.specs.Scenario.{Scenario}
+use Rattle.round.specs.Scenario.{Scenario}
 use Rattle.signed.specs.Sent.{Sent, sent_by, delivered}
 use Rattle.signed.specs.Laws.{chains_in, IsUnforged}
 use Rattle.signed.proofs.Lists.{snoc_split, no_cons}

@@ -12,7 +12,7 @@ use Rattle.label.proofs.Ranks.{all_kept}
 use Rattle.signed.specs.Chains.{Chain, Among}
 use Rattle.signed.specs.Accepted.{Deliveries, came, held, loyal_chains}
 use Rattle.signed.specs.Entries.{Dispatch, Entry, receivers_in, chain_of, bits_of, sent_by as sent_of, dispatched, to_all_others, received}
-use Rattle.roster.specs.Scenario.{Scenario}
+use Rattle.round.specs.Scenario.{Scenario}
 use Rattle.signed.specs.Sent.{Sent, sent_by, delivered, held_behind}
 use Rattle.signed.specs.Contexts.{signed_context_numbers, signer_bits}
 use Rattle.signed.proofs.Lists.{append_out}

@@ -8,8 +8,8 @@ use Rattle.label.specs.Labels.{on, generals, others}
 use Rattle.label.specs.Lieutenants.{lieutenants}
 use Rattle.label.proofs.Counting.{others-length}
 use Rattle.label.proofs.Ranks.{all_kept}
-use Rattle.roster.specs.Scenario.{Scenario}
-use Rattle.letter.specs.Letters.{Letter}
+use Rattle.round.specs.Scenario.{Scenario}
+use Rattle.round.specs.Letters.{Letter}
 use Rattle.world.proofs.Counted.{from, from_commander, from_lieutenant, range_none}
 use Rattle.signed.specs.Accepted.{accepted, came, counted, counts, decided, firsts}
 use Rattle.signed.specs.Chains.{Chain, orders}

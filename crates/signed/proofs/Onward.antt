@@ -7,7 +7,7 @@ use Rattle.std.proofs.lemmas.List.{take_all}
 use Rattle.label.specs.Labels.{on}
 use Rattle.semantics.specs.Relay.{Relay}
 use Rattle.semantics.specs.Entries.{entered}
-use Rattle.letter.proofs.Lists.{some_at}
+use Rattle.round.proofs.Lists.{some_at}
 use Rattle.signed.specs.Chains.{Chain}
 use Rattle.signed.specs.Accepted.{counts}
 use Rattle.signed.specs.Entries.{Entry, Pass}

@@ -8,11 +8,11 @@ use Rattle.insn.specs.declared.insn.Insn.{Insn}
 use Rattle.insn.specs.declared.insn.Insn.TheVariants.{Arithmetic, Branch, Load, Call, Exit}
 use Rattle.insn.specs.declared.insn.Operand.TheVariants.{Immediate}
 use Rattle.insn.specs.declared.insn.Size.TheVariants.{Word}
-use Rattle.combine.specs.declared.chosen.Rule.TheVariants.{Majority}
+use Rattle.combine.specs.declared.campaign_rule.Rule.TheVariants.{Majority}
 use Rattle.semantics.specs.Execution.{step}
-use Rattle.roster.specs.Scenario.{Scenario}
-use Rattle.letter.specs.Letters.{Letter}
-use Rattle.contexts.specs.Layout.{context_bytes}
+use Rattle.round.specs.Scenario.{Scenario}
+use Rattle.round.specs.Letters.{Letter}
+use Rattle.mem.specs.ContextLayout.{context_bytes}
 use Rattle.world.specs.declared.event.Event.TheVariants.{Tick, Post, Close}
 use Rattle.world.specs.declared.event.EventError.TheVariants.{NotOpen, NoGeneral}
 use Rattle.world.specs.declared.verdict.Verdict.{Verdict}

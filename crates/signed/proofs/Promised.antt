@@ -3,10 +3,10 @@ use Rattle.std.proofs.Common.{◌≡◌, ℕ, suc, Bool, List, length, sym, ap, 
 use Rattle.std.proofs.lemmas.List.{length-map}
 use Rattle.label.specs.Lieutenants.{lieutenants, AgreeInList}
 use Rattle.board.specs.Ledger.{RecordedBoard}
-use Rattle.letter.specs.Letters.{Letter}
-use Rattle.roster.specs.Scenario.{Scenario, IsScenario, is_traitor}
+use Rattle.round.specs.Letters.{Letter}
+use Rattle.round.specs.Scenario.{Scenario, IsScenario, is_traitor}
 use Rattle.world.specs.declared.event.Event.{Event}
-use Rattle.world.specs.declared.part.Part.{Part}
+use Rattle.world.specs.declared.part.Progress.{Progress}
 use Rattle.world.specs.declared.verdict.Verdict.{Verdict}
 use Rattle.world.specs.Agreement.{IsFinished}
 use Rattle.world.specs.Chronicle.{Chronicle}
@@ -41,7 +41,7 @@ safe_throughout s events is before after g a whole at =
     record { untrapped = λ cause on. safe.untrapped s before g a cause is at on; fewer = safe.fewer s before g a is at }
 
 -- in a held world that is finished the decisions agree
-pub held_agree : (s : Scenario) (closed : List (List Letter)) (k : RecordedBoard) (opened : ℕ) (ps : List Part) (full : Bool) (sent : Sent) (signers : List Signature) (w : World) (xs : List ℕ) → IsScenario s → IsSignedHeld s closed k opened ps full sent signers →
+pub held_agree : (s : Scenario) (closed : List (List Letter)) (k : RecordedBoard) (opened : ℕ) (ps : List Progress) (full : Bool) (sent : Sent) (signers : List Signature) (w : World) (xs : List ℕ) → IsScenario s → IsSignedHeld s closed k opened ps full sent signers →
     world_of s closed k opened ps full ≡ w → xs ≡ signed_decisions w.scenario w.closed → IsFinished w → AgreeUnderSignedBound w.scenario xs
 held_agree s closed k opened ps full sent signers w xs is h same decided_all done =
     let Q : World → Type 0 = λ v. IsFinished v → AgreeUnderSignedBound s (signed_decisions s v.closed) in

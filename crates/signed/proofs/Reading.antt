@@ -4,8 +4,8 @@ use Rattle.std.specs.Prelude.{slice_get, option_copied}
 use Rattle.std.specs.Borrow.{Bor}
 use Rattle.std.specs.Slice.{IsItemAt}
 use Rattle.std.proofs.lemmas.Option.{slice_get_past, slice_get_read}
-use Rattle.world.specs.declared.draft.Draft.{Draft}
-use Rattle.world.specs.declared.part.Part.{Part}
+use Rattle.world.specs.declared.draft.LetterDraft.{LetterDraft}
+use Rattle.world.specs.declared.part.Progress.{Progress}
 use Rattle.signed.specs.Sending.{draft_in, part_in, signatures}
 use Rattle.signed.specs.Signers.{Signature}
 use Rattle.signed.proofs.Places.{row_at, row_length, get_or_at}
@@ -14,18 +14,18 @@ lent_at : {X : Type 0} (xs : List X) (i : ℕ) (o : Option (Bor X)) → IsItemAt
 lent_at xs i None h = sym (slice_get_past xs i h.3)
 lent_at xs i (Some b) h = sym (slice_get_read xs (length xs) i b.now refl h.3.0 (h.3.1 b.now))
 
-draft_lent : (o : Option (Bor Draft)) → draft_in o ≡ option_copied o
+draft_lent : (o : Option (Bor LetterDraft)) → draft_in o ≡ option_copied o
 draft_lent None = refl
 draft_lent (Some d) = refl
 
-part_lent : (o : Option (Bor Part)) → part_in o ≡ option_copied o
+part_lent : (o : Option (Bor Progress)) → part_in o ≡ option_copied o
 part_lent None = refl
 part_lent (Some p) = refl
 
-pub draft_at : (ds : List Draft) (g place : ℕ) (o : Option (Bor Draft)) → IsItemAt ds place o → place ≡ g → draft_in o ≡ slice_get ds g
+pub draft_at : (ds : List LetterDraft) (g place : ℕ) (o : Option (Bor LetterDraft)) → IsItemAt ds place o → place ≡ g → draft_in o ≡ slice_get ds g
 draft_at ds g place o h same = draft_lent o ∙ (lent_at ds place o h ∙ ap (slice_get ds) same)
 
-pub part_at : (ps : List Part) (g place : ℕ) (o : Option (Bor Part)) → IsItemAt ps place o → place ≡ g → part_in o ≡ slice_get ps g
+pub part_at : (ps : List Progress) (g place : ℕ) (o : Option (Bor Progress)) → IsItemAt ps place o → place ≡ g → part_in o ≡ slice_get ps g
 part_at ps g place o h same = part_lent o ∙ (lent_at ps place o h ∙ ap (slice_get ps) same)
 
 -- each general's signer stands at his number

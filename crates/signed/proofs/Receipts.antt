@@ -7,8 +7,8 @@ use Rattle.std.proofs.lemmas.List.{map-append}
 use Rattle.std.proofs.lemmas.List.Elements.{All-append}
 use Rattle.label.specs.Labels.{generals}
 use Rattle.label.proofs.Ranks.{range_push}
-use Rattle.roster.specs.Scenario.{Scenario, IsScenario}
-use Rattle.letter.specs.Letters.{Letter, letter_of}
+use Rattle.round.specs.Scenario.{Scenario, IsScenario}
+use Rattle.round.specs.Letters.{Letter, letter_of}
 use Rattle.signed.specs.Chains.{Chain}
 use Rattle.signed.specs.Accepted.{came, held}
 use Rattle.signed.specs.Entries.{Dispatch, Entry, dispatched}

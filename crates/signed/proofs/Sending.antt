@@ -14,9 +14,9 @@ use Rattle.semantics.specs.Reached.{Reached, at_entry, stepped, answered}
 use Rattle.semantics.proofs.EntriesLaws.{few_entries}
 use Rattle.semantics.proofs.SafetyLaws.{IsSafe-no_trap}
 use Rattle.board.specs.Board.{Access}
-use Rattle.letter.specs.Activation.{Activation, started, Turn, Goes, Asks, Ended, turn, turned, has_ended}
-use Rattle.letter.specs.Runs.{Onward, Runs, AreFitting}
-use Rattle.letter.proofs.Going.{IsGoing, TurnsTo, turn_safe, going_zero, over_ended}
+use Rattle.round.specs.Activation.{Activation, started, Turn, Goes, Asks, Ended, turn, turned, has_ended}
+use Rattle.round.specs.Runs.{Onward, Runs, AreFitting}
+use Rattle.round.proofs.Going.{IsGoing, TurnsTo, turn_safe, going_zero, over_ended}
 use Rattle.signed.proofs.Exits.{exit_same}
 
 -- at most eight entries, each of a chain that can be sent

@@ -15,7 +15,7 @@ use Rattle.semantics.specs.Entries.{is_unsigned, is_sendable}
 use Rattle.signed.specs.Chains.{Chain, Among, signed_alone, signed_also, begin, prolong}
 use Rattle.signed.specs.Contexts.{signer_bits}
 use Rattle.signed.specs.Entries.{Entry, Sign, Pass, passed_on, chain_of}
-use Rattle.roster.specs.Scenario.{Scenario, shape_of}
+use Rattle.round.specs.Scenario.{Scenario, shape_of}
 
 -- a bit more
 bit_more : (n x i : ℕ) → bit_at n x ≡ 0 → bit_at (n + 2 ^ x) i ≡ max (bit_at n i) (bit_at (2 ^ x) i)

@@ -1,9 +1,9 @@
 -- A signed context tells its general, the round, his relay, and that orders are signed.
 use Rattle.std.proofs.Common.{◌≡◌, ℕ, suc, ◌<◌, ◌≤◌, List, length, refl, sym, arith}
-use Rattle.roster.specs.Scenario.{Scenario, IsScenario, shape_of}
-use Rattle.letter.specs.Letters.{Letter}
-use Rattle.letter.specs.Contexts.{IsToldTo, shape_told, number_told, at_kind, tells_oral}
-use Rattle.contexts.proofs.Numbers.{number_at}
+use Rattle.round.specs.Scenario.{Scenario, IsScenario, shape_of}
+use Rattle.round.specs.Letters.{Letter}
+use Rattle.round.specs.Contexts.{IsToldTo, shape_told, number_told, at_kind, tells_oral}
+use Rattle.mem.proofs.ContextNumbers.{number_at}
 use Rattle.world.specs.Campaigns.{TellRelays}
 use Rattle.signed.specs.Contexts.{signed_context_numbers}
 use Rattle.signed.specs.Kind.{signed_kind, signed_context, held_in}

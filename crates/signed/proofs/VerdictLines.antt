@@ -5,7 +5,7 @@ use Rattle.std.specs.Fmt.{decimal}
 use Rattle.std.specs.List.{flat_map}
 use Rattle.label.specs.Labels.{generals}
 use Rattle.book.specs.Explained.{few_words, head_line, yes_no}
-use Rattle.roster.specs.Scenario.{Scenario, is_traitor}
+use Rattle.round.specs.Scenario.{Scenario, is_traitor}
 use Rattle.world.specs.Chronicle.{Chronicle}
 use Rattle.signed.specs.Chains.{Chain, orders}
 use Rattle.signed.specs.Explained.{acceptance_lines, accepted_line, chains_of, choice_line, traitors_line}

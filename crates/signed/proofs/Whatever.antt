@@ -1,8 +1,8 @@
 -- What holds of signed campaigns whatever letters their traitors write.
 use Rattle.std.proofs.Common.{◌≡◌, ℕ, suc, ◌<◌, false, List, [], length, ap, ◌∙◌, arith}
-use Rattle.roster.specs.Scenario.{Scenario, is_traitor}
-use Rattle.letter.specs.Letters.{Letter, letter_of}
-use Rattle.letter.proofs.Lists.{some_at}
+use Rattle.round.specs.Scenario.{Scenario, is_traitor}
+use Rattle.round.specs.Letters.{Letter, letter_of}
+use Rattle.round.proofs.Lists.{some_at}
 use Rattle.world.proofs.Kept.{Tells}
 use Rattle.signed.specs.Sent.{delivered, sent_in}
 use Rattle.signed.specs.Kind.{signed_kind, accepted_in}

@@ -7,13 +7,13 @@ use Rattle.insn.specs.declared.insn.Insn.{Insn}
 use Rattle.label.specs.Labels.{generals}
 use Rattle.semantics.specs.Relay.{Relay, IsContext, IsRelay}
 use Rattle.semantics.proofs.SafetyLaws.{safe_of_sound}
-use Rattle.roster.specs.Scenario.{Scenario, IsScenario, is_traitor}
-use Rattle.letter.specs.Letters.{Letter, letter_of}
-use Rattle.letter.specs.Activation.{started}
-use Rattle.letter.specs.Runs.{IsRunOf}
-use Rattle.contexts.proofs.Bytes.{bytes_context}
-use Rattle.letter.proofs.Contexts.{shape_is}
-use Rattle.letter.proofs.Lists.{some_at}
+use Rattle.round.specs.Scenario.{Scenario, IsScenario, is_traitor}
+use Rattle.round.specs.Letters.{Letter, letter_of}
+use Rattle.round.specs.Activation.{started}
+use Rattle.round.specs.Runs.{IsRunOf}
+use Rattle.mem.proofs.Bytes.{bytes_context}
+use Rattle.round.proofs.Contexts.{shape_is}
+use Rattle.round.proofs.Lists.{some_at}
 use Rattle.world.specs.declared.event.Event.{Event}
 use Rattle.world.specs.Kind.{loyal_letter}
 use Rattle.world.specs.Safety.{IsMade, IsLetterIn}

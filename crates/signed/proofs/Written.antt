@@ -5,11 +5,11 @@ use Rattle.label.specs.Relay.{IsShape}
 use Rattle.insn.specs.declared.insn.Insn.{Insn}
 use Rattle.board.specs.Board.{Access}
 use Rattle.outbox.specs.Contents.{Contents}
-use Rattle.roster.specs.Scenario.{Scenario, IsScenario, shape_of}
-use Rattle.letter.specs.Contexts.{context_bytes, IsToldTo, shape_told, tells_oral}
-use Rattle.letter.specs.Runs.{IsLetter}
-use Rattle.contexts.proofs.Bytes.{bytes_context}
-use Rattle.letter.proofs.Contexts.{shape_is}
+use Rattle.round.specs.Scenario.{Scenario, IsScenario, shape_of}
+use Rattle.round.specs.Contexts.{context_bytes, IsToldTo, shape_told, tells_oral}
+use Rattle.round.specs.Runs.{IsLetter}
+use Rattle.mem.proofs.Bytes.{bytes_context}
+use Rattle.round.proofs.Contexts.{shape_is}
 use Rattle.signed.specs.Chains.{Chain}
 use Rattle.signed.specs.Contexts.{signed_context_numbers, signer_bits}
 use Rattle.signed.specs.Kind.{signed_context, played}

@@ -4,8 +4,8 @@ use Rattle.std.specs.List.{list_all}
 use Rattle.label.specs.Labels.{generals}
 use Rattle.label.specs.Lieutenants.{lieutenants}
 use Rattle.book.specs.Conditions.{are_alike}
-use Rattle.roster.specs.Scenario.{Scenario, is_traitor}
-use Rattle.letter.specs.Letters.{Letter}
+use Rattle.round.specs.Scenario.{Scenario, is_traitor}
+use Rattle.round.specs.Letters.{Letter}
 use Rattle.world.specs.declared.verdict.Verdict.{Verdict}
 use Rattle.world.specs.Kind.{World}
 use Rattle.world.specs.Chronicle.{Chronicle, of_loyal}

@@ -9,7 +9,7 @@ use Rattle.label.specs.Lieutenants.{lieutenants}
 use Rattle.book.specs.declared.conditions.Obedience.{Obedience}
 use Rattle.book.specs.declared.conditions.Obedience.TheVariants.{Traitor, Obeyed, Disobeyed}
 use Rattle.book.specs.Explained.{alike_line, dotted, few_words, head_line, mark, obedience_line, yes_no}
-use Rattle.roster.specs.Scenario.{Scenario, is_traitor}
+use Rattle.round.specs.Scenario.{Scenario, is_traitor}
 use Rattle.world.specs.declared.verdict.Verdict.{Verdict}
 use Rattle.world.specs.Chronicle.{Chronicle}
 use Rattle.signed.specs.Chains.{Chain, orders}

@@ -1,9 +1,9 @@
 -- Signed campaigns, as a kind of campaign (own; TOPLAS 1982, section 4, algorithm SM(m)).
 use Rattle.std.specs.Prelude.{ℕ, suc, List, [], map, length}
 use Rattle.semantics.specs.Relay.{Relay, signed}
-use Rattle.roster.specs.Scenario.{Scenario, shape_of}
-use Rattle.letter.specs.Letters.{Letter}
-use Rattle.letter.specs.Contexts.{context_bytes}
+use Rattle.round.specs.Scenario.{Scenario, shape_of}
+use Rattle.round.specs.Letters.{Letter}
+use Rattle.round.specs.Contexts.{context_bytes}
 use Rattle.world.specs.declared.event.Event.{Event}
 use Rattle.world.specs.Kind.{Kind, World, opening, run}
 use Rattle.signed.specs.Chains.{Chain}

@@ -4,11 +4,11 @@ use Rattle.std.specs.List.{AllByRecursion}
 use Rattle.semantics.specs.Limits.{context_size, most_held}
 use Rattle.semantics.specs.Entries.{is_sendable}
 use Rattle.label.specs.Labels.{on}
-use Rattle.roster.specs.Scenario.{Scenario, IsScenario, is_traitor}
-use Rattle.letter.specs.Activation.{Activation}
+use Rattle.round.specs.Scenario.{Scenario, IsScenario, is_traitor}
+use Rattle.round.specs.Activation.{Activation}
 use Rattle.world.specs.declared.event.Event.{Event}
 use Rattle.world.specs.declared.event.Event.TheVariants.{Close}
-use Rattle.world.specs.declared.part.Part.TheVariants.{Acting}
+use Rattle.world.specs.declared.part.Progress.TheVariants.{Acting}
 use Rattle.world.specs.KindLists.{IsPunctual}
 use Rattle.world.specs.Agreement.{IsFinished}
 use Rattle.world.specs.Chronicle.{Chronicle}

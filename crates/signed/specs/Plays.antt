@@ -1,7 +1,7 @@
 -- What holds of the ledgers and chronicles of signed campaigns. Each statement is the contract of a function of this
 -- crate.
 use Rattle.std.specs.Prelude.{◌≡◌, List}
-use Rattle.roster.specs.Scenario.{Scenario, IsScenario}
+use Rattle.round.specs.Scenario.{Scenario, IsScenario}
 use Rattle.world.specs.declared.event.Event.{Event}
 use Rattle.world.specs.KindLists.{IsComplete, replay_world}
 use Rattle.signed.specs.Kind.{signed_kind, played}

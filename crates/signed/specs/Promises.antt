@@ -4,14 +4,14 @@ use Rattle.label.specs.Lieutenants.{AgreeInList}
 use Rattle.semantics.specs.Execution.{step}
 use Rattle.semantics.specs.State.{Cause, Trap}
 use Rattle.board.specs.Board.{Access, IsLegal}
-use Rattle.letter.specs.Activation.{Activation, has_ended}
-use Rattle.letter.specs.Letters.{Letter}
-use Rattle.roster.specs.Scenario.{Scenario, is_traitor}
+use Rattle.round.specs.Activation.{Activation, has_ended}
+use Rattle.round.specs.Letters.{Letter}
+use Rattle.round.specs.Scenario.{Scenario, is_traitor}
 use Rattle.world.specs.declared.event.Event.{Event}
 use Rattle.world.specs.declared.verdict.Verdict.{Verdict}
 use Rattle.world.specs.Agreement.{AreAlike, AreObedient}
 use Rattle.world.specs.KindAccounted.{AreAccounted}
-use Rattle.world.specs.declared.part.Part.TheVariants.{Acting}
+use Rattle.world.specs.declared.part.Progress.TheVariants.{Acting}
 use Rattle.signed.specs.Agreement.{IsSignedBound}
 use Rattle.signed.specs.Kind.{signed_kind, played}
 

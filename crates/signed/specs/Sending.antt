@@ -10,16 +10,16 @@ use Rattle.semantics.specs.Relay.{Relay, signed}
 use Rattle.semantics.specs.Entries.{entered}
 use Rattle.board.specs.Board.{Access}
 use Rattle.board.specs.Ledger.{RecordedBoard}
-use Rattle.roster.specs.Scenario.{Scenario, program_of, shape_of}
-use Rattle.letter.specs.Letters.{Letter}
-use Rattle.letter.specs.Contexts.{context_bytes, faithful_letter_with}
-use Rattle.letter.specs.Activation.{started}
+use Rattle.round.specs.Scenario.{Scenario, program_of, shape_of}
+use Rattle.round.specs.Letters.{Letter}
+use Rattle.round.specs.Contexts.{context_bytes, faithful_letter_with}
+use Rattle.round.specs.Activation.{started}
 use Rattle.world.specs.declared.event.Event.{Event}
-use Rattle.world.specs.declared.draft.Draft.{Draft}
-use Rattle.world.specs.declared.draft.Draft.TheVariants.{Begun, Whole, Missing}
+use Rattle.world.specs.declared.draft.LetterDraft.{LetterDraft}
+use Rattle.world.specs.declared.draft.LetterDraft.TheVariants.{Begun, Whole, Missing}
 use Rattle.world.specs.Kind.{each, accesses_of}
-use Rattle.world.specs.declared.part.Part.{Part}
-use Rattle.world.specs.declared.part.Part.TheVariants.{Acting, Silent, Posted}
+use Rattle.world.specs.declared.part.Progress.{Progress}
+use Rattle.world.specs.declared.part.Progress.TheVariants.{Acting, Silent, Posted}
 use Rattle.world.specs.Reached.{world_of}
 use Rattle.signed.specs.Chains.{Chain}
 use Rattle.signed.specs.Accepted.{counts}
@@ -102,42 +102,42 @@ letter_behind s sent g =
     })
 
 -- how the generals begin it
-abbrev pub begins_behind : Scenario → Sent → ℕ → Option (List Insn) → Part
+abbrev pub begins_behind : Scenario → Sent → ℕ → Option (List Insn) → Progress
 begins_behind s sent g None = Silent
 begins_behind s sent g (Some program) =
     Acting (started s.patience program (context_behind s sent g) (relay_behind s sent g))
 
-abbrev pub beginnings_behind : Scenario → Sent → List Part
+abbrev pub beginnings_behind : Scenario → Sent → List Progress
 beginnings_behind s sent =
     cond (nat_lt (length sent) (suc s.bound)) (each s.generals (λ g. begins_behind s sent g (program_of s g) ∷ [])) []
 
 -- of a traitor's letter his accesses, a loyal general's letter, or none
-abbrev pub draft_behind : Scenario → Sent → List Access → ℕ → Option Part → Draft
+abbrev pub draft_behind : Scenario → Sent → List Access → ℕ → Option Progress → LetterDraft
 draft_behind s sent accesses g (Some (Acting a)) = Begun (accesses_of g accesses)
 draft_behind s sent accesses g (Some Silent) = Missing
 draft_behind s sent accesses g (Some Posted) = Whole (letter_behind s sent g)
 draft_behind s sent accesses g None = Missing
 
-abbrev pub drafts_behind : Scenario → Sent → List Access → List Part → List Draft
+abbrev pub drafts_behind : Scenario → Sent → List Access → List Progress → List LetterDraft
 drafts_behind s sent accesses parts = each s.generals (λ g. draft_behind s sent accesses g (slice_get parts g) ∷ [])
 
 -- lent drafts and parts
-abbrev pub draft_in : Option (Bor Draft) → Option Draft
+abbrev pub draft_in : Option (Bor LetterDraft) → Option LetterDraft
 draft_in None = None
 draft_in (Some d) = Some d.now
 
-abbrev pub part_in : Option (Bor Part) → Option Part
+abbrev pub part_in : Option (Bor Progress) → Option Progress
 part_in None = None
 part_in (Some p) = Some p.now
 
 -- what a general has entered, by the draft of his letter or by his activation
-abbrev pub entries_drafted : Option Draft → Option Part → List Entry
+abbrev pub entries_drafted : Option LetterDraft → Option Progress → List Entry
 entries_drafted (Some (Begun transcript)) (Some (Acting a)) = a.state.entries
 entries_drafted (Some (Whole letter)) part = letter.outbox.entries
 entries_drafted _ _ = []
 
 -- what the generals send by it
-abbrev pub sent_drafted : Scenario → Sent → List Draft → List Part → List (List Dispatch)
+abbrev pub sent_drafted : Scenario → Sent → List LetterDraft → List Progress → List (List Dispatch)
 sent_drafted s sent drafts parts =
     map (λ g. dispatched s.generals s.commander g (held_behind s.generals sent g)
     (entries_drafted (slice_get drafts g) (slice_get parts g))) (generals s.generals)
@@ -153,7 +153,7 @@ signatures n c = map (λ g. record { general = g; commander = c }) (generals n)
 -- what is kept of a signed world: some list of events leads here, its board opened as the scenario says, what was sent
 -- is kept, and there is a signer for each general
 pub record IsSignedHeld (s : Scenario) (closed : List (List Letter)) (board : RecordedBoard) (opened : ℕ)
-    (parts : List Part) (full : Bool) (sent : Sent) (signers : List Signature) : Type 0 where
+    (parts : List Progress) (full : Bool) (sent : Sent) (signers : List Signature) : Type 0 where
   pub reached : (events : List Event) × (played s events ≡ world_of s closed board opened parts full)
   pub opening : board.opening ≡ s.board
   pub chains : sent ≡ sent_in s closed

@@ -4,8 +4,8 @@ use Rattle.std.specs.Prelude.{ℕ, suc, ◌≡◌, ◌≢◌, ◌+◌, ◌*◌, 
 use Rattle.semantics.specs.Limits.{context_size, most_held}
 use Rattle.label.specs.Labels.{on}
 use Rattle.label.specs.Lieutenants.{AgreeInList}
-use Rattle.roster.specs.Scenario.{Scenario, IsScenario, is_traitor}
-use Rattle.letter.specs.Letters.{Letter, letter_of}
+use Rattle.round.specs.Scenario.{Scenario, IsScenario, is_traitor}
+use Rattle.round.specs.Letters.{Letter, letter_of}
 use Rattle.world.specs.declared.event.Event.{Event}
 use Rattle.world.specs.Kind.{loyal_letter}
 use Rattle.signed.specs.Chains.{Chain, Among, orders}

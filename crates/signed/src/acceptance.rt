@@ -6,7 +6,7 @@ ghost use Rattle.signed.specs.Entries.{received};
 ghost use Rattle.signed.specs.Sending.{added_also, added_by, received_in, AreFirst, AreRows};
 ghost use Rattle.signed.specs.Sent.{delivered};
 
-use crate::outgoing::{Sending, SentRound};
+use crate::sent_chains::{Sending, SentRound};
 use crate::sets::has;
 use arrayvec::ArrayVec;
 

@@ -2,11 +2,11 @@
 ghost use Rattle.std.specs.Prelude.{◌≡◌, ◌≤◌, ◌<◌, [], length, IfOk};
 ghost use Rattle.signed.specs.Sending.{context_behind, held_of, relay_behind, AreRows};
 
-use crate::held::Held;
-use crate::outgoing::SentRound;
-use contexts::context_telling;
+use crate::held_chains::Held;
+use crate::sent_chains::SentRound;
+use mem::context_telling;
 use outbox::Outbox;
-use roster::Scenario;
+use round::Scenario;
 use std::alloc::{AllocError, Global};
 
 /// The number at byte 28 of a context where orders are signed.

@@ -11,7 +11,7 @@ ghost use Rattle.world.specs.Schedules.{lines_by};
 
 use crate::chronicle::SignedChronicle;
 use crate::signed_world::SignedWorld;
-use roster::Scenario;
+use round::Scenario;
 use std::alloc::{AllocError, Global};
 use world::{Schedule, play_listed, play_named};
 

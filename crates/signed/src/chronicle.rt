@@ -4,11 +4,10 @@ ghost use Rattle.signed.specs.Sending.{dispatch_of};
 ghost use Rattle.signed.specs.Sent.{sent_by, sent_in};
 
 use crate::chain::Chain;
-use crate::outgoing::SentRound;
+use crate::sent_chains::SentRound;
 use arrayvec::ArrayVec;
 use board::Access;
-use letter::Round;
-use roster::Scenario;
+use round::{Round, Scenario};
 use std::marker::Model;
 use world::Verdict;
 

@@ -4,8 +4,8 @@ ghost use Rattle.signed.specs.Entries.{bits_of, chain_of, dispatched, receivers_
 ghost use Rattle.signed.specs.Sending.{dispatch_of, named};
 
 use crate::chain::Chain;
-use crate::held::Held;
-use crate::outgoing::Sending;
+use crate::held_chains::Held;
+use crate::sent_chains::Sending;
 use crate::sets::{below, without};
 use crate::signer::Signer;
 use semantics::Entry;

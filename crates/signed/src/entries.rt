@@ -7,12 +7,12 @@ ghost use Rattle.signed.specs.Sent.{delivered};
 
 use crate::acceptance::{accepted, add, is_among};
 use crate::chain::Chain;
-use crate::held::Held;
-use crate::outgoing::SentRound;
+use crate::held_chains::Held;
+use crate::sent_chains::SentRound;
 use crate::sets;
 use arrayvec::ArrayVec;
 use outbox::Outbox;
-use roster::Scenario;
+use round::Scenario;
 
 /// Enters what a loyal general has to sign in the round behind these: the commander his order in the first; a
 /// lieutenant, in each round after one of the first m, the first chain that brought him each order that he added then.

@@ -13,10 +13,10 @@ use crate::acceptance::decided;
 use crate::accepted_chains::bringing;
 use crate::chain::Chain;
 use crate::chronicle::SignedChronicle;
-use roster::Scenario;
+use round::Scenario;
 use std::alloc::{AllocError, Global};
 use world::Verdict;
-use world::judging::traitors;
+use world::judgement::traitors;
 
 /// Adds the generals, each behind a dot.
 fn push_further(lines: &mut String, generals: &[u8]) -> Result<(), AllocError>

@@ -5,7 +5,7 @@ ghost use Rattle.signed.specs.Entries.{received};
 ghost use Rattle.signed.specs.Sending.{chain_in, held_of, lent, received_in};
 
 use crate::chain::Chain;
-use crate::outgoing::{Sending, SentRound};
+use crate::sent_chains::{Sending, SentRound};
 use crate::sets::has;
 use std::alloc::{AllocError, Global};
 use std::marker::Model;

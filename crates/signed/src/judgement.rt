@@ -8,9 +8,9 @@ use crate::acceptance::{accepted, decided};
 use crate::chronicle::SignedChronicle;
 use crate::signed_world::SignedWorld;
 use arrayvec::ArrayVec;
-use roster::Scenario;
+use round::Scenario;
 use world::Verdict;
-use world::judging::{alike, loyal_decisions, obeyed, traitors};
+use world::judgement::{alike, loyal_decisions, obeyed, traitors};
 
 impl SignedWorld {
     /// What the lieutenants decide, ascending by number, of the chains so far: the one order that each accepted, of

@@ -8,16 +8,16 @@ mod campaign;
 mod chain;
 mod chronicle;
 mod dispatch;
-mod drafting;
-mod entering;
-mod explaining;
-mod held;
-mod judging;
+mod entries;
+mod explanation;
+mod held_chains;
+mod judgement;
 mod laws;
-mod loyal;
+mod loyal_letters;
 mod opening;
-mod outgoing;
 mod plays;
+mod round_drafts;
+mod sent_chains;
 mod sets;
 mod signed_world;
 mod signer;
@@ -26,8 +26,8 @@ pub use accepted_chains::bringing_in;
 pub use campaign::{play_signed, replay_signed};
 pub use chain::Chain;
 pub use chronicle::SignedChronicle;
-pub use explaining::{explain_one_signed, explain_signed};
-pub use held::Held;
+pub use explanation::{explain_one_signed, explain_signed};
+pub use held_chains::Held;
 pub use laws::{
     accepted_orders_decide, chains_are_few, chains_are_unforged, held_chains_are_few,
     loyal_entries_are_sent, signed_accounts_are_runs, signed_activations_are_safe,

@@ -3,11 +3,10 @@ ghost use Rattle.std.specs.Prelude.{◌≡◌, ◌≤◌, ◌<◌, length, IfOk}
 ghost use Rattle.signed.specs.Sending.{letter_behind, IsSent};
 
 use crate::briefing::{context, outbox};
-use crate::entering::enter;
-use crate::held::Held;
-use crate::outgoing::SentRound;
-use letter::Letter;
-use roster::{Scenario, Seat};
+use crate::entries::enter;
+use crate::held_chains::Held;
+use crate::sent_chains::SentRound;
+use round::{Letter, Player, Scenario};
 use std::alloc::{AllocError, Global};
 
 /// A loyal general's letter of the round behind these.
@@ -35,7 +34,7 @@ pub(crate) fn loyal_letter(
         general: u32::from(general),
         round: sent.len() as u32 + 1,
         context,
-        program: Seat::new(None),
+        program: Player::new(None),
         transcript: Vec::new(alloc),
         steps: 0,
         outbox,

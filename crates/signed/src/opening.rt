@@ -1,19 +1,18 @@
 //! How a round begins.
 ghost use Rattle.std.specs.Prelude.{◌≡◌, ◌≤◌, ◌<◌, length, IfOk};
 ghost use Rattle.std.specs.Arc.{arc_value};
-ghost use Rattle.letter.specs.Activation.{started};
-ghost use Rattle.roster.specs.Scenario.{program_of};
+ghost use Rattle.round.specs.Activation.{started};
+ghost use Rattle.round.specs.Scenario.{program_of};
 ghost use Rattle.signed.specs.Sending.{begins_behind, beginnings_behind, context_behind, relay_behind, IsSent};
 
 use crate::briefing::{context, outbox};
-use crate::held::Held;
-use crate::outgoing::SentRound;
-use roster::Scenario;
-use round::Running;
+use crate::held_chains::Held;
+use crate::sent_chains::SentRound;
+use round::{Running, Scenario};
 use std::alloc::{AllocError, Global};
 use std::sync::Arc;
 use verify::Verified;
-use world::Part;
+use world::Progress;
 
 /// All generals' parts as the round behind these begins; none where no round is left.
 ///
@@ -24,7 +23,7 @@ pub(crate) fn beginnings(
     alloc: Global,
     scenario: &Scenario,
     sent: &[SentRound],
-) -> Result<Vec<Part>, AllocError>
+) -> Result<Vec<Progress>, AllocError>
     requires sent { IsSent scenario.now sent.now }
     ensures { IfOk result (λ parts. parts.items ≡ beginnings_behind scenario.now sent.now) }
 {
@@ -44,7 +43,7 @@ fn beginning(
     scenario: &Scenario,
     sent: &[SentRound],
     general: u8,
-) -> Result<Part, AllocError>
+) -> Result<Progress, AllocError>
     requires left { length sent.now ≤ scenario.now.bound }
     requires sent { IsSent scenario.now sent.now }
     requires inside { general < scenario.now.generals }
@@ -52,8 +51,8 @@ fn beginning(
         ≡ begins_behind scenario.now sent.now general (program_of scenario.now general)) }
 {
     match scenario.seat(general).program() {
-        None => Ok(Part::Silent),
-        Some(program) => Ok(Part::Acting(activation(alloc, scenario, sent, program, general)?)),
+        None => Ok(Progress::Silent),
+        Some(program) => Ok(Progress::Acting(activation(alloc, scenario, sent, program, general)?)),
     }
 }
 

@@ -2,11 +2,11 @@
 ghost use Rattle.signed.specs.Kind.{signed_kind};
 
 use crate::signed_world::SignedWorld;
-use roster::Scenario;
+use round::Scenario;
 use std::alloc::AllocError;
-use world::{Part, Plays};
+use world::{PlayableWorld, Progress};
 
-impl Plays for SignedWorld {
+impl PlayableWorld for SignedWorld {
     ghost kind = { signed_kind };
 
     ghost seen = { λ w. w };
@@ -15,7 +15,7 @@ impl Plays for SignedWorld {
         &self.scenario
     }
 
-    fn open_parts(&self) -> &[Part] {
+    fn open_parts(&self) -> &[Progress] {
         self.parts.as_slice()
     }
 

@@ -5,16 +5,16 @@ ghost use Rattle.signed.specs.Sending.{draft_behind, draft_in, drafts_behind, en
 ghost use Rattle.signed.specs.Sent.{held_behind};
 
 use crate::dispatch::dispatched;
-use crate::held::Held;
-use crate::loyal::loyal_letter;
-use crate::outgoing::{Sending, SentRound};
+use crate::held_chains::Held;
+use crate::loyal_letters::loyal_letter;
+use crate::sent_chains::{Sending, SentRound};
 use crate::signer::Signer;
 use board::Access;
-use roster::Scenario;
+use round::Scenario;
 use semantics::Entry;
 use std::alloc::{AllocError, Global};
-use world::Part;
-use world::draft::Draft;
+use world::Progress;
+use world::draft::LetterDraft;
 use world::letters::transcript;
 
 /// The drafts of all generals' letters, as they stand.
@@ -27,8 +27,8 @@ pub(crate) fn drafts(
     scenario: &Scenario,
     sent: &[SentRound],
     accesses: &[Access],
-    parts: &[Part],
-) -> Result<Vec<Draft>, AllocError>
+    parts: &[Progress],
+) -> Result<Vec<LetterDraft>, AllocError>
     requires left { length sent.now ≤ scenario.now.bound }
     requires sent { IsSent scenario.now sent.now }
     ensures { IfOk result (λ drafts. drafts.items ≡ drafts_behind scenario.now sent.now accesses.now parts.now) }
@@ -46,9 +46,9 @@ fn draft(
     scenario: &Scenario,
     sent: &[SentRound],
     accesses: &[Access],
-    parts: &[Part],
+    parts: &[Progress],
     general: u8,
-) -> Result<Draft, AllocError>
+) -> Result<LetterDraft, AllocError>
     requires left { length sent.now ≤ scenario.now.bound }
     requires sent { IsSent scenario.now sent.now }
     requires inside { general < scenario.now.generals }
@@ -56,10 +56,16 @@ fn draft(
         ≡ draft_behind scenario.now sent.now accesses.now general (slice_get parts.now general)) }
 {
     match parts.get(usize::from(general)) {
-        Some(Part::Acting(_)) => Ok(Draft::Begun(transcript(alloc, accesses, u32::from(general))?)),
-        Some(Part::Posted) => Ok(Draft::Whole(loyal_letter(alloc, scenario, sent, general)?)),
-        Some(Part::Silent) => Ok(Draft::Missing),
-        None => Ok(Draft::Missing),
+        Some(Progress::Acting(_)) => Ok(LetterDraft::Begun(transcript(
+            alloc,
+            accesses,
+            u32::from(general),
+        )?)),
+        Some(Progress::Posted) => Ok(LetterDraft::Whole(loyal_letter(
+            alloc, scenario, sent, general,
+        )?)),
+        Some(Progress::Silent) => Ok(LetterDraft::Missing),
+        None => Ok(LetterDraft::Missing),
     }
 }
 
@@ -73,8 +79,8 @@ pub(crate) fn sendings(
     scenario: &Scenario,
     sent: &[SentRound],
     signers: &[Signer],
-    drafts: &[Draft],
-    parts: &[Part],
+    drafts: &[LetterDraft],
+    parts: &[Progress],
 ) -> Result<SentRound, AllocError>
     requires sent { IsSent scenario.now sent.now }
     requires signers { signers.now ≡ signatures scenario.now.generals scenario.now.commander }
@@ -94,8 +100,8 @@ fn sending(
     scenario: &Scenario,
     sent: &[SentRound],
     signer: &Signer,
-    drafts: &[Draft],
-    parts: &[Part],
+    drafts: &[LetterDraft],
+    parts: &[Progress],
     general: u8,
 ) -> Result<Sending, AllocError>
     requires sent { IsSent scenario.now sent.now }
@@ -114,13 +120,15 @@ fn sending(
 }
 
 /// What a general has entered, by the draft of his letter or by his activation.
-fn entries<'a>(draft: Option<&'a Draft>, part: Option<&'a Part>) -> &'a [Entry]
+fn entries<'a>(draft: Option<&'a LetterDraft>, part: Option<&'a Progress>) -> &'a [Entry]
     ensures same { result.now ≡ entries_drafted (draft_in draft.entry) (part_in part.entry) }
     ensures few { length result.now ≤ 8 }
 {
     match (draft, part) {
-        (Some(Draft::Begun(_)), Some(Part::Acting(running))) => running.outbox().entries(),
-        (Some(Draft::Whole(letter)), _) => letter.outbox.entries(),
+        (Some(LetterDraft::Begun(_)), Some(Progress::Acting(running))) => running
+            .outbox()
+            .entries(),
+        (Some(LetterDraft::Whole(letter)), _) => letter.outbox.entries(),
         _ => &[],
     }
 }

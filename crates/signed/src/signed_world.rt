@@ -6,17 +6,16 @@ ghost use Rattle.world.specs.declared.event.Event.TheVariants.{Tick, Post, Close
 ghost use Rattle.world.specs.KindHeld.{AheadTo, IsAnswer};
 ghost use Rattle.world.specs.Kind.{opening, happen, refusal, run};
 
-use crate::drafting::{drafts, sendings};
 use crate::opening::beginnings;
-use crate::outgoing::SentRound;
+use crate::round_drafts::{drafts, sendings};
+use crate::sent_chains::SentRound;
 use crate::signer::Signer;
 use board::Board;
-use letter::Round;
-use roster::Scenario;
+use round::{Round, Scenario};
 use std::alloc::{AllocError, Global};
 use std::marker::Model;
 use world::letters::{is_full, letters, since};
-use world::{Event, EventError, Part, parts};
+use world::{Event, EventError, Progress, parts};
 
 /// A scenario's campaign of signed messages as events have left it.
 #[derive(Drop)]
@@ -31,7 +30,7 @@ pub struct SignedWorld {
     /// Where the open round's entries begin in the ledger.
     pub(crate) opened: usize,
     /// By general the parts of the open round.
-    pub(crate) parts: Vec<Part>,
+    pub(crate) parts: Vec<Progress>,
     /// Whether in each closed round all loyal generals had posted.
     pub(crate) full: bool,
     /// What the letters of the closed rounds have sent.
@@ -115,7 +114,7 @@ impl SignedWorld {
     }
 
     /// By general where each stands in the open round.
-    pub fn parts(&self) -> &[Part]
+    pub fn parts(&self) -> &[Progress]
         ensures { result.now ≡ self.now.parts }
     {
         self.parts.as_slice()

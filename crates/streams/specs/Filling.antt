@@ -1,6 +1,6 @@
 -- What was written whole to a file of a name.
 use Rattle.std.specs.Prelude.{ℕ, ◌≡◌, List, string_bytes}
-use Rattle.streams.specs.declared.filling.Filled.{Filled}
+use Rattle.streams.specs.declared.filled_file.Filled.{Filled}
 
 -- the name, and the bytes
 abbrev pub file_of : {O : Type 0} → Filled O → List ℕ × List ℕ

@@ -1,8 +1,8 @@
 -- How much is read of a file.
 use Rattle.std.specs.Prelude.{ℕ, ◌≡◌, ◌≤◌, ◌<◌, ◌++◌, List, Option, IfSome, length, take}
 use Rattle.std.specs.Str.{IsUtf8}
-use Rattle.streams.specs.declared.within.Within.{Within}
-use Rattle.streams.specs.declared.within.Within.TheVariants.{Whole, Longer}
+use Rattle.streams.specs.declared.bounded_read.Within.{Within}
+use Rattle.streams.specs.declared.bounded_read.Within.TheVariants.{Whole, Longer}
 
 -- the bytes are the file's
 abbrev pub AreBytes : Option (List ℕ) → List ℕ → Type 0

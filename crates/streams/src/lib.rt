@@ -1,20 +1,20 @@
 //! The files that a program reads and the streams that it writes, with what is said where a call fails.
 #![tactic(auto)]
 
-mod filling;
-mod flushing;
-mod interrupted;
+mod bounded_read;
+mod filled_file;
+mod interruption;
 mod name;
 mod output;
+mod pending_flush;
 mod pieces;
 mod source;
 mod texts;
-mod within;
-mod writing;
+mod writer;
 
-pub use filling::{Filled, fill};
+pub use bounded_read::Within;
+pub use filled_file::{Filled, fill};
 pub use name::FileName;
 pub use output::Output;
 pub use source::Source;
 pub use texts::may_begin_text;
-pub use within::Within;

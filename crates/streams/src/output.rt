@@ -1,7 +1,7 @@
 //! Where a task's texts go: every writer is an `Output`. Its contracts can say that a call failed,
 //! which those of `Write` cannot.
 
-use crate::writing::write_whole;
+use crate::writer::write_whole;
 use std::fmt::Display;
 use std::io::{self, Write};
 

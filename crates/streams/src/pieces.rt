@@ -3,7 +3,7 @@ ghost use Rattle.std.specs.Prelude.{◌≡◌, ◌≢◌, ◌≤◌, ◌+◌, If
 ghost use Rattle.std.specs.Io.KnownBytes.{Consumes, IsAtEnd};
 ghost use Rattle.std.specs.IoError.{error_kind};
 
-use crate::interrupted::is_interrupted;
+use crate::interruption::is_interrupted;
 use std::alloc::Global;
 use std::io::{self, ErrorKind, Read};
 

@@ -1,8 +1,8 @@
 //! Where a task's files come from: every reader is a `Source`. Its contracts can say that a call
 //! failed, which those of `Read` cannot.
 
+use crate::bounded_read::Within;
 use crate::pieces::read_front;
-use crate::within::Within;
 use std::alloc::Global;
 use std::io::{self, ErrorKind, Read};
 

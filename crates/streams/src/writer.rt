@@ -4,8 +4,8 @@ ghost use Rattle.std.specs.Io.KnownBytes.{Appends};
 ghost use Rattle.std.specs.IoError.{error_kind};
 ghost use Rattle.streams.specs.Writing.{AppendsFront};
 
-use crate::flushing::Unflushed;
-use crate::interrupted::is_interrupted;
+use crate::interruption::is_interrupted;
+use crate::pending_flush::Unflushed;
 use std::io::{self, ErrorKind, Write};
 
 /// Writes the whole text, which is then to be flushed. Where that fails, a beginning of it was written.

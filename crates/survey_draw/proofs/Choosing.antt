@@ -1,8 +1,8 @@
 -- Who is chosen.
 use Rattle.std.proofs.Common.{ℕ, suc, ◌+◌, ◌-◌, ◌%◌, ◌<◌, ◌≡◌, true, false, List, [], ◌∷◌, ◌++◌, map, refl, sym, ap, ◌∙◌, arith, append_assoc}
 use Rattle.std.specs.Prelude.{nat_lt}
-use Rattle.survey.specs.Draws.{draw}
-use Rattle.survey.specs.Plotting.{chosen}
+use Rattle.survey_draw.specs.Draws.{draw}
+use Rattle.survey_draw.specs.Plotting.{chosen}
 
 chosen_first : (seed g left more needed : ℕ) → left ≡ suc more → nat_lt (draw seed (4 + g) % left) needed ≡ true → chosen seed g left needed ≡ g ∷ chosen seed (g + 1) more (needed - 1)
 chosen_first seed g left more needed e h = rw e (let k = rw e at h in rw k refl)

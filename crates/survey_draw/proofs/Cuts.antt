@@ -9,8 +9,8 @@ use Rattle.text.specs.declared.stop.Stop.TheVariants.{Byte}
 use Rattle.text.proofs.BytesLemmas.{all-weaker}
 use Rattle.text.proofs.CutLemmas.{Lacks, before-append, from-append}
 use Rattle.text.proofs.DecimalLemmas.{digits-decimal}
-use Rattle.survey.specs.Lines.{member}
-use Rattle.survey.proofs.Words.{rest, word}
+use Rattle.survey_draw.specs.Lines.{member}
+use Rattle.survey_draw.proofs.Words.{rest, word}
 
 pub word_of : (stop : Stop) (front w : List ℕ) (c : ℕ) (behind : List ℕ) → Lacks colon front → Lacks stop w → is_stop stop c ≡ true → word stop (member front w (c ∷ behind)) ≡ w
 word_of stop front w c behind free none is =

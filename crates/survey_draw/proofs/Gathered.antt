@@ -7,9 +7,9 @@ use Rattle.std.specs.List.{AllZip, Contains, range_with_len}
 use Rattle.std.proofs.Common.{Vec}
 use Rattle.scenario.specs.declared.fault.ScenarioError.{ScenarioError}
 use Rattle.scenario.specs.declared.fault.ScenarioError.TheVariants.{Memory}
-use Rattle.survey.specs.declared.finding.Finding.{Finding}
-use Rattle.survey.specs.Family.{Family}
-use Rattle.survey.specs.Judging.{IsRefusedBy, IsRefusedIn}
+use Rattle.survey_draw.specs.declared.finding.Finding.{Finding}
+use Rattle.survey_draw.specs.Family.{Family}
+use Rattle.survey_draw.specs.Judging.{IsRefusedBy, IsRefusedIn}
 
 -- what holds of a number and of its result, if it is good
 abbrev pub Gives : (ℕ → Finding → Type 0) → ℕ → Result Finding ScenarioError → Type 0

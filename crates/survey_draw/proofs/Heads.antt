@@ -7,25 +7,25 @@ use Rattle.text.specs.Stop.{comma}
 use Rattle.text.specs.declared.stop.Stop.TheVariants.{Byte}
 use Rattle.text.proofs.CutLemmas.{Lacks}
 use Rattle.text.proofs.DecimalLemmas.{decimal_of-decimal}
-use Rattle.combine.specs.declared.chosen.Rule.{Rule}
+use Rattle.combine.specs.declared.campaign_rule.Rule.{Rule}
 use Rattle.combine.specs.Rule.{rule_name}
 use Rattle.combine.specs.Names.{rule_named}
 use Rattle.combine.proofs.RuleLaws.{name_read}
 use Rattle.book.proofs.RuleNames.{name_lacks_comma}
 use Rattle.text.specs.Stop.{is_stop}
 use Rattle.text.proofs.BytesLemmas.{all-append}
-use Rattle.survey.specs.declared.adversary.Adversary.{Adversary}
-use Rattle.survey.specs.declared.adversary.Adversary.TheVariants.{Lies, Silent, Collude, Given}
-use Rattle.survey.specs.declared.manner.Manner.{Manner}
-use Rattle.survey.specs.declared.manner.Manner.TheVariants.{Oral, Signed}
-use Rattle.survey.specs.declared.span.Span.{Span}
-use Rattle.survey.specs.Draws.{draw}
-use Rattle.survey.specs.Family.{Family}
-use Rattle.survey.specs.Lines.{member}
-use Rattle.survey.specs.Heads.{HeadsTellFamilies, IsHead, IsTold, adversary_word, head_text, manner_word, patience_word}
-use Rattle.survey.specs.Plotting.{bound_of, chosen, count_of, do_count, generals_of, given_in, lies_by, plot_of}
-use Rattle.survey.specs.Wording.{campaign_text, plot_text}
-use Rattle.survey.proofs.Cuts.{decimal_lacks_brace, decimal_lacks_comma, same_rest, same_word}
+use Rattle.survey_draw.specs.declared.adversary.Adversary.{Adversary}
+use Rattle.survey_draw.specs.declared.adversary.Adversary.TheVariants.{Lies, Silent, Collude, Given}
+use Rattle.survey_draw.specs.declared.manner.Manner.{Manner}
+use Rattle.survey_draw.specs.declared.manner.Manner.TheVariants.{Oral, Signed}
+use Rattle.survey_draw.specs.declared.span.CountRange.{CountRange}
+use Rattle.survey_draw.specs.Draws.{draw}
+use Rattle.survey_draw.specs.Family.{Family}
+use Rattle.survey_draw.specs.Lines.{member}
+use Rattle.survey_draw.specs.Heads.{HeadsTellFamilies, IsHead, IsTold, adversary_word, head_text, manner_word, patience_word}
+use Rattle.survey_draw.specs.Plotting.{bound_of, chosen, count_of, do_count, generals_of, given_in, lies_by, plot_of}
+use Rattle.survey_draw.specs.Wording.{campaign_text, plot_text}
+use Rattle.survey_draw.proofs.Cuts.{decimal_lacks_brace, decimal_lacks_comma, same_rest, same_word}
 
 -- ---- what stands behind each member
 
@@ -145,7 +145,7 @@ same_plot f g seed generals bound traitors manner patience same =
     }) in
     ap (λ (x : Family). plot_of x seed) one ∙ two
 
-span_of : (a b : Span) → a.low ≡ b.low → a.high ≡ b.high → a ≡ b
+span_of : (a b : CountRange) → a.low ≡ b.low → a.high ≡ b.high → a ≡ b
 span_of a b low high = λ i. record { low = low i; high = high i }
 
 small : (n : ℕ) → n < 256 → n < 2 ^ 64

@@ -3,8 +3,8 @@ use Rattle.std.proofs.Common.{◌≡◌, ◌≢◌, Bool, true, false, [], ◌�
 use Rattle.std.specs.Prelude.{◌&&◌, not}
 use Rattle.world.specs.declared.verdict.Verdict.{Verdict}
 use Rattle.world.specs.Promises.{IsWellUnderBound}
-use Rattle.survey.specs.Laws.{KeptAreSound}
-use Rattle.survey.specs.Sums.{is_denied, is_sound}
+use Rattle.survey_draw.specs.Laws.{KeptAreSound}
+use Rattle.survey_draw.specs.Sums.{is_denied, is_sound}
 
 not_denied : (a : Option Bool) → a ≢ Some false → is_denied a ≡ false
 not_denied None h = refl

@@ -1,11 +1,11 @@
 -- Texts that are put together piece by piece.
 use Rattle.std.proofs.Common.{ℕ, ◌≡◌, List, [], ◌++◌, ap, ◌∙◌, append_assoc, codes}
-use Rattle.survey.specs.declared.finding.Finding.{Finding}
+use Rattle.survey_draw.specs.declared.finding.Finding.{Finding}
 use Rattle.std.specs.Prelude.{decimal}
-use Rattle.survey.specs.declared.span.Span.{Span}
-use Rattle.survey.specs.Family.{Family}
-use Rattle.survey.specs.Heads.{adversary_word, head_end, head_front, head_middle, head_text, manner_word, patience_word}
-use Rattle.survey.specs.Lines.{back_text, front_text, line_text}
+use Rattle.survey_draw.specs.declared.span.CountRange.{CountRange}
+use Rattle.survey_draw.specs.Family.{Family}
+use Rattle.survey_draw.specs.Heads.{adversary_word, head_end, head_front, head_middle, head_text, manner_word, patience_word}
+use Rattle.survey_draw.specs.Lines.{back_text, front_text, line_text}
 
 -- a name, and what stands behind it
 pub named : (s t n a : List ℕ) → t ≡ (s ++ n) ++ a → t ≡ s ++ (n ++ a)
@@ -36,7 +36,7 @@ joined_head f =
     (codes ",\"generals_low\":") (decimal f.generals.low) (codes ",\"line\":\"family\",\"manner\":") (manner_word f.manner) (codes ",\"patience\":") (patience_word f.patience)
     (codes ",\"traitors_high\":") (decimal f.traitors.high) (codes ",\"traitors_low\":") (decimal f.traitors.low) (codes "}\n")
 
-pub whole_head : (f : Family) (o a b c d adversary manner patience : List ℕ) (bound generals traitors : Span) → o ≡ [] → adversary ≡ adversary_word f.adversary → manner ≡ manner_word f.manner → patience ≡ patience_word f.patience
+pub whole_head : (f : Family) (o a b c d adversary manner patience : List ℕ) (bound generals traitors : CountRange) → o ≡ [] → adversary ≡ adversary_word f.adversary → manner ≡ manner_word f.manner → patience ≡ patience_word f.patience
     → bound ≡ f.bound → generals ≡ f.generals → traitors ≡ f.traitors → a ≡ (o ++ codes "{\"adversary\":") ++ adversary → b ≡ a ++ head_front bound generals → c ≡ b ++ head_middle manner patience → d ≡ c ++ head_end traitors → d ≡ head_text f
 whole_head f o a b c d adversary manner patience bound generals traitors none ad ma pa bo ge tr e1 e2 e3 e4 =
     let one : a ≡ codes "{\"adversary\":" ++ adversary = e1 ∙ ap (λ (l : List ℕ). (l ++ codes "{\"adversary\":") ++ adversary) none in

@@ -7,10 +7,10 @@ use Rattle.std.specs.List.{AllByRecursion, list_all}
 use Rattle.std.proofs.lemmas.Bool.Decides.{nat_tests}
 use Rattle.text.specs.Parts.{until}
 use Rattle.text.specs.Stop.{feed}
-use Rattle.survey.specs.declared.finding.Finding.{Finding}
-use Rattle.survey.specs.declared.parts.PartError.{PartError}
-use Rattle.survey.specs.Lines.{line_text}
-use Rattle.survey.specs.Parts.{Adds, AddsAll, AreOf, IsFaulty, IsHeadLine, IsLine, IsOf, IsReadOn, IsSized, IsUnfed, IsWrong, StopsAt, found_in, row_text, cut_off, unknown, foreign, earlier, later}
+use Rattle.survey_draw.specs.declared.finding.Finding.{Finding}
+use Rattle.survey_draw.specs.declared.parts.PartError.{PartError}
+use Rattle.survey_draw.specs.Lines.{line_text}
+use Rattle.survey_draw.specs.Parts.{Adds, AddsAll, AreOf, IsFaulty, IsHeadLine, IsLine, IsOf, IsReadOn, IsSized, IsUnfed, IsWrong, StopsAt, found_in, row_text, cut_off, unknown, foreign, earlier, later}
 
 -- a line up to its line feed, and with it
 same_ten : (c : ℕ) → c == 10 ≡ true → c ≡ 10

@@ -7,10 +7,10 @@ use Rattle.text.specs.Stop.{comma}
 use Rattle.text.specs.declared.stop.Stop.TheVariants.{Byte}
 use Rattle.text.proofs.CutLemmas.{Lacks}
 use Rattle.text.proofs.DecimalLemmas.{decimal_of-decimal}
-use Rattle.survey.specs.declared.finding.Finding.{Finding}
-use Rattle.survey.specs.Lines.{AreNumbers, AreWords, HasMember, answer_text, flag_text, line_text, member, number_told}
-use Rattle.survey.proofs.Cuts.{decimal_lacks_brace, decimal_lacks_comma, rest_of, word_of}
-use Rattle.survey.proofs.Words.{answer_told, flag_told, found_by, line_told, rest, word}
+use Rattle.survey_draw.specs.declared.finding.Finding.{Finding}
+use Rattle.survey_draw.specs.Lines.{AreNumbers, AreWords, HasMember, answer_text, flag_text, line_text, member, number_told}
+use Rattle.survey_draw.proofs.Cuts.{decimal_lacks_brace, decimal_lacks_comma, rest_of, word_of}
+use Rattle.survey_draw.proofs.Words.{answer_told, flag_told, found_by, line_told, rest, word}
 
 same_byte : (c : ℕ) → c == c ≡ true
 same_byte c = grind (arith, nat_tests)

@@ -2,12 +2,12 @@
 use Rattle.std.proofs.Common.{ℕ, ◌+◌, ◌≡◌, cond, List, [], ◌∷◌, ◌++◌, length, refl, sym, ap, ◌∙◌, arith, length-append, Option, None, Some}
 use Rattle.std.specs.Prelude.{count_by}
 use Rattle.std.proofs.lemmas.List.Sums.{sum_by-append}
-use Rattle.survey.specs.declared.finding.Finding.{Finding}
-use Rattle.survey.specs.declared.sums.Outcome.{Outcome}
-use Rattle.survey.specs.declared.sums.Outcome.TheVariants.{Kept, Broken, Disobeyed}
-use Rattle.survey.specs.declared.sums.Sums.{Sums}
-use Rattle.survey.specs.declared.sums.Tally.{Tally}
-use Rattle.survey.specs.Sums.{SumsOfParts, has, joined, least, lesser, seed_of, sums_of, tally_joined, tally_of}
+use Rattle.survey_draw.specs.declared.finding.Finding.{Finding}
+use Rattle.survey_draw.specs.declared.sums.CampaignOutcome.{CampaignOutcome}
+use Rattle.survey_draw.specs.declared.sums.CampaignOutcome.TheVariants.{Kept, Broken, Disobeyed}
+use Rattle.survey_draw.specs.declared.sums.Sums.{Sums}
+use Rattle.survey_draw.specs.declared.sums.Tally.{Tally}
+use Rattle.survey_draw.specs.Sums.{SumsOfParts, has, joined, least, lesser, seed_of, sums_of, tally_joined, tally_of}
 
 pub lesser-associative : (a b c : Option ℕ) → lesser (lesser a b) c ≡ lesser a (lesser b c)
 lesser-associative None b c = refl
@@ -25,12 +25,12 @@ pub lesser-none : (a : Option ℕ) → lesser a None ≡ a
 lesser-none None = refl
 lesser-none (Some a) = refl
 
-pub least-append : (outcome : Outcome) (front back : List Finding) → least outcome (front ++ back) ≡ lesser (least outcome front) (least outcome back)
+pub least-append : (outcome : CampaignOutcome) (front back : List Finding) → least outcome (front ++ back) ≡ lesser (least outcome front) (least outcome back)
 least-append outcome [] back = refl
 least-append outcome (f ∷ fs) back =
     ap (lesser (seed_of outcome f)) (least-append outcome fs back) ∙ sym (lesser-associative (seed_of outcome f) (least outcome fs) (least outcome back))
 
-pub count-append : (outcome : Outcome) (front back : List Finding) → count_by (has outcome) (front ++ back) ≡ count_by (has outcome) front + count_by (has outcome) back
+pub count-append : (outcome : CampaignOutcome) (front back : List Finding) → count_by (has outcome) (front ++ back) ≡ count_by (has outcome) front + count_by (has outcome) back
 count-append outcome front back = sum_by-append (λ f. cond (has outcome f) 1 0) front back
 
 -- a tally by its parts
@@ -40,7 +40,7 @@ tally c a = record { count = c; first = a }
 tallied : (c d : ℕ) (a b : Option ℕ) → c ≡ d → a ≡ b → tally c a ≡ tally d b
 tallied c d a b e h = cc
 
-tally-append : (outcome : Outcome) (front back : List Finding) → tally_of outcome (front ++ back) ≡ tally_joined (tally_of outcome front) (tally_of outcome back)
+tally-append : (outcome : CampaignOutcome) (front back : List Finding) → tally_of outcome (front ++ back) ≡ tally_joined (tally_of outcome front) (tally_of outcome back)
 tally-append outcome front back = tallied _ _ _ _ (count-append outcome front back) (least-append outcome front back)
 
 tally-swapped : (a b : Tally) → tally_joined a b ≡ tally_joined b a

@@ -8,14 +8,14 @@ use Rattle.text.specs.Stop.{feed, is_within}
 use Rattle.text.proofs.BytesLemmas.{all-append, all-weaker}
 use Rattle.text.proofs.CutLemmas.{before-append, from-append}
 use Rattle.text.proofs.DecimalLemmas.{digits-decimal}
-use Rattle.survey.specs.declared.finding.Finding.{Finding}
-use Rattle.survey.specs.declared.parts.PartError.{PartError}
-use Rattle.survey.specs.declared.parts.PartError.TheVariants.{Line, Family, Seed, Memory}
-use Rattle.survey.specs.Heads.{is_head}
-use Rattle.survey.specs.Lines.{AreNumbers, answer_text, flag_text, line_text, member}
-use Rattle.survey.specs.Parts.{AreOf, IsCampaign, IsFaulty, IsFurther, IsHeadLine, IsLed, IsLine, IsOf, IsReadOn, IsSized, IsUnfed, IsUntaken, IsWrong, StopsAt, found_in, row_text, cut_off, unknown, foreign, earlier, later, untold, unsized, too_early, too_late}
-use Rattle.survey.proofs.PartLemmas.{line_fed, line_length, wrong_behind_head}
-use Rattle.survey.proofs.Rereading.{same_findings}
+use Rattle.survey_draw.specs.declared.finding.Finding.{Finding}
+use Rattle.survey_draw.specs.declared.parts.PartError.{PartError}
+use Rattle.survey_draw.specs.declared.parts.PartError.TheVariants.{Line, Family, Seed, Memory}
+use Rattle.survey_draw.specs.Heads.{is_head}
+use Rattle.survey_draw.specs.Lines.{AreNumbers, answer_text, flag_text, line_text, member}
+use Rattle.survey_draw.specs.Parts.{AreOf, IsCampaign, IsFaulty, IsFurther, IsHeadLine, IsLed, IsLine, IsOf, IsReadOn, IsSized, IsUnfed, IsUntaken, IsWrong, StopsAt, found_in, row_text, cut_off, unknown, foreign, earlier, later, untold, unsized, too_early, too_late}
+use Rattle.survey_draw.proofs.PartLemmas.{line_fed, line_length, wrong_behind_head}
+use Rattle.survey_draw.proofs.Rereading.{same_findings}
 
 -- ---- lines
 

@@ -5,8 +5,8 @@ use Rattle.text.specs.Parts.{before, from}
 use Rattle.text.specs.Stop.{colon, comma}
 use Rattle.text.specs.declared.stop.Stop.{Stop}
 use Rattle.text.specs.declared.stop.Stop.TheVariants.{Byte}
-use Rattle.survey.specs.declared.finding.Finding.{Finding}
-use Rattle.survey.specs.Lines.{number_told}
+use Rattle.survey_draw.specs.declared.finding.Finding.{Finding}
+use Rattle.survey_draw.specs.Lines.{number_told}
 
 -- what stands behind the first colon up to the stop, and from there on
 abbrev pub word : Stop → List ℕ → List ℕ

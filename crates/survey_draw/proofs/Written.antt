@@ -4,15 +4,15 @@ use Rattle.std.specs.Prelude.{◌==◌, decimal, flat_map, IfSome, not}
 use Rattle.combine.specs.Rule.{rule_name}
 use Rattle.book.proofs.RuleNames.{name_lacks_feed}
 use Rattle.text.proofs.BytesLemmas.{all-append}
-use Rattle.survey.specs.declared.finding.Finding.{Finding}
-use Rattle.survey.specs.declared.manner.Manner.{Manner}
-use Rattle.survey.specs.declared.manner.Manner.TheVariants.{Oral, Signed}
-use Rattle.survey.specs.Family.{Family}
-use Rattle.survey.specs.Heads.{IsTold, adversary_word, head_text, manner_word, patience_word}
-use Rattle.survey.specs.Laws.{WrittenAreParts}
-use Rattle.survey.specs.Lines.{line_text}
-use Rattle.survey.specs.Parts.{IsHeadLine, IsLine, IsUnfed, found_in, row_text}
-use Rattle.survey.proofs.Walks.{decimal_unfed, member_line}
+use Rattle.survey_draw.specs.declared.finding.Finding.{Finding}
+use Rattle.survey_draw.specs.declared.manner.Manner.{Manner}
+use Rattle.survey_draw.specs.declared.manner.Manner.TheVariants.{Oral, Signed}
+use Rattle.survey_draw.specs.Family.{Family}
+use Rattle.survey_draw.specs.Heads.{IsTold, adversary_word, head_text, manner_word, patience_word}
+use Rattle.survey_draw.specs.Laws.{WrittenAreParts}
+use Rattle.survey_draw.specs.Lines.{line_text}
+use Rattle.survey_draw.specs.Parts.{IsHeadLine, IsLine, IsUnfed, found_in, row_text}
+use Rattle.survey_draw.proofs.Walks.{decimal_unfed, member_line}
 
 manner_unfed : (m : Manner) → IsUnfed (manner_word m)
 manner_unfed (Oral rule) = all-append (λ c. not (c == 10)) (codes "\"") (rule_name rule ++ codes "\"") refl (all-append (λ c. not (c == 10)) (rule_name rule) (codes "\"") (name_lacks_feed rule) refl)

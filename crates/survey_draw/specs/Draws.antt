@@ -1,6 +1,6 @@
 -- The numbers that a seed gives (Steele, Lea and Flood 2014, SplitMix64).
 use Rattle.std.specs.Prelude.{ℕ, ◌+◌, ◌*◌, ◌-◌, ◌/◌, ◌%◌, ◌^◌, bit_xor}
-use Rattle.survey.specs.declared.span.Span.{Span}
+use Rattle.survey_draw.specs.declared.span.CountRange.{CountRange}
 
 -- a word with its high bits folded down by so many places, times a number
 abbrev pub folded : ℕ → ℕ → ℕ → ℕ
@@ -16,5 +16,5 @@ unfoldable pub draw : ℕ → ℕ → ℕ
 draw seed place = mixed ((seed + (place + 1) * 0x9e3779b97f4a7c15) % 2 ^ 64)
 
 -- a number of the span, by one that was drawn
-abbrev pub within : Span → ℕ → ℕ
+abbrev pub within : CountRange → ℕ → ℕ
 within span drawn = span.low + drawn % (span.high + 1 - span.low)

@@ -1,15 +1,15 @@
 -- Families of campaigns (own).
 use Rattle.std.specs.Prelude.{ℕ, ◌≤◌, Option, IfSome}
-use Rattle.survey.specs.declared.adversary.Adversary.{Adversary}
-use Rattle.survey.specs.declared.span.Span.{Span}
-use Rattle.survey.specs.declared.manner.Manner.{Manner}
+use Rattle.survey_draw.specs.declared.adversary.Adversary.{Adversary}
+use Rattle.survey_draw.specs.declared.span.CountRange.{CountRange}
+use Rattle.survey_draw.specs.declared.manner.Manner.{Manner}
 
 -- how many generals, how many traitors they provide for, how many there are, how orders are sent, how long traitors are
 -- waited for, what they do
 pub record Family : Type 0 where
-  pub generals : Span
-  pub bound : Span
-  pub traitors : Span
+  pub generals : CountRange
+  pub bound : CountRange
+  pub traitors : CountRange
   pub manner : Manner
   pub patience : Option ℕ
   pub adversary : Adversary

@@ -3,14 +3,14 @@
 use Rattle.std.specs.Prelude.{ℕ, ◌≡◌, ◌<◌, ◌^◌, ◌==◌, not, true, Bool, IfSome, List, [], ◌∷◌, ◌++◌, take, decimal, bytes_eq, codes, Option, None, Some, string_bytes}
 use Rattle.std.specs.List.{list_all}
 use Rattle.combine.specs.Rule.{rule_name}
-use Rattle.survey.specs.declared.adversary.Adversary.{Adversary}
-use Rattle.survey.specs.declared.adversary.Adversary.TheVariants.{Lies, Silent, Collude, Given}
-use Rattle.survey.specs.declared.manner.Manner.{Manner}
-use Rattle.survey.specs.declared.manner.Manner.TheVariants.{Oral, Signed}
-use Rattle.survey.specs.declared.span.Span.{Span}
-use Rattle.survey.specs.Family.{Family}
-use Rattle.survey.specs.Lines.{member}
-use Rattle.survey.specs.Wording.{campaign_text}
+use Rattle.survey_draw.specs.declared.adversary.Adversary.{Adversary}
+use Rattle.survey_draw.specs.declared.adversary.Adversary.TheVariants.{Lies, Silent, Collude, Given}
+use Rattle.survey_draw.specs.declared.manner.Manner.{Manner}
+use Rattle.survey_draw.specs.declared.manner.Manner.TheVariants.{Oral, Signed}
+use Rattle.survey_draw.specs.declared.span.CountRange.{CountRange}
+use Rattle.survey_draw.specs.Family.{Family}
+use Rattle.survey_draw.specs.Lines.{member}
+use Rattle.survey_draw.specs.Wording.{campaign_text}
 
 -- what the traitors do; of a program its bytecode, in hex
 abbrev pub adversary_word : Adversary → List ℕ
@@ -41,7 +41,7 @@ head_text f =
     (member (codes ",\"traitors_low\"") (decimal f.traitors.low) (codes "}\n"))))))))))
 
 -- in parts
-abbrev pub head_front : Span → Span → List ℕ
+abbrev pub head_front : CountRange → CountRange → List ℕ
 head_front bound generals =
     codes ",\"bound_high\":" ++ (decimal bound.high ++ (codes ",\"bound_low\":" ++ (decimal bound.low
     ++ (codes ",\"generals_high\":"
@@ -51,7 +51,7 @@ abbrev pub head_middle : List ℕ → List ℕ → List ℕ
 head_middle manner patience =
     codes ",\"line\":\"family\",\"manner\":" ++ (manner ++ (codes ",\"patience\":" ++ patience))
 
-abbrev pub head_end : Span → List ℕ
+abbrev pub head_end : CountRange → List ℕ
 head_end traitors = codes ",\"traitors_high\":"
     ++ (decimal traitors.high ++ (codes ",\"traitors_low\":" ++ (decimal traitors.low ++ codes "}\n")))
 

@@ -7,7 +7,7 @@ use Rattle.scenario.specs.declared.fault.ScenarioError.{ScenarioError}
 use Rattle.scenario.specs.declared.fault.ScenarioError.TheVariants.{Memory}
 use Rattle.scenario.specs.declared.messages.Campaign.{Campaign}
 use Rattle.scenario.specs.declared.messages.Campaign.TheVariants.{Oral, Signed}
-use Rattle.roster.specs.Scenario.{Scenario, is_traitor}
+use Rattle.round.specs.Scenario.{Scenario, is_traitor}
 use Rattle.signed.specs.Chronicle.{signed_chronicle_of}
 use Rattle.signed.specs.Kind.{played}
 use Rattle.world.specs.Chronicle.{chronicle_of}
@@ -15,9 +15,9 @@ use Rattle.world.specs.Lists.{listed}
 use Rattle.world.specs.Promises.{IsWellUnderBound}
 use Rattle.world.specs.World.{opening, run}
 use Rattle.world.specs.declared.verdict.Verdict.{Verdict}
-use Rattle.survey.specs.declared.finding.Finding.{Finding}
-use Rattle.survey.specs.Family.{Family}
-use Rattle.survey.specs.Wording.{campaign_text}
+use Rattle.survey_draw.specs.declared.finding.Finding.{Finding}
+use Rattle.survey_draw.specs.Family.{Family}
+use Rattle.survey_draw.specs.Wording.{campaign_text}
 
 -- the verdict on a campaign by the empty schedule
 abbrev pub verdict_in : Campaign → Verdict

@@ -2,13 +2,13 @@
 -- is written is what is read (own).
 use Rattle.std.specs.Prelude.{ℕ, ◌≡◌, ◌&&◌, not, List, ◌++◌, count_by, flat_map}
 use Rattle.std.specs.List.{AllZip}
-use Rattle.survey.specs.declared.finding.Finding.{Finding}
-use Rattle.survey.specs.Family.{Family}
-use Rattle.survey.specs.Heads.{IsTold, adversary_word, head_text}
-use Rattle.survey.specs.Judging.{IsFindingOf}
-use Rattle.survey.specs.Lines.{line_text}
-use Rattle.survey.specs.Parts.{IsHeadLine, IsPart, IsUnfed}
-use Rattle.survey.specs.Sums.{is_sound}
+use Rattle.survey_draw.specs.declared.finding.Finding.{Finding}
+use Rattle.survey_draw.specs.Family.{Family}
+use Rattle.survey_draw.specs.Heads.{IsTold, adversary_word, head_text}
+use Rattle.survey_draw.specs.Judging.{IsFindingOf}
+use Rattle.survey_draw.specs.Lines.{line_text}
+use Rattle.survey_draw.specs.Parts.{IsHeadLine, IsPart, IsUnfed}
+use Rattle.survey_draw.specs.Sums.{is_sound}
 
 -- of the campaigns that seeds give none keeps the bound and is not sound
 abbrev pub KeptAreSound : Type 0

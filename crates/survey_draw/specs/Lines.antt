@@ -3,7 +3,7 @@ use Rattle.std.specs.Prelude.{ℕ, ◌≡◌, ◌<◌, ◌^◌, ◌==◌, nat_lt
 use Rattle.std.specs.List.{list_all}
 use Rattle.text.specs.Number.{decimal_of}
 use Rattle.text.specs.Options.{◌>>=◌}
-use Rattle.survey.specs.declared.finding.Finding.{Finding}
+use Rattle.survey_draw.specs.declared.finding.Finding.{Finding}
 
 abbrev pub flag_text : Bool → List ℕ
 flag_text true = codes "true"

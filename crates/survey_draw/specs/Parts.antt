@@ -1,11 +1,11 @@
 -- Parts of a survey: a head, and lines of campaigns of its family (docs/FORMATS.md, "Surveys").
 use Rattle.std.specs.Prelude.{ℕ, ◌≡◌, ◌≢◌, ◌<◌, ◌≤◌, ◌+◌, ◌^◌, ◌==◌, not, true, false, List, [], ◌∷◌, ◌++◌, length, flat_map, Option, None, Some}
 use Rattle.std.specs.List.{AllByRecursion, list_all}
-use Rattle.survey.specs.declared.finding.Finding.{Finding}
-use Rattle.survey.specs.declared.parts.PartError.{PartError}
-use Rattle.survey.specs.declared.parts.PartError.TheVariants.{Line, Family as Foreign, Seed}
-use Rattle.survey.specs.Heads.{is_head}
-use Rattle.survey.specs.Lines.{line_text}
+use Rattle.survey_draw.specs.declared.finding.Finding.{Finding}
+use Rattle.survey_draw.specs.declared.parts.PartError.{PartError}
+use Rattle.survey_draw.specs.declared.parts.PartError.TheVariants.{Line, Family as Foreign, Seed}
+use Rattle.survey_draw.specs.Heads.{is_head}
+use Rattle.survey_draw.specs.Lines.{line_text}
 
 -- no line feed stands here
 abbrev pub IsUnfed : List ℕ → Type 0

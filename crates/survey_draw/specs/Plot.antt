@@ -1,7 +1,7 @@
 -- Campaigns whose traitors do what a grammar says (own).
 use Rattle.std.specs.Prelude.{ℕ, Bool, List, Option}
-use Rattle.survey.specs.declared.lie.Lie.{Lie}
-use Rattle.survey.specs.declared.manner.Manner.{Manner}
+use Rattle.survey_draw.specs.declared.lie.Lie.{Lie}
+use Rattle.survey_draw.specs.declared.manner.Manner.{Manner}
 
 -- a traitor and what he says, in order; whether he counts on the board before
 pub record Traitor : Type 0 where

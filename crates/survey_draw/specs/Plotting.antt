@@ -1,17 +1,17 @@
 -- The campaign of a family that a seed gives (own).
 use Rattle.std.specs.Prelude.{ℕ, zero, suc, ◌+◌, ◌-◌, ◌*◌, ◌/◌, ◌%◌, ◌==◌, nat_lt, min, Bool, true, false, cond, List, [], ◌∷◌, map, flat_map, Option, None, Some, string_bytes}
 use Rattle.std.specs.List.{range_with_len}
-use Rattle.survey.specs.declared.adversary.Adversary.{Adversary}
-use Rattle.survey.specs.declared.adversary.Adversary.TheVariants.{Lies, Silent, Collude, Given}
-use Rattle.survey.specs.declared.lie.Lie.{Lie}
-use Rattle.survey.specs.declared.lie.Lie.TheVariants.{Honest, Sway, Sign, Pass}
-use Rattle.survey.specs.declared.lie.Said.{Said}
-use Rattle.survey.specs.declared.lie.Said.TheVariants.{Number, Parity}
-use Rattle.survey.specs.declared.manner.Manner.{Manner}
-use Rattle.survey.specs.declared.manner.Manner.TheVariants.{Oral, Signed}
-use Rattle.survey.specs.Draws.{draw, within}
-use Rattle.survey.specs.Family.{Family}
-use Rattle.survey.specs.Plot.{Plot, Traitor}
+use Rattle.survey_draw.specs.declared.adversary.Adversary.{Adversary}
+use Rattle.survey_draw.specs.declared.adversary.Adversary.TheVariants.{Lies, Silent, Collude, Given}
+use Rattle.survey_draw.specs.declared.lie.Lie.{Lie}
+use Rattle.survey_draw.specs.declared.lie.Lie.TheVariants.{Honest, Sway, Sign, Pass}
+use Rattle.survey_draw.specs.declared.lie.LieValue.{LieValue}
+use Rattle.survey_draw.specs.declared.lie.LieValue.TheVariants.{Number, Parity}
+use Rattle.survey_draw.specs.declared.manner.Manner.{Manner}
+use Rattle.survey_draw.specs.declared.manner.Manner.TheVariants.{Oral, Signed}
+use Rattle.survey_draw.specs.Draws.{draw, within}
+use Rattle.survey_draw.specs.Family.{Family}
+use Rattle.survey_draw.specs.Plot.{Plot, Traitor}
 
 -- at the places 0 to 3 are the generals, the bound, the traitors and the order; from 4 on who is a traitor; from 32 on
 -- what each general says, 32 places for each
@@ -36,7 +36,7 @@ chosen seed g (suc more) needed =
     (chosen seed (g + 1) more needed)
 
 -- 0 or 1 by what was drawn, or the parity of the count
-abbrev pub said_by : Bool → ℕ → Said
+abbrev pub said_by : Bool → ℕ → LieValue
 said_by true drawn = Parity
 said_by false drawn = Number (drawn / 4 % 2)
 

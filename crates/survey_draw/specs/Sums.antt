@@ -1,11 +1,11 @@
 -- Sums of what campaigns come to (own).
 use Rattle.std.specs.Prelude.{ℕ, ◌≡◌, ◌+◌, min, Bool, false, ◌&&◌, not, cond, List, [], ◌∷◌, ◌++◌, length, count_by, Option, None, Some}
 use Rattle.world.specs.declared.verdict.Verdict.{Verdict}
-use Rattle.survey.specs.declared.finding.Finding.{Finding}
-use Rattle.survey.specs.declared.sums.Outcome.{Outcome}
-use Rattle.survey.specs.declared.sums.Outcome.TheVariants.{Kept, Broken, Disobeyed}
-use Rattle.survey.specs.declared.sums.Sums.{Sums}
-use Rattle.survey.specs.declared.sums.Tally.{Tally}
+use Rattle.survey_draw.specs.declared.finding.Finding.{Finding}
+use Rattle.survey_draw.specs.declared.sums.CampaignOutcome.{CampaignOutcome}
+use Rattle.survey_draw.specs.declared.sums.CampaignOutcome.TheVariants.{Kept, Broken, Disobeyed}
+use Rattle.survey_draw.specs.declared.sums.Sums.{Sums}
+use Rattle.survey_draw.specs.declared.sums.Tally.{Tally}
 
 -- it is said, and it is no
 abbrev pub is_denied : Option Bool → Bool
@@ -16,7 +16,7 @@ is_denied (Some b) = not b
 abbrev pub is_sound : Verdict → Bool
 is_sound v = v.alike && not (is_denied v.obeyed)
 
-abbrev pub has : Outcome → Finding → Bool
+abbrev pub has : CampaignOutcome → Finding → Bool
 has Kept f = f.verdict.bound
 has Broken f = not f.verdict.alike
 has Disobeyed f = is_denied f.verdict.obeyed
@@ -27,15 +27,15 @@ lesser None b = b
 lesser (Some a) None = Some a
 lesser (Some a) (Some b) = Some (min a b)
 
-abbrev pub seed_of : Outcome → Finding → Option ℕ
+abbrev pub seed_of : CampaignOutcome → Finding → Option ℕ
 seed_of outcome f = cond (has outcome f) (Some f.seed) None
 
 -- the least seed with the outcome
-abbrev pub least : Outcome → List Finding → Option ℕ
+abbrev pub least : CampaignOutcome → List Finding → Option ℕ
 least outcome [] = None
 least outcome (f ∷ fs) = lesser (seed_of outcome f) (least outcome fs)
 
-abbrev pub tally_of : Outcome → List Finding → Tally
+abbrev pub tally_of : CampaignOutcome → List Finding → Tally
 tally_of outcome fs = record { count = count_by (has outcome) fs; first = least outcome fs }
 
 abbrev pub sums_of : List Finding → Sums

@@ -1,19 +1,19 @@
 -- The text of a campaign (docs/FORMATS.md, "Scenarios").
 use Rattle.std.specs.Prelude.{ℕ, Bool, true, false, if◌then◌else◌, List, [], ◌++◌, flat_map, decimal, codes, Option, None, Some}
-use Rattle.combine.specs.declared.chosen.Rule.{Rule}
+use Rattle.combine.specs.declared.campaign_rule.Rule.{Rule}
 use Rattle.combine.specs.Names.{is_default}
 use Rattle.combine.specs.Rule.{rule_name}
-use Rattle.survey.specs.declared.lie.Lie.{Lie}
-use Rattle.survey.specs.declared.lie.Lie.TheVariants.{Honest, Sway, Sign, Pass}
-use Rattle.survey.specs.declared.lie.Said.{Said}
-use Rattle.survey.specs.declared.lie.Said.TheVariants.{Number, Parity}
-use Rattle.survey.specs.declared.manner.Manner.{Manner}
-use Rattle.survey.specs.declared.manner.Manner.TheVariants.{Oral, Signed}
-use Rattle.survey.specs.Family.{Family}
-use Rattle.survey.specs.Plot.{Plot, Traitor}
-use Rattle.survey.specs.Plotting.{plot_of}
+use Rattle.survey_draw.specs.declared.lie.Lie.{Lie}
+use Rattle.survey_draw.specs.declared.lie.Lie.TheVariants.{Honest, Sway, Sign, Pass}
+use Rattle.survey_draw.specs.declared.lie.LieValue.{LieValue}
+use Rattle.survey_draw.specs.declared.lie.LieValue.TheVariants.{Number, Parity}
+use Rattle.survey_draw.specs.declared.manner.Manner.{Manner}
+use Rattle.survey_draw.specs.declared.manner.Manner.TheVariants.{Oral, Signed}
+use Rattle.survey_draw.specs.Family.{Family}
+use Rattle.survey_draw.specs.Plot.{Plot, Traitor}
+use Rattle.survey_draw.specs.Plotting.{plot_of}
 
-abbrev pub said_text : Said → List ℕ
+abbrev pub said_text : LieValue → List ℕ
 said_text (Number number) = decimal number
 said_text Parity = codes "r6"
 

@@ -1,8 +1,8 @@
 //! The numbers that a seed gives.
 ghost use Rattle.std.specs.Prelude.{◌≡◌, ◌≤◌, ◌<◌, ◌^◌};
-ghost use Rattle.survey.specs.Draws.{draw, folded, mixed, within};
+ghost use Rattle.survey_draw.specs.Draws.{draw, folded, mixed, within};
 
-use crate::span::Span;
+use crate::span::CountRange;
 
 /// By how much the generator's state grows from one number to the next.
 const STEP: u64 = 0x9e37_79b9_7f4a_7c15;
@@ -34,7 +34,7 @@ pub(crate) fn draw(seed: u64, place: u16) -> u64
 }
 
 /// A number of the span, by one that was drawn.
-pub(crate) fn within(span: Span, drawn: u64) -> u8
+pub(crate) fn within(span: CountRange, drawn: u64) -> u8
     requires { span.low ≤ span.high }
     ensures number { result ≡ within span drawn }
     ensures least { span.low ≤ result }

@@ -3,22 +3,22 @@ ghost use Rattle.std.specs.Prelude.{◌≡◌, SomeIff, IfSome};
 
 use crate::adversary::Adversary;
 use crate::manner::Manner;
-use crate::span::Span;
+use crate::span::CountRange;
 use std::marker::Model;
 
 /// Which campaigns a survey plays.
 #[derive(Drop)]
 pub struct Family {
-    generals: Span,
-    bound: Span,
-    traitors: Span,
+    generals: CountRange,
+    bound: CountRange,
+    traitors: CountRange,
     manner: Manner,
     patience: Option<u32>,
     adversary: Adversary,
 }
 
 impl Model for Family {
-    ghost use Rattle.survey.specs.Family.{Family as Seen, IsFamily};
+    ghost use Rattle.survey_draw.specs.Family.{Family as Seen, IsFamily};
 
     ghost Value = { Seen };
 
@@ -42,15 +42,15 @@ impl Model for Family {
 }
 
 impl Family {
-    ghost use Rattle.survey.specs.Family.{Family as Seen, IsFamily};
+    ghost use Rattle.survey_draw.specs.Family.{Family as Seen, IsFamily};
 
     /// The family of campaigns of so many generals, 2 to 13, who provide for so many traitors (more than 4, or than all
     /// generals but 2, are cut to these) and have so many among them (more than all are cut to all), whose orders are
     /// sent so, where a traitor is waited for this many steps, 1 to 4,096, or until he ends, and does this.
     pub fn new(
-        generals: Span,
-        bound: Span,
-        traitors: Span,
+        generals: CountRange,
+        bound: CountRange,
+        traitors: CountRange,
         manner: Manner,
         patience: Option<u32>,
         adversary: Adversary,
@@ -83,7 +83,7 @@ impl Family {
     }
 
     /// How many generals its campaigns have.
-    pub fn generals(&self) -> Span
+    pub fn generals(&self) -> CountRange
         ensures same { result ≡ self.now.generals }
         ensures whole { IsFamily self.now }
     {
@@ -91,7 +91,7 @@ impl Family {
     }
 
     /// How many traitors they provide for.
-    pub fn bound(&self) -> Span
+    pub fn bound(&self) -> CountRange
         ensures same { result ≡ self.now.bound }
         ensures whole { IsFamily self.now }
     {
@@ -99,7 +99,7 @@ impl Family {
     }
 
     /// How many traitors they have.
-    pub fn traitors(&self) -> Span
+    pub fn traitors(&self) -> CountRange
         ensures same { result ≡ self.now.traitors }
         ensures whole { IsFamily self.now }
     {

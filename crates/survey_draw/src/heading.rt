@@ -1,12 +1,12 @@
 //! The head of lines: the family whose campaigns they tell.
 ghost use Rattle.std.specs.Prelude.{◌≡◌, ◌++◌, IfOk, OnOk, codes, string_bytes};
-ghost use Rattle.survey.specs.Heads.{adversary_word, head_end, head_front, head_middle, head_text, is_head, manner_word, patience_word};
+ghost use Rattle.survey_draw.specs.Heads.{adversary_word, head_end, head_front, head_middle, head_text, is_head, manner_word, patience_word};
 
 use crate::adversary::Adversary;
 use crate::family::Family;
 use crate::manner::Manner;
-use crate::putting::put_numbered;
-use crate::span::Span;
+use crate::number_text::put_numbered;
+use crate::span::CountRange;
 use std::alloc::{AllocError, Global};
 
 /// What the traitors do.
@@ -57,7 +57,7 @@ fn put_word(out: &mut String, name: &str, word: &str) -> Result<(), AllocError>
 }
 
 /// Adds for how many traitors generals provide, and how many generals there are.
-fn put_front(out: &mut String, bound: Span, generals: Span) -> Result<(), AllocError>
+fn put_front(out: &mut String, bound: CountRange, generals: CountRange) -> Result<(), AllocError>
     ensures { OnOk result (string_bytes out.new ≡ string_bytes out.old ++ head_front bound generals) }
 {
     put_numbered(out, ",\"bound_high\":", u64::from(bound.high))?;
@@ -77,7 +77,7 @@ fn put_middle(out: &mut String, manner: &str, patience: &str) -> Result<(), Allo
 }
 
 /// Adds how many traitors there are, and the end of the line.
-fn put_end(out: &mut String, traitors: Span) -> Result<(), AllocError>
+fn put_end(out: &mut String, traitors: CountRange) -> Result<(), AllocError>
     ensures { OnOk result (string_bytes out.new ≡ string_bytes out.old ++ head_end traitors) }
 {
     put_numbered(out, ",\"traitors_high\":", u64::from(traitors.high))?;

@@ -2,14 +2,14 @@
 ghost use Rattle.std.specs.Prelude.{◌≡◌, ◌≢◌, [], IfOk, IfErr};
 ghost use Rattle.scenario.specs.declared.messages.Campaign.TheVariants.{Oral, Signed};
 ghost use Rattle.scenario.specs.declared.fault.ScenarioError.TheVariants.{Memory};
-ghost use Rattle.survey.specs.Judging.{IsFindingOf, IsFound, IsJudged, IsRefused, scenario_in, traitors_in, verdict_in};
-ghost use Rattle.survey.specs.Wording.{campaign_text};
+ghost use Rattle.survey_draw.specs.Judging.{IsFindingOf, IsFound, IsJudged, IsRefused, scenario_in, traitors_in, verdict_in};
+ghost use Rattle.survey_draw.specs.Wording.{campaign_text};
 ghost use Rattle.world.specs.Promises.{IsWellUnderBound};
 
 use crate::family::Family;
 use crate::finding::Finding;
-use crate::wording::campaign_text;
-use roster::Scenario;
+use crate::scenario_text::campaign_text;
+use round::Scenario;
 use scenario::{Campaign, ScenarioError, read_any};
 use signed::play_signed;
 use std::alloc::{AllocError, Global};

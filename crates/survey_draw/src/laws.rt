@@ -1,7 +1,7 @@
 //! Laws of surveys: each function does nothing, and its contract is the law.
-ghost use Rattle.survey.specs.Heads.{HeadsTellFamilies};
-ghost use Rattle.survey.specs.Laws.{KeptAreSound, WrittenAreParts};
-ghost use Rattle.survey.specs.Sums.{SumsOfParts};
+ghost use Rattle.survey_draw.specs.Heads.{HeadsTellFamilies};
+ghost use Rattle.survey_draw.specs.Laws.{KeptAreSound, WrittenAreParts};
+ghost use Rattle.survey_draw.specs.Sums.{SumsOfParts};
 
 /// The sums of two parts of a survey are those of the whole.
 pub fn sums_of_parts()

@@ -1,7 +1,7 @@
 //! Lines of what campaigns come to, read again.
 ghost use Rattle.std.specs.Prelude.{◌≡◌, ◌^◌, ◌∷◌, ◌↔◌, ℕ, Bool, List, Option, IfOk, IfSome, IsTrue, Some};
-ghost use Rattle.survey.specs.Lines.{AreNumbers, AreWords, HasMember, answer_text, flag_text, line_text, number_told};
-ghost use Rattle.survey.specs.declared.finding.Finding.{Finding as Found};
+ghost use Rattle.survey_draw.specs.Lines.{AreNumbers, AreWords, HasMember, answer_text, flag_text, line_text, number_told};
+ghost use Rattle.survey_draw.specs.declared.finding.Finding.{Finding as Found};
 
 use crate::finding::Finding;
 use crate::lines::line;

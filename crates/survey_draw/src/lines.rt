@@ -1,9 +1,9 @@
 //! The line of what a campaign comes to.
 ghost use Rattle.std.specs.Prelude.{◌≡◌, ◌++◌, IfOk, OnOk, string_bytes};
-ghost use Rattle.survey.specs.Lines.{answer_text, back_text, flag_text, front_text, line_text};
+ghost use Rattle.survey_draw.specs.Lines.{answer_text, back_text, flag_text, front_text, line_text};
 
 use crate::finding::Finding;
-use crate::putting::put_numbered;
+use crate::number_text::put_numbered;
 use std::alloc::{AllocError, Global};
 
 /// A flag's word.

@@ -1,13 +1,13 @@
 //! Parts of a survey, read line by line.
 ghost use Rattle.std.specs.Prelude.{◌≡◌, ◌≢◌, ◌↔◌, ◌+◌, ◌<◌, ◌^◌, ◌++◌, ℕ, List, [], length, IfErr, IfNone, IfSome, IsTrue, MatchResult, OnOk, Some, true};
-ghost use Rattle.survey.specs.declared.finding.Finding.{Finding as Found};
-ghost use Rattle.survey.specs.Heads.{is_head};
-ghost use Rattle.survey.specs.Parts.{Adds, AddsAll, IsFaulty, IsFurther, IsHeadLine, IsLine, IsOf, IsReadOn, IsSized, IsUnfed, IsUntaken, IsWrong, StopsAt};
+ghost use Rattle.survey_draw.specs.declared.finding.Finding.{Finding as Found};
+ghost use Rattle.survey_draw.specs.Heads.{is_head};
+ghost use Rattle.survey_draw.specs.Parts.{Adds, AddsAll, IsFaulty, IsFurther, IsHeadLine, IsLine, IsOf, IsReadOn, IsSized, IsUnfed, IsUntaken, IsWrong, StopsAt};
 
 use crate::finding::Finding;
 use crate::heading::is_head;
+use crate::line_reader::read_line;
 use crate::parts::{PartError, Parts};
-use crate::reading::read_line;
 use std::alloc::{AllocError, Global};
 use text::{Stop, find};
 

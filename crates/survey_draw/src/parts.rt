@@ -1,6 +1,6 @@
 //! Parts of a survey that were read.
 ghost use Rattle.std.specs.Prelude.{◌≡◌};
-ghost use Rattle.survey.specs.declared.parts.PartError.TheVariants.{Memory};
+ghost use Rattle.survey_draw.specs.declared.parts.PartError.TheVariants.{Memory};
 
 use crate::finding::Finding;
 use std::alloc::{AllocError, AllocFailed};

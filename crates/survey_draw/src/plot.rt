@@ -15,7 +15,7 @@ pub struct Traitor {
 }
 
 impl Model for Traitor {
-    ghost use Rattle.survey.specs.Plot.{Traitor as Seen};
+    ghost use Rattle.survey_draw.specs.Plot.{Traitor as Seen};
 
     ghost Value = { Seen };
 
@@ -43,7 +43,7 @@ pub struct Plot {
 
 impl Model for Plot {
     ghost use Rattle.std.specs.Prelude.{option_map, string_bytes};
-    ghost use Rattle.survey.specs.Plot.{Plot as Seen};
+    ghost use Rattle.survey_draw.specs.Plot.{Plot as Seen};
 
     ghost Value = { Seen };
 

@@ -1,28 +1,28 @@
 //! The text of a campaign.
 ghost use Rattle.std.specs.Prelude.{◌≡◌, ◌++◌, OnOk, IfOk, codes, decimal, flat_map, option_map, string_bytes};
-ghost use Rattle.survey.specs.Wording.{call_text, campaign_text, counting_text, lie_text, manner_text, numbers_text, patience_text, plot_text, program_text, said_text, rule_text, source_text, traitor_text};
+ghost use Rattle.survey_draw.specs.Wording.{call_text, campaign_text, counting_text, lie_text, manner_text, numbers_text, patience_text, plot_text, program_text, said_text, rule_text, source_text, traitor_text};
 
 use crate::family::Family;
-use crate::lie::{Lie, Said};
+use crate::lie::{Lie, LieValue};
 use crate::manner::Manner;
+use crate::number_text::{put_number, put_numbered};
 use crate::plot::{Plot, Traitor};
-use crate::plotting::plot_of;
-use crate::putting::{put_number, put_numbered};
+use crate::seeded_plots::plot_of;
 use combine::Rule;
 use std::alloc::{AllocError, Global};
 
 /// Adds an order, or the register that has it.
-fn put_said(out: &mut String, said: Said) -> Result<(), AllocError>
+fn put_said(out: &mut String, said: LieValue) -> Result<(), AllocError>
     ensures { OnOk result (string_bytes out.new ≡ string_bytes out.old ++ said_text said) }
 {
     match said {
-        Said::Number(number) => put_number(out, u64::from(number)),
-        Said::Parity => out.push_str("r6"),
+        LieValue::Number(number) => put_number(out, u64::from(number)),
+        LieValue::Parity => out.push_str("r6"),
     }
 }
 
 /// Adds a call whose first argument is a number.
-fn put_sway(out: &mut String, receiver: u8, said: Said) -> Result<(), AllocError>
+fn put_sway(out: &mut String, receiver: u8, said: LieValue) -> Result<(), AllocError>
     ensures { OnOk result (string_bytes out.new ≡ string_bytes out.old
         ++ call_text (decimal receiver) (said_text said) (codes "sway")) }
 {
@@ -36,7 +36,12 @@ fn put_sway(out: &mut String, receiver: u8, said: Said) -> Result<(), AllocError
 }
 
 /// Adds a call whose second argument is a number of receivers.
-fn put_chain(out: &mut String, said: Said, receivers: u16, helper: &str) -> Result<(), AllocError>
+fn put_chain(
+    out: &mut String,
+    said: LieValue,
+    receivers: u16,
+    helper: &str,
+) -> Result<(), AllocError>
     ensures { OnOk result (string_bytes out.new ≡ string_bytes out.old
         ++ call_text (said_text said) (decimal receivers) helper.now) }
 {

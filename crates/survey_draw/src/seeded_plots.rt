@@ -1,13 +1,13 @@
 //! The campaign of a family that a seed gives.
 ghost use Rattle.std.specs.Prelude.{◌≡◌, ◌+◌, ◌-◌, ◌%◌, ◌<◌, ◌≤◌, ◌++◌, OnOk, IfOk, flat_map, map, nat_lt, option_map, string_bytes};
 ghost use Rattle.std.specs.List.{range_with_len};
-ghost use Rattle.survey.specs.Draws.{draw};
-ghost use Rattle.survey.specs.Plotting.{bound_of, chosen, count_of, do_count, drawn_for, generals_of, given_in, lies_by, lies_in, oral_lies, plot_of, said_by, signed_lies, traitor_of};
+ghost use Rattle.survey_draw.specs.Draws.{draw};
+ghost use Rattle.survey_draw.specs.Plotting.{bound_of, chosen, count_of, do_count, drawn_for, generals_of, given_in, lies_by, lies_in, oral_lies, plot_of, said_by, signed_lies, traitor_of};
 
 use crate::adversary::Adversary;
 use crate::draw::{draw, within};
 use crate::family::Family;
-use crate::lie::{Lie, Said};
+use crate::lie::{Lie, LieValue};
 use crate::manner::Manner;
 use crate::plot::{Plot, Traitor};
 use std::alloc::{AllocError, Global};
@@ -44,13 +44,13 @@ fn count_of(family: &Family, seed: u64) -> u8
 }
 
 /// The order or place that was drawn.
-fn said_by(counts: bool, drawn: u64) -> Said
+fn said_by(counts: bool, drawn: u64) -> LieValue
     ensures { result ≡ said_by counts drawn }
 {
     if counts {
-        Said::Parity
+        LieValue::Parity
     } else {
-        Said::Number((drawn / 4 % 2) as u8)
+        LieValue::Number((drawn / 4 % 2) as u8)
     }
 }
 

@@ -2,7 +2,7 @@
 
 /// The numbers from `low` to `high`, both of them within.
 #[derive(Clone, Copy)]
-pub struct Span {
+pub struct CountRange {
     pub low: u8,
     pub high: u8,
 }

@@ -1,20 +1,20 @@
 //! Sums of what campaigns come to, counted.
 ghost use Rattle.std.specs.Prelude.{◌≡◌, count_by};
-ghost use Rattle.survey.specs.Sums.{has, is_denied, is_sound, least, lesser, sums_of, tally_of};
+ghost use Rattle.survey_draw.specs.Sums.{has, is_denied, is_sound, least, lesser, sums_of, tally_of};
 
 use crate::finding::Finding;
-use crate::sums::{Outcome, Sums, Tally};
+use crate::sums::{CampaignOutcome, Sums, Tally};
 use world::Verdict;
 
 /// Whether the campaign has the outcome.
-pub fn has(outcome: Outcome, finding: &Finding) -> bool
+pub fn has(outcome: CampaignOutcome, finding: &Finding) -> bool
     ensures { result ≡ has outcome finding.now }
 {
     let verdict = finding.verdict;
     match outcome {
-        Outcome::Kept => verdict.bound,
-        Outcome::Broken => !verdict.alike,
-        Outcome::Disobeyed => is_denied(verdict.obeyed),
+        CampaignOutcome::Kept => verdict.bound,
+        CampaignOutcome::Broken => !verdict.alike,
+        CampaignOutcome::Disobeyed => is_denied(verdict.obeyed),
     }
 }
 
@@ -36,7 +36,7 @@ pub fn is_sound(verdict: Verdict) -> bool
 }
 
 /// How many of the campaigns have the outcome.
-fn count(outcome: Outcome, findings: &[Finding]) -> u64
+fn count(outcome: CampaignOutcome, findings: &[Finding]) -> u64
     ensures { result ≡ count_by (has outcome) findings.now }
 {
     let mut count = 0;
@@ -59,7 +59,7 @@ fn lesser(least: Option<u64>, seed: u64) -> u64
 }
 
 /// The least seed that gives a campaign with the outcome.
-fn least(outcome: Outcome, findings: &[Finding]) -> Option<u64>
+fn least(outcome: CampaignOutcome, findings: &[Finding]) -> Option<u64>
     ensures { result ≡ least outcome findings.now }
 {
     let mut least = None;
@@ -72,7 +72,7 @@ fn least(outcome: Outcome, findings: &[Finding]) -> Option<u64>
 }
 
 /// How many of the campaigns have the outcome, and the least seed that gives one.
-pub fn tally_of(outcome: Outcome, findings: &[Finding]) -> Tally
+pub fn tally_of(outcome: CampaignOutcome, findings: &[Finding]) -> Tally
     ensures { result ≡ tally_of outcome findings.now }
 {
     Tally {
@@ -87,8 +87,8 @@ pub fn sums_of(findings: &[Finding]) -> Sums
 {
     Sums {
         campaigns: findings.len() as u64,
-        kept: tally_of(Outcome::Kept, findings),
-        broken: tally_of(Outcome::Broken, findings),
-        disobeyed: tally_of(Outcome::Disobeyed, findings),
+        kept: tally_of(CampaignOutcome::Kept, findings),
+        broken: tally_of(CampaignOutcome::Broken, findings),
+        disobeyed: tally_of(CampaignOutcome::Disobeyed, findings),
     }
 }

@@ -2,7 +2,7 @@
 
 /// What is counted of campaigns.
 #[derive(Clone, Copy, PartialEq, Eq)]
-pub enum Outcome {
+pub enum CampaignOutcome {
     /// The bound holds.
     Kept,
     /// Loyal lieutenants decide unlike.

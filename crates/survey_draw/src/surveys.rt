@@ -3,11 +3,11 @@ ghost use Rattle.std.specs.Prelude.{◌≢◌, IfErr, IfOk};
 ghost use Rattle.std.specs.List.{AllZip};
 ghost use Rattle.rayon.specs.Numbers.{nat_range};
 ghost use Rattle.scenario.specs.declared.fault.ScenarioError.TheVariants.{Memory};
-ghost use Rattle.survey.specs.Judging.{IsFindingOf, IsRefusedBy, IsRefusedIn};
+ghost use Rattle.survey_draw.specs.Judging.{IsFindingOf, IsRefusedBy, IsRefusedIn};
 
 use crate::family::Family;
 use crate::finding::Finding;
-use crate::judging::judged;
+use crate::judgement::judged;
 use rayon::prelude::*;
 use scenario::ScenarioError;
 use std::alloc::{AllocError, Global};

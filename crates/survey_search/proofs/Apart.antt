@@ -2,8 +2,8 @@
 use Rattle.std.proofs.Common.{ℕ, ◌+◌, ◌-◌, ◌≤◌, ◌≡◌, Bool, true, false, cond, List, [], ◌∷◌, ◌++◌, refl, arith}
 use Rattle.std.specs.Prelude.{nat_le, nat_lt, min, max}
 use Rattle.std.proofs.lemmas.Bool.{leb-true, leb-false, ltb-true}
-use Rattle.survey_tables.specs.declared.stretch.Stretch.{Stretch}
-use Rattle.survey_tables.specs.Covering.{AreApart, AreApartFrom, gaps, stretch, stretches, stretches_from}
+use Rattle.survey_search.specs.declared.stretch.Stretch.{Stretch}
+use Rattle.survey_search.specs.Covering.{AreApart, AreApartFrom, gaps, stretch, stretches, stretches_from}
 
 apart_later : (a b : ℕ) (ss : List Stretch) → a ≤ b → AreApartFrom b ss → AreApartFrom a ss
 apart_later a b [] le h = tt

@@ -4,10 +4,10 @@ use Rattle.std.specs.Prelude.{◌==◌, nat_le, nat_lt, min, max, ◌&&◌, ◌|
 use Rattle.std.proofs.lemmas.List.Folds.{list_any-append}
 use Rattle.std.proofs.lemmas.List.Sums.{sum_by-append}
 use Rattle.std.proofs.lemmas.List.Sorted.{sum_by-IsPermutation}
-use Rattle.survey_tables.specs.declared.stretch.Stretch.{Stretch}
-use Rattle.survey_tables.specs.Covering.{AreAscending, AreDoubles, AreHoles, gaps, is_in, is_within, repeated, stretch, stretches, stretches_from, times}
-use Rattle.survey_tables.proofs.Comparing.{another, empty_has, equal_is, first_stretch, gap_step, last_gap, less_is, longer, or_false, twice_one, twice_other, twice_same, zero_plus}
-use Rattle.survey_tables.proofs.Rising.{AreFrom, Rise, are_from_less, none_below, repeated_rise, rise}
+use Rattle.survey_search.specs.declared.stretch.Stretch.{Stretch}
+use Rattle.survey_search.specs.Covering.{AreAscending, AreDoubles, AreHoles, gaps, is_in, is_within, repeated, stretch, stretches, stretches_from, times}
+use Rattle.survey_search.proofs.Comparing.{another, empty_has, equal_is, first_stretch, gap_step, last_gap, less_is, longer, or_false, twice_one, twice_other, twice_same, zero_plus}
+use Rattle.survey_search.proofs.Rising.{AreFrom, Rise, are_from_less, none_below, repeated_rise, rise}
 
 -- a stretch from a to b, if it has seeds
 stretch_has : (x a b : ℕ) → is_in x (stretch a b) ≡ (nat_le a x && nat_le x b)

@@ -7,10 +7,10 @@ use Rattle.std.proofs.lemmas.List.{length-map}
 use Rattle.std.proofs.lemmas.List.Elements.{All-head, All-tail}
 use Rattle.scenario.specs.declared.fault.ScenarioError.{ScenarioError}
 use Rattle.scenario.specs.declared.fault.ScenarioError.TheVariants.{Memory}
-use Rattle.survey.specs.Plot.{Plot}
-use Rattle.shrink.specs.declared.breach.Breach.{Breach}
-use Rattle.shrink.specs.Shrinking.{ComesWell}
-use Rattle.shrink.specs.Breaches.{AreAllSound, IsAnswerTo, IsFirstError, IsLeastBreach, IsRefusedIn, IsShrunk}
+use Rattle.survey_draw.specs.Plot.{Plot}
+use Rattle.survey_search.specs.declared.breach.Breach.{Breach}
+use Rattle.survey_search.specs.Shrinking.{ComesWell}
+use Rattle.survey_search.specs.Breaches.{AreAllSound, IsAnswerTo, IsFirstError, IsLeastBreach, IsRefusedIn, IsShrunk}
 
 -- where all are good, so it is with all
 all_good : (plots : ℕ → Plot) (seeds : List ℕ) (found : List (Option Breach)) → AllZip (IsAnswerTo plots) seeds (map Ok found) → AllZip (IsShrunk plots) seeds found

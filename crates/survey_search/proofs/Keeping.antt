@@ -1,11 +1,11 @@
 -- Families of which seeds give the same.
 use Rattle.std.proofs.Common.{ℕ, ◌≡◌, map}
 use Rattle.std.specs.Prelude.{◌%◌}
-use Rattle.survey.specs.declared.adversary.Adversary.{Adversary}
-use Rattle.survey.specs.Draws.{draw}
-use Rattle.survey.specs.Family.{Family}
-use Rattle.survey.specs.Plotting.{bound_of, chosen, count_of, generals_of, plot_of}
-use Rattle.shrink.specs.Breaches.{IsSameAs, narrowed, only}
+use Rattle.survey_draw.specs.declared.adversary.Adversary.{Adversary}
+use Rattle.survey_draw.specs.Draws.{draw}
+use Rattle.survey_draw.specs.Family.{Family}
+use Rattle.survey_draw.specs.Plotting.{bound_of, chosen, count_of, generals_of, plot_of}
+use Rattle.survey_search.specs.Breaches.{IsSameAs, narrowed, only}
 
 pub same_plots : (f : Family) (n m t : ℕ) (a : Adversary) → IsSameAs f.adversary a → plot_of (record { generals = only n; bound = only m; traitors = only t; manner = f.manner; patience = f.patience; adversary = a }) ≡ plot_of (narrowed f n m t)
 unfolding plot_of

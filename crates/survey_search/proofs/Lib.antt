@@ -1,3 +1,8 @@
+pub mod Parts
+pub mod Ranks
+pub mod Found
+pub mod Keeping
+pub mod Walks
 pub mod Comparing
 pub mod Rising
 pub mod Exactness

@@ -5,10 +5,10 @@ use Rattle.std.specs.Prelude.{sum_by, IfNone, IfSome, Option, None, Some}
 use Rattle.std.proofs.lemmas.List.Edits.{length-remove}
 use Rattle.std.proofs.lemmas.List.Sums.{sum_by-append, sum_by-drop_more, sum_by-set, sum_by-take-drop}
 use Rattle.scenario.specs.declared.fault.ScenarioError.{ScenarioError}
-use Rattle.survey.specs.Judging.{IsRefused}
-use Rattle.survey.specs.Plot.{Plot, Traitor}
-use Rattle.survey.specs.Wording.{plot_text}
-use Rattle.shrink.specs.Shrinking.{Comes, ComesWell, IsBroken, IsLess, IsPartOf, IsRefusedOf, IsStillBroken, without_lie, without_traitor, loyal, silent, whole, lessened, nobody, quieter, size, traitor_at}
+use Rattle.survey_draw.specs.Judging.{IsRefused}
+use Rattle.survey_draw.specs.Plot.{Plot, Traitor}
+use Rattle.survey_draw.specs.Wording.{plot_text}
+use Rattle.survey_search.specs.Shrinking.{Comes, ComesWell, IsBroken, IsLess, IsPartOf, IsRefusedOf, IsStillBroken, without_lie, without_traitor, loyal, silent, whole, lessened, nobody, quieter, size, traitor_at}
 
 -- a traitor with his statements
 abbrev weight : Traitor → ℕ

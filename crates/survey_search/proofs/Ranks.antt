@@ -3,8 +3,8 @@ use Rattle.std.proofs.Common.{ℕ, ◌≡◌, Bool, true, false, List, [], ◌�
 use Rattle.std.specs.Prelude.{cond, IfSome}
 use Rattle.std.proofs.lemmas.Bool.Decides.{nat_tests}
 use Rattle.std.proofs.lemmas.List.Elements.{All-append, All-cons, All-nil, All-weaker, Contains-append_left, Contains-append_right, Contains-push}
-use Rattle.shrink.specs.declared.breach.Breach.{Breach}
-use Rattle.shrink.specs.Breaches.{IsLeastOf, better, is_before, is_below, statements}
+use Rattle.survey_search.specs.declared.breach.Breach.{Breach}
+use Rattle.survey_search.specs.Breaches.{IsLeastOf, better, is_before, is_below, statements}
 
 -- by three numbers: none is below itself; what is not below a number is not below a lesser one, and neither is a greater one below it
 never_itself : (a b c : ℕ) → is_below a b c a b c ≡ false

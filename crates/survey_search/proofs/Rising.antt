@@ -2,8 +2,8 @@
 use Rattle.std.proofs.Common.{ℕ, zero, suc, ◌+◌, ◌<◌, ◌≤◌, ◌≡◌, Bool, true, false, cond, List, [], ◌∷◌, ◌++◌, length, drop, get_or, refl, arith}
 use Rattle.std.specs.Prelude.{⊤, ◌==◌}
 use Rattle.std.specs.List.Sorted.{IsNonDecreasing}
-use Rattle.survey_tables.proofs.Comparing.{apart}
-use Rattle.survey_tables.specs.Covering.{repeated, times}
+use Rattle.survey_search.proofs.Comparing.{apart}
+use Rattle.survey_search.specs.Covering.{repeated, times}
 
 -- each is at least so great
 abbrev pub AreFrom : ℕ → List ℕ → Type 0

@@ -3,8 +3,8 @@ use Rattle.std.proofs.Common.{ℕ, ◌+◌, ◌-◌, ◌<◌, ◌≡◌, ◌∙�
 use Rattle.std.specs.Prelude.{IfNone, IfSome, Option, None, Some, false, is_some}
 use Rattle.std.proofs.lemmas.List.{get_or-set_same, length-set}
 use Rattle.std.proofs.lemmas.List.Edits.{length-remove}
-use Rattle.survey.specs.Plot.{Plot, Traitor}
-use Rattle.shrink.specs.Shrinking.{ComesWell, IsBroken, IsWalked, IsWithoutFirst, IsWithoutFirstLie, IsWithoutFirstTraitor, LieWalk, LieWalks, ShrinksTo, TraitorWalk, TraitorsAreNeeded, further, lie_out, lie_stays, lies_end, nobody, one_then, quieter, traitor_at, traitor_out, traitor_stays, without_lie, without_traitor}
+use Rattle.survey_draw.specs.Plot.{Plot, Traitor}
+use Rattle.survey_search.specs.Shrinking.{ComesWell, IsBroken, IsWalked, IsWithoutFirst, IsWithoutFirstLie, IsWithoutFirstTraitor, LieWalk, LieWalks, ShrinksTo, TraitorWalk, TraitorsAreNeeded, further, lie_out, lie_stays, lies_end, nobody, one_then, quieter, traitor_at, traitor_out, traitor_stays, without_lie, without_traitor}
 
 -- what is left of a walk that has come so far
 abbrev pub TraitorsSoFar : Plot → ℕ → Plot → Type 0

@@ -4,15 +4,15 @@ use Rattle.std.specs.List.{All, AllZip, Contains}
 use Rattle.rayon.specs.Numbers.{nat_range}
 use Rattle.scenario.specs.declared.fault.ScenarioError.{ScenarioError}
 use Rattle.scenario.specs.declared.fault.ScenarioError.TheVariants.{Memory}
-use Rattle.survey.specs.declared.span.Span.{Span}
-use Rattle.survey.specs.Family.{Family}
-use Rattle.survey.specs.Plot.{Plot, Traitor}
-use Rattle.survey.specs.Plotting.{do_count, given_in, lies_by, plot_of}
-use Rattle.survey.specs.declared.adversary.Adversary.{Adversary}
-use Rattle.survey.specs.declared.manner.Manner.{Manner}
-use Rattle.shrink.specs.declared.breach.Breach.{Breach}
-use Rattle.shrink.specs.declared.breach.Breaking.{Breaking}
-use Rattle.shrink.specs.Shrinking.{ComesWell, IsLeast, IsPartOf, IsRefusedOf, ShrinksTo}
+use Rattle.survey_draw.specs.declared.span.CountRange.{CountRange}
+use Rattle.survey_draw.specs.Family.{Family}
+use Rattle.survey_draw.specs.Plot.{Plot, Traitor}
+use Rattle.survey_draw.specs.Plotting.{do_count, given_in, lies_by, plot_of}
+use Rattle.survey_draw.specs.declared.adversary.Adversary.{Adversary}
+use Rattle.survey_draw.specs.declared.manner.Manner.{Manner}
+use Rattle.survey_search.specs.declared.breach.Breach.{Breach}
+use Rattle.survey_search.specs.declared.breach.Breaking.{Breaking}
+use Rattle.survey_search.specs.Shrinking.{ComesWell, IsLeast, IsPartOf, IsRefusedOf, ShrinksTo}
 
 -- how many statements the traitors have
 abbrev pub statements : Plot → ℕ
@@ -55,7 +55,7 @@ pub record IsLeastBreach (plots : ℕ → Plot) (first end : ℕ) (found : Optio
   pub least : IsLeastOf all found
 
 -- the family's campaigns of so many generals who provide for so many traitors and have so many
-abbrev pub only : ℕ → Span
+abbrev pub only : ℕ → CountRange
 only n = record { low = n; high = n }
 
 abbrev pub narrowed : Family → ℕ → ℕ → ℕ → Family
@@ -72,14 +72,14 @@ abbrev pub AreAllSound : (ℕ → Plot) → ℕ → ℕ → Type 0
 AreAllSound plots first end = (seed : ℕ) → first ≤ seed → seed < end → ComesWell (plots seed)
 
 -- fewer traitors of the span break it in none, these in the one of which this is left
-pub record IsBreaking (f : Family) (n m : ℕ) (span : Span) (first end : ℕ) (b : Breaking) : Type 0 where
+pub record IsBreaking (f : Family) (n m : ℕ) (span : CountRange) (first end : ℕ) (b : Breaking) : Type 0 where
   pub within : span.low ≤ b.traitors
   pub inside : b.traitors ≤ span.high
   pub least : IsLeastBreach (plot_of (narrowed f n m b.traitors)) first end (Some b.breach)
   pub fewer : (t : ℕ) → span.low ≤ t → t < b.traitors → AreAllSound (plot_of (narrowed f n m t)) first end
 
 -- no number of traitors of the span breaks it
-abbrev pub NoneBreaks : Family → ℕ → ℕ → Span → ℕ → ℕ → Type 0
+abbrev pub NoneBreaks : Family → ℕ → ℕ → CountRange → ℕ → ℕ → Type 0
 NoneBreaks f n m span first end =
     (t : ℕ) → span.low ≤ t → t ≤ span.high → AreAllSound (plot_of (narrowed f n m t)) first end
 
@@ -105,7 +105,7 @@ pub record IsRefusedIn (plots : ℕ → Plot) (first end : ℕ) (e : ScenarioErr
   pub earlier : (other : ℕ) → first ≤ other → other < seed → (o : Option Breach) × IsShrunk plots other o
 
 -- so it is with so many traitors of the span, of whom fewer break agreement in none of the campaigns
-pub record IsRefusedWith (f : Family) (n m : ℕ) (span : Span) (first end : ℕ) (e : ScenarioError) : Type 0 where
+pub record IsRefusedWith (f : Family) (n m : ℕ) (span : CountRange) (first end : ℕ) (e : ScenarioError) : Type 0 where
   pub traitors : ℕ
   pub within : span.low ≤ traitors
   pub inside : traitors ≤ span.high

@@ -1,10 +1,10 @@
 -- What breaks agreement, as rows of a table or as scenarios (docs/FORMATS.md, "Surveys").
 use Rattle.std.specs.Prelude.{ℕ, Bool, true, false, List, [], ◌∷◌, ◌++◌, length, decimal, codes, Option, None, Some}
-use Rattle.survey.specs.Wording.{plot_text}
-use Rattle.shrink.specs.declared.breach.Breach.{Breach}
-use Rattle.shrink.specs.declared.breach.Breaking.{Breaking}
-use Rattle.shrink.specs.Breaches.{statements}
-use Rattle.survey_tables.specs.Tables.{number_text, padded}
+use Rattle.survey_draw.specs.Wording.{plot_text}
+use Rattle.survey_search.specs.declared.breach.Breach.{Breach}
+use Rattle.survey_search.specs.declared.breach.Breaking.{Breaking}
+use Rattle.survey_search.specs.Breaches.{statements}
+use Rattle.survey_search.specs.Tables.{number_text, padded}
 
 -- the traitors, the statements and the seed of what is left, if something is
 abbrev pub traitors_left : Option Breaking → Option ℕ

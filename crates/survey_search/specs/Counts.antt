@@ -1,7 +1,7 @@
 -- The sums of a survey as lines (docs/FORMATS.md, "Surveys").
 use Rattle.std.specs.Prelude.{ℕ, List, ◌++◌, decimal, codes, Option, None, Some}
-use Rattle.survey.specs.declared.sums.Sums.{Sums}
-use Rattle.survey.specs.declared.sums.Tally.{Tally}
+use Rattle.survey_draw.specs.declared.sums.Sums.{Sums}
+use Rattle.survey_draw.specs.declared.sums.Tally.{Tally}
 
 abbrev pub first_text : Option ℕ → List ℕ
 first_text None = codes "\n"

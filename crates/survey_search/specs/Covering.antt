@@ -2,8 +2,8 @@
 use Rattle.std.specs.Prelude.{ℕ, ⊤, ◌≡◌, ◌≤◌, ◌-◌, ◌+◌, ◌==◌, nat_lt, nat_le, min, max, Bool, ◌&&◌, cond, List, [], ◌∷◌, ◌++◌, map, count_by}
 use Rattle.std.specs.List.{list_any}
 use Rattle.std.specs.List.Sorted.{IsNonDecreasing, IsPermutation}
-use Rattle.survey.specs.declared.finding.Finding.{Finding}
-use Rattle.survey_tables.specs.declared.stretch.Stretch.{Stretch}
+use Rattle.survey_draw.specs.declared.finding.Finding.{Finding}
+use Rattle.survey_search.specs.declared.stretch.Stretch.{Stretch}
 
 abbrev pub seeds_in : List Finding → List ℕ
 seeds_in fs = map (λ (f : Finding). f.seed) fs

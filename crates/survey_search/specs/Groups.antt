@@ -1,9 +1,9 @@
 -- The campaigns of a survey, by their numbers (own).
 use Rattle.std.specs.Prelude.{ℕ, ◌≡◌, ◌==◌, cond, List, [], ◌∷◌, length, filter, flat_map, count_by, not}
 use Rattle.std.specs.List.{range_with_len}
-use Rattle.survey.specs.declared.finding.Finding.{Finding}
-use Rattle.survey.specs.Sums.{is_sound, sums_of}
-use Rattle.survey_tables.specs.declared.group.Group.{Group}
+use Rattle.survey_draw.specs.declared.finding.Finding.{Finding}
+use Rattle.survey_draw.specs.Sums.{is_sound, sums_of}
+use Rattle.survey_search.specs.declared.group.Group.{Group}
 
 abbrev pub of_generals : ℕ → List Finding → List Finding
 of_generals n fs = filter (λ (f : Finding). f.generals == n) fs

@@ -1,3 +1,5 @@
+pub mod Shrinking
+pub mod Breaches
 pub mod Counts
 pub mod Covering
 pub mod Groups

@@ -1,7 +1,7 @@
 -- The sums of a survey as a picture in SVG (own).
 use Rattle.std.specs.Prelude.{ℕ, ◌+◌, ◌-◌, ◌*◌, ◌/◌, ◌==◌, nat_lt, not, Bool, true, false, ◌&&◌, ◌||◌, cond, List, [], ◌∷◌, ◌++◌, flat_map, decimal, codes, Option, None, Some}
 use Rattle.std.specs.List.{range_with_len}
-use Rattle.survey_tables.specs.declared.group.Group.{Group}
+use Rattle.survey_search.specs.declared.group.Group.{Group}
 
 unfoldable pub start : List ℕ
 start = codes "<svg xmlns=\"http://www.w3.org/2000/svg\" role=\"img\" width=\"840\""

@@ -3,10 +3,10 @@ use Rattle.std.specs.Prelude.{ℕ, ◌≡◌, ◌≤◌, ◌<◌, ◌+◌, ◌�
 use Rattle.std.specs.List.{remove}
 use Rattle.world.specs.declared.verdict.Verdict.{Verdict}
 use Rattle.scenario.specs.declared.fault.ScenarioError.{ScenarioError}
-use Rattle.survey.specs.Judging.{IsJudged, IsRefused}
-use Rattle.survey.specs.Plot.{Plot, Traitor}
-use Rattle.survey.specs.Sums.{is_sound}
-use Rattle.survey.specs.Wording.{plot_text}
+use Rattle.survey_draw.specs.Judging.{IsJudged, IsRefused}
+use Rattle.survey_draw.specs.Plot.{Plot, Traitor}
+use Rattle.survey_draw.specs.Sums.{is_sound}
+use Rattle.survey_draw.specs.Wording.{plot_text}
 
 -- whether its loyal lieutenants decide alike, and as a loyal commander has ordered, by `play`
 abbrev pub Comes : Bool → Plot → Type 0

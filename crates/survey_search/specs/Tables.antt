@@ -1,7 +1,7 @@
 -- The sums of a survey as a table (own).
 use Rattle.std.specs.Prelude.{ℕ, ◌-◌, List, [], ◌∷◌, ◌++◌, length, flat_map, decimal, codes, replicate, Option, None, Some}
-use Rattle.survey_tables.specs.declared.cell.Cell.{Cell}
-use Rattle.survey_tables.specs.declared.group.Group.{Group}
+use Rattle.survey_search.specs.declared.cell.NumberCell.{NumberCell}
+use Rattle.survey_search.specs.declared.group.Group.{Group}
 
 abbrev pub number_text : Option ℕ → List ℕ
 number_text None = codes "-"
@@ -11,16 +11,16 @@ number_text (Some number) = decimal number
 abbrev pub padded : ℕ → List ℕ → List ℕ
 padded width text = replicate (width - length text) 32 ++ text
 
-abbrev pub cell_text : Cell → List ℕ
+abbrev pub cell_text : NumberCell → List ℕ
 cell_text c = codes " " ++ padded c.width (number_text c.number)
 
-abbrev pub row_text : List Cell → List ℕ
+abbrev pub row_text : List NumberCell → List ℕ
 row_text cells = flat_map cell_text cells ++ codes "\n"
 
-abbrev pub cell : ℕ → Option ℕ → Cell
+abbrev pub cell : ℕ → Option ℕ → NumberCell
 cell width number = record { width = width; number = number }
 
-abbrev pub cells_of : Group → List Cell
+abbrev pub cells_of : Group → List NumberCell
 cells_of g =
     cell 8 (Some g.generals) ∷ cell 5 (Some g.bound) ∷ cell 8 (Some g.traitors) ∷ cell 9 (Some g.sums.campaigns)
     ∷ cell 8 (Some g.sums.kept.count) ∷ cell 7 g.sums.kept.first

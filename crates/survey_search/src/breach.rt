@@ -1,5 +1,5 @@
 //! Campaigns in which agreement is broken.
-use survey::Plot;
+use survey_draw::Plot;
 
 /// What is left of a seed's campaign of which nothing more can be taken out while agreement stays broken.
 #[derive(Drop)]

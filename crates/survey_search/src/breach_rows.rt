@@ -1,12 +1,13 @@
 //! What breaks agreement, as rows of a table or as scenarios.
 ghost use Rattle.std.specs.Prelude.{◌≡◌, ◌++◌, IfOk, OnOk, codes, option_map, string_bytes};
-ghost use Rattle.survey_tables.specs.Breakings.{breaking_head, breaking_row, breaking_text, left_text, numbers_text, seed_left, statements_left, traitors_left};
-ghost use Rattle.survey_tables.specs.Tables.{number_text, padded};
+ghost use Rattle.survey_search.specs.Breakings.{breaking_head, breaking_row, breaking_text, left_text, numbers_text, seed_left, statements_left, traitors_left};
+ghost use Rattle.survey_search.specs.Tables.{number_text, padded};
 
+use crate::breach::Breaking;
+use crate::campaign_order::statements;
 use crate::cells::put_padded;
-use shrink::{Breaking, statements};
 use std::alloc::{AllocError, Global};
-use survey::plot_text;
+use survey_draw::plot_text;
 
 /// The word for a number, if there is one.
 fn number_text(alloc: Global, number: Option<u128>) -> Result<String, AllocError>

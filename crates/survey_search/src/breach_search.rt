@@ -3,18 +3,18 @@ ghost use Rattle.std.specs.Prelude.{◌≡◌, ◌≢◌, ◌≤◌, IfErr, IfOk
 ghost use Rattle.std.specs.List.{AllZip};
 ghost use Rattle.rayon.specs.Numbers.{nat_range};
 ghost use Rattle.scenario.specs.declared.fault.ScenarioError.TheVariants.{Memory};
-ghost use Rattle.shrink.specs.Breaches.{IsAnswerTo, IsBreaking, IsFirstError, IsLeastBreach, IsLeastOf, IsRefusedBy, IsRefusedIn, IsRefusedWith, IsShrunk, NoneBreaks, better};
-ghost use Rattle.survey.specs.Plotting.{plot_of};
+ghost use Rattle.survey_search.specs.Breaches.{IsAnswerTo, IsBreaking, IsFirstError, IsLeastBreach, IsLeastOf, IsRefusedBy, IsRefusedIn, IsRefusedWith, IsShrunk, NoneBreaks, better};
+ghost use Rattle.survey_draw.specs.Plotting.{plot_of};
 
 use crate::breach::{Breach, Breaking};
-use crate::narrowing::narrowed;
-use crate::ranking::is_before;
-use crate::shrinking::shrunk;
+use crate::campaign_order::is_before;
+use crate::minimal_campaign::shrunk;
+use crate::narrower_family::narrowed;
 use rayon::prelude::*;
 use scenario::ScenarioError;
 use std::alloc::{AllocError, Global};
 use std::thread::Threads;
-use survey::{Family, Span, plot_of};
+use survey_draw::{CountRange, Family, plot_of};
 
 /// What is left of the seed's campaign, if agreement is broken in it.
 ///
@@ -135,7 +135,7 @@ pub fn breaking<R: Threads + Sync>(
     family: &Family,
     generals: u8,
     bound: u8,
-    traitors: Span,
+    traitors: CountRange,
     first: u64,
     end: u64,
 ) -> Result<Option<Breaking>, ScenarioError>

@@ -1,10 +1,10 @@
 //! The campaigns of a survey, by their numbers.
 ghost use Rattle.std.specs.Prelude.{◌≡◌, ◌++◌, IfOk, OnOk};
-ghost use Rattle.survey_tables.specs.Groups.{failed_in, group_of, groups_by_bound, groups_in, groups_of, of_bound, of_generals, of_traitors};
+ghost use Rattle.survey_search.specs.Groups.{failed_in, group_of, groups_by_bound, groups_in, groups_of, of_bound, of_generals, of_traitors};
 
 use crate::group::Group;
 use std::alloc::{AllocError, Global};
-use survey::{Finding, is_sound, sums_of};
+use survey_draw::{Finding, is_sound, sums_of};
 
 /// The campaigns of so many generals.
 fn of_generals(

@@ -1,9 +1,9 @@
 //! Which of two broken campaigns is less.
 ghost use Rattle.std.specs.Prelude.{◌≡◌};
-ghost use Rattle.shrink.specs.Breaches.{is_before, statements};
+ghost use Rattle.survey_search.specs.Breaches.{is_before, statements};
 
 use crate::breach::Breach;
-use survey::Plot;
+use survey_draw::Plot;
 
 /// How many statements the traitors of the campaign have.
 pub fn statements(plot: &Plot) -> u128

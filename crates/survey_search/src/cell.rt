@@ -2,7 +2,7 @@
 
 /// A number, or none, in a column of this width.
 #[derive(Clone, Copy)]
-pub struct Cell {
+pub struct NumberCell {
     pub width: usize,
     pub number: Option<u64>,
 }

@@ -1,8 +1,8 @@
 //! The cells of a table.
 ghost use Rattle.std.specs.Prelude.{◌≡◌, ◌++◌, OnOk, flat_map, string_bytes};
-ghost use Rattle.survey_tables.specs.Tables.{cell_text, number_text, padded, row_text};
+ghost use Rattle.survey_search.specs.Tables.{cell_text, number_text, padded, row_text};
 
-use crate::cell::Cell;
+use crate::cell::NumberCell;
 use itoa::Buffer;
 use std::alloc::AllocError;
 
@@ -17,7 +17,7 @@ pub(crate) fn put_padded(out: &mut String, width: usize, text: &str) -> Result<(
 }
 
 /// Adds a cell.
-fn put_cell(out: &mut String, cell: Cell) -> Result<(), AllocError>
+fn put_cell(out: &mut String, cell: NumberCell) -> Result<(), AllocError>
     ensures { OnOk result (string_bytes out.new ≡ string_bytes out.old ++ cell_text cell) }
 {
     out.push_str(" ")?;
@@ -31,7 +31,7 @@ fn put_cell(out: &mut String, cell: Cell) -> Result<(), AllocError>
 }
 
 /// Adds a row of these cells.
-pub(crate) fn put_row(out: &mut String, cells: &[Cell]) -> Result<(), AllocError>
+pub(crate) fn put_row(out: &mut String, cells: &[NumberCell]) -> Result<(), AllocError>
     ensures { OnOk result (string_bytes out.new ≡ string_bytes out.old ++ row_text cells.now) }
 {
     for cell in cells {

@@ -1,9 +1,9 @@
 //! Campaigns, copied.
 ghost use Rattle.std.specs.Prelude.{◌≡◌, IfOk, option_map, string_bytes};
-ghost use Rattle.shrink.specs.Breaches.{IsSameAs};
+ghost use Rattle.survey_search.specs.Breaches.{IsSameAs};
 
 use std::alloc::{AllocError, Global};
-use survey::{Adversary, Plot, Traitor};
+use survey_draw::{Adversary, Plot, Traitor};
 
 /// The same traitor.
 fn traitor_copied(alloc: Global, traitor: &Traitor) -> Result<Traitor, AllocError>

@@ -1,11 +1,11 @@
 //! The sums of a survey as lines, and its lines.
 ghost use Rattle.std.specs.Prelude.{◌≡◌, ◌++◌, IfOk, OnOk, flat_map, string_bytes};
-ghost use Rattle.survey.specs.Lines.{line_text};
-ghost use Rattle.survey.specs.Sums.{sums_of};
-ghost use Rattle.survey_tables.specs.Counts.{campaigns_text, sums_text, tally_text};
+ghost use Rattle.survey_draw.specs.Lines.{line_text};
+ghost use Rattle.survey_draw.specs.Sums.{sums_of};
+ghost use Rattle.survey_search.specs.Counts.{campaigns_text, sums_text, tally_text};
 
 use std::alloc::{AllocError, Global};
-use survey::{Finding, Tally, put_line, sums_of};
+use survey_draw::{Finding, Tally, put_line, sums_of};
 
 /// Adds the line of an outcome.
 fn put_tally(out: &mut String, name: &str, tally: Tally) -> Result<(), AllocError>

@@ -1,10 +1,10 @@
 //! Which seeds lack in a survey, and which stand in it more than once.
 ghost use Rattle.std.specs.Prelude.{◌≡◌, ◌++◌, IfOk, OnOk};
-ghost use Rattle.survey_tables.specs.Covering.{AreApart, AreAscending, AreDoubles, AreHoles, gaps, repeated, seeds_in, stretch, stretches, stretches_from};
+ghost use Rattle.survey_search.specs.Covering.{AreApart, AreAscending, AreDoubles, AreHoles, gaps, repeated, seeds_in, stretch, stretches, stretches_from};
 
 use crate::stretch::Stretch;
 use std::alloc::{AllocError, Global};
-use survey::Finding;
+use survey_draw::Finding;
 
 /// The seeds of these campaigns.
 fn seeds_in(alloc: Global, findings: &[Finding]) -> Result<Vec<u64>, AllocError>

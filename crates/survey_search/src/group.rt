@@ -1,5 +1,5 @@
 //! The campaigns of the same numbers.
-use survey::Sums;
+use survey_draw::Sums;
 
 /// What the campaigns of so many generals come to who provide for so many traitors and have so many.
 #[derive(Clone, Copy)]

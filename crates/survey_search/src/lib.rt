@@ -1,23 +1,35 @@
+//! Broken campaigns of which nothing more can be taken out. What is said of them stands in specs/.
 //! What is told of many campaigns: which seeds lack, a table of their sums, and a picture. What is said of it stands in
 //! specs/.
 #![tactic(auto)]
 
-mod breaking;
+mod breach;
+mod breach_rows;
+mod breach_search;
+mod campaign_groups;
+mod campaign_order;
 mod cell;
 mod cells;
+mod copies;
 mod counts;
-mod covering;
+mod coverage;
 mod group;
-mod grouping;
-mod picturing;
+mod minimal_campaign;
+mod narrower_family;
+mod reductions;
 mod stretch;
-mod tabling;
+mod sums_picture;
+mod sums_table;
 
-pub use breaking::breaking_text;
+pub use breach::{Breach, Breaking};
+pub use breach_rows::breaking_text;
+pub use breach_search::{better, breach_of, breaches, breaking, least, least_breach};
+pub use campaign_groups::groups;
+pub use campaign_order::{is_before, statements};
 pub use counts::{lines_text, sums_text};
-pub use covering::{doubles, holes};
+pub use coverage::{doubles, holes};
 pub use group::Group;
-pub use grouping::groups;
-pub use picturing::picture;
+pub use minimal_campaign::shrunk;
 pub use stretch::Stretch;
-pub use tabling::table;
+pub use sums_picture::picture;
+pub use sums_table::table;

@@ -1,12 +1,12 @@
 //! Campaigns of which nothing more can be taken out while they are broken.
 ghost use Rattle.std.specs.Prelude.{◌≢◌, IfErr, IfOk, IfSome, IfNone};
 ghost use Rattle.scenario.specs.declared.fault.ScenarioError.TheVariants.{Memory};
-ghost use Rattle.shrink.specs.Shrinking.{ComesWell, IsBroken, IsLeast, IsPartOf, IsRefusedOf, IsWalked, ShrinksTo};
+ghost use Rattle.survey_search.specs.Shrinking.{ComesWell, IsBroken, IsLeast, IsPartOf, IsRefusedOf, IsWalked, ShrinksTo};
 
-use crate::lessening::{comes_well, fewest_lies, fewest_traitors, less};
+use crate::reductions::{comes_well, fewest_lies, fewest_traitors, less};
 use scenario::ScenarioError;
 use std::alloc::Global;
-use survey::Plot;
+use survey_draw::Plot;
 
 /// The campaign after one walk over its traitors and one over their statements, on each of which what can be taken out
 /// is.

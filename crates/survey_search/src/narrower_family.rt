@@ -1,17 +1,17 @@
 //! Families with fewer campaigns.
 ghost use Rattle.std.specs.Prelude.{◌≡◌, ◌≤◌, IfOk};
-ghost use Rattle.shrink.specs.Breaches.{narrowed, only};
-ghost use Rattle.survey.specs.Plotting.{plot_of};
+ghost use Rattle.survey_search.specs.Breaches.{narrowed, only};
+ghost use Rattle.survey_draw.specs.Plotting.{plot_of};
 
-use crate::copying::adversary_copied;
+use crate::copies::adversary_copied;
 use std::alloc::{AllocError, Global};
-use survey::{Family, Span};
+use survey_draw::{CountRange, Family};
 
 /// The span of one number.
-fn only(number: u8) -> Span
+fn only(number: u8) -> CountRange
     ensures { result ≡ only number }
 {
-    Span {
+    CountRange {
         low: number,
         high: number,
     }

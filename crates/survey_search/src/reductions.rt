@@ -1,14 +1,14 @@
 //! Campaigns with a traitor or a statement less.
 ghost use Rattle.std.specs.Prelude.{◌≡◌, ◌≢◌, ◌<◌, IfErr, IfOk, IfSome, IfNone, length};
 ghost use Rattle.scenario.specs.declared.fault.ScenarioError.TheVariants.{Memory};
-ghost use Rattle.shrink.specs.Shrinking.{AllLiesAreNeeded, Comes, ComesWell, IsBroken, IsPartOf, IsRefusedOf, IsStillBroken, IsWithoutFirst, IsWithoutFirstLie, IsWithoutFirstLieOf, IsWithoutFirstTraitor, LieWalk, LieWalks, LiesAreNeeded, TraitorWalk, TraitorsAreNeeded, traitor_at, without_lie, without_traitor};
-ghost use Rattle.survey.specs.Judging.{IsRefused};
-ghost use Rattle.survey.specs.Wording.{plot_text};
+ghost use Rattle.survey_search.specs.Shrinking.{AllLiesAreNeeded, Comes, ComesWell, IsBroken, IsPartOf, IsRefusedOf, IsStillBroken, IsWithoutFirst, IsWithoutFirstLie, IsWithoutFirstLieOf, IsWithoutFirstTraitor, LieWalk, LieWalks, LiesAreNeeded, TraitorWalk, TraitorsAreNeeded, traitor_at, without_lie, without_traitor};
+ghost use Rattle.survey_draw.specs.Judging.{IsRefused};
+ghost use Rattle.survey_draw.specs.Wording.{plot_text};
 
-use crate::copying::copied;
+use crate::copies::copied;
 use scenario::ScenarioError;
 use std::alloc::{AllocError, Global};
-use survey::{Plot, is_sound, plot_text, verdict_on};
+use survey_draw::{Plot, is_sound, plot_text, verdict_on};
 
 /// The campaign in which the traitor at this place is loyal.
 fn without_traitor(alloc: Global, plot: &Plot, place: usize) -> Result<Plot, AllocError>

@@ -1,12 +1,12 @@
 //! The sums of a survey as a picture in SVG: in how many campaigns the loyal fail, over the number of traitors.
 ghost use Rattle.std.specs.Prelude.{◌≡◌, ◌++◌, ◌<◌, IfOk, None, OnOk, string_bytes};
-ghost use Rattle.survey_tables.specs.Groups.{groups_of};
-ghost use Rattle.survey_tables.specs.Pictures.{bar, base, begins, cell, cells, column, columns, counts, grounds, head, kept, label, limit, name, percent, picture_text, place, rise, rows_of, share_of, side, size, stand, start, start_of};
+ghost use Rattle.survey_search.specs.Groups.{groups_of};
+ghost use Rattle.survey_search.specs.Pictures.{bar, base, begins, cell, cells, column, columns, counts, grounds, head, kept, label, limit, name, percent, picture_text, place, rise, rows_of, share_of, side, size, stand, start, start_of};
 
+use crate::campaign_groups::groups;
 use crate::group::Group;
-use crate::grouping::groups;
 use std::alloc::{AllocError, Global};
-use survey::Finding;
+use survey_draw::Finding;
 
 /// What every picture begins with.
 #[tactic(auto, unfolding(crate::specs::Pictures::start))]

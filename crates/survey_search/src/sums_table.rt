@@ -1,34 +1,34 @@
 //! The sums of a survey as a table.
 ghost use Rattle.std.specs.Prelude.{◌≡◌, ◌++◌, IfOk, OnOk, flat_map, string_bytes};
-ghost use Rattle.survey_tables.specs.Groups.{groups_of};
-ghost use Rattle.survey_tables.specs.Tables.{cells_of, group_text, header, table_text};
+ghost use Rattle.survey_search.specs.Groups.{groups_of};
+ghost use Rattle.survey_search.specs.Tables.{cells_of, group_text, header, table_text};
 
-use crate::cell::Cell;
+use crate::campaign_groups::groups;
+use crate::cell::NumberCell;
 use crate::cells::put_row;
 use crate::group::Group;
-use crate::grouping::groups;
 use std::alloc::{AllocError, Global};
-use survey::Finding;
+use survey_draw::Finding;
 
 /// A cell with a number.
-fn of(width: usize, number: u64) -> Cell
+fn of(width: usize, number: u64) -> NumberCell
     ensures { result ≡ record { width = width; number = Some number } }
 {
-    Cell {
+    NumberCell {
         width,
         number: Some(number),
     }
 }
 
 /// A cell with a number, if there is one.
-fn if_any(width: usize, number: Option<u64>) -> Cell
+fn if_any(width: usize, number: Option<u64>) -> NumberCell
     ensures { result ≡ record { width = width; number = number } }
 {
-    Cell { width, number }
+    NumberCell { width, number }
 }
 
 /// The cells of a row.
-fn cells_of(group: &Group) -> [Cell; 11]
+fn cells_of(group: &Group) -> [NumberCell; 11]
     ensures { result ≡ cells_of group.now }
 {
     let sums = group.sums;

@@ -5,12 +5,12 @@ use Rattle.std.specs.List.{AllZip, range_with_len}
 use Rattle.std.specs.Io.KnownBytes.{Appends}
 use Rattle.std.proofs.KnownBytes.{Appends-trans}
 use Rattle.rayon.proofs.ListFacts.{AllZip-append}
-use Rattle.survey.specs.declared.span.Span.{Span}
-use Rattle.survey.specs.Family.{Family}
-use Rattle.shrink.specs.declared.breach.Breaking.{Breaking}
-use Rattle.shrink.specs.Breaches.{IsBreaking, NoneBreaks}
-use Rattle.survey_tables.specs.Breakings.{breaking_text}
-use Rattle.surveyor.specs.declared.asked.Survey.{Survey}
+use Rattle.survey_draw.specs.declared.span.CountRange.{CountRange}
+use Rattle.survey_draw.specs.Family.{Family}
+use Rattle.survey_search.specs.declared.breach.Breaking.{Breaking}
+use Rattle.survey_search.specs.Breaches.{IsBreaking, NoneBreaks}
+use Rattle.survey_search.specs.Breakings.{breaking_text}
+use Rattle.surveyor.specs.declared.task.Survey.{Survey}
 use Rattle.surveyor.specs.Broken.{Entry, IsBroken, IsEntry, IsSearched, break_header, cut_to, entries_text, entry_text, gap, later_text, sizes_of, sizes_with}
 use Rattle.surveyor.proofs.Going.{range_both}
 
@@ -94,7 +94,7 @@ flat_one_more F [] x = append-nil (F x)
 flat_one_more F (y ∷ xs) x = ap (λ l. F y ++ l) (flat_one_more F xs x) ∙ sym (append_assoc (F y) (flat_map F xs) (F x))
 
 -- the sizes of fewer generals, and of these with lesser bounds
-abbrev pub sizes_upto : Span → ℕ → ℕ → List (ℕ × ℕ)
+abbrev pub sizes_upto : CountRange → ℕ → ℕ → List (ℕ × ℕ)
 sizes_upto bound low count = flat_map (sizes_with bound) (range_with_len low count)
 
 abbrev pub bounds_upto : ℕ → ℕ → ℕ → List (ℕ × ℕ)
@@ -104,11 +104,11 @@ pub bounds_more : (front : List (ℕ × ℕ)) (n low m j k : ℕ) → low ≤ m 
 bounds_more front n low m j k le e d =
     ap (λ (l : List (ℕ × ℕ)). front ++ l) (ap (map (λ x. (n, x))) (one_more_in low m j k le e d) ∙ map_more (λ x. (n, x)) (range_with_len low j) m) ∙ sym (append_assoc front (bounds_upto n low j) ((n, m) ∷ []))
 
-pub sizes_more : (bound : Span) (low n j k i : ℕ) → low ≤ n → j ≡ n - low → k ≡ n + 1 - low → i ≡ min bound.high (min 4 (n - 2)) + 1 - bound.low → sizes_upto bound low j ++ bounds_upto n bound.low i ≡ sizes_upto bound low k
+pub sizes_more : (bound : CountRange) (low n j k i : ℕ) → low ≤ n → j ≡ n - low → k ≡ n + 1 - low → i ≡ min bound.high (min 4 (n - 2)) + 1 - bound.low → sizes_upto bound low j ++ bounds_upto n bound.low i ≡ sizes_upto bound low k
 sizes_more bound low n j k i le e d is =
     ap (λ (x : ℕ). sizes_upto bound low j ++ bounds_upto n bound.low x) is ∙ (sym (flat_one_more (sizes_with bound) (range_with_len low j) n) ∙ ap (flat_map (sizes_with bound)) (sym (one_more_in low n j k le e d)))
 
 -- what is found, or that nothing is
-pub searched_is : (s : Survey) (f : Family) (n m : ℕ) (span : Span) (end : ℕ) (o : Option Breaking) → span ≡ cut_to n s.traitors → end ≡ s.last + 1 → IfSome o (IsBreaking f n m span s.first end) → IfNone o (NoneBreaks f n m span s.first end) → IsSearched s f n m o
-searched_is s f n m span end None is e some none = subst (λ (x : Span). NoneBreaks f n m x s.first (s.last + 1)) is (subst (λ (x : ℕ). NoneBreaks f n m span s.first x) e none)
-searched_is s f n m span end (Some b) is e some none = subst (λ (x : Span). IsBreaking f n m x s.first (s.last + 1) b) is (subst (λ (x : ℕ). IsBreaking f n m span s.first x b) e some)
+pub searched_is : (s : Survey) (f : Family) (n m : ℕ) (span : CountRange) (end : ℕ) (o : Option Breaking) → span ≡ cut_to n s.traitors → end ≡ s.last + 1 → IfSome o (IsBreaking f n m span s.first end) → IfNone o (NoneBreaks f n m span s.first end) → IsSearched s f n m o
+searched_is s f n m span end None is e some none = subst (λ (x : CountRange). NoneBreaks f n m x s.first (s.last + 1)) is (subst (λ (x : ℕ). NoneBreaks f n m span s.first x) e none)
+searched_is s f n m span end (Some b) is e some none = subst (λ (x : CountRange). IsBreaking f n m x s.first (s.last + 1) b) is (subst (λ (x : ℕ). IsBreaking f n m span s.first x b) e some)

@@ -4,22 +4,22 @@ use Rattle.std.specs.Prelude.{String, string_bytes}
 use Rattle.std.specs.Global.{Global}
 use Rattle.scenario.specs.declared.fault.ScenarioError.{ScenarioError}
 use Rattle.scenario.specs.declared.fault.ScenarioError.TheVariants as scenario
-use Rattle.survey.specs.Family.{Family}
-use Rattle.survey.specs.Judging.{IsRefusedIn}
-use Rattle.survey.specs.Plotting.{plot_of}
-use Rattle.shrink.specs.Breaches as Lessened
-use Rattle.surveyor.specs.declared.asked.Shape.{Shape}
-use Rattle.surveyor.specs.declared.asked.Shape.TheVariants.{Sums, Lines, Table, Picture, Least}
-use Rattle.surveyor.specs.declared.asked.Survey.{Survey}
-use Rattle.surveyor.specs.declared.fault.Fault.{Fault}
-use Rattle.surveyor.specs.declared.fault.Fault.TheVariants.{Unread, NotText, Unwritten, Refused, Campaign, Words, Memory}
+use Rattle.survey_draw.specs.Family.{Family}
+use Rattle.survey_draw.specs.Judging.{IsRefusedIn}
+use Rattle.survey_draw.specs.Plotting.{plot_of}
+use Rattle.survey_search.specs.Breaches as Lessened
+use Rattle.surveyor.specs.declared.task.ReportKind.{ReportKind}
+use Rattle.surveyor.specs.declared.task.ReportKind.TheVariants.{Sums, Lines, Table, Picture, Least}
+use Rattle.surveyor.specs.declared.task.Survey.{Survey}
+use Rattle.surveyor.specs.declared.fault.SurveyFailure.{SurveyFailure}
+use Rattle.surveyor.specs.declared.fault.SurveyFailure.TheVariants.{Unread, NotText, Unwritten, Refused, Campaign, Words, Memory}
 use Rattle.surveyor.specs.Ends.{IsDrawnRefused, IsStopped, IsUnended, IsUnsurveyed}
-use Rattle.survey.specs.declared.parts.PartError.{PartError}
-use Rattle.surveyor.specs.declared.asked.Merge.{Merge}
+use Rattle.survey_draw.specs.declared.parts.PartError.{PartError}
+use Rattle.surveyor.specs.declared.task.Merge.{Merge}
 use Rattle.surveyor.specs.Faults.{IsFile, IsKeptIn, IsNoPart, IsUnkept, IsUnkeptIn, IsUnprinted, IsUnread, IsUnsummed, IsUntaken, IsUntold}
 use Rattle.surveyor.specs.Words.{IsFamilyOf}
 
-pub stopped_printing : (s : Survey) (R : ℕ → ℕ → ScenarioError → Type 0) (fault : Fault) → IsUnprinted fault → IsStopped s R fault
+pub stopped_printing : (s : Survey) (R : ℕ → ℕ → ScenarioError → Type 0) (fault : SurveyFailure) → IsUnprinted fault → IsStopped s R fault
 stopped_printing s R (Unwritten None) h = tt
 stopped_printing s R (Unwritten (Some name)) h = absurd h
 stopped_printing s R Memory h = tt
@@ -29,7 +29,7 @@ stopped_printing s R (Refused line) h = absurd h
 stopped_printing s R (Campaign first last e) h = absurd h
 stopped_printing s R Words h = absurd h
 
-pub stopped_keeping : (s : Survey) (R : ℕ → ℕ → ScenarioError → Type 0) (fault : Fault) → IsKeptIn (is_some s.keep) fault → IsStopped s R fault
+pub stopped_keeping : (s : Survey) (R : ℕ → ℕ → ScenarioError → Type 0) (fault : SurveyFailure) → IsKeptIn (is_some s.keep) fault → IsStopped s R fault
 stopped_keeping s R (Unwritten None) h = absurd h
 stopped_keeping s R (Unwritten (Some name)) h = h
 stopped_keeping s R Memory h = tt
@@ -39,10 +39,10 @@ stopped_keeping s R (Refused line) h = absurd h
 stopped_keeping s R (Campaign first last e) h = absurd h
 stopped_keeping s R Words h = absurd h
 
-pub stopped_by_memory : (s : Survey) (R : ℕ → ℕ → ScenarioError → Type 0) (fault : Fault) → fault ≡ Memory → IsStopped s R fault
+pub stopped_by_memory : (s : Survey) (R : ℕ → ℕ → ScenarioError → Type 0) (fault : SurveyFailure) → fault ≡ Memory → IsStopped s R fault
 stopped_by_memory s R fault is = subst (IsStopped s R) (sym is) tt
 
-campaign_told : (s : Survey) (R : ℕ → ℕ → ScenarioError → Type 0) (first end : ℕ) (e : ScenarioError) (fault : Fault) → e ≢ scenario.Memory → (e ≢ scenario.Memory → fault ≡ Campaign first (end - 1) e) → (e ≢ scenario.Memory → R first end e)
+campaign_told : (s : Survey) (R : ℕ → ℕ → ScenarioError → Type 0) (first end : ℕ) (e : ScenarioError) (fault : SurveyFailure) → e ≢ scenario.Memory → (e ≢ scenario.Memory → fault ≡ Campaign first (end - 1) e) → (e ≢ scenario.Memory → R first end e)
     → s.first ≤ first → first < end → end ≤ s.last + 1 → IsStopped s R fault
 campaign_told s R first end e fault ne told refuses from some up_to =
     let last : end - 1 ≤ s.last = omega arith in
@@ -50,7 +50,7 @@ campaign_told s R first end e fault ne told refuses from some up_to =
     subst (IsStopped s R) (sym (told ne)) (record { from = from; up_to = last; refused = subst (λ (k : ℕ). R first k e) whole (refuses ne) })
 
 -- one of the campaigns of some of the seeds is refused, or memory is
-pub stopped_campaign : (s : Survey) (R : ℕ → ℕ → ScenarioError → Type 0) (first end : ℕ) (e : ScenarioError) (fault : Fault) → (e ≡ scenario.Memory → fault ≡ Memory) → (e ≢ scenario.Memory → fault ≡ Campaign first (end - 1) e) → (e ≢ scenario.Memory → R first end e)
+pub stopped_campaign : (s : Survey) (R : ℕ → ℕ → ScenarioError → Type 0) (first end : ℕ) (e : ScenarioError) (fault : SurveyFailure) → (e ≡ scenario.Memory → fault ≡ Memory) → (e ≢ scenario.Memory → fault ≡ Campaign first (end - 1) e) → (e ≢ scenario.Memory → R first end e)
     → s.first ≤ first → first < end → end ≤ s.last + 1 → IsStopped s R fault
 stopped_campaign s R first end scenario.Memory fault memory told refuses from some up_to = stopped_by_memory s R fault (memory refl)
 stopped_campaign s R first end scenario.Toml fault memory told refuses from some up_to = campaign_told s R first end scenario.Toml fault (λ x. cc) told refuses from some up_to
@@ -59,7 +59,7 @@ stopped_campaign s R first end (scenario.At why place) fault memory told refuses
 stopped_campaign s R first end (scenario.Program general why) fault memory told refuses from some up_to = campaign_told s R first end (scenario.Program general why) fault (λ x. cc) told refuses from some up_to
 
 -- with the family that is asked for
-pub unended : (s : Survey) (R : Family → ℕ → ℕ → ScenarioError → Type 0) (f : Family) (fault : Fault) → IsFamilyOf s f → IsStopped s (R f) fault → IsUnended s R fault
+pub unended : (s : Survey) (R : Family → ℕ → ℕ → ScenarioError → Type 0) (f : Family) (fault : SurveyFailure) → IsFamilyOf s f → IsStopped s (R f) fault → IsUnended s R fault
 unended s R f (Unwritten None) family h = tt
 unended s R f (Unwritten (Some name)) family h = h
 unended s R f Memory family h = tt
@@ -70,7 +70,7 @@ unended s R f (Campaign first last e) family h = (f, family, h)
 unended s R f Words family h = absurd h
 
 -- or without one
-pub untaken : (s : Survey) (R : Family → ℕ → ℕ → ScenarioError → Type 0) (fault : Fault) → IsFile (string_bytes s.adversary) → IsUntaken (string_bytes s.adversary) fault → IsUnended s R fault
+pub untaken : (s : Survey) (R : Family → ℕ → ℕ → ScenarioError → Type 0) (fault : SurveyFailure) → IsFile (string_bytes s.adversary) → IsUntaken (string_bytes s.adversary) fault → IsUnended s R fault
 untaken s R (Unwritten None) file h = absurd h
 untaken s R (Unwritten (Some name)) file h = absurd h
 untaken s R Memory file h = tt
@@ -81,7 +81,7 @@ untaken s R (Campaign first last e) file h = absurd h
 untaken s R Words file h = absurd h
 
 -- a file of a campaign that is kept
-pub unkept_one : (name beside : List ℕ) (fault : Fault) → IsUnkept name beside fault → IsUnkeptIn fault
+pub unkept_one : (name beside : List ℕ) (fault : SurveyFailure) → IsUnkept name beside fault → IsUnkeptIn fault
 unkept_one name beside (Unwritten None) h = absurd h
 unkept_one name beside (Unwritten (Some own)) h = tt
 unkept_one name beside Memory h = tt
@@ -91,10 +91,10 @@ unkept_one name beside (Refused line) h = absurd h
 unkept_one name beside (Campaign first last e) h = absurd h
 unkept_one name beside Words h = absurd h
 
-pub unkept_by_memory : (fault : Fault) → fault ≡ Memory → IsUnkeptIn fault
+pub unkept_by_memory : (fault : SurveyFailure) → fault ≡ Memory → IsUnkeptIn fault
 unkept_by_memory fault is = subst IsUnkeptIn (sym is) tt
 
-pub kept_where : (is_kept : Bool) (fault : Fault) → is_kept ≡ true → IsUnkeptIn fault → IsKeptIn is_kept fault
+pub kept_where : (is_kept : Bool) (fault : SurveyFailure) → is_kept ≡ true → IsUnkeptIn fault → IsKeptIn is_kept fault
 kept_where is_kept (Unwritten None) some h = absurd h
 kept_where is_kept (Unwritten (Some own)) some h = some
 kept_where is_kept Memory some h = tt
@@ -105,7 +105,7 @@ kept_where is_kept (Campaign first last e) some h = absurd h
 kept_where is_kept Words some h = absurd h
 
 -- a folder that is named takes no file
-pub unopened : (s : Survey) (R : Family → ℕ → ℕ → ScenarioError → Type 0) (name beside : List ℕ) (fault : Fault) → is_some s.keep ≡ true → IsUnkept name beside fault → IsUnended s R fault
+pub unopened : (s : Survey) (R : Family → ℕ → ℕ → ScenarioError → Type 0) (name beside : List ℕ) (fault : SurveyFailure) → is_some s.keep ≡ true → IsUnkept name beside fault → IsUnended s R fault
 unopened s R name beside (Unwritten None) some h = absurd h
 unopened s R name beside (Unwritten (Some own)) some h = some
 unopened s R name beside Memory some h = tt
@@ -116,21 +116,21 @@ unopened s R name beside (Campaign first last e) some h = absurd h
 unopened s R name beside Words some h = absurd h
 
 -- campaigns that are lessened, and as they are drawn
-pub unended_least : (s : Survey) (f : Family) (fault : Fault) → s.shape ≡ Least → IsFamilyOf s f → IsStopped s (Lessened.IsRefusedIn (plot_of f)) fault → IsUnsurveyed s fault
-unended_least s f fault is family h = unended s (IsDrawnRefused s.shape) f fault family (subst (λ (shape : Shape). IsStopped s (IsDrawnRefused shape f) fault) (sym is) h)
+pub unended_least : (s : Survey) (f : Family) (fault : SurveyFailure) → s.shape ≡ Least → IsFamilyOf s f → IsStopped s (Lessened.IsRefusedIn (plot_of f)) fault → IsUnsurveyed s fault
+unended_least s f fault is family h = unended s (IsDrawnRefused s.shape) f fault family (subst (λ (shape : ReportKind). IsStopped s (IsDrawnRefused shape f) fault) (sym is) h)
 
-drawn : (shape : Shape) (s : Survey) (f : Family) (fault : Fault) → shape ≢ Least → IsStopped s (IsRefusedIn f) fault → IsStopped s (IsDrawnRefused shape f) fault
+drawn : (shape : ReportKind) (s : Survey) (f : Family) (fault : SurveyFailure) → shape ≢ Least → IsStopped s (IsRefusedIn f) fault → IsStopped s (IsDrawnRefused shape f) fault
 drawn Sums s f fault not h = h
 drawn Lines s f fault not h = h
 drawn Table s f fault not h = h
 drawn Picture s f fault not h = h
 drawn Least s f fault not h = absurd (not refl)
 
-pub unended_drawn : (s : Survey) (f : Family) (fault : Fault) → s.shape ≢ Least → IsFamilyOf s f → IsStopped s (IsRefusedIn f) fault → IsUnsurveyed s fault
+pub unended_drawn : (s : Survey) (f : Family) (fault : SurveyFailure) → s.shape ≢ Least → IsFamilyOf s f → IsStopped s (IsRefusedIn f) fault → IsUnsurveyed s fault
 unended_drawn s f fault not family h = unended s (IsDrawnRefused s.shape) f fault family (drawn s.shape s f fault not h)
 
 -- one of the files that are summed cannot be read, or is refused
-pub unread_one : (m : Merge) (k : ℕ) (own : String Global) (fault : Fault) → k < length m.names.items → get_or m.names.items k own ≡ own → IsUnread (string_bytes own) fault → IsUntold m fault
+pub unread_one : (m : Merge) (k : ℕ) (own : String Global) (fault : SurveyFailure) → k < length m.names.items → get_or m.names.items k own ≡ own → IsUnread (string_bytes own) fault → IsUntold m fault
 unread_one m k own (Unread name) less at h = (k, own, less, at, sym h)
 unread_one m k own (NotText name) less at h = absurd h
 unread_one m k own (Unwritten name) less at h = absurd h
@@ -139,7 +139,7 @@ unread_one m k own (Refused line) less at h = absurd h
 unread_one m k own (Campaign first last e) less at h = absurd h
 unread_one m k own Words less at h = absurd h
 
-pub no_part_told : (m : Merge) (k : ℕ) (own : String Global) (first : List ℕ) (error : PartError) (fault : Fault) → k < length m.names.items → get_or m.names.items k own ≡ own → IsNoPart (string_bytes own) first error fault → IsUntold m fault
+pub no_part_told : (m : Merge) (k : ℕ) (own : String Global) (first : List ℕ) (error : PartError) (fault : SurveyFailure) → k < length m.names.items → get_or m.names.items k own ≡ own → IsNoPart (string_bytes own) first error fault → IsUntold m fault
 no_part_told m k own first error (Unread name) less at h = absurd h
 no_part_told m k own first error (NotText name) less at h = absurd h
 no_part_told m k own first error (Unwritten name) less at h = absurd h
@@ -149,7 +149,7 @@ no_part_told m k own first error (Campaign low high e) less at h = absurd h
 no_part_told m k own first error Words less at h = absurd h
 
 -- or their sums are not printed
-pub untold_summed : (m : Merge) (fault : Fault) → IsUntold m fault → IsUnsummed m fault
+pub untold_summed : (m : Merge) (fault : SurveyFailure) → IsUntold m fault → IsUnsummed m fault
 untold_summed m (Unread name) h = h
 untold_summed m (NotText name) h = absurd h
 untold_summed m (Unwritten name) h = absurd h
@@ -158,7 +158,7 @@ untold_summed m (Refused line) h = h
 untold_summed m (Campaign first last e) h = absurd h
 untold_summed m Words h = absurd h
 
-pub unprinted_summed : (m : Merge) (fault : Fault) → IsUnprinted fault → IsUnsummed m fault
+pub unprinted_summed : (m : Merge) (fault : SurveyFailure) → IsUnprinted fault → IsUnsummed m fault
 unprinted_summed m (Unwritten None) h = tt
 unprinted_summed m (Unwritten (Some name)) h = absurd h
 unprinted_summed m Memory h = tt
@@ -168,5 +168,5 @@ unprinted_summed m (Refused line) h = absurd h
 unprinted_summed m (Campaign first last e) h = absurd h
 unprinted_summed m Words h = absurd h
 
-pub unsummed_by_memory : (m : Merge) (fault : Fault) → fault ≡ Memory → IsUnsummed m fault
+pub unsummed_by_memory : (m : Merge) (fault : SurveyFailure) → fault ≡ Memory → IsUnsummed m fault
 unsummed_by_memory m fault is = subst (IsUnsummed m) (sym is) tt

@@ -5,13 +5,13 @@ use Rattle.std.specs.List.{AllZip, range_with_len}
 use Rattle.std.specs.Io.KnownBytes.{Appends}
 use Rattle.std.proofs.KnownBytes.{Appends-trans}
 use Rattle.rayon.proofs.ListFacts.{AllZip-append}
-use Rattle.survey.specs.declared.finding.Finding.{Finding}
-use Rattle.survey.specs.Family.{Family}
-use Rattle.survey.specs.Judging.{IsFindingOf}
-use Rattle.survey.specs.Lines.{line_text}
-use Rattle.surveyor.specs.declared.asked.Shape.{Shape}
-use Rattle.surveyor.specs.declared.asked.Shape.TheVariants.{Sums, Lines, Table, Picture, Least}
-use Rattle.surveyor.specs.declared.asked.Survey.{Survey}
+use Rattle.survey_draw.specs.declared.finding.Finding.{Finding}
+use Rattle.survey_draw.specs.Family.{Family}
+use Rattle.survey_draw.specs.Judging.{IsFindingOf}
+use Rattle.survey_draw.specs.Lines.{line_text}
+use Rattle.surveyor.specs.declared.task.ReportKind.{ReportKind}
+use Rattle.surveyor.specs.declared.task.ReportKind.TheVariants.{Sums, Lines, Table, Picture, Least}
+use Rattle.surveyor.specs.declared.task.Survey.{Survey}
 use Rattle.surveyor.specs.Kept.{File, Gains, campaign_files}
 use Rattle.surveyor.specs.Printed.{IsPlayed, IsPrinted, IsToldIn, added, broken_seeds, head_in, lines_in, summary_text}
 use Rattle.surveyor.proofs.KeptLemmas.{campaigns_gained, no_campaigns, none_gained}
@@ -35,35 +35,35 @@ texts_both : (xs ys : List Finding) → flat_map line_text (xs ++ ys) ≡ flat_m
 texts_both [] ys = refl
 texts_both (x ∷ xs) ys = ap (λ (l : List ℕ). line_text x ++ l) (texts_both xs ys) ∙ sym (append_assoc (line_text x) (flat_map line_text xs) (flat_map line_text ys))
 
-lines_both : (shape : Shape) (xs ys : List Finding) → lines_in shape (xs ++ ys) ≡ lines_in shape xs ++ lines_in shape ys
+lines_both : (shape : ReportKind) (xs ys : List Finding) → lines_in shape (xs ++ ys) ≡ lines_in shape xs ++ lines_in shape ys
 lines_both Sums xs ys = refl
 lines_both Lines xs ys = texts_both xs ys
 lines_both Table xs ys = refl
 lines_both Picture xs ys = refl
 lines_both Least xs ys = refl
 
-no_lines : (shape : Shape) → lines_in shape [] ≡ []
+no_lines : (shape : ReportKind) → lines_in shape [] ≡ []
 no_lines Sums = refl
 no_lines Lines = refl
 no_lines Table = refl
 no_lines Picture = refl
 no_lines Least = refl
 
-none_added : (shape : Shape) → added shape [] ≡ []
+none_added : (shape : ReportKind) → added shape [] ≡ []
 none_added Sums = refl
 none_added Lines = refl
 none_added Table = refl
 none_added Picture = refl
 none_added Least = refl
 
-added_both : (shape : Shape) (xs ys : List Finding) → added shape (xs ++ ys) ≡ added shape xs ++ added shape ys
+added_both : (shape : ReportKind) (xs ys : List Finding) → added shape (xs ++ ys) ≡ added shape xs ++ added shape ys
 added_both Sums xs ys = refl
 added_both Lines xs ys = refl
 added_both Table xs ys = refl
 added_both Picture xs ys = refl
 added_both Least xs ys = refl
 
-summed_added : (shape : Shape) (found : List Finding) → summary_text shape (added shape found) ≡ summary_text shape found
+summed_added : (shape : ReportKind) (found : List Finding) → summary_text shape (added shape found) ≡ summary_text shape found
 summed_added Sums found = refl
 summed_added Lines found = refl
 summed_added Table found = refl
@@ -111,7 +111,7 @@ goes s f start now later empty some full next to all more after w low high playe
       filed = campaigns_gained s.keep f w.found more empty some full w.filed files;
     }
 
-told_in : (shape : Shape) (s : Survey) (f : Family) (text : List ℕ) (files : List File) → shape ≢ Least → IsPlayed s f text files → IsToldIn shape s f text files
+told_in : (shape : ReportKind) (s : Survey) (f : Family) (text : List ℕ) (files : List File) → shape ≢ Least → IsPlayed s f text files → IsToldIn shape s f text files
 told_in Sums s f text files ne h = h
 told_in Lines s f text files ne h = h
 told_in Table s f text files ne h = h

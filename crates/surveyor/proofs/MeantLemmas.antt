@@ -6,29 +6,29 @@ use Rattle.std.specs.Str.{bytes_eq}
 use Rattle.clap.specs.Words.{App, HasKind, IsAmong, Row, Text, fault_of, is_simple, is_simple_and_free, kind_of, matches_of}
 use Rattle.clap.specs.declared.error.Error.{Error}
 use Rattle.combine.specs.Names.{rule_named}
-use Rattle.combine.specs.declared.chosen.Rule.{Rule as CombineRule}
-use Rattle.survey.specs.declared.manner.Manner.TheVariants.{Oral}
-use Rattle.survey.specs.declared.span.Span.{Span}
+use Rattle.combine.specs.declared.campaign_rule.Rule.{Rule as CombineRule}
+use Rattle.survey_draw.specs.declared.manner.Manner.TheVariants.{Oral}
+use Rattle.survey_draw.specs.declared.span.CountRange.{CountRange}
 use Rattle.surveyor.specs.Flags.{given, has, survey_app}
 use Rattle.surveyor.specs.Meant.{AreSaid, AreSeeds, Asks, IsBreaking, IsMerging, IsPatience, IsSurveying, IsWithin, bars_sum, break_shape, names_in, shape_in, some_traitors, value}
 use Rattle.surveyor.specs.Numbers.{IsNoSpan, IsTold}
 use Rattle.surveyor.specs.Words.{manner_named}
 use Rattle.surveyor.specs.Wrong.{AreNoSeeds, AreTwice, AsksNothing, IsByClap, IsNoBreak, IsNoManner, IsNoPatience, IsNoRule, IsOutside, IsRefused, IsSaid, IsUnmet, IsWrong}
 use Rattle.surveyor.specs.Wrong.IsWrong.{generals, bound, traitors, seeds, patience, signed, shape, broken, keep, sum, twice}
-use Rattle.surveyor.specs.declared.asked.Asked.{Asked}
-use Rattle.surveyor.specs.declared.asked.Asked.TheVariants.{Survey as Surveys, Break, Merge as Merges}
-use Rattle.surveyor.specs.declared.asked.AskedError.{AskedError}
-use Rattle.surveyor.specs.declared.asked.AskedError.TheVariants.{Words, Value, Rule, Memory}
-use Rattle.surveyor.specs.declared.asked.Merge.{Merge}
-use Rattle.surveyor.specs.declared.asked.Shape.{Shape}
-use Rattle.surveyor.specs.declared.asked.Survey.{Survey}
+use Rattle.surveyor.specs.declared.task.Asked.{Asked}
+use Rattle.surveyor.specs.declared.task.Asked.TheVariants.{Survey as Surveys, Break, Merge as Merges}
+use Rattle.surveyor.specs.declared.task.AskedError.{AskedError}
+use Rattle.surveyor.specs.declared.task.AskedError.TheVariants.{Words, Value, Rule, Memory}
+use Rattle.surveyor.specs.declared.task.Merge.{Merge}
+use Rattle.surveyor.specs.declared.task.ReportKind.{ReportKind}
+use Rattle.surveyor.specs.declared.task.Survey.{Survey}
 use Rattle.surveyor.proofs.FlagLemmas.{survey_free, survey_simple}
 use Rattle.surveyor.proofs.NumberLemmas.{told_once}
 
-pub no_within : (least most : ℕ) (word : Text) → most ≤ 13 → IsNoSpan 14 word → (s : Span) → IsWithin least most word s → ⊥
+pub no_within : (least most : ℕ) (word : Text) → most ≤ 13 → IsNoSpan 14 word → (s : CountRange) → IsWithin least most word s → ⊥
 no_within least most word few none s w = (let m = w.up_to in let less : s.high < 14 = omega arith in none s.low s.high w.told w.ordered less)
 
-pub other_within : (least most : ℕ) (word : Text) (own : Span) → IsTold word own.low own.high → (least ≤ own.low → own.high ≤ most → ⊥) → (s : Span) → IsWithin least most word s → ⊥
+pub other_within : (least most : ℕ) (word : Text) (own : CountRange) → IsTold word own.low own.high → (least ≤ own.low → own.high ≤ most → ⊥) → (s : CountRange) → IsWithin least most word s → ⊥
 other_within least most word own told apart s w =
     let same = told_once word own.low own.high s.low s.high told w.told in
     let a = same.0 in

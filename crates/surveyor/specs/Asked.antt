@@ -1,8 +1,8 @@
 -- What may be asked of a survey (own).
 use Rattle.std.specs.Prelude.{◌≤◌, ◌<◌, ◌-◌, ◌^◌, ⊤, IfSome}
-use Rattle.surveyor.specs.declared.asked.Asked.{Asked}
-use Rattle.surveyor.specs.declared.asked.Asked.TheVariants.{Survey as Surveys, Break, Merge}
-use Rattle.surveyor.specs.declared.asked.Survey.{Survey}
+use Rattle.surveyor.specs.declared.task.Asked.{Asked}
+use Rattle.surveyor.specs.declared.task.Asked.TheVariants.{Survey as Surveys, Break, Merge}
+use Rattle.surveyor.specs.declared.task.Survey.{Survey}
 
 -- spans with numbers in them, of 2 to 13 generals; a patience of 1 to 4,096 steps; seeds with one behind the last
 pub record IsSurvey (s : Survey) : Type 0 where

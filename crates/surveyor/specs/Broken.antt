@@ -2,12 +2,12 @@
 use Rattle.std.specs.Prelude.{ℕ, ◌≡◌, ◌+◌, ◌-◌, min, Bool, true, false, List, [], ◌∷◌, ◌++◌, map, flat_map, codes, Option, MatchOption}
 use Rattle.std.specs.List.{AllZip, range_with_len}
 use Rattle.std.specs.Io.KnownBytes.{Appends}
-use Rattle.survey.specs.declared.span.Span.{Span}
-use Rattle.survey.specs.Family.{Family}
-use Rattle.shrink.specs.declared.breach.Breaking.{Breaking}
-use Rattle.shrink.specs.Breaches.{IsBreaking, NoneBreaks}
-use Rattle.survey_tables.specs.Breakings.{breaking_text}
-use Rattle.surveyor.specs.declared.asked.Survey.{Survey}
+use Rattle.survey_draw.specs.declared.span.CountRange.{CountRange}
+use Rattle.survey_draw.specs.Family.{Family}
+use Rattle.survey_search.specs.declared.breach.Breaking.{Breaking}
+use Rattle.survey_search.specs.Breaches.{IsBreaking, NoneBreaks}
+use Rattle.survey_search.specs.Breakings.{breaking_text}
+use Rattle.surveyor.specs.declared.task.Survey.{Survey}
 use Rattle.surveyor.specs.Words.{IsFamilyOf}
 
 -- the numbers from one to another
@@ -15,14 +15,14 @@ abbrev pub numbers : ℕ → ℕ → List ℕ
 numbers low high = range_with_len low (high + 1 - low)
 
 -- so many generals with each of the bounds that they can have
-abbrev pub sizes_with : Span → ℕ → List (ℕ × ℕ)
+abbrev pub sizes_with : CountRange → ℕ → List (ℕ × ℕ)
 sizes_with bound n = map (λ m. (n, m)) (numbers bound.low (min bound.high (min 4 (n - 2))))
 
-abbrev pub sizes_of : Span → Span → List (ℕ × ℕ)
+abbrev pub sizes_of : CountRange → CountRange → List (ℕ × ℕ)
 sizes_of generals bound = flat_map (sizes_with bound) (numbers generals.low generals.high)
 
 -- the traitors of a span, cut to all generals where they are more
-abbrev pub cut_to : ℕ → Span → Span
+abbrev pub cut_to : ℕ → CountRange → CountRange
 cut_to n span = record { low = min span.low n; high = min span.high n }
 
 -- so many generals who provide for so many traitors, and what breaks agreement, if something does

@@ -11,10 +11,10 @@ use Rattle.surveyor.specs.Printed.{IsSurveyed}
 use Rattle.surveyor.specs.Statuses.{IsUnasked, IsUnhelped}
 use Rattle.surveyor.specs.Summed.{IsSummed}
 use Rattle.surveyor.specs.Wrong.{IsUnmet}
-use Rattle.surveyor.specs.declared.asked.Asked.{Asked}
-use Rattle.surveyor.specs.declared.asked.Asked.TheVariants.{Survey, Break, Merge}
-use Rattle.surveyor.specs.declared.asked.AskedError.{AskedError}
-use Rattle.surveyor.specs.declared.fault.Fault.{Fault}
+use Rattle.surveyor.specs.declared.task.Asked.{Asked}
+use Rattle.surveyor.specs.declared.task.Asked.TheVariants.{Survey, Break, Merge}
+use Rattle.surveyor.specs.declared.task.AskedError.{AskedError}
+use Rattle.surveyor.specs.declared.fault.SurveyFailure.{SurveyFailure}
 
 -- the words ask for this, or for nothing, since they are at fault so
 pub record IsAskedBy (words : List Text) (asked : Result Asked AskedError) : Type 0 where
@@ -31,7 +31,7 @@ IsDone (Ok (Merge m)) old new before after status = IsSummed m old new status ×
 IsDone (Err error) old new before after status = IsUnasked error status × (new ≡ old) × (after ≡ before)
 
 -- this keeps it from its end
-abbrev pub IsUndone : Result Asked AskedError → Fault → Type 0
+abbrev pub IsUndone : Result Asked AskedError → SurveyFailure → Type 0
 IsUndone (Ok (Survey s)) fault = IsUnsurveyed s fault
 IsUndone (Ok (Break s is_table)) fault = IsUnended s (IsSearchRefused s) fault
 IsUndone (Ok (Merge m)) fault = IsUnsummed m fault

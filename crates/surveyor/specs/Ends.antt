@@ -1,19 +1,19 @@
 -- Why a survey comes to no end (docs/FORMATS.md, "Surveys").
 use Rattle.std.specs.Prelude.{⊤, ℕ, ◌≡◌, ◌+◌, ◌≤◌, List, is_some, true, None, Some, string_bytes}
 use Rattle.scenario.specs.declared.fault.ScenarioError.{ScenarioError}
-use Rattle.survey.specs.Family.{Family}
-use Rattle.survey.specs.Judging.{IsRefusedIn}
-use Rattle.survey.specs.Plotting.{plot_of}
-use Rattle.shrink.specs.Breaches as Lessened
-use Rattle.shrink.specs.Breaches.{IsRefusedWith}
+use Rattle.survey_draw.specs.Family.{Family}
+use Rattle.survey_draw.specs.Judging.{IsRefusedIn}
+use Rattle.survey_draw.specs.Plotting.{plot_of}
+use Rattle.survey_search.specs.Breaches as Lessened
+use Rattle.survey_search.specs.Breaches.{IsRefusedWith}
 use Rattle.surveyor.specs.Broken.{cut_to}
 use Rattle.surveyor.specs.Faults.{IsFile, IsRefusedBy}
 use Rattle.surveyor.specs.Words.{IsFamilyOf}
-use Rattle.surveyor.specs.declared.asked.Shape.{Shape}
-use Rattle.surveyor.specs.declared.asked.Shape.TheVariants.{Least}
-use Rattle.surveyor.specs.declared.asked.Survey.{Survey}
-use Rattle.surveyor.specs.declared.fault.Fault.{Fault}
-use Rattle.surveyor.specs.declared.fault.Fault.TheVariants.{Unread, NotText, Unwritten, Refused, Campaign, Words, Memory}
+use Rattle.surveyor.specs.declared.task.ReportKind.{ReportKind}
+use Rattle.surveyor.specs.declared.task.ReportKind.TheVariants.{Least}
+use Rattle.surveyor.specs.declared.task.Survey.{Survey}
+use Rattle.surveyor.specs.declared.fault.SurveyFailure.{SurveyFailure}
+use Rattle.surveyor.specs.declared.fault.SurveyFailure.TheVariants.{Unread, NotText, Unwritten, Refused, Campaign, Words, Memory}
 
 -- one of its campaigns is refused, as it is told below
 pub record IsCampaign (s : Survey) (Refuses : ℕ → ℕ → ScenarioError → Type 0) (first last : ℕ) (e : ScenarioError)
@@ -23,7 +23,7 @@ pub record IsCampaign (s : Survey) (Refuses : ℕ → ℕ → ScenarioError → 
   pub refused : Refuses first (last + 1) e
 
 -- or standard output cannot be written, or, where campaigns are kept, a file
-abbrev pub IsStopped : Survey → (ℕ → ℕ → ScenarioError → Type 0) → Fault → Type 0
+abbrev pub IsStopped : Survey → (ℕ → ℕ → ScenarioError → Type 0) → SurveyFailure → Type 0
 IsStopped s Refuses (Campaign first last e) = IsCampaign s Refuses first last e
 IsStopped s Refuses (Unwritten None) = ⊤
 IsStopped s Refuses (Unwritten (Some name)) = is_some s.keep ≡ true
@@ -33,7 +33,7 @@ IsStopped s Refuses _ = ⊥
 -- ---- a whole survey
 
 -- the file of the word for the traitors is at fault; or, with the family that is asked for, what stops it
-abbrev pub IsUnended : Survey → (Family → ℕ → ℕ → ScenarioError → Type 0) → Fault → Type 0
+abbrev pub IsUnended : Survey → (Family → ℕ → ℕ → ScenarioError → Type 0) → SurveyFailure → Type 0
 IsUnended s Refuses (Unread name) =
     IsFile (string_bytes s.adversary) × (string_bytes name ≡ string_bytes s.adversary)
 IsUnended s Refuses (NotText name) =
@@ -48,11 +48,11 @@ IsUnended s Refuses Memory = ⊤
 IsUnended s Refuses Words = ⊥
 
 -- a campaign as it is drawn, one that is lessened, one of so many generals and traitors
-abbrev pub IsDrawnRefused : Shape → Family → ℕ → ℕ → ScenarioError → Type 0
+abbrev pub IsDrawnRefused : ReportKind → Family → ℕ → ℕ → ScenarioError → Type 0
 IsDrawnRefused Least f = Lessened.IsRefusedIn (plot_of f)
 IsDrawnRefused _ f = IsRefusedIn f
 
-abbrev pub IsUnsurveyed : Survey → Fault → Type 0
+abbrev pub IsUnsurveyed : Survey → SurveyFailure → Type 0
 IsUnsurveyed s = IsUnended s (IsDrawnRefused s.shape)
 
 -- of generals of some numbers and as many traitors as are asked for

@@ -7,25 +7,25 @@ use Rattle.asm.specs.Program.{program_of, said}
 use Rattle.asm.specs.declared.fault.AsmError.{AsmError}
 use Rattle.asm.specs.declared.fault.AsmError.TheVariants as asm
 use Rattle.streams.specs.Names.{shown}
-use Rattle.survey.specs.declared.parts.PartError.{PartError}
-use Rattle.survey.specs.declared.parts.PartError.TheVariants as part
+use Rattle.survey_draw.specs.declared.parts.PartError.{PartError}
+use Rattle.survey_draw.specs.declared.parts.PartError.TheVariants as part
 use Rattle.verify.specs.ErrorText as verifier_text
 use Rattle.verify.specs.Judgement.{judged}
 use Rattle.verify.specs.declared.error.VerifyError.{VerifyError}
 use Rattle.verify.specs.declared.error.VerifyError.TheVariants as verifier
-use Rattle.surveyor.specs.declared.asked.Merge.{Merge}
-use Rattle.surveyor.specs.declared.fault.Fault.{Fault}
-use Rattle.surveyor.specs.declared.fault.Fault.TheVariants.{Unread, NotText, Unwritten, Refused, Campaign, Words, Memory}
+use Rattle.surveyor.specs.declared.task.Merge.{Merge}
+use Rattle.surveyor.specs.declared.fault.SurveyFailure.{SurveyFailure}
+use Rattle.surveyor.specs.declared.fault.SurveyFailure.TheVariants.{Unread, NotText, Unwritten, Refused, Campaign, Words, Memory}
 use Rattle.surveyor.specs.Words.{IsProgramOf}
 
 -- a file of this name cannot be read
-abbrev pub IsUnread : List ℕ → Fault → Type 0
+abbrev pub IsUnread : List ℕ → SurveyFailure → Type 0
 IsUnread name (Unread own) = string_bytes own ≡ name
 IsUnread name Memory = ⊤
 IsUnread name _ = ⊥
 
 -- standard output cannot be written
-abbrev pub IsUnprinted : Fault → Type 0
+abbrev pub IsUnprinted : SurveyFailure → Type 0
 IsUnprinted (Unwritten None) = ⊤
 IsUnprinted Memory = ⊤
 IsUnprinted _ = ⊥
@@ -56,18 +56,18 @@ abbrev pub IsRefusedBy : List ℕ → List ℕ → Type 0
 IsRefusedBy text line = IsNoProgram text × (IsAsmLine text line ⊎ IsVerifierLine text line)
 
 -- a text is refused so, but for want of memory
-abbrev pub IsRefusedText : List ℕ → Fault → Type 0
+abbrev pub IsRefusedText : List ℕ → SurveyFailure → Type 0
 IsRefusedText text (Refused line) = IsRefusedBy text (string_bytes line)
 IsRefusedText text Memory = ⊤
 IsRefusedText text _ = ⊥
 
 -- what is told of an assembler's, and of a verifier's error: want of memory is no fault of a text
-abbrev pub IsUnsaid : AsmError → Fault → Type 0
+abbrev pub IsUnsaid : AsmError → SurveyFailure → Type 0
 IsUnsaid error (Refused line) = (error ≢ asm.Memory) × (string_bytes line ≡ asm_line error)
 IsUnsaid error Memory = ⊤
 IsUnsaid error _ = ⊥
 
-abbrev pub IsUnsound : VerifyError → Fault → Type 0
+abbrev pub IsUnsound : VerifyError → SurveyFailure → Type 0
 IsUnsound error (Refused line) = (error ≢ verifier.Memory) × (string_bytes line ≡ verifier_line error)
 IsUnsound error Memory = ⊤
 IsUnsound error _ = ⊥
@@ -79,7 +79,7 @@ pub record IsFile (word : List ℕ) : Type 0 where
   pub collude : word ≢ codes "collude"
 
 -- it is not read, is no text, or what it says is refused
-abbrev pub IsUntaken : List ℕ → Fault → Type 0
+abbrev pub IsUntaken : List ℕ → SurveyFailure → Type 0
 IsUntaken name (Unread own) = string_bytes own ≡ name
 IsUntaken name (NotText own) = string_bytes own ≡ name
 IsUntaken name (Refused line) = (text : List ℕ) × IsRefusedBy text (string_bytes line)
@@ -93,19 +93,19 @@ abbrev pub tried_name : List ℕ → ℕ → List ℕ
 tried_name folder number = folder ++ (codes "/." ++ (decimal number ++ codes ".survey.new"))
 
 -- a file of one of these names cannot be written
-abbrev pub IsUnkept : List ℕ → List ℕ → Fault → Type 0
+abbrev pub IsUnkept : List ℕ → List ℕ → SurveyFailure → Type 0
 IsUnkept name beside (Unwritten (Some own)) = (string_bytes own ≡ name) ⊎ (string_bytes own ≡ beside)
 IsUnkept name beside Memory = ⊤
 IsUnkept name beside _ = ⊥
 
 -- a file of a campaign cannot be written
-abbrev pub IsUnkeptIn : Fault → Type 0
+abbrev pub IsUnkeptIn : SurveyFailure → Type 0
 IsUnkeptIn (Unwritten (Some name)) = ⊤
 IsUnkeptIn Memory = ⊤
 IsUnkeptIn _ = ⊥
 
 -- only where campaigns are kept a file cannot be written
-abbrev pub IsKeptIn : Bool → Fault → Type 0
+abbrev pub IsKeptIn : Bool → SurveyFailure → Type 0
 IsKeptIn is_kept (Unwritten (Some name)) = is_kept ≡ true
 IsKeptIn is_kept Memory = ⊤
 IsKeptIn is_kept _ = ⊥
@@ -128,7 +128,7 @@ IsPartLine name first error line =
     (error ≢ part.Memory) × IfSome (part_line name first error) (λ told. line ≡ told)
 
 -- a file's lines are refused so
-abbrev pub IsNoPart : List ℕ → List ℕ → PartError → Fault → Type 0
+abbrev pub IsNoPart : List ℕ → List ℕ → PartError → SurveyFailure → Type 0
 IsNoPart name first error (Refused line) = IsPartLine name first error (string_bytes line)
 IsNoPart name first error Memory = ⊤
 IsNoPart name first error _ = ⊥
@@ -138,7 +138,7 @@ abbrev pub IsNameIn : Merge → List ℕ → Type 0
 IsNameIn m name = Any (λ own. string_bytes own ≡ name) m.names.items
 
 -- one of the files cannot be read, or its lines are refused
-abbrev pub IsUntold : Merge → Fault → Type 0
+abbrev pub IsUntold : Merge → SurveyFailure → Type 0
 IsUntold m (Unread name) = IsNameIn m (string_bytes name)
 IsUntold m (Refused line) = (name first : List ℕ) × (error : PartError)
     × IsNameIn m name × IsPartLine name first error (string_bytes line)
@@ -146,7 +146,7 @@ IsUntold m Memory = ⊤
 IsUntold m _ = ⊥
 
 -- or standard output cannot be written
-abbrev pub IsUnsummed : Merge → Fault → Type 0
+abbrev pub IsUnsummed : Merge → SurveyFailure → Type 0
 IsUnsummed m (Unwritten None) = ⊤
 IsUnsummed m (Unwritten (Some name)) = ⊥
 IsUnsummed m fault = IsUntold m fault

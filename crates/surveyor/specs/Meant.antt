@@ -3,24 +3,24 @@ use Rattle.std.specs.Prelude.{ℕ, ◌≡◌, ◌≤◌, ◌<◌, ◌-◌, ◌^�
 use Rattle.std.specs.List.{list_any}
 use Rattle.std.specs.Str.{bytes_eq}
 use Rattle.clap.specs.Words.{Row, Text}
-use Rattle.survey.specs.declared.span.Span.{Span}
+use Rattle.survey_draw.specs.declared.span.CountRange.{CountRange}
 use Rattle.text.specs.Number.{decimal_of}
 use Rattle.surveyor.specs.Flags.{given, has, row_of}
 use Rattle.surveyor.specs.Numbers.{IsTold}
 use Rattle.surveyor.specs.Words.{manner_named}
-use Rattle.surveyor.specs.declared.asked.Asked.{Asked}
-use Rattle.surveyor.specs.declared.asked.Asked.TheVariants.{Survey as Surveys, Break, Merge as Merges}
-use Rattle.surveyor.specs.declared.asked.Merge.{Merge}
-use Rattle.surveyor.specs.declared.asked.Shape.{Shape}
-use Rattle.surveyor.specs.declared.asked.Shape.TheVariants.{Sums, Lines, Table, Picture, Least}
-use Rattle.surveyor.specs.declared.asked.Survey.{Survey}
+use Rattle.surveyor.specs.declared.task.Asked.{Asked}
+use Rattle.surveyor.specs.declared.task.Asked.TheVariants.{Survey as Surveys, Break, Merge as Merges}
+use Rattle.surveyor.specs.declared.task.Merge.{Merge}
+use Rattle.surveyor.specs.declared.task.ReportKind.{ReportKind}
+use Rattle.surveyor.specs.declared.task.ReportKind.TheVariants.{Sums, Lines, Table, Picture, Least}
+use Rattle.surveyor.specs.declared.task.Survey.{Survey}
 
 -- the value of an option, or what stands for it
 abbrev pub value : Text → Text → List Row → Text
 value name without rows = unwrap_or (given name rows) without
 
 -- what is printed: at most one of its words stands there
-abbrev pub shape_by : Bool → Bool → Bool → Bool → Option Shape
+abbrev pub shape_by : Bool → Bool → Bool → Bool → Option ReportKind
 shape_by false false false false = Some Sums
 shape_by true false false false = Some Lines
 shape_by false true false false = Some Table
@@ -28,7 +28,7 @@ shape_by false false true false = Some Picture
 shape_by false false false true = Some Least
 shape_by _ _ _ _ = None
 
-abbrev pub shape_in : List Row → Option Shape
+abbrev pub shape_in : List Row → Option ReportKind
 shape_in rows = shape_by (has (codes "lines") rows) (has (codes "table") rows) (has (codes "svg") rows)
     (has (codes "shrink") rows)
 
@@ -39,7 +39,7 @@ IsPatience (Some word) None = ⊥
 IsPatience (Some word) (Some steps) = (decimal_of word ≡ Some steps) × (1 ≤ steps) × (steps ≤ 4096)
 
 -- the word tells numbers from one to another, none below the least or above the most
-pub record IsWithin (least most : ℕ) (word : Text) (span : Span) : Type 0 where
+pub record IsWithin (least most : ℕ) (word : Text) (span : CountRange) : Type 0 where
   pub told : IsTold word span.low span.high
   pub ordered : span.low ≤ span.high
   pub from : least ≤ span.low
@@ -69,7 +69,7 @@ pub record IsSurveying (rows : List Row) (s : Survey) : Type 0 where
   pub keep : option_map string_bytes s.keep ≡ given (codes "keep") rows
 
 -- `--break` prints campaigns, or a table alone, and keeps nothing
-abbrev pub break_shape : Bool → Shape
+abbrev pub break_shape : Bool → ReportKind
 break_shape true = Table
 break_shape false = Sums
 

@@ -3,28 +3,28 @@ use Rattle.std.specs.Prelude.{ℕ, ◌≡◌, ◌+◌, cond, List, [], ◌∷◌
 use Rattle.std.specs.List.{AllZip}
 use Rattle.std.specs.Io.KnownBytes.{Appends}
 use Rattle.rayon.specs.Numbers.{nat_range}
-use Rattle.survey.specs.declared.finding.Finding.{Finding}
-use Rattle.survey.specs.Family.{Family}
-use Rattle.survey.specs.Heads.{head_text}
-use Rattle.survey.specs.Judging.{IsFindingOf}
-use Rattle.survey.specs.Lines.{line_text}
-use Rattle.survey.specs.Plotting.{plot_of}
-use Rattle.survey.specs.Sums.{is_sound, sums_of}
-use Rattle.survey.specs.Wording.{plot_text}
-use Rattle.survey_tables.specs.Counts.{sums_text}
-use Rattle.survey_tables.specs.Groups.{groups_of}
-use Rattle.survey_tables.specs.Pictures.{picture_text}
-use Rattle.survey_tables.specs.Tables.{table_text}
-use Rattle.shrink.specs.declared.breach.Breach.{Breach}
-use Rattle.shrink.specs.Breaches.{IsLeastOf, IsShrunk, statements}
-use Rattle.surveyor.specs.declared.asked.Shape.{Shape}
-use Rattle.surveyor.specs.declared.asked.Shape.TheVariants.{Sums, Lines, Table, Picture, Least}
-use Rattle.surveyor.specs.declared.asked.Survey.{Survey}
+use Rattle.survey_draw.specs.declared.finding.Finding.{Finding}
+use Rattle.survey_draw.specs.Family.{Family}
+use Rattle.survey_draw.specs.Heads.{head_text}
+use Rattle.survey_draw.specs.Judging.{IsFindingOf}
+use Rattle.survey_draw.specs.Lines.{line_text}
+use Rattle.survey_draw.specs.Plotting.{plot_of}
+use Rattle.survey_draw.specs.Sums.{is_sound, sums_of}
+use Rattle.survey_draw.specs.Wording.{plot_text}
+use Rattle.survey_search.specs.Counts.{sums_text}
+use Rattle.survey_search.specs.Groups.{groups_of}
+use Rattle.survey_search.specs.Pictures.{picture_text}
+use Rattle.survey_search.specs.Tables.{table_text}
+use Rattle.survey_search.specs.declared.breach.Breach.{Breach}
+use Rattle.survey_search.specs.Breaches.{IsLeastOf, IsShrunk, statements}
+use Rattle.surveyor.specs.declared.task.ReportKind.{ReportKind}
+use Rattle.surveyor.specs.declared.task.ReportKind.TheVariants.{Sums, Lines, Table, Picture, Least}
+use Rattle.surveyor.specs.declared.task.Survey.{Survey}
 use Rattle.surveyor.specs.Kept.{File, Gains, breach_files, campaign_files}
 use Rattle.surveyor.specs.Words.{IsFamilyOf}
 
 -- what is told of campaigns in the end
-abbrev pub summary_text : Shape → List Finding → List ℕ
+abbrev pub summary_text : ReportKind → List Finding → List ℕ
 summary_text Sums found = sums_text (sums_of found)
 summary_text Table found = table_text (groups_of found)
 summary_text Picture found = picture_text (groups_of found)
@@ -32,16 +32,16 @@ summary_text Lines found = []
 summary_text Least found = []
 
 -- the lines of campaigns, where lines are asked for, and their head
-abbrev pub lines_in : Shape → List Finding → List ℕ
+abbrev pub lines_in : ReportKind → List Finding → List ℕ
 lines_in Lines found = flat_map line_text found
 lines_in _ found = []
 
 -- the campaigns that are summed in the end
-abbrev pub added : Shape → List Finding → List Finding
+abbrev pub added : ReportKind → List Finding → List Finding
 added Lines found = []
 added _ found = found
 
-abbrev pub head_in : Shape → Family → List ℕ
+abbrev pub head_in : ReportKind → Family → List ℕ
 head_in Lines f = head_text f
 head_in _ f = []
 
@@ -84,7 +84,7 @@ pub record IsLeastKept (s : Survey) (f : Family) (before after : Option (List Fi
   pub least : IsLeastOf all found
   pub kept : Gains before after (breach_files s.keep all)
 
-abbrev pub IsToldIn : Shape → Survey → Family → List ℕ → List File → Type 0
+abbrev pub IsToldIn : ReportKind → Survey → Family → List ℕ → List File → Type 0
 IsToldIn Least s f text files = IsShrunken s f text files
 IsToldIn _ s f text files = IsPlayed s f text files
 

@@ -6,13 +6,13 @@ use Rattle.clap.specs.declared.error.kind.ErrorKind.{ErrorKind}
 use Rattle.clap.specs.declared.error.kind.ErrorKind.TheVariants.{DisplayHelp, DisplayVersion}
 use Rattle.scenario.specs.ErrorText.{told}
 use Rattle.streams.specs.Names.{shown}
-use Rattle.surveyor.specs.declared.asked.AskedError.{AskedError}
-use Rattle.surveyor.specs.declared.asked.AskedError.TheVariants as asked
-use Rattle.surveyor.specs.declared.fault.Fault.{Fault}
-use Rattle.surveyor.specs.declared.fault.Fault.TheVariants.{Unread, NotText, Unwritten, Refused, Campaign, Words, Memory}
+use Rattle.surveyor.specs.declared.task.AskedError.{AskedError}
+use Rattle.surveyor.specs.declared.task.AskedError.TheVariants as asked
+use Rattle.surveyor.specs.declared.fault.SurveyFailure.{SurveyFailure}
+use Rattle.surveyor.specs.declared.fault.SurveyFailure.TheVariants.{Unread, NotText, Unwritten, Refused, Campaign, Words, Memory}
 
 -- a file, the output or what they tell is at fault; the words are no text; memory is wanting
-abbrev pub status_of : Fault → ℕ
+abbrev pub status_of : SurveyFailure → ℕ
 status_of (Unread name) = 1
 status_of (NotText name) = 1
 status_of (Unwritten name) = 1
@@ -22,7 +22,7 @@ status_of Words = 2
 status_of Memory = 3
 
 -- what is told then; the name of a file as docs/FORMATS.md, "Faults of files", says
-abbrev pub fault_text : Fault → Option (List ℕ)
+abbrev pub fault_text : SurveyFailure → Option (List ℕ)
 fault_text (Unread name) = Some (codes "fault read ") ++? shown (string_bytes name)
 fault_text (NotText name) = Some (codes "fault text ") ++? shown (string_bytes name)
 fault_text (Unwritten (Some name)) = Some (codes "fault write ") ++? shown (string_bytes name)
@@ -46,7 +46,7 @@ IsUnasked asked.Rule status = status ≡ 2
 IsUnasked asked.Memory status = ⊥
 
 -- help cannot be printed, or memory is wanting
-abbrev pub IsUnhelped : AskedError → Fault → Type 0
+abbrev pub IsUnhelped : AskedError → SurveyFailure → Type 0
 IsUnhelped (asked.Words refusal) fault = ¬ IsMistake (kind_of refusal)
 IsUnhelped asked.Memory fault = fault ≡ Memory
 IsUnhelped _ fault = ⊥

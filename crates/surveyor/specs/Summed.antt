@@ -2,10 +2,10 @@
 use Rattle.std.specs.Prelude.{ℕ, ◌≡◌, ◌≢◌, ◌≤◌, ◌-◌, ◌^◌, min, max, List, [], ◌∷◌, ◌++◌, length, Option, None, Some}
 use Rattle.std.specs.List.{AllZip}
 use Rattle.std.specs.Io.KnownBytes.{Appends}
-use Rattle.survey.specs.declared.finding.Finding.{Finding}
-use Rattle.survey.specs.Parts.{AreOf, IsPart}
-use Rattle.survey_tables.specs.Covering.{seeds_in, times}
-use Rattle.surveyor.specs.declared.asked.Merge.{Merge}
+use Rattle.survey_draw.specs.declared.finding.Finding.{Finding}
+use Rattle.survey_draw.specs.Parts.{AreOf, IsPart}
+use Rattle.survey_search.specs.Covering.{seeds_in, times}
+use Rattle.surveyor.specs.declared.task.Merge.{Merge}
 use Rattle.surveyor.specs.Printed.{summary_text}
 
 -- the seeds that may be told: all of 64 bits, where none are said

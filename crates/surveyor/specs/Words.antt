@@ -5,12 +5,12 @@ use Rattle.asm.specs.Program.{program_of}
 use Rattle.codec.specs.Spelling.{program_bytes}
 use Rattle.verify.specs.Judgement.{judged}
 use Rattle.combine.specs.Names.{default_rule, rule_named}
-use Rattle.survey.specs.declared.adversary.Adversary.{Adversary}
-use Rattle.survey.specs.declared.adversary.Adversary.TheVariants.{Lies, Silent, Collude, Given}
-use Rattle.survey.specs.declared.manner.Manner.{Manner}
-use Rattle.survey.specs.declared.manner.Manner.TheVariants.{Oral, Signed}
-use Rattle.survey.specs.Family.{Family}
-use Rattle.surveyor.specs.declared.asked.Survey.{Survey}
+use Rattle.survey_draw.specs.declared.adversary.Adversary.{Adversary}
+use Rattle.survey_draw.specs.declared.adversary.Adversary.TheVariants.{Lies, Silent, Collude, Given}
+use Rattle.survey_draw.specs.declared.manner.Manner.{Manner}
+use Rattle.survey_draw.specs.declared.manner.Manner.TheVariants.{Oral, Signed}
+use Rattle.survey_draw.specs.Family.{Family}
+use Rattle.surveyor.specs.declared.task.Survey.{Survey}
 
 abbrev pub plain_manner : Bool → Manner
 plain_manner true = Signed

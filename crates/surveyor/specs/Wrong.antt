@@ -5,16 +5,16 @@ use Rattle.clap.specs.Words.{IsAmong, Row, Text, fault_of, kind_of, matches_of}
 use Rattle.clap.specs.declared.error.Error.{Error}
 use Rattle.clap.specs.declared.error.kind.ErrorKind.TheVariants.{OutOfMemory}
 use Rattle.combine.specs.Names.{rule_named}
-use Rattle.survey.specs.declared.span.Span.{Span}
+use Rattle.survey_draw.specs.declared.span.CountRange.{CountRange}
 use Rattle.surveyor.specs.Flags.{given, has, survey_app}
 use Rattle.surveyor.specs.Meant.{AreSeeds, Asks, IsPatience, IsWithin, bars_sum, break_shape, names_in, shape_in, some_traitors, value}
-use Rattle.surveyor.specs.declared.asked.Asked.{Asked}
-use Rattle.surveyor.specs.declared.asked.AskedError.{AskedError}
-use Rattle.surveyor.specs.declared.asked.AskedError.TheVariants.{Words, Value, Rule, Memory}
-use Rattle.surveyor.specs.declared.asked.Shape.{Shape}
+use Rattle.surveyor.specs.declared.task.Asked.{Asked}
+use Rattle.surveyor.specs.declared.task.AskedError.{AskedError}
+use Rattle.surveyor.specs.declared.task.AskedError.TheVariants.{Words, Value, Rule, Memory}
+use Rattle.surveyor.specs.declared.task.ReportKind.{ReportKind}
 
 abbrev pub IsOutside : ℕ → ℕ → Text → Type 0
-IsOutside least most word = (span : Span) → IsWithin least most word span → ⊥
+IsOutside least most word = (span : CountRange) → IsWithin least most word span → ⊥
 
 abbrev pub AreNoSeeds : Text → Type 0
 AreNoSeeds word = (seeds : ℕ × ℕ) → AreSeeds word seeds → ⊥
@@ -23,7 +23,7 @@ abbrev pub IsNoPatience : Option Text → Type 0
 IsNoPatience word = (steps : Option ℕ) → IsPatience word steps → ⊥
 
 -- what breaks agreement is not printed so
-abbrev pub IsNoBreak : Shape → Type 0
+abbrev pub IsNoBreak : ReportKind → Type 0
 IsNoBreak shape = (is_table : Bool) → shape ≢ break_shape is_table
 
 -- more than one of these names is standard input
@@ -47,7 +47,7 @@ pub data IsWrong (rows : List Row) (why : Text) : Type 0 where
   shape : why ≡ codes "one of --lines, --table, --svg, --shrink and --break is printed" →
       shape_in rows ≡ None → IsWrong rows why
   broken : why ≡ codes "--break is printed, or with --table as a table alone" →
-      has (codes "break") rows ≡ true → (shape : Shape) → shape_in rows ≡ Some shape → IsNoBreak shape → IsWrong rows why
+      has (codes "break") rows ≡ true → (shape : ReportKind) → shape_in rows ≡ Some shape → IsNoBreak shape → IsWrong rows why
   keep : why ≡ codes "--break keeps nothing: what it prints can be sent to a file" →
       has (codes "break") rows ≡ true → has (codes "keep") rows ≡ true → IsWrong rows why
   sum : why ≡ codes "--sum plays nothing: beside it stand --seeds, --table and --svg alone" →

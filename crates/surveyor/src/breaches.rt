@@ -1,22 +1,21 @@
 //! What breaks agreement, for each number of generals and each bound.
 ghost use Rattle.std.specs.Prelude.{◌≡◌, ◌≤◌, ◌+◌, ◌-◌, min, Option, IfErr, IfOk, OnOk};
 ghost use Rattle.std.specs.Io.KnownBytes.{Appends};
-ghost use Rattle.shrink.specs.declared.breach.Breaking.{Breaking as Found};
-ghost use Rattle.survey_tables.specs.Breakings.{breaking_text};
+ghost use Rattle.survey_search.specs.declared.breach.Breaking.{Breaking as Found};
+ghost use Rattle.survey_search.specs.Breakings.{breaking_text};
 ghost use Rattle.surveyor.specs.Asked.{IsSurvey};
 ghost use Rattle.surveyor.specs.Broken.{IsBreakAnswered, IsBroken, IsSearched, break_header, cut_to, gap};
 ghost use Rattle.surveyor.specs.Ends.{IsSearchRefused, IsStopped, IsUnended};
 
-use crate::asked::Survey;
 use crate::family::family_of;
-use crate::fault::Fault;
+use crate::fault::SurveyFailure;
 use crate::pieces::refused;
-use crate::printing::print;
-use shrink::{Breaking, breaking};
+use crate::printer::print;
+use crate::task::Survey;
 use std::thread::Threads;
 use streams::Output;
-use survey::{Family, Span};
-use survey_tables::breaking_text;
+use survey_draw::{CountRange, Family};
+use survey_search::{Breaking, breaking, breaking_text};
 
 /// Prints for each number of generals and each bound that they can have the fewest traitors by whom agreement is broken
 /// in a seed's campaign, and the least of what is left of these.
@@ -31,7 +30,7 @@ pub fn broken<T: Threads + Sync, O: Output>(
     out: &mut O,
     asked: &Survey,
     is_table: bool,
-) -> Result<(), Fault>
+) -> Result<(), SurveyFailure>
     requires { IsSurvey asked.now }
     ensures answered { OnOk result (IsBreakAnswered asked.now is_table (O.contents out.old) (O.contents out.new)) }
     ensures refused { IfErr result (IsUnended asked.now (IsSearchRefused asked.now)) }
@@ -49,7 +48,7 @@ fn put_entries<T: Threads + Sync, O: Output>(
     asked: &Survey,
     family: &Family,
     is_table: bool,
-) -> Result<(), Fault>
+) -> Result<(), SurveyFailure>
     requires { IsSurvey asked.now }
     ensures broken { OnOk result (IsBroken asked.now family.now is_table (O.contents out.old) (O.contents out.new)) }
     ensures stopped { IfErr result (IsStopped asked.now (IsSearchRefused asked.now family.now)) }
@@ -69,7 +68,7 @@ fn put_entries<T: Threads + Sync, O: Output>(
 }
 
 /// One more than the greatest bound of the span that so many generals can have.
-fn bounds_end(generals: u8, bound: Span) -> u8
+fn bounds_end(generals: u8, bound: CountRange) -> u8
     ensures { result ≡ min bound.high (min 4 (generals - 2)) + 1 }
 {
     bound.high.min(generals.saturating_sub(2).min(4)) + 1
@@ -104,7 +103,7 @@ fn put_entry<T: Threads + Sync, O: Output>(
     generals: u8,
     bound: u8,
     is_table: bool,
-) -> Result<(), Fault>
+) -> Result<(), SurveyFailure>
     requires asked { IsSurvey asked.now }
     requires least { 2 ≤ generals }
     requires most { generals ≤ 13 }
@@ -126,7 +125,7 @@ fn searched<T: Threads + Sync>(
     family: &Family,
     generals: u8,
     bound: u8,
-) -> Result<Option<Breaking>, Fault>
+) -> Result<Option<Breaking>, SurveyFailure>
     requires asked { IsSurvey asked.now }
     requires least { 2 ≤ generals }
     requires most { generals ≤ 13 }
@@ -151,10 +150,10 @@ fn searched<T: Threads + Sync>(
 }
 
 /// The traitors of a span, cut to all generals where they are more.
-fn cut_to(generals: u8, span: Span) -> Span
+fn cut_to(generals: u8, span: CountRange) -> CountRange
     ensures { result ≡ cut_to generals span }
 {
-    Span {
+    CountRange {
         low: span.low.min(generals),
         high: span.high.min(generals),
     }

@@ -1,15 +1,15 @@
-//! How a call comes out. Only what is here makes an `Ending`: of what was done, or of words that ask for nothing.
+//! How a call comes out. Only what is here makes an `SurveyEnding`: of what was done, or of words that ask for nothing.
 ghost use Rattle.std.specs.Prelude.{◌≡◌, IfErr, IfOk};
 ghost use Rattle.surveyor.specs.Asked.{IsAsked};
 ghost use Rattle.surveyor.specs.Done.{IsDone, IsUndone};
 ghost use Rattle.surveyor.specs.Statuses.{IsUnasked, IsUnhelped};
 
-use crate::asked::{Asked, AskedError};
-use crate::breaking::broken;
-use crate::fault::Fault;
+use crate::breaches::broken;
+use crate::fault::SurveyFailure;
+use crate::file_sums::summed;
 use crate::keeper::Keeper;
-use crate::summing::summed;
-use crate::surveying::surveyed;
+use crate::played_survey::surveyed;
+use crate::task::{Asked, AskedError};
 use combine::Rule;
 use std::marker::PhantomData;
 use std::thread::Threads;
@@ -17,7 +17,7 @@ use streams::Output;
 
 /// How a call comes out whose output is an `O`, and whose campaigns are kept by a `K`.
 #[derive(Drop)]
-pub struct Ending<O, K> {
+pub struct SurveyEnding<O, K> {
     /// What the words ask for, or why they ask for nothing.
     asked: Result<Asked, AskedError>,
     /// The exit status.
@@ -26,7 +26,7 @@ pub struct Ending<O, K> {
     keeper: PhantomData<K>,
 }
 
-impl<O: Output, K: Keeper> Ending<O, K> {
+impl<O: Output, K: Keeper> SurveyEnding<O, K> {
     /// Does what is asked for, or says why nothing is.
     ///
     /// # Errors
@@ -38,7 +38,7 @@ impl<O: Output, K: Keeper> Ending<O, K> {
         out: &mut O,
         keeper: &mut K,
         asked: Result<Asked, AskedError>,
-    ) -> Result<Ending<O, K>, Fault>
+    ) -> Result<SurveyEnding<O, K>, SurveyFailure>
         requires { IfOk asked IsAsked }
         ensures asked { IfOk result (λ ending. ending.asked ≡ asked) }
         ensures done { IfOk result (λ ending.
@@ -47,7 +47,7 @@ impl<O: Output, K: Keeper> Ending<O, K> {
         ensures undone { IfErr result (IsUndone asked) }
     {
         let status = done(rt, threads, out, keeper, &asked)?;
-        Ok(Ending {
+        Ok(SurveyEnding {
             asked,
             status,
             output: PhantomData,
@@ -70,7 +70,7 @@ fn done<T: Threads + Sync, O: Output, K: Keeper>(
     out: &mut O,
     keeper: &mut K,
     asked: &Result<Asked, AskedError>,
-) -> Result<u8, Fault>
+) -> Result<u8, SurveyFailure>
     requires { IfOk asked.now IsAsked }
     ensures done { IfOk result
         (IsDone asked.now (O.contents out.old) (O.contents out.new) (K.files keeper.old) (K.files keeper.new)) }
@@ -91,7 +91,7 @@ fn done<T: Threads + Sync, O: Output, K: Keeper>(
 }
 
 /// Says why the words ask for nothing, or prints help. The result is the exit status.
-fn unasked(rt: &HostRuntime, error: &AskedError) -> Result<u8, Fault>
+fn unasked(rt: &HostRuntime, error: &AskedError) -> Result<u8, SurveyFailure>
     ensures status { IfOk result (IsUnasked error.now) }
     ensures unhelped { IfErr result (IsUnhelped error.now) }
 {
@@ -113,6 +113,6 @@ fn unasked(rt: &HostRuntime, error: &AskedError) -> Result<u8, Fault>
             let _ = rt.eprintln(format_args!("error: --rule takes {names}"));
             Ok(2)
         }
-        AskedError::Memory => Err(Fault::Memory),
+        AskedError::Memory => Err(SurveyFailure::Memory),
     }
 }

@@ -4,13 +4,13 @@ ghost use Rattle.surveyor.specs.Asked.{IsSurvey};
 ghost use Rattle.surveyor.specs.Faults.{IsFile, IsRefusedText, IsUnsaid, IsUnsound, IsUntaken};
 ghost use Rattle.surveyor.specs.Words.{IsFamilyOf, IsNamed, IsProgramOf};
 
-use crate::asked::Survey;
-use crate::fault::Fault;
+use crate::fault::SurveyFailure;
 use crate::input::bytes_of;
+use crate::task::Survey;
 use asm::{AsmError, assemble};
 use codec::encode;
 use std::alloc::Global;
-use survey::{Adversary, Family};
+use survey_draw::{Adversary, Family};
 use verify::{VerifyError, verify};
 
 /// The family of a survey. A file of assembly is read for it.
@@ -18,7 +18,7 @@ use verify::{VerifyError, verify};
 /// # Errors
 ///
 /// The file is not read, is no text, or is refused.
-pub fn family_of(rt: &HostRuntime, survey: &Survey) -> Result<Family, Fault>
+pub fn family_of(rt: &HostRuntime, survey: &Survey) -> Result<Family, SurveyFailure>
     requires { IsSurvey survey.now }
     ensures family { IfOk result (IsFamilyOf survey.now) }
     // Only where a file is named does it fail.
@@ -37,7 +37,7 @@ pub fn family_of(rt: &HostRuntime, survey: &Survey) -> Result<Family, Fault>
 }
 
 /// What the traitors do whom a word names.
-fn adversary_of(rt: &HostRuntime, word: &str) -> Result<Adversary, Fault>
+fn adversary_of(rt: &HostRuntime, word: &str) -> Result<Adversary, SurveyFailure>
     ensures named { IfOk result (IsNamed word.now) }
     ensures file { IfErr result (λ _. IsFile word.now) }
     ensures refused { IfErr result (IsUntaken word.now) }
@@ -51,7 +51,7 @@ fn adversary_of(rt: &HostRuntime, word: &str) -> Result<Adversary, Fault>
 }
 
 /// The bytecode of a file of assembly, or of standard input, in hex.
-fn hex_of(rt: &HostRuntime, name: &str) -> Result<String, Fault>
+fn hex_of(rt: &HostRuntime, name: &str) -> Result<String, SurveyFailure>
     ensures program { IfOk result (λ hex. (text : List ℕ) × IsProgramOf text (string_bytes hex)) }
     ensures refused { IfErr result (IsUntaken name.now) }
 {
@@ -59,12 +59,12 @@ fn hex_of(rt: &HostRuntime, name: &str) -> Result<String, Fault>
     let bytes = bytes_of(rt, name)?;
     match str::from_utf8(bytes.as_slice()) {
         Ok(text) => program_hex(alloc, text),
-        Err(_) => Err(Fault::NotText(String::from_str(alloc, name)?)),
+        Err(_) => Err(SurveyFailure::NotText(String::from_str(alloc, name)?)),
     }
 }
 
 /// The bytecode of a text of assembly, in hex. The verifier must accept it.
-fn program_hex(alloc: Global, text: &str) -> Result<String, Fault>
+fn program_hex(alloc: Global, text: &str) -> Result<String, SurveyFailure>
     ensures program { IfOk result (λ hex. IsProgramOf text.now (string_bytes hex)) }
     ensures refused { IfErr result (IsRefusedText text.now) }
 {
@@ -80,27 +80,27 @@ fn program_hex(alloc: Global, text: &str) -> Result<String, Fault>
 }
 
 /// That a text says no program.
-fn unsaid(alloc: Global, error: AsmError) -> Fault
+fn unsaid(alloc: Global, error: AsmError) -> SurveyFailure
     ensures { IsUnsaid error result }
 {
     match error {
-        AsmError::Memory => Fault::Memory,
+        AsmError::Memory => SurveyFailure::Memory,
         error => match format!(in alloc; "refused {error}") {
-            Ok(line) => Fault::Refused(line),
-            Err(_) => Fault::Memory,
+            Ok(line) => SurveyFailure::Refused(line),
+            Err(_) => SurveyFailure::Memory,
         },
     }
 }
 
 /// That a program is refused.
-fn unsound(alloc: Global, fault: VerifyError) -> Fault
+fn unsound(alloc: Global, fault: VerifyError) -> SurveyFailure
     ensures { IsUnsound fault result }
 {
     match fault {
-        VerifyError::Memory => Fault::Memory,
+        VerifyError::Memory => SurveyFailure::Memory,
         fault => match format!(in alloc; "refused {fault}") {
-            Ok(line) => Fault::Refused(line),
-            Err(_) => Fault::Memory,
+            Ok(line) => SurveyFailure::Refused(line),
+            Err(_) => SurveyFailure::Memory,
         },
     }
 }

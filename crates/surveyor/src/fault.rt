@@ -12,7 +12,7 @@ use streams::{FileName, Output};
 
 /// Why a survey comes to no end.
 #[derive(Drop)]
-pub enum Fault {
+pub enum SurveyFailure {
     /// A file of this name cannot be read.
     Unread(String),
     /// A file of this name is no text in UTF-8.
@@ -29,82 +29,86 @@ pub enum Fault {
     Memory,
 }
 
-impl fmt::Display for Fault {
+impl fmt::Display for SurveyFailure {
     ghost use Rattle.surveyor.specs.Statuses.{fault_text};
 
     ghost output = { fault_text };
 
     fn fmt<W: fmt::Write>(&self, f: &mut fmt::Formatter<W>) -> fmt::Result {
         match self {
-            Fault::Unread(name) => write!(f, "fault read {}", FileName(name.as_str())),
-            Fault::NotText(name) => write!(f, "fault text {}", FileName(name.as_str())),
-            Fault::Unwritten(Some(name)) => write!(f, "fault write {}", FileName(name.as_str())),
-            Fault::Unwritten(None) => f.write_str("fault write"),
-            Fault::Refused(line) => f.write_str(line.as_str()),
-            Fault::Campaign(first, last, error) => {
+            SurveyFailure::Unread(name) => write!(f, "fault read {}", FileName(name.as_str())),
+            SurveyFailure::NotText(name) => write!(f, "fault text {}", FileName(name.as_str())),
+            SurveyFailure::Unwritten(Some(name)) => write!(
+                f,
+                "fault write {}",
+                FileName(name.as_str())
+            ),
+            SurveyFailure::Unwritten(None) => f.write_str("fault write"),
+            SurveyFailure::Refused(line) => f.write_str(line.as_str()),
+            SurveyFailure::Campaign(first, last, error) => {
                 write!(f, "refused {error} (of seeds {first}..{last})")
             }
-            Fault::Words => f.write_str("error: the words are not UTF-8"),
-            Fault::Memory => f.write_str("out of memory"),
+            SurveyFailure::Words => f.write_str("error: the words are not UTF-8"),
+            SurveyFailure::Memory => f.write_str("out of memory"),
         }
     }
 }
 
-impl From<AllocError> for Fault {
+impl From<AllocError> for SurveyFailure {
     ghost use Rattle.std.specs.Prelude.{◌≡◌};
-    ghost use Rattle.surveyor.specs.declared.fault.Fault.TheVariants.{Memory};
+    ghost use Rattle.surveyor.specs.declared.fault.SurveyFailure.TheVariants.{Memory};
 
     ghost from_gives = { λ _ fault. fault ≡ Memory };
 
-    fn from(_error: AllocError) -> Fault {
-        Fault::Memory
+    fn from(_error: AllocError) -> SurveyFailure {
+        SurveyFailure::Memory
     }
 }
 
-impl<T: Drop> From<AllocFailed<T>> for Fault {
+impl<T: Drop> From<AllocFailed<T>> for SurveyFailure {
     ghost use Rattle.std.specs.Prelude.{◌≡◌};
-    ghost use Rattle.surveyor.specs.declared.fault.Fault.TheVariants.{Memory};
+    ghost use Rattle.surveyor.specs.declared.fault.SurveyFailure.TheVariants.{Memory};
 
     ghost from_gives = { λ _ fault. fault ≡ Memory };
 
-    fn from(_error: AllocFailed<T>) -> Fault {
-        Fault::Memory
+    fn from(_error: AllocFailed<T>) -> SurveyFailure {
+        SurveyFailure::Memory
     }
 }
 
-impl From<io::Error> for Fault {
+impl From<io::Error> for SurveyFailure {
     ghost use Rattle.std.specs.Prelude.{◌≡◌, ◌⊎◌};
     ghost use Rattle.surveyor.specs.Faults.{IsUnprinted};
-    ghost use Rattle.surveyor.specs.declared.fault.Fault.TheVariants.{Words as NotTextual};
+    ghost use Rattle.surveyor.specs.declared.fault.SurveyFailure.TheVariants.{Words as NotTextual};
 
     ghost from_gives = { λ _ fault. (fault ≡ NotTextual) ⊎ IsUnprinted fault };
 
-    fn from(error: io::Error) -> Fault {
+    fn from(error: io::Error) -> SurveyFailure {
         match error.kind() {
-            ErrorKind::OutOfMemory => Fault::Memory,
-            ErrorKind::InvalidData => Fault::Words,
-            _ => Fault::Unwritten(None),
+            ErrorKind::OutOfMemory => SurveyFailure::Memory,
+            ErrorKind::InvalidData => SurveyFailure::Words,
+            _ => SurveyFailure::Unwritten(None),
         }
     }
 }
 
 /// The exit status of a call that comes to this end.
-fn status_of(fault: &Fault) -> u8
+fn status_of(fault: &SurveyFailure) -> u8
     ensures { result ≡ status_of fault.now }
 {
     match fault {
-        Fault::Unread(_)
-        | Fault::NotText(_)
-        | Fault::Unwritten(_)
-        | Fault::Refused(_)
-        | Fault::Campaign(_, _, _) => 1,
-        Fault::Words => 2,
-        Fault::Memory => 3,
+        SurveyFailure::Unread(_)
+        | SurveyFailure::NotText(_)
+        | SurveyFailure::Unwritten(_)
+        | SurveyFailure::Refused(_)
+        | SurveyFailure::Campaign(_, _, _) => 1,
+        SurveyFailure::Words => 2,
+        SurveyFailure::Memory => 3,
     }
 }
 
 /// Says why on standard error. The result is the exit status.
-pub fn tell<F: Output>(fault: &Fault, error: &mut F) -> u8
+pub fn tell<F: Output>(fault: &SurveyFailure, error: &mut F) -> u8
     ensures status { result ≡ status_of fault.now }
     ensures told { F.fails error.old ⊎ IfSome (with_newline (fault_text fault.now))
         (Appends (F.contents error.old) (F.contents error.new)) }

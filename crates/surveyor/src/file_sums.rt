@@ -1,17 +1,17 @@
 //! What files tell.
 ghost use Rattle.std.specs.Prelude.{◌≡◌, ◌≢◌, IfErr, IfOk, length};
-ghost use Rattle.survey.specs.Parts.{AreOf};
+ghost use Rattle.survey_draw.specs.Parts.{AreOf};
 ghost use Rattle.surveyor.specs.Faults.{IsNoPart, IsUnsummed, IsUntold};
 ghost use Rattle.surveyor.specs.Summed.{AreEnds, IsAskedFor, IsCoveredBy, IsSummed, IsTold, span_of, with_seed};
 
-use crate::asked::Merge;
-use crate::fault::Fault;
+use crate::fault::SurveyFailure;
 use crate::input::bytes_of;
-use crate::printing::put_summary;
+use crate::printer::put_summary;
+use crate::task::Merge;
 use std::alloc::{AllocError, Global};
 use streams::{FileName, Output};
-use survey::{Finding, PartError, Parts, read_part};
-use survey_tables::{Stretch, doubles, holes};
+use survey_draw::{Finding, PartError, Parts, read_part};
+use survey_search::{Stretch, doubles, holes};
 
 /// Prints what the lines of files come to, and says on standard error which seeds lack, and which stand there more than
 /// once. The result is the exit status: 1 where there are such seeds.
@@ -20,7 +20,7 @@ use survey_tables::{Stretch, doubles, holes};
 ///
 /// What keeps it from its end.
 #[tactic(auto, using(crate::proofs::FaultLemmas::untold_summed, crate::proofs::FaultLemmas::unprinted_summed, crate::proofs::FaultLemmas::unsummed_by_memory))]
-pub fn summed<O: Output>(rt: &HostRuntime, out: &mut O, asked: &Merge) -> Result<u8, Fault>
+pub fn summed<O: Output>(rt: &HostRuntime, out: &mut O, asked: &Merge) -> Result<u8, SurveyFailure>
     ensures summed { IfOk result (IsSummed asked.now (O.contents out.old) (O.contents out.new)) }
     ensures refused { IfErr result (IsUnsummed asked.now) }
 {
@@ -33,7 +33,7 @@ pub fn summed<O: Output>(rt: &HostRuntime, out: &mut O, asked: &Merge) -> Result
 
 /// What the lines of the files tell.
 #[tactic(auto, using(crate::proofs::FaultLemmas::unread_one, crate::proofs::FaultLemmas::no_part_told))]
-fn told(rt: &HostRuntime, asked: &Merge) -> Result<Parts, Fault>
+fn told(rt: &HostRuntime, asked: &Merge) -> Result<Parts, SurveyFailure>
     ensures told { IfOk result (λ parts. IsTold asked.now parts.head.items parts.findings.items) }
     ensures refused { IfErr result (IsUntold asked.now) }
 {
@@ -70,17 +70,22 @@ fn span_of(seeds: Option<(u64, u64)>) -> (u64, u64)
 }
 
 /// Why a file is no part of the survey that the first one with lines begins.
-fn refused(alloc: Global, name: &str, first: &str, error: PartError) -> Fault
+fn refused(alloc: Global, name: &str, first: &str, error: PartError) -> SurveyFailure
     ensures { IsNoPart name.now first.now error result }
 {
     match refusal(alloc, name, first, error) {
         Ok(fault) => fault,
-        Err(_) => Fault::Memory,
+        Err(_) => SurveyFailure::Memory,
     }
 }
 
 /// The line that says why.
-fn refusal(alloc: Global, name: &str, first: &str, error: PartError) -> Result<Fault, AllocError>
+fn refusal(
+    alloc: Global,
+    name: &str,
+    first: &str,
+    error: PartError,
+) -> Result<SurveyFailure, AllocError>
     ensures { IfOk result (IsNoPart name.now first.now error) }
 {
     let name = FileName(name);
@@ -88,21 +93,21 @@ fn refusal(alloc: Global, name: &str, first: &str, error: PartError) -> Result<F
     match error {
         PartError::Line(number) => {
             let line = format!(in alloc; "refused {name} line {number}")?;
-            Ok(Fault::Refused(line))
+            Ok(SurveyFailure::Refused(line))
         }
         PartError::Family(number) => {
             let line = format!(in alloc;
                 "refused {name} line {number}: another family than that of {first}"
             )?;
-            Ok(Fault::Refused(line))
+            Ok(SurveyFailure::Refused(line))
         }
         PartError::Seed(number, seed) => {
             let line = format!(in alloc;
                 "refused {name} line {number}: seed {seed} is none of --seeds"
             )?;
-            Ok(Fault::Refused(line))
+            Ok(SurveyFailure::Refused(line))
         }
-        PartError::Memory => Ok(Fault::Memory),
+        PartError::Memory => Ok(SurveyFailure::Memory),
     }
 }
 
@@ -154,7 +159,11 @@ fn status_of(holes: &[Stretch], doubles: &[Stretch]) -> u8
 }
 
 /// Says which seeds lack, and which stand there more than once. The result is the exit status.
-fn covered(rt: &HostRuntime, seeds: Option<(u64, u64)>, all: &[Finding]) -> Result<u8, Fault>
+fn covered(
+    rt: &HostRuntime,
+    seeds: Option<(u64, u64)>,
+    all: &[Finding],
+) -> Result<u8, SurveyFailure>
     requires { AreOf (span_of seeds).0 (span_of seeds).1 all.now }
     ensures covered { IfOk result (IsCoveredBy seeds all.now) }
     ensures memory { IfErr result (λ fault. fault ≡ Fault.Memory) }

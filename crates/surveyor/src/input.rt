@@ -2,7 +2,7 @@
 ghost use Rattle.std.specs.Prelude.{IfErr};
 ghost use Rattle.surveyor.specs.Faults.{IsUnread};
 
-use crate::fault::Fault;
+use crate::fault::SurveyFailure;
 use std::fs::read;
 use std::io::{self, ErrorKind, Read};
 
@@ -12,13 +12,13 @@ use std::io::{self, ErrorKind, Read};
 /// # Errors
 ///
 /// It cannot be read.
-pub fn bytes_of(rt: &HostRuntime, name: &str) -> Result<Vec<u8>, Fault>
+pub fn bytes_of(rt: &HostRuntime, name: &str) -> Result<Vec<u8>, SurveyFailure>
     ensures { IfErr result (IsUnread name.now) }
 {
     match taken(rt, name) {
         Ok(bytes) => Ok(bytes),
-        Err(error) if error.kind() == ErrorKind::OutOfMemory => Err(Fault::Memory),
-        Err(_) => Err(Fault::Unread(String::from_str(rt.alloc(), name)?)),
+        Err(error) if error.kind() == ErrorKind::OutOfMemory => Err(SurveyFailure::Memory),
+        Err(_) => Err(SurveyFailure::Unread(String::from_str(rt.alloc(), name)?)),
     }
 }
 

@@ -1,6 +1,6 @@
 //! What takes the files of campaigns.
-use crate::fault::Fault;
-use crate::keeping::keep;
+use crate::fault::SurveyFailure;
+use crate::kept_campaigns::keep;
 use std::fs::File;
 use streams::Filled;
 
@@ -24,7 +24,7 @@ pub trait Keeper {
         folder: &str,
         seed: u64,
         text: &'t str,
-    ) -> Result<Filled<'t, File>, Fault>
+    ) -> Result<Filled<'t, File>, SurveyFailure>
         ensures kept { OnOk result
             (Gains (files self.old) (files self.new) ((kept_name folder.now seed, text.now) ∷ [])) }
         ensures written { IfOk result (IsFilledBy (kept_name folder.now seed) text.now) }
@@ -47,7 +47,7 @@ impl Keeper for Disk<'_> {
         folder: &str,
         seed: u64,
         text: &'t str,
-    ) -> Result<Filled<'t, File>, Fault> {
+    ) -> Result<Filled<'t, File>, SurveyFailure> {
         keep(self.rt, folder, seed, text)
     }
 }

@@ -4,7 +4,7 @@ ghost use Rattle.streams.specs.Filling.{IsFilledBy};
 ghost use Rattle.surveyor.specs.Faults.{IsUnkept, tried_name};
 ghost use Rattle.surveyor.specs.Kept.{beside_name, kept_name};
 
-use crate::fault::Fault;
+use crate::fault::SurveyFailure;
 use std::fs::{File, OpenOptions, create_dir, metadata, remove_file, rename};
 use std::io::{self, ErrorKind};
 use streams::{Filled, fill};
@@ -20,7 +20,7 @@ pub fn keep<'t>(
     folder: &str,
     seed: u64,
     text: &'t str,
-) -> Result<Filled<'t, File>, Fault>
+) -> Result<Filled<'t, File>, SurveyFailure>
     ensures written { IfOk result (IsFilledBy (kept_name folder.now seed) text.now) }
     ensures unkept { IfErr result (IsUnkept (kept_name folder.now seed) (beside_name folder.now seed)) }
 {
@@ -43,7 +43,7 @@ pub fn keep<'t>(
 /// # Errors
 ///
 /// It is no folder and cannot be made, or it takes no file.
-pub fn open_folder(rt: &HostRuntime, folder: &str, number: u64) -> Result<(), Fault>
+pub fn open_folder(rt: &HostRuntime, folder: &str, number: u64) -> Result<(), SurveyFailure>
     ensures { IfErr result (IsUnkept folder.now (tried_name folder.now number)) }
 {
     let alloc = rt.alloc();
@@ -56,13 +56,13 @@ pub fn open_folder(rt: &HostRuntime, folder: &str, number: u64) -> Result<(), Fa
 }
 
 /// That a file is not written: the one beside it is told where it stood there already.
-fn unwritten(kind: ErrorKind, name: String, beside: String) -> Fault
+fn unwritten(kind: ErrorKind, name: String, beside: String) -> SurveyFailure
     ensures { IsUnkept (string_bytes name) (string_bytes beside) result }
 {
     match kind {
-        ErrorKind::OutOfMemory => Fault::Memory,
-        ErrorKind::AlreadyExists => Fault::Unwritten(Some(beside)),
-        _ => Fault::Unwritten(Some(name)),
+        ErrorKind::OutOfMemory => SurveyFailure::Memory,
+        ErrorKind::AlreadyExists => SurveyFailure::Unwritten(Some(beside)),
+        _ => SurveyFailure::Unwritten(Some(name)),
     }
 }
 

@@ -2,42 +2,42 @@
 //! they come out.
 #![tactic(auto)]
 
-mod asked;
-mod breaking;
+mod breaches;
 mod ending;
 mod family;
 mod fault;
+mod file_sums;
 mod flags;
-mod given;
 mod input;
 mod keeper;
-mod keeping;
-mod meant;
+mod kept_campaigns;
+mod minimal_campaigns;
 mod numbers;
 mod pieces;
-mod printing;
+mod played_survey;
+mod printer;
 mod progress;
-mod shrinking;
-mod summing;
-mod surveying;
+mod task;
+mod task_words;
+mod word_values;
 
 ghost use Rattle.std.specs.Prelude.{◌≡◌, ◌⊎◌, List, Result, IfErr, IfOk};
 ghost use Rattle.clap.specs.Words.{Text};
 ghost use Rattle.surveyor.specs.Done.{IsAskedBy, IsUndone};
 ghost use Rattle.surveyor.specs.Faults.{IsUnprinted};
 ghost use Rattle.surveyor.specs.Flags.{words_of};
-ghost use Rattle.surveyor.specs.declared.asked.Asked.{Asked as Wish};
-ghost use Rattle.surveyor.specs.declared.asked.AskedError.{AskedError as NoWish};
-ghost use Rattle.surveyor.specs.declared.fault.Fault.TheVariants.{Words as NotTextual};
+ghost use Rattle.surveyor.specs.declared.task.Asked.{Asked as Wish};
+ghost use Rattle.surveyor.specs.declared.task.AskedError.{AskedError as NoWish};
+ghost use Rattle.surveyor.specs.declared.fault.SurveyFailure.TheVariants.{Words as NotTextual};
 
-use asked::request;
-use ending::Ending;
-use fault::{Fault, tell};
+use ending::SurveyEnding;
+use fault::{SurveyFailure, tell};
 use keeper::Disk;
 use std::env;
 use std::io::Stdout;
 use std::process::ExitCode;
 use std::thread::Threads;
+use task::request;
 
 fn main(rt: HostRuntime) -> ExitCode {
     let status = match called(&rt, &rt) {
@@ -47,11 +47,11 @@ fn main(rt: HostRuntime) -> ExitCode {
     ExitCode::from(status)
 }
 
-/// Reads the words, and does what they ask for, as the result shows: `Ending::of` alone makes it.
+/// Reads the words, and does what they ask for, as the result shows: `SurveyEnding::of` alone makes it.
 fn called<'a, T: Threads + Sync>(
     rt: &'a HostRuntime,
     threads: &T,
-) -> Result<Ending<Stdout, Disk<'a>>, Fault>
+) -> Result<SurveyEnding<Stdout, Disk<'a>>, SurveyFailure>
     ensures asked { IfOk result (λ ending. (words : List Text) × IsAskedBy words ending.asked) }
     ensures undone { IfErr result (λ fault. (fault ≡ NotTextual) ⊎ IsUnprinted fault
         ⊎ ((words : List Text) × (asked : Result Wish NoWish) × IsAskedBy words asked × IsUndone asked fault)) }
@@ -70,10 +70,10 @@ fn answered<'a, T: Threads + Sync>(
     rt: &'a HostRuntime,
     threads: &T,
     words: &[&str],
-) -> Result<Ending<Stdout, Disk<'a>>, Fault>
+) -> Result<SurveyEnding<Stdout, Disk<'a>>, SurveyFailure>
     ensures asked { IfOk result (λ ending. IsAskedBy (words_of words.now) ending.asked) }
     ensures undone { IfErr result (λ fault. (asked : Result Wish NoWish) × IsAskedBy (words_of words.now) asked × IsUndone asked fault) }
 {
     let asked = request(rt.alloc(), words);
-    Ending::of(rt, threads, &mut rt.stdout(), &mut Disk { rt }, asked)
+    SurveyEnding::of(rt, threads, &mut rt.stdout(), &mut Disk { rt }, asked)
 }

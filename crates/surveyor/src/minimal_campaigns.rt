@@ -1,25 +1,25 @@
 //! The least of all campaigns in which agreement is broken.
 ghost use Rattle.std.specs.Prelude.{◌≡◌, List, ℕ, IfErr, IfOk, OnOk, count_by, flat_map, is_some, length, option_map, string_bytes};
 ghost use Rattle.std.specs.Io.KnownBytes.{Appends};
-ghost use Rattle.shrink.specs.Breaches.{IsRefusedIn};
-ghost use Rattle.survey.specs.Plotting.{plot_of};
+ghost use Rattle.survey_search.specs.Breaches.{IsRefusedIn};
+ghost use Rattle.survey_draw.specs.Plotting.{plot_of};
 ghost use Rattle.surveyor.specs.Asked.{IsSurvey};
 ghost use Rattle.surveyor.specs.Ends.{IsStopped};
 ghost use Rattle.surveyor.specs.Faults.{IsKeptIn, IsUnkeptIn};
 ghost use Rattle.surveyor.specs.Kept.{Gains, breach_file, breach_files};
 ghost use Rattle.surveyor.specs.Printed.{IsLeastKept, IsShrunken, least_head, least_text};
 
-use crate::asked::Survey;
-use crate::fault::Fault;
+use crate::fault::SurveyFailure;
 use crate::keeper::Keeper;
 use crate::pieces::{at_once, refused};
-use crate::printing::print;
-use crate::progress::Progress;
-use shrink::{Breach, better, breaches, least, statements};
+use crate::printer::print;
+use crate::progress::SurveyProgress;
+use crate::task::Survey;
 use std::alloc::{AllocError, Global};
 use std::thread::Threads;
 use streams::Output;
-use survey::{Family, Plot, plot_text};
+use survey_draw::{Family, Plot, plot_text};
+use survey_search::{Breach, better, breaches, least, statements};
 
 /// Prints the least of what is left of the seeds' campaigns when traitors and statements are taken out while agreement
 /// stays broken.
@@ -35,7 +35,7 @@ pub fn shrunken<T: Threads + Sync, O: Output, K: Keeper>(
     keeper: &mut K,
     asked: &Survey,
     family: &Family,
-) -> Result<(), Fault>
+) -> Result<(), SurveyFailure>
     requires { IsSurvey asked.now }
     ensures printed { OnOk result ((text : List ℕ) × (files : List (List ℕ × List ℕ))
         × IsShrunken asked.now family.now text files × Appends (O.contents out.old) (O.contents out.new) text
@@ -54,7 +54,7 @@ fn least_left<T: Threads + Sync, K: Keeper>(
     keeper: &mut K,
     asked: &Survey,
     family: &Family,
-) -> Result<Option<Breach>, Fault>
+) -> Result<Option<Breach>, SurveyFailure>
     requires { IsSurvey asked.now }
     ensures least { IfOk result
         (IsLeastKept asked.now family.now (K.files keeper.old) (K.files keeper.new)) }
@@ -66,7 +66,7 @@ fn least_left<T: Threads + Sync, K: Keeper>(
     let mut so_far: Option<Breach> = None;
     let mut broken: u64 = 0;
     let mut next = asked.first;
-    let mut progress = Progress::of(rt, asked.first, asked.last);
+    let mut progress = SurveyProgress::of(rt, asked.first, asked.last);
     while next < end {
         let until = next.saturating_add(many).min(end);
         let found = match breaches(threads, alloc, family, next, until) {
@@ -96,7 +96,7 @@ fn keep_all<K: Keeper>(
     keeper: &mut K,
     asked: &Survey,
     found: &[Option<Breach>],
-) -> Result<(), Fault>
+) -> Result<(), SurveyFailure>
     ensures kept { OnOk result
         (Gains (K.files keeper.old) (K.files keeper.new) (breach_files asked.now.keep found.now)) }
     ensures unkept { IfErr result (IsKeptIn (is_some asked.now.keep)) }
@@ -113,7 +113,7 @@ fn keep_in<K: Keeper>(
     keeper: &mut K,
     folder: &str,
     found: &[Option<Breach>],
-) -> Result<(), Fault>
+) -> Result<(), SurveyFailure>
     ensures kept { OnOk result
         (Gains (K.files keeper.old) (K.files keeper.new) (flat_map (breach_file folder.now) found.now)) }
     ensures unkept { IfErr result IsUnkeptIn }
@@ -131,7 +131,7 @@ fn keep_one<K: Keeper>(
     keeper: &mut K,
     folder: &str,
     breach: Option<&Breach>,
-) -> Result<(), Fault>
+) -> Result<(), SurveyFailure>
     ensures kept { OnOk result (Gains (K.files keeper.old) (K.files keeper.new)
         (breach_file folder.now (option_map (λ breach. breach.now) breach.entry))) }
     ensures unkept { IfErr result IsUnkeptIn }

@@ -3,7 +3,7 @@ ghost use Rattle.std.specs.Prelude.{ℕ, ◌≡◌, ◌≤◌, ◌<◌, ◌-◌,
 ghost use Rattle.surveyor.specs.Numbers.{AreTold, IsNoSpan, IsTold};
 ghost use Rattle.text.specs.Number.{decimal_of};
 
-use survey::Span;
+use survey_draw::CountRange;
 use text::decimal;
 
 /// How many seeds a survey has at most.
@@ -52,14 +52,14 @@ fn ends(limit: u128, word: &str) -> Option<(u64, u64)>
 }
 
 /// A span of numbers up to 13.
-pub fn span(word: &str) -> Option<Span>
+pub fn span(word: &str) -> Option<CountRange>
     ensures ordered { IfSome result (λ s. s.low ≤ s.high) }
     ensures inside { IfSome result (λ s. s.high < 14) }
     ensures told { IfSome result (λ s. IsTold word.now s.low s.high) }
     ensures refused { IfNone result (IsNoSpan 14 word.now) }
 {
     let (low, high) = ends(14, word)?;
-    Some(Span {
+    Some(CountRange {
         low: low as u8,
         high: high as u8,
     })

@@ -1,7 +1,7 @@
 //! The pieces in which a survey goes on.
 ghost use Rattle.std.specs.Prelude.{◌≡◌, ◌≢◌, ◌<◌, ◌≤◌, ◌-◌};
 
-use crate::fault::Fault;
+use crate::fault::SurveyFailure;
 use scenario::ScenarioError;
 
 /// How many campaigns of so many generals at most are played between two looks at what they come to.
@@ -14,12 +14,12 @@ pub fn at_once(generals: u8) -> u64
 }
 
 /// That one of the campaigns of the seeds from `first` up to `end`, without that, is refused.
-pub fn refused(first: u64, end: u64, error: ScenarioError) -> Fault
+pub fn refused(first: u64, end: u64, error: ScenarioError) -> SurveyFailure
     ensures memory { error ≡ ScenarioError.Memory → result ≡ Fault.Memory }
     ensures campaign { error ≢ ScenarioError.Memory → result ≡ Fault.Campaign first (end - 1) error }
 {
     match error {
-        ScenarioError::Memory => Fault::Memory,
-        error => Fault::Campaign(first, end.saturating_sub(1), error),
+        ScenarioError::Memory => SurveyFailure::Memory,
+        error => SurveyFailure::Campaign(first, end.saturating_sub(1), error),
     }
 }

@@ -2,26 +2,26 @@
 ghost use Rattle.std.specs.Prelude.{◌≡◌, ◌≢◌, ◌++◌, IfErr, IfOk, OnOk, Some, is_some, map, true};
 ghost use Rattle.std.specs.Io.KnownBytes.{Appends};
 ghost use Rattle.surveyor.specs.Asked.{IsSurvey};
-ghost use Rattle.survey.specs.Judging.{IsRefusedIn};
+ghost use Rattle.survey_draw.specs.Judging.{IsRefusedIn};
 ghost use Rattle.surveyor.specs.Ends.{IsStopped, IsUnsurveyed};
 ghost use Rattle.surveyor.specs.Faults.{IsKeptIn, IsUnkeptIn, IsUnprinted};
 ghost use Rattle.surveyor.specs.Kept.{Gains, campaign_file, campaign_files};
 ghost use Rattle.surveyor.specs.Printed.{IsPrinted, IsSurveyed, added, broken_seeds, head_in, lines_in};
 
-use crate::asked::{Shape, Survey};
 use crate::family::family_of;
-use crate::fault::Fault;
+use crate::fault::SurveyFailure;
 use crate::keeper::Keeper;
-use crate::keeping::open_folder;
+use crate::kept_campaigns::open_folder;
+use crate::minimal_campaigns::shrunken;
 use crate::pieces::{at_once, refused};
-use crate::printing::{print, put_summary};
-use crate::progress::Progress;
-use crate::shrinking::shrunken;
+use crate::printer::{print, put_summary};
+use crate::progress::SurveyProgress;
+use crate::task::{ReportKind, Survey};
 use std::alloc::{AllocError, Global};
 use std::thread::Threads;
 use streams::Output;
-use survey::{Family, Finding, campaign_text, head, is_sound, survey};
-use survey_tables::lines_text;
+use survey_draw::{Family, Finding, campaign_text, head, is_sound, survey};
+use survey_search::lines_text;
 
 /// Plays the campaigns of a survey, and prints what is asked for.
 ///
@@ -35,7 +35,7 @@ pub fn surveyed<T: Threads + Sync, O: Output, K: Keeper>(
     out: &mut O,
     keeper: &mut K,
     asked: &Survey,
-) -> Result<(), Fault>
+) -> Result<(), SurveyFailure>
     requires { IsSurvey asked.now }
     ensures answered { OnOk result
         (IsSurveyed asked.now (O.contents out.old) (O.contents out.new) (K.files keeper.old) (K.files keeper.new)) }
@@ -45,7 +45,7 @@ pub fn surveyed<T: Threads + Sync, O: Output, K: Keeper>(
     if let Some(folder) = &asked.keep {
         open_folder(rt, folder.as_str(), asked.first)?;
     }
-    if asked.shape == Shape::Least {
+    if asked.shape == ReportKind::Least {
         return shrunken(rt, threads, out, keeper, asked, &family);
     }
     played(rt, threads, out, keeper, asked, &family)
@@ -60,7 +60,7 @@ fn played<T: Threads + Sync, O: Output, K: Keeper>(
     keeper: &mut K,
     asked: &Survey,
     family: &Family,
-) -> Result<(), Fault>
+) -> Result<(), SurveyFailure>
     requires asked { IsSurvey asked.now }
     requires shape { asked.now.shape ≢ Shape.Least }
     ensures printed { OnOk result
@@ -74,7 +74,7 @@ fn played<T: Threads + Sync, O: Output, K: Keeper>(
     let mut all: Vec<Finding> = Vec::new(alloc);
     let mut next = asked.first;
     let mut broken: u64 = 0;
-    let mut progress = Progress::of(rt, asked.first, asked.last);
+    let mut progress = SurveyProgress::of(rt, asked.first, asked.last);
     put_head(rt, out, asked.shape, family)?;
     while next < end {
         let until = next.saturating_add(many).min(end);
@@ -108,11 +108,11 @@ fn broken_seeds(alloc: Global, found: &[Finding]) -> Result<Vec<u64>, AllocError
 }
 
 /// Adds campaigns to those that are summed, unless lines are printed alone.
-fn add(shape: Shape, all: &mut Vec<Finding>, found: &[Finding]) -> Result<(), Fault>
+fn add(shape: ReportKind, all: &mut Vec<Finding>, found: &[Finding]) -> Result<(), SurveyFailure>
     ensures added { OnOk result (all.new.items ≡ all.old.items ++ added shape found.now) }
     ensures memory { IfErr result (λ fault. fault ≡ Fault.Memory) }
 {
-    if shape == Shape::Lines {
+    if shape == ReportKind::Lines {
         return Ok(());
     }
     all.extend_from_slice(found)?;
@@ -123,13 +123,13 @@ fn add(shape: Shape, all: &mut Vec<Finding>, found: &[Finding]) -> Result<(), Fa
 fn put_head<O: Output>(
     rt: &HostRuntime,
     out: &mut O,
-    shape: Shape,
+    shape: ReportKind,
     family: &Family,
-) -> Result<(), Fault>
+) -> Result<(), SurveyFailure>
     ensures written { OnOk result (Appends (O.contents out.old) (O.contents out.new) (head_in shape family.now)) }
     ensures refused { IfErr result IsUnprinted }
 {
-    if shape != Shape::Lines {
+    if shape != ReportKind::Lines {
         return Ok(());
     }
     print(out, head(rt.alloc(), family)?.as_str())
@@ -139,13 +139,13 @@ fn put_head<O: Output>(
 fn put_lines<O: Output>(
     rt: &HostRuntime,
     out: &mut O,
-    shape: Shape,
+    shape: ReportKind,
     found: &[Finding],
-) -> Result<(), Fault>
+) -> Result<(), SurveyFailure>
     ensures written { OnOk result (Appends (O.contents out.old) (O.contents out.new) (lines_in shape found.now)) }
     ensures refused { IfErr result IsUnprinted }
 {
-    if shape != Shape::Lines {
+    if shape != ReportKind::Lines {
         return Ok(());
     }
     print(out, lines_text(rt.alloc(), found)?.as_str())
@@ -159,7 +159,7 @@ fn keep_all<K: Keeper>(
     asked: &Survey,
     family: &Family,
     seeds: &[u64],
-) -> Result<(), Fault>
+) -> Result<(), SurveyFailure>
     ensures kept { OnOk result
         (Gains (K.files keeper.old) (K.files keeper.new) (campaign_files asked.now.keep family.now seeds.now)) }
     ensures unkept { IfErr result (IsKeptIn (is_some asked.now.keep)) }
@@ -178,7 +178,7 @@ fn keep_in<K: Keeper>(
     folder: &str,
     family: &Family,
     seeds: &[u64],
-) -> Result<(), Fault>
+) -> Result<(), SurveyFailure>
     ensures kept { OnOk result (Gains (K.files keeper.old) (K.files keeper.new)
         (map (campaign_file folder.now family.now) seeds.now)) }
     ensures unkept { IfErr result IsUnkeptIn }

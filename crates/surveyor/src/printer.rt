@@ -5,20 +5,20 @@ ghost use Rattle.streams.specs.Writing.{AppendsFront};
 ghost use Rattle.surveyor.specs.Faults.{IsUnprinted};
 ghost use Rattle.surveyor.specs.Printed.{summary_text};
 
-use crate::asked::Shape;
-use crate::fault::Fault;
+use crate::fault::SurveyFailure;
+use crate::task::ReportKind;
 use std::alloc::{AllocError, Global};
 use std::io::ErrorKind;
 use streams::Output;
-use survey::Finding;
-use survey_tables::{picture, sums_text, table};
+use survey_draw::Finding;
+use survey_search::{picture, sums_text, table};
 
 /// Prints a text.
 ///
 /// # Errors
 ///
 /// The output takes no more.
-pub fn print<O: Output>(out: &mut O, text: &str) -> Result<(), Fault>
+pub fn print<O: Output>(out: &mut O, text: &str) -> Result<(), SurveyFailure>
     ensures written { OnOk result (Appends (O.contents out.old) (O.contents out.new) text.now) }
     ensures begun { OnErr result (AppendsFront (O.contents out.old) (O.contents out.new) text.now) }
     ensures failed { OnErr result (O.fails out.old) }
@@ -31,12 +31,12 @@ pub fn print<O: Output>(out: &mut O, text: &str) -> Result<(), Fault>
 }
 
 /// That standard output takes no more.
-fn unprinted(kind: ErrorKind) -> Fault
+fn unprinted(kind: ErrorKind) -> SurveyFailure
     ensures { IsUnprinted result }
 {
     match kind {
-        ErrorKind::OutOfMemory => Fault::Memory,
-        _ => Fault::Unwritten(None),
+        ErrorKind::OutOfMemory => SurveyFailure::Memory,
+        _ => SurveyFailure::Unwritten(None),
     }
 }
 
@@ -45,14 +45,14 @@ fn unprinted(kind: ErrorKind) -> Fault
 /// # Errors
 ///
 /// `AllocError` where memory is refused.
-fn summary(alloc: Global, shape: Shape, findings: &[Finding]) -> Result<String, AllocError>
+fn summary(alloc: Global, shape: ReportKind, findings: &[Finding]) -> Result<String, AllocError>
     ensures { IfOk result (λ text. string_bytes text ≡ summary_text shape findings.now) }
 {
     match shape {
-        Shape::Sums => sums_text(alloc, findings),
-        Shape::Table => table(alloc, findings),
-        Shape::Picture => picture(alloc, findings),
-        Shape::Lines | Shape::Least => Ok(String::new(alloc)),
+        ReportKind::Sums => sums_text(alloc, findings),
+        ReportKind::Table => table(alloc, findings),
+        ReportKind::Picture => picture(alloc, findings),
+        ReportKind::Lines | ReportKind::Least => Ok(String::new(alloc)),
     }
 }
 
@@ -64,9 +64,9 @@ fn summary(alloc: Global, shape: Shape, findings: &[Finding]) -> Result<String, 
 pub fn put_summary<O: Output>(
     alloc: Global,
     out: &mut O,
-    shape: Shape,
+    shape: ReportKind,
     findings: &[Finding],
-) -> Result<(), Fault>
+) -> Result<(), SurveyFailure>
     ensures written { OnOk result (Appends (O.contents out.old) (O.contents out.new) (summary_text shape findings.now)) }
     ensures refused { IfErr result IsUnprinted }
 {

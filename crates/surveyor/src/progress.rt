@@ -12,7 +12,7 @@ const SIGNS: u64 = 20;
 /// what was told before, and elsewhere once a minute, on a line of its own. The next seed is that from which `--seeds`
 /// goes on, should the survey be interrupted.
 #[derive(Drop)]
-pub struct Progress<'a> {
+pub struct SurveyProgress<'a> {
     rt: &'a HostRuntime,
     first: u64,
     last: u64,
@@ -22,14 +22,14 @@ pub struct Progress<'a> {
     minutes: u64,
 }
 
-impl<'a> Progress<'a> {
+impl<'a> SurveyProgress<'a> {
     /// Of these seeds.
-    pub fn of(rt: &'a HostRuntime, first: u64, last: u64) -> Progress<'a>
+    pub fn of(rt: &'a HostRuntime, first: u64, last: u64) -> SurveyProgress<'a>
         ensures first { result.first ≡ first }
         ensures last { result.last ≡ last }
         ensures minutes { result.minutes ≡ 0 }
     {
-        Progress {
+        SurveyProgress {
             rt,
             first,
             last,

@@ -7,10 +7,10 @@ ghost use Rattle.surveyor.specs.Meant.{Asks};
 ghost use Rattle.surveyor.specs.Wrong.{IsByClap, IsUnmet};
 
 use crate::flags::{command, rules};
-use crate::meant::meant;
+use crate::task_words::meant;
 use clap::error::ErrorKind;
 use std::alloc::{AllocError, Global};
-use survey::{Manner, Span};
+use survey_draw::{CountRange, Manner};
 
 /// What is asked for.
 #[derive(Drop)]
@@ -25,7 +25,7 @@ pub enum Asked {
 
 /// What is printed of campaigns.
 #[derive(Clone, Copy, PartialEq, Eq)]
-pub enum Shape {
+pub enum ReportKind {
     /// Their sums.
     Sums,
     /// A line for each campaign.
@@ -44,22 +44,22 @@ pub struct Merge {
     pub names: Vec<String>,
     /// The first and the last seed, if they are said.
     pub seeds: Option<(u64, u64)>,
-    pub shape: Shape,
+    pub shape: ReportKind,
 }
 
 /// Which campaigns, and what is told of them.
 #[derive(Drop)]
 pub struct Survey {
-    pub generals: Span,
-    pub bound: Span,
-    pub traitors: Span,
+    pub generals: CountRange,
+    pub bound: CountRange,
+    pub traitors: CountRange,
     pub manner: Manner,
     pub patience: Option<u32>,
     /// What the traitors do: `lies`, `silent`, `collude`, or the name of a file of assembly.
     pub adversary: String,
     pub first: u64,
     pub last: u64,
-    pub shape: Shape,
+    pub shape: ReportKind,
     /// The folder for campaigns in which agreement is broken.
     pub keep: Option<String>,
 }
@@ -79,7 +79,7 @@ pub enum AskedError {
 
 impl From<AllocError> for AskedError {
     ghost use Rattle.std.specs.Prelude.{◌≡◌};
-    ghost use Rattle.surveyor.specs.declared.asked.AskedError.TheVariants.{Memory};
+    ghost use Rattle.surveyor.specs.declared.task.AskedError.TheVariants.{Memory};
 
     ghost from_gives = { λ _ e. e ≡ Memory };
 

@@ -5,15 +5,15 @@ ghost use Rattle.surveyor.specs.Asked.{IsAsked};
 ghost use Rattle.surveyor.specs.Flags.{has};
 ghost use Rattle.surveyor.specs.Meant.{Asks};
 ghost use Rattle.surveyor.specs.Wrong.{AsksNothing, IsRefused};
-ghost use Rattle.surveyor.specs.declared.asked.Merge.{Merge};
-ghost use Rattle.surveyor.specs.declared.asked.Survey.{Survey};
+ghost use Rattle.surveyor.specs.declared.task.Merge.{Merge};
+ghost use Rattle.surveyor.specs.declared.task.Survey.{Survey};
 
 mod breaks;
 mod plays;
 mod sums;
 
-use crate::asked::{Asked, AskedError, Merge, Survey};
-use crate::given::{has, names};
+use crate::task::{Asked, AskedError, Merge, Survey};
+use crate::word_values::{has, names};
 use breaks::break_of;
 use clap::ArgMatches;
 use plays::survey_of;

@@ -4,11 +4,11 @@ ghost use Rattle.machine.specs.Advance.{IsAskOfRun, IsOfRun};
 
 use asm::assemble;
 use board::Board;
+use machine::{Activation, Ended, Pause, Waiting};
 use mem::Context;
 use outbox::{Outbox, Shape};
 use semantics::Request;
 use std::alloc::Global;
-use typed::{Activation, Ended, Pause, Waiting};
 use verify::{Verified, verify};
 
 /// General 3 of 4 under commander 0 in round 2, who relays label 0 to generals 1 and 2.

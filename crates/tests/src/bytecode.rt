@@ -1,11 +1,11 @@
 //! Bytes to programs, and back.
 
-use codec::{CodecError, Fault, decode, encode};
+use codec::{CodecError, CodecFault, decode, encode};
 use insn::Program;
 use std::alloc::Global;
 
 /// Whether the bytes are refused for this at this unit.
-fn is_refused(alloc: Global, bytes: &[u8], fault: Fault, unit: usize) -> bool {
+fn is_refused(alloc: Global, bytes: &[u8], fault: CodecFault, unit: usize) -> bool {
     match decode(alloc, bytes) {
         Err(error) => error == CodecError::At(fault, unit),
         Ok(_) => false,
@@ -16,8 +16,8 @@ fn is_refused(alloc: Global, bytes: &[u8], fault: Fault, unit: usize) -> bool {
 #[test]
 fn long_bytes_are_refused(rt: HostRuntime) {
     let alloc = rt.alloc();
-    assert!(rt; is_refused(alloc, &[0; 32_775], Fault::Length, 4096));
-    assert!(rt; is_refused(alloc, &[0; 32_776], Fault::Count, 0));
+    assert!(rt; is_refused(alloc, &[0; 32_775], CodecFault::Length, 4096));
+    assert!(rt; is_refused(alloc, &[0; 32_776], CodecFault::Count, 0));
 }
 
 /// What comes of a unit.
@@ -54,8 +54,8 @@ fn taken(is_spelt: bool) -> Answer {
 fn answered(alloc: Global, unit: &[u8]) -> Answer {
     match decode(alloc, unit) {
         Ok(program) => taken(is_spelt(alloc, &program, unit)),
-        Err(CodecError::At(Fault::LeftOut, _)) => Answer::LeftOut,
-        Err(CodecError::At(Fault::Opcode, _)) => Answer::Unknown,
+        Err(CodecError::At(CodecFault::LeftOut, _)) => Answer::LeftOut,
+        Err(CodecError::At(CodecFault::Opcode, _)) => Answer::Unknown,
         _ => Answer::Other,
     }
 }

@@ -1,8 +1,8 @@
 //! The table of ranges: rows for each line and case of it, at the ends of what each case asks.
 
 use range::Range;
-use range::operate::operate;
-use range::unary::{negate, sign_extend, swap};
+use range::operations::operate;
+use range::unary_operations::{negate, sign_extend, swap};
 use word::{ByteOrder, Narrow, Operation, SwapSize, Width};
 
 /// An operation on two ranges, and the range of its results, each by its ends.

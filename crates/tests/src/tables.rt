@@ -1,6 +1,6 @@
 //! Message tables, and what the lieutenants decide by them.
 
-use book::{Fault, TableError, decision, decisions, read_table};
+use book::{TableError, TableFault, decision, decisions, read_table};
 use std::alloc::Global;
 
 /// Whether the lieutenants of a table decide so.
@@ -12,7 +12,7 @@ fn decides(alloc: Global, text: &str, orders: &[u32]) -> bool {
 }
 
 /// Whether a table is refused for this, at this line.
-fn refuses(alloc: Global, text: &str, fault: Fault, line: u64) -> bool {
+fn refuses(alloc: Global, text: &str, fault: TableFault, line: u64) -> bool {
     match read_table(alloc, text) {
         Ok(_) => false,
         Err(error) => error == TableError::At(fault, line),
@@ -86,26 +86,26 @@ fn messages_missing(rt: HostRuntime) {
 }
 
 /// Tables that are refused, for what, and at which line.
-const REFUSED: &[(&str, Fault, u64)] = &[
-    ("generals 3 bound 2 commander 0", Fault::Range, 1),
+const REFUSED: &[(&str, TableFault, u64)] = &[
+    ("generals 3 bound 2 commander 0", TableFault::Range, 1),
     // the receiver is on the label
     (
         "generals 4 bound 1 commander 0\ntell 0.1 1 5\n",
-        Fault::Place,
+        TableFault::Place,
         2,
     ),
     (
         "generals 4 bound 1 commander 0\ntell 0 1 1\ntell 0 1 1\n",
-        Fault::Twice,
+        TableFault::Twice,
         3,
     ),
     // 2^32
     (
         "generals 4 bound 1 commander 0\ntell 0 1 4294967296\n",
-        Fault::Line,
+        TableFault::Line,
         2,
     ),
-    ("", Fault::Line, 1),
+    ("", TableFault::Line, 1),
 ];
 
 /// Whether a refusal is printed so.
@@ -122,5 +122,5 @@ fn faults(rt: HostRuntime) {
     for (row, &(text, fault, line)) in REFUSED.iter().enumerate() {
         assert!(rt; refuses(alloc, text, fault, line), "row {row}");
     }
-    assert!(rt; is_printed(alloc, TableError::At(Fault::Place, 2), "B3 line 2"));
+    assert!(rt; is_printed(alloc, TableError::At(TableFault::Place, 2), "B3 line 2"));
 }

@@ -1,7 +1,7 @@
 //! Arithmetic, comparisons and swaps of words.
 
 use word::arithmetic::{alu32, alu64, negate, sign_extend};
-use word::compare::{compare32, compare64};
+use word::comparison::{compare32, compare64};
 use word::swap::swap;
 use word::{ByteOrder, Condition, Narrow, Operation, SwapSize, Width};
 

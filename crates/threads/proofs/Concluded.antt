@@ -1,8 +1,8 @@
 -- The chronicle of accounted letters is that of their replay, which is a complete run; hence what holds of it.
 use Rattle.std.proofs.Common.{◌≡◌, ℕ, suc, List, [], All, sym, ap, subst, ◌∙◌}
 use Rattle.board.specs.Board.{Access, IsLegal}
-use Rattle.roster.specs.Scenario.{Scenario, IsScenario}
-use Rattle.letter.specs.Letters.{Letter, messages}
+use Rattle.round.specs.Scenario.{Scenario, IsScenario}
+use Rattle.round.specs.Letters.{Letter, messages}
 use Rattle.world.specs.World.{oral_kind, World}
 use Rattle.world.specs.Lists.{replayed, names_in}
 use Rattle.world.specs.Accounted.{AreAccounted}

@@ -5,8 +5,8 @@ use Rattle.std.proofs.Math.Numerals.{add-one}
 use Rattle.std.proofs.Math.Seq.{drop-cons}
 use Rattle.std.proofs.lemmas.List.{take_min, take_more, drop_min}
 use Rattle.board.specs.Board.{Access}
-use Rattle.roster.specs.Scenario.{Scenario}
-use Rattle.letter.specs.Letters.{Letter}
+use Rattle.round.specs.Scenario.{Scenario}
+use Rattle.round.specs.Letters.{Letter}
 use Rattle.world.specs.Accounted.{IsAccountedRound, AreAccounted}
 
 module _ (s : Scenario) (rows : List (List Letter)) (at : ℕ) (rest : List Access) (row : List Letter) (lt : at < length rows) (is : row ≡ get_or rows at row) where

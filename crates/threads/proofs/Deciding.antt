@@ -12,12 +12,12 @@ use Rattle.label.specs.Oral.{om}
 use Rattle.label.proofs.Ranks.{others-more_no, others-more_yes}
 use Rattle.tree.specs.LieutenantTree.{LieutenantTree}
 use Rattle.resolve.specs.Decided.{Decides}
-use Rattle.roster.specs.Scenario.{Scenario}
-use Rattle.letter.specs.Letters.{Letter, messages}
-use Rattle.delivery.specs.Told.{IsTreeOf, ToldSeen, WasTold, lieutenant_at}
+use Rattle.round.specs.Scenario.{Scenario}
+use Rattle.round.specs.Letters.{Letter, messages}
+use Rattle.round.specs.Told.{IsTreeOf, ToldSeen, WasTold, lieutenant_at}
 use Rattle.world.specs.World.{each}
 use Rattle.world.specs.Chronicle.{decision, decisions}
-use Rattle.letter.proofs.Lists.{some_at}
+use Rattle.round.proofs.Lists.{some_at}
 use Rattle.world.proofs.Arranged.{snoc}
 
 one_by_one : (f : ℕ → ℕ) (n : ℕ) (g : ℕ → ℕ) → map f (each n (λ i. g i ∷ [])) ≡ each n (λ i. f (g i) ∷ [])

@@ -2,8 +2,8 @@
 use Rattle.std.proofs.Common.{◌≡◌, ℕ, suc, List, [], ◌∷◌, ◌++◌, length, drop, ap, sym, ◌∙◌, Some, zero}
 use Rattle.std.specs.Prelude.{slice_get, sum_by}
 use Rattle.board.specs.Board.{Access}
-use Rattle.roster.specs.Scenario.{Scenario}
-use Rattle.letter.specs.Letters.{Letter}
+use Rattle.round.specs.Scenario.{Scenario}
+use Rattle.round.specs.Letters.{Letter}
 use Rattle.world.specs.Accounted.{letters_by, AreAccounted, IsAccounted}
 use Rattle.world.proofs.Listing.{each-get}
 use Rattle.threads.specs.Taking.{IsGrid}

@@ -1,3 +1,4 @@
+pub mod Rules
 pub mod Taken
 pub mod Parts
 pub mod Cuts

@@ -9,14 +9,14 @@ use mathlib.Core.Option.{some, some-ne-none, some-injective}
 use lib.ListN.{get_elem?}
 use Rattle.crossbeam_queue.specs.Fifo.{Pushes, Pops, Forks, Merges, Learns}
 use Rattle.crossbeam_queue.proofs.Lists.{at_set}
-use Rattle.letter.specs.Letters.{Letter}
-use Rattle.post.specs.declared.known.Posted.{Posted}
-use Rattle.post.specs.declared.known.Known.{Known}
-use Rattle.post.specs.Delivery.{letters_of, AreDelivered, posted}
-use Rattle.post.specs.Rule.{poster, collector, spent, AreBack, Fits, Delivers, DeliversOnly}
+use Rattle.round.specs.Letters.{Letter}
+use Rattle.threads.specs.declared.knowledge.Posted.{Posted}
+use Rattle.threads.specs.declared.knowledge.Known.{Known}
+use Rattle.threads.specs.Delivery.{letters_of, AreDelivered, posted}
+use Rattle.threads.specs.Rule.{poster, collector, spent, AreBack, Fits, Delivers, DeliversOnly}
 use Rattle.std.specs.Prelude.{All as Each}
 use Rattle.std.proofs.lemmas.List.Elements.{All-append, All-nil, All-cons, All-head, All-tail}
-use Rattle.post.specs.Seen.{PosterSeen, poster_seen}
+use Rattle.threads.specs.Seen.{PosterSeen, poster_seen}
 
 eq_same : (g : ℕ) → (g == g) ≡ true
 eq_same g = eq-eqb g g refl

@@ -4,7 +4,7 @@ use Rattle.std.specs.Prelude.{◌==◌, slice_get, option_to_list}
 use Rattle.std.specs.List.{find, remove}
 use Rattle.std.proofs.Math.Numerals.{add-one}
 use Rattle.std.proofs.lemmas.Bool.Decides.{eqb_tells}
-use Rattle.letter.specs.Letters.{Letter}
+use Rattle.round.specs.Letters.{Letter}
 use Rattle.world.specs.World.{each}
 use Rattle.world.specs.Accounted.{letter_by, letters_by}
 use Rattle.threads.specs.Taking.{without, left_by, left_by_all, left_rounds}

@@ -3,13 +3,13 @@ use Rattle.std.proofs.Common.{◌≡◌, ℕ, suc, ◌+◌, ◌<◌, ◌≤◌, 
 use Rattle.std.proofs.Math.Numerals.{add-one}
 use Rattle.label.specs.declared.shape.Shape.{Shape}
 use Rattle.label.specs.Relay.{IsShape}
-use Rattle.roster.specs.Scenario.{Scenario, IsScenario, shape_of}
-use Rattle.letter.specs.Letters.{Letter}
-use Rattle.letter.specs.Contexts.{context_of, IsToldTo, shape_told}
+use Rattle.round.specs.Scenario.{Scenario, IsScenario, shape_of}
+use Rattle.round.specs.Letters.{Letter}
+use Rattle.round.specs.Contexts.{context_of, IsToldTo, shape_told}
 use Rattle.world.specs.World.{each}
 use Rattle.threads.specs.Duties.{Duty, duty_of}
-use Rattle.letter.proofs.Contexts.{context_is, shape_is}
-use Rattle.letter.proofs.Loyal.{own_is_told, shape_is_told}
+use Rattle.round.proofs.Contexts.{context_is, shape_is}
+use Rattle.round.proofs.Loyal.{own_is_told, shape_is_told}
 
 pub task_is : (s : Scenario) (before : List (List Letter)) (g h round : ℕ) (bytes : List ℕ) → IsScenario s → g < s.generals → length before ≤ s.bound → h ≡ g → round ≡ suc (length before) → bytes ≡ context_of s before g
     → (length bytes ≡ 4096) × IsToldTo h round bytes × IsShape (shape_told h round bytes)

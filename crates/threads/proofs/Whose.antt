@@ -4,19 +4,19 @@ use Rattle.std.specs.Prelude.{◌↔◌, slice_get, sum_by}
 use Rattle.insn.specs.declared.insn.Insn.{Insn}
 use Rattle.board.specs.Board.{Access}
 use Rattle.semantics.specs.Relay.{Relay, oral}
-use Rattle.letter.specs.Contexts.{tells_oral}
-use Rattle.letter.proofs.Loyal.{oral_is_told}
-use Rattle.roster.specs.Scenario.{Scenario, IsScenario, program_of, shape_of}
-use Rattle.letter.specs.Letters.{Letter}
-use Rattle.letter.specs.Contexts.{AreWords, context_of, shape_told, rows_told, outbox_told, faithful_letter}
-use Rattle.letter.specs.Activation.{started}
-use Rattle.letter.specs.Runs.{Runs, IsRunOf, IsLetter}
-use Rattle.letter.specs.Origin.{AreLettersOf, AreRoundsOf}
-use Rattle.letter.proofs.Loyal.{shape_is_told, letter_is}
+use Rattle.round.specs.Contexts.{tells_oral}
+use Rattle.round.proofs.Loyal.{oral_is_told}
+use Rattle.round.specs.Scenario.{Scenario, IsScenario, program_of, shape_of}
+use Rattle.round.specs.Letters.{Letter}
+use Rattle.round.specs.Contexts.{AreWords, context_of, shape_told, rows_told, outbox_told, faithful_letter}
+use Rattle.round.specs.Activation.{started}
+use Rattle.round.specs.Runs.{Runs, IsRunOf, IsLetter}
+use Rattle.round.specs.Origin.{AreLettersOf, AreRoundsOf}
+use Rattle.round.proofs.Loyal.{shape_is_told, letter_is}
 use Rattle.world.specs.World.{accesses_of}
 use Rattle.world.specs.Accounted.{IsLetterOf, IsAccountedRound, AreAccounted}
 use Rattle.threads.specs.Holding.{EndedInTime, Stands}
-use Rattle.letter.proofs.Patience.{within_none}
+use Rattle.round.proofs.Patience.{within_none}
 
 loyal_over : (s : Scenario) (before : List (List Letter)) (g : ℕ) → EndedInTime s (faithful_letter s before g)
 loyal_over s before g = record { within = within_none s.patience; over = refl }

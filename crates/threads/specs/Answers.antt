@@ -10,8 +10,8 @@ use Rattle.threads.specs.declared.halt.Halt.{Halt}
 use Rattle.threads.specs.declared.halt.Halt.TheVariants.{Memory as RefusedToAll, Unstarted, Failed, Strayed}
 use Rattle.threads.specs.declared.resident.Answer.{Answer}
 use Rattle.threads.specs.declared.tally.Reported.{Reported}
-use Rattle.threads.specs.declared.uncollected.Uncollected.{Uncollected}
-use Rattle.threads.specs.declared.uncollected.Uncollected.TheVariants.{Memory as RefusedToThem, Unstarted as NotStarted, Failed as OneFailed, Halted}
+use Rattle.threads.specs.declared.collection_error.Uncollected.{Uncollected}
+use Rattle.threads.specs.declared.collection_error.Uncollected.TheVariants.{Memory as RefusedToThem, Unstarted as NotStarted, Failed as OneFailed, Halted}
 use Rattle.threads.specs.declared.mishap.Mishap.{Mishap}
 use Rattle.threads.specs.declared.mishap.Mishap.TheVariants.{Memory as RefusedAnywhere, Uncollected as NotAll, Unlike}
 use Rattle.board.specs.Ledger.{RecordedBoard}

@@ -1,7 +1,7 @@
 -- What each general has posted, in order, is what came of him.
 use Rattle.std.specs.Prelude.{◌≡◌, ℕ, List, [], ◌∷◌, ◌==◌, filter}
-use Rattle.letter.specs.Letters.{Letter}
-use Rattle.post.specs.declared.known.Posted.{Posted}
+use Rattle.round.specs.Letters.{Letter}
+use Rattle.threads.specs.declared.knowledge.Posted.{Posted}
 
 -- the letters of one general, in order
 abbrev pub letters_of : ℕ → List Letter → List Letter

@@ -2,9 +2,9 @@
 -- as he likes).
 use Rattle.std.specs.Prelude.{ℕ, ◌≡◌, suc, List, length, Option, None, Some}
 use Rattle.insn.specs.declared.insn.Insn.{Insn}
-use Rattle.roster.specs.Scenario.{Scenario, program_of}
-use Rattle.letter.specs.Letters.{Letter}
-use Rattle.letter.specs.Contexts.{context_of, letter_told}
+use Rattle.round.specs.Scenario.{Scenario, program_of}
+use Rattle.round.specs.Letters.{Letter}
+use Rattle.round.specs.Contexts.{context_of, letter_told}
 use Rattle.round.specs.Running.{IsLived}
 
 -- who acts in which round, told what, by which program, or none where he is loyal, and with which patience

@@ -1,10 +1,10 @@
 -- What is tested of a letter, its context aside.
 use Rattle.std.specs.Prelude.{ℕ, ◌≡◌, ◌||◌, true, List}
 use Rattle.board.specs.Board.{Access}
-use Rattle.roster.specs.Scenario.{Scenario, program_of}
-use Rattle.letter.specs.Letters.{Letter}
-use Rattle.letter.specs.Activation.{is_reached}
-use Rattle.letter.specs.Runs.{IsWithin}
+use Rattle.round.specs.Scenario.{Scenario, program_of}
+use Rattle.round.specs.Letters.{Letter}
+use Rattle.round.specs.Activation.{is_reached}
+use Rattle.round.specs.Runs.{IsWithin}
 use Rattle.world.specs.World.{accesses_of}
 
 -- its general has ended, within the patience

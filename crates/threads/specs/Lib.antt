@@ -1,3 +1,6 @@
+pub mod Delivery
+pub mod Rule
+pub mod Seen
 pub mod Taking
 pub mod Holding
 pub mod Duties

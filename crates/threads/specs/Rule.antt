@@ -3,10 +3,10 @@
 use Rattle.std.specs.Prelude.{◌≡◌, ℕ, ◌<◌, ◌≤◌, Bool, true, false, List, [], ◌∷◌, ◌++◌, All, Option, Some, None}
 use mathlib.Core.Option.{some}
 use lib.ListN.{get_elem?}
-use Rattle.letter.specs.Letters.{Letter}
-use Rattle.post.specs.declared.known.Posted.{Posted}
-use Rattle.post.specs.declared.known.Known.{Known}
-use Rattle.post.specs.Delivery.{letters_of}
+use Rattle.round.specs.Letters.{Letter}
+use Rattle.threads.specs.declared.knowledge.Posted.{Posted}
+use Rattle.threads.specs.declared.knowledge.Known.{Known}
+use Rattle.threads.specs.Delivery.{letters_of}
 
 abbrev pub known : Bool → Bool → ℕ → List Letter → ℕ → List Posted → Known
 known posts takes general letters made back = record {

@@ -1,7 +1,7 @@
 -- How a post and its passes are seen by their callers.
 use Rattle.std.specs.Prelude.{ℕ, List}
 use Rattle.atomic_table.specs.Seated.{TableId}
-use Rattle.letter.specs.Letters.{Letter}
+use Rattle.round.specs.Letters.{Letter}
 
 -- which post it is, and how many letters it has room for
 pub record PostSeen : Type 0 where

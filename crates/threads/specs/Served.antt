@@ -1,7 +1,7 @@
 -- What one general was served of the accesses of all, and which of them have passed a gate (own).
 use Rattle.std.specs.Prelude.{ℕ, ◌≡◌, ◌==◌, ◌⊎◌, List, [], ◌∷◌, ◌++◌, All, length, count_by, flat_map}
 use Rattle.board.specs.Board.{Access}
-use Rattle.letter.specs.Letters.{Letter}
+use Rattle.round.specs.Letters.{Letter}
 use Rattle.shared_board.specs.Witnessed.{Witnessed}
 
 -- these stand among those, in the same order

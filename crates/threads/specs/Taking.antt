@@ -1,6 +1,6 @@
 -- Letters taken out of a list, one for each general and round.
 use Rattle.std.specs.Prelude.{ℕ, zero, suc, ◌≡◌, ◌<◌, ◌*◌, ◌==◌, ◌&&◌, Bool, cond, List, [], ◌∷◌, length}
-use Rattle.letter.specs.Letters.{Letter}
+use Rattle.round.specs.Letters.{Letter}
 use Rattle.world.specs.Accounted.{letters_by}
 
 -- the list without the first letter that passes

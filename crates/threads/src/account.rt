@@ -1,17 +1,15 @@
 //! Whether letters are accounted for.
 ghost use Rattle.std.specs.Prelude.{◌≡◌, ◌↔◌, ◌<◌, ◌≤◌, ℕ, suc, take, drop, min, sum_by, length, All, List, IsTrue, IfOk, OnOk};
-ghost use Rattle.roster.specs.Scenario.{program_of};
-ghost use Rattle.letter.specs.Letters.{Letter as LetterSeen};
-ghost use Rattle.letter.specs.Contexts.{context_of, AreWords};
-ghost use Rattle.delivery.specs.Told.{WasTold};
+ghost use Rattle.round.specs.Scenario.{program_of};
+ghost use Rattle.round.specs.Letters.{Letter as LetterSeen};
+ghost use Rattle.round.specs.Contexts.{context_of, AreWords};
+ghost use Rattle.round.specs.Told.{WasTold};
 ghost use Rattle.world.specs.World.{accesses_of};
 ghost use Rattle.world.specs.Accounted.{IsLetterOf, IsAccountedRound, AreAccounted};
 ghost use Rattle.threads.specs.Holding.{EndedInTime, Stands};
 
 use board::Access;
-use delivery::Told;
-use letter::{Letter, Round};
-use roster::Scenario;
+use round::{Letter, Received, Round, Scenario};
 use std::alloc::{AllocError, Global};
 
 /// Whether these are just one general's accesses, in their order.
@@ -62,7 +60,7 @@ fn stands(scenario: &Scenario, piece: &[Access], general: u8, round: u32, letter
 /// Whether a letter's context is what its general was told after so many rounds.
 fn has_context(
     alloc: Global,
-    told: &Told,
+    told: &Received,
     scenario: &Scenario,
     rounds: u8,
     general: u8,
@@ -84,7 +82,7 @@ fn has_context(
 /// Whether a letter is that of its general in the round behind so many, and the accesses are its transcript.
 fn holds_letter(
     alloc: Global,
-    told: &Told,
+    told: &Received,
     scenario: &Scenario,
     rounds: u8,
     piece: &[Access],
@@ -112,7 +110,7 @@ fn holds_letter(
 /// Whether the letters are those of the round behind so many, and the accesses are theirs.
 fn holds_round(
     alloc: Global,
-    told: &Told,
+    told: &Received,
     scenario: &Scenario,
     rounds: u8,
     piece: &[Access],
@@ -153,7 +151,7 @@ fn count_accesses(letters: &[Letter], most: usize) -> usize
 /// Whether the rounds from this one on are accounted for by the rest of the ledger, where all of them were told.
 pub(crate) fn are_accounted(
     alloc: Global,
-    told: &Told,
+    told: &Received,
     scenario: &Scenario,
     rows: &[Round],
     at: u8,

@@ -5,7 +5,7 @@ ghost use Rattle.world.specs.World.{each};
 ghost use Rattle.world.specs.Accounted.{letter_by, letters_by};
 ghost use Rattle.threads.specs.Taking.{left_by, left_by_all, IsGrid};
 
-use letter::{Letter, Round};
+use round::{Letter, Round};
 use std::alloc::{AllocError, Global};
 
 /// The index of the first letter of a general in a round.

@@ -1,55 +1,57 @@
 //! What the generals of a campaign share.
 ghost use Rattle.std.specs.Prelude.{◌≡◌, ℕ, ◌<◌, ◌≤◌, ◌∷◌, [], List, length, slice_index_or, IfOk};
-ghost use Rattle.letter.specs.Letters.{Letter as LetterSeen};
-ghost use Rattle.delivery.specs.Told.{WasTold};
-ghost use Rattle.post.specs.Seen.{PosterSeen, poster_seen};
+ghost use Rattle.round.specs.Letters.{Letter as LetterSeen};
+ghost use Rattle.round.specs.Told.{WasTold};
+ghost use Rattle.threads.specs.Seen.{PosterSeen, poster_seen};
 ghost use Rattle.world.specs.World.{each};
 ghost use Rattle.threads.specs.Duties.{duty_of};
 ghost use Rattle.threads.specs.Inboxes.{AreByGeneral, AreOwn};
 
-mod all;
+mod receipts;
 
+use crate::claim::Claim;
+use crate::collector::Collector;
 use crate::inbox::Inbox;
-use crate::resident::Resident;
-use crate::tally::Tally;
+use crate::post::PostOf;
+use crate::poster::Poster;
+use crate::resident::GeneralThread;
+use crate::tally::PostedCount;
 use crate::task::Task;
-use all::AllGiven;
-pub(crate) use all::AllShut;
-use delivery::Told;
-use post::{Claim, Collector, PostOf, Poster};
-use roster::Scenario;
+use receipts::AllGiven;
+pub(crate) use receipts::AllShut;
+use round::{Received, Scenario};
 use shared_board::{Room, SharedBoard};
 use std::alloc::{AllocError, Global};
 use std::snapshot::Snapshot;
 use std::sync::Wait;
 
-/// That the generals were given their tasks of a round, as `Camp::hand_out` alone tells.
+/// That the generals were given their tasks of a round, as `Crew::hand_out` alone tells.
 #[derive(Drop)]
 pub(crate) struct HandedOut {
     /// Of which scenario.
     scenario: Snapshot<Scenario>,
     /// What the rounds before have told.
-    told: Snapshot<Told>,
+    told: Snapshot<Received>,
     /// That each task was put into an inbox.
     given: AllGiven,
 }
 
-/// That the generals are sent home, as `Camp::close` alone tells.
+/// That the generals are sent home, as `Crew::close` alone tells.
 #[derive(Clone, Copy)]
 pub(crate) struct Home(());
 
 /// What the generals share with one another and with the one who conducts the rounds: the gate and the board, the
 /// inboxes in which they are given their tasks, the post for their letters, and the tally of those who have posted.
 #[derive(Drop)]
-pub(crate) struct Camp<'a, G, J: Room, C: Claim> {
+pub(crate) struct Crew<'a, G, J: Room, C: Claim> {
     pub(crate) gate: &'a G,
     pub(crate) board: &'a SharedBoard<J>,
     pub(crate) inboxes: Vec<Inbox>,
     pub(crate) post: PostOf<C>,
-    pub(crate) tally: Tally,
+    pub(crate) tally: PostedCount,
 }
 
-impl<'a, G, J: Room, C: Claim> Camp<'a, G, J, C> {
+impl<'a, G, J: Room, C: Claim> Crew<'a, G, J, C> {
     /// The camp of so many generals, with their posters, ascending, and the collector of their letters. The post has
     /// room for a letter of each.
     ///
@@ -61,7 +63,7 @@ impl<'a, G, J: Room, C: Claim> Camp<'a, G, J, C> {
         generals: u8,
         gate: &'a G,
         board: &'a SharedBoard<J>,
-    ) -> Result<(Camp<'a, G, J, C>, Vec<Poster>, Collector), AllocError>
+    ) -> Result<(Crew<'a, G, J, C>, Vec<Poster>, Collector), AllocError>
         requires { 0 < generals }
         ensures inboxes { IfOk result (λ r. length r.0.inboxes.items ≡ generals) }
         ensures own { IfOk result (λ r. AreOwn r.0.inboxes.items) }
@@ -76,8 +78,8 @@ impl<'a, G, J: Room, C: Claim> Camp<'a, G, J, C> {
     {
         let (post, posters, collector) = PostOf::new(alloc, generals, usize::from(generals))?;
         let inboxes = empty_inboxes(alloc, generals)?;
-        let tally = Tally::new(usize::from(generals));
-        let camp = Camp {
+        let tally = PostedCount::new(usize::from(generals));
+        let camp = Crew {
             gate,
             board,
             inboxes,
@@ -88,7 +90,7 @@ impl<'a, G, J: Room, C: Claim> Camp<'a, G, J, C> {
     }
 
     /// The general of this number, at his inbox, ready to begin.
-    pub(crate) fn resident<'c>(&'c self, general: u8) -> Resident<'c, G, J>
+    pub(crate) fn resident<'c>(&'c self, general: u8) -> GeneralThread<'c, G, J>
         requires inbox { general < length self.now.inboxes.items }
         requires own { AreOwn self.now.inboxes.items }
         ensures inbox { result.inbox.now.general ≡ general }
@@ -97,7 +99,7 @@ impl<'a, G, J: Room, C: Claim> Camp<'a, G, J, C> {
         ensures board { result.board ≡ self.now.board }
         ensures tally { result.tally.now ≡ self.now.tally }
     {
-        Resident {
+        GeneralThread {
             general: u32::from(general),
             gate: self.gate,
             board: self.board,
@@ -111,7 +113,7 @@ impl<'a, G, J: Room, C: Claim> Camp<'a, G, J, C> {
         &self,
         rt: &R,
         scenario: &Scenario,
-        told: &Told,
+        told: &Received,
         mut tasks: Vec<Task>,
     ) -> HandedOut
         requires few { length tasks.items ≤ length self.now.inboxes.items }

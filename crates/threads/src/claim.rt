@@ -4,7 +4,7 @@ use std::marker::Brand;
 /// Says something of each letter that a post takes in, and so of each that is taken out. Where a function over
 /// a claim that no type of its signature names is called with `Brand`, the caller's proof picks what.
 pub trait Claim {
-    ghost use Rattle.letter.specs.Letters.{Letter};
+    ghost use Rattle.round.specs.Letters.{Letter};
 
     /// What holds of a letter.
     ghost holds: { Letter → Type 0 };

@@ -1,25 +1,25 @@
 //! The letters of a campaign whose generals stay in their threads for all rounds.
 ghost use Rattle.std.specs.Prelude.{◌≡◌, ℕ, ◌<◌, ◌≤◌, [], suc, length, slice_index_or, vec_capacity, None, All, IsPermutation, IfOk, IfSome, Err};
-ghost use Rattle.letter.specs.Letters.{Letter as LetterSeen};
-ghost use Rattle.delivery.specs.Told.{WasTold};
-ghost use Rattle.post.specs.Seen.{PosterSeen, poster_seen};
+ghost use Rattle.round.specs.Letters.{Letter as LetterSeen};
+ghost use Rattle.round.specs.Told.{WasTold};
+ghost use Rattle.threads.specs.Seen.{PosterSeen, poster_seen};
 ghost use Rattle.threads.specs.Answers.{AreAscending};
 ghost use Rattle.threads.specs.Inboxes.{AreOwn};
 ghost use Rattle.threads.specs.Served.{IsGated};
 ghost use Rattle.threads.specs.declared.halt.Halt.TheVariants.{Unstarted};
 
 use crate::answers::{Refused, kept};
-use crate::camp::{AllShut, Camp};
-use crate::conducting::conduct;
+use crate::camp::{AllShut, Crew};
+use crate::claim::Claim;
+use crate::collection_error::Uncollected;
+use crate::collector::Collector;
+use crate::conductor::conduct;
 use crate::ending::Ending;
 use crate::gate::Gate;
 use crate::halt::Halt;
+use crate::poster::Poster;
 use crate::resident::Answer;
-use crate::uncollected::Uncollected;
-use delivery::Told;
-use letter::Round;
-use post::{Claim, Collector, Poster};
-use roster::Scenario;
+use round::{Received, Round, Scenario};
 use shared_board::{Room, SharedBoard, Witness};
 use std::alloc::{AllocError, Global};
 use std::sync::Wait;
@@ -46,7 +46,7 @@ pub(crate) fn collect<
     board: &SharedBoard<J>,
     witnesses: Vec<Witness<J>>,
     stack: usize,
-) -> Result<(Vec<Round>, Told), Uncollected>
+) -> Result<(Vec<Round>, Received), Uncollected>
     requires many { scenario.now.generals ≤ length witnesses.items }
     requires unserved { All (λ w. w.made ≡ 0) witnesses.items }
     requires claim { (l : LetterSeen) → IsGated (G.passed gate.now) l → C.holds l }
@@ -54,7 +54,7 @@ pub(crate) fn collect<
     ensures told { IfOk result (λ r. WasTold scenario.now r.0.items r.1) }
     ensures claims { IfOk result (λ r. All (λ letters. All C.holds letters) r.0.items) }
 {
-    let (camp, posters, collector) = Camp::<G, J, C>::new(alloc, scenario.generals(), gate, board)?;
+    let (camp, posters, collector) = Crew::<G, J, C>::new(alloc, scenario.generals(), gate, board)?;
     let ending = through_residents(
         rt, alloc, scenario, &camp, posters, witnesses, collector, stack,
     )?;
@@ -75,7 +75,7 @@ fn through_residents<
     rt: &R,
     alloc: Global,
     scenario: &Scenario,
-    camp: &Camp<G, J, C>,
+    camp: &Crew<G, J, C>,
     mut posters: Vec<Poster>,
     mut witnesses: Vec<Witness<J>>,
     collector: Collector,
@@ -163,7 +163,7 @@ fn finish<R: Threads + Wait, G, J: Room, C: Claim>(
     rt: &R,
     alloc: Global,
     scenario: &Scenario,
-    camp: &Camp<G, J, C>,
+    camp: &Crew<G, J, C>,
     collector: Collector,
     handles: Vec<JoinHandle<Answer>>,
     answers: Vec<Answer>,
@@ -195,10 +195,10 @@ fn conducted<R: Wait, G, J: Room, C: Claim>(
     rt: &R,
     alloc: Global,
     scenario: &Scenario,
-    camp: &Camp<G, J, C>,
+    camp: &Crew<G, J, C>,
     collector: Collector,
     refused: Option<Refused>,
-) -> Result<(Vec<Round>, Told), Halt>
+) -> Result<(Vec<Round>, Received), Halt>
     requires collector { collector.table ≡ camp.now.post.table }
     requires inboxes { scenario.now.generals ≤ length camp.now.inboxes.items }
     requires own { AreOwn camp.now.inboxes.items }

@@ -1,7 +1,7 @@
 //! Why the letters of a campaign were not all collected.
 ghost use Rattle.std.specs.Prelude.{◌≡◌};
 ghost use Rattle.threads.specs.Answers.{uncollected_as};
-ghost use Rattle.threads.specs.declared.uncollected.Uncollected.TheVariants.{Memory};
+ghost use Rattle.threads.specs.declared.collection_error.Uncollected.TheVariants.{Memory};
 
 use crate::answers::Refused;
 use crate::error::MusterError;

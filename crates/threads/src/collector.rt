@@ -1,7 +1,7 @@
 //! The pass of the one who takes letters.
-use crate::known::Known;
+use crate::knowledge::Known;
 use crossbeam_queue::Pass;
-use letter::Letter;
+use round::Letter;
 use std::marker::Model;
 
 /// The leave to take letters. It takes no bytes, and there is one for each post.
@@ -12,7 +12,7 @@ pub struct Collector {
 
 impl Model for Collector {
     ghost use Rattle.std.specs.Prelude.{◌≡◌, [], true};
-    ghost use Rattle.post.specs.Seen.{CollectorSeen};
+    ghost use Rattle.threads.specs.Seen.{CollectorSeen};
 
     ghost Value = { CollectorSeen };
 

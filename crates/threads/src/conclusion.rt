@@ -1,8 +1,8 @@
 //! What a campaign comes to.
 ghost use Rattle.std.specs.Prelude.{◌≡◌, ◌≢◌, ◌≤◌, [], suc, All, List, length, Ok, IfOk, OnOk, IfErr, IsErrAnd, MatchBool};
 ghost use Rattle.board.specs.Board.{IsLegal};
-ghost use Rattle.letter.specs.Letters.{Letter as LetterSeen, messages};
-ghost use Rattle.delivery.specs.Told.{WasTold};
+ghost use Rattle.round.specs.Letters.{Letter as LetterSeen, messages};
+ghost use Rattle.round.specs.Told.{WasTold};
 ghost use Rattle.world.specs.Accounted.{AreAccounted};
 ghost use Rattle.world.specs.Chronicle.{decisions, chronicle_of};
 ghost use Rattle.world.specs.Lists.{IsComplete, replayed, names_in};
@@ -16,10 +16,8 @@ use crate::account::are_accounted;
 use crate::mishap::Mishap;
 use arrayvec::ArrayVec;
 use board::{Access, Board};
-use delivery::Told;
-use letter::Round;
 use resolve::resolve_all;
-use roster::Scenario;
+use round::{Received, Round, Scenario};
 use std::alloc::{AllocError, Global};
 use std::snapshot::Snapshot;
 use std::thread;
@@ -47,7 +45,7 @@ pub(crate) fn judge<R: Threads + Sync>(
     scenario: &Scenario,
     board: &Board,
     rows: &[Round],
-    told: &Told,
+    told: &Received,
 ) -> Result<ArrayVec<u32, 12>, Mishap>
     requires rounds { length rows.now ≡ suc scenario.now.bound }
     requires told { WasTold scenario.now rows.now told.now }
@@ -99,7 +97,7 @@ fn account(
     scenario: &Scenario,
     board: &Board,
     rows: &[Round],
-    told: &Told,
+    told: &Received,
 ) -> Result<(), Mishap>
     requires rounds { length rows.now ≡ suc scenario.now.bound }
     requires told { WasTold scenario.now rows.now told.now }
@@ -142,7 +140,7 @@ fn decide<R: Threads + Sync>(
     rt: &R,
     alloc: Global,
     scenario: &Scenario,
-    told: &Told,
+    told: &Received,
 ) -> Result<ArrayVec<u32, 12>, AllocError>
     requires { (before : List (List LetterSeen)) × WasTold scenario.now before told.now }
     ensures { IfOk result (λ orders. (before : List (List LetterSeen)) → WasTold scenario.now before told.now →

@@ -1,21 +1,20 @@
 //! A campaign's rounds, conducted through the generals' camp.
 ghost use Rattle.std.specs.Prelude.{◌≡◌, ◌≢◌, ◌≤◌, ◌∷◌, [], suc, All, List, length, IfOk, IfErr};
-ghost use Rattle.letter.specs.Letters.{Letter as LetterSeen};
-ghost use Rattle.delivery.specs.Told.{WasTold};
+ghost use Rattle.round.specs.Letters.{Letter as LetterSeen};
+ghost use Rattle.round.specs.Told.{WasTold};
 ghost use Rattle.world.specs.World.{each};
 ghost use Rattle.threads.specs.Answers.{halt_as};
 ghost use Rattle.threads.specs.Duties.{duty_of};
 ghost use Rattle.threads.specs.Inboxes.{AreByGeneral, AreOwn};
 ghost use Rattle.threads.specs.declared.error.MusterError.TheVariants.{Spawn, Post as PostFull};
 
-use crate::camp::Camp;
+use crate::camp::Crew;
+use crate::claim::Claim;
+use crate::collector::Collector;
 use crate::halt::Halt;
-use crate::receiving::receive;
+use crate::round_letters::receive;
 use crate::task::Task;
-use delivery::Told;
-use letter::Round;
-use post::{Claim, Collector};
-use roster::Scenario;
+use round::{Received, Round, Scenario};
 use shared_board::Room;
 use std::alloc::{AllocError, Global};
 use std::sync::Wait;
@@ -31,9 +30,9 @@ pub(crate) fn conduct<R: Wait, G, J: Room, C: Claim>(
     rt: &R,
     alloc: Global,
     scenario: &Scenario,
-    camp: &Camp<G, J, C>,
+    camp: &Crew<G, J, C>,
     mut collector: Collector,
-) -> Result<(Vec<Round>, Told), Halt>
+) -> Result<(Vec<Round>, Received), Halt>
     requires collector { collector.table ≡ camp.now.post.table }
     requires inboxes { scenario.now.generals ≤ length camp.now.inboxes.items }
     requires own { AreOwn camp.now.inboxes.items }
@@ -45,7 +44,7 @@ pub(crate) fn conduct<R: Wait, G, J: Room, C: Claim>(
     ensures posted { IfErr result (λ halt. halt_as halt ≢ PostFull) }
 {
     let rounds = scenario.bound() + 1;
-    let mut told = Told::new(alloc, scenario)?;
+    let mut told = Received::new(alloc, scenario)?;
     let mut rows = Vec::with_capacity(alloc, usize::from(rounds))?;
     for _round in 0..rounds {
         let tasks = tasks(alloc, scenario, &told)?;
@@ -60,7 +59,7 @@ pub(crate) fn conduct<R: Wait, G, J: Room, C: Claim>(
 }
 
 /// The generals' tasks in the round to come, ascending.
-fn tasks(alloc: Global, scenario: &Scenario, told: &Told) -> Result<Vec<Task>, AllocError>
+fn tasks(alloc: Global, scenario: &Scenario, told: &Received) -> Result<Vec<Task>, AllocError>
     requires told { (before : List (List LetterSeen)) × WasTold scenario.now before told.now }
     requires left { told.now.rounds ≤ scenario.now.bound }
     ensures count { IfOk result (λ tasks. length tasks.items ≡ scenario.now.generals) }

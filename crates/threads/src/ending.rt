@@ -1,22 +1,21 @@
 //! What a campaign by threads has come to.
 ghost use Rattle.std.specs.Prelude.{◌≡◌, ◌≤◌, length, map, option_map};
 ghost use Rattle.threads.specs.Answers.{ended_as, failure_of, first_failure, outcome_as};
-ghost use Rattle.threads.specs.declared.uncollected.Uncollected.TheVariants.{Unstarted};
+ghost use Rattle.threads.specs.declared.collection_error.Uncollected.TheVariants.{Unstarted};
 
 use crate::answers::{Refused, ended};
+use crate::collection_error::Uncollected;
 use crate::halt::Halt;
 use crate::resident::Answer;
-use crate::uncollected::Uncollected;
 use arrayvec::ArrayVec;
-use delivery::Told;
-use letter::Round;
+use round::{Received, Round};
 
 /// What a campaign by threads has come to. What it is told as is told by `told` alone, so no answer is lost.
 #[derive(Drop)]
 pub(crate) struct Ending {
     refused: Option<Refused>,
     answers: Vec<Answer>,
-    outcome: Result<(Vec<Round>, Told), Halt>,
+    outcome: Result<(Vec<Round>, Received), Halt>,
 }
 
 impl Ending {
@@ -24,7 +23,7 @@ impl Ending {
     pub(crate) fn new(
         refused: Option<Refused>,
         answers: Vec<Answer>,
-        outcome: Result<(Vec<Round>, Told), Halt>,
+        outcome: Result<(Vec<Round>, Received), Halt>,
     ) -> Ending
         ensures refused { result.refused ≡ refused }
         ensures answers { result.answers.items ≡ answers.items }
@@ -38,7 +37,7 @@ impl Ending {
     }
 
     /// What was conducted, unless not all threads were started, or a general has failed.
-    pub(crate) fn told(self) -> Result<(Vec<Round>, Told), Uncollected>
+    pub(crate) fn told(self) -> Result<(Vec<Round>, Received), Uncollected>
         requires { length self.answers.items ≤ 13 }
         ensures { result ≡ ended_as (option_map Unstarted self.refused)
             (first_failure (map failure_of self.answers.items)) (outcome_as self.outcome) }

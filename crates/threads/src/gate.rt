@@ -7,9 +7,9 @@ ghost use Rattle.board.specs.Requests.{IsReplyTo};
 ghost use Rattle.shared_board.specs.Witnessed.{Serves};
 ghost use Rattle.threads.specs.Served.{told_in, HavePassed, AreWitnessed};
 
-use crate::made::{Made, Passed};
+use crate::poster::Poster;
+use crate::served_accesses::{Made, Passed};
 use crate::session::Session;
-use post::Poster;
 use round::Server;
 use semantics::{Reply, Request};
 use shared_board::{Room, SharedBoard, Witness};

@@ -5,7 +5,7 @@ ghost use Rattle.threads.specs.declared.halt.Halt.TheVariants.{Memory, Failed, S
 
 use crate::answers::Refused;
 use crate::error::MusterError;
-use crate::receiving::Strayed;
+use crate::round_letters::Strayed;
 use crate::tally::SomeoneFailed;
 use std::alloc::{AllocError, AllocFailed};
 

@@ -1,5 +1,5 @@
 //! What a pass knows. No value of these types is made.
-use letter::Letter;
+use round::Letter;
 use std::collections::LinkedList;
 
 /// What one general has posted.

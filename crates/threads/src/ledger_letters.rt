@@ -1,18 +1,16 @@
 //! The letters that a ledger accounts for.
 ghost use Rattle.std.specs.Prelude.{◌≡◌, ◌≢◌, suc, length, IfOk, OnOk, IfErr, MatchOption};
-ghost use Rattle.letter.specs.Origin.{AreRoundsOf};
-ghost use Rattle.delivery.specs.Told.{WasTold};
+ghost use Rattle.round.specs.Origin.{AreRoundsOf};
+ghost use Rattle.round.specs.Told.{WasTold};
 ghost use Rattle.world.specs.Accounted.{rounds_of, IsAccounted};
 ghost use Rattle.threads.specs.declared.error.MusterError.TheVariants.{Unaccounted, Spawn, Post};
 
 use crate::account::are_accounted;
 use crate::answers::{accounted, found};
+use crate::arrangement::arrange;
 use crate::error::MusterError;
-use crate::taking::arrange;
 use board::Access;
-use delivery::Told;
-use letter::{Letter, Round, are_letters_of};
-use roster::Scenario;
+use round::{Letter, Received, Round, Scenario, are_letters_of};
 use std::alloc::{AllocError, Global};
 
 /// The letters by round, and in a round by general, where the ledger accounts for them: there is one for each general
@@ -48,11 +46,11 @@ fn deliver_all(
     alloc: Global,
     scenario: &Scenario,
     rows: &[Round],
-) -> Result<Option<Told>, AllocError>
+) -> Result<Option<Received>, AllocError>
     requires { length rows.now ≡ suc scenario.now.bound }
     ensures { IfOk result (λ o. MatchOption o (¬ AreRoundsOf scenario.now rows.now) (WasTold scenario.now rows.now)) }
 {
-    let mut told = Told::new(alloc, scenario)?;
+    let mut told = Received::new(alloc, scenario)?;
     for row in rows {
         let round = u32::from(told.rounds()) + 1;
         if !are_letters_of(scenario, round, row.letters()) {

@@ -1,34 +1,44 @@
+//! The post: letters of several generals in one queue that threads share.
 //! Campaigns whose generals act in threads of their own, and the letters that a ledger accounts for.
 #![tactic(auto)]
 
 mod account;
 mod answers;
+mod arrangement;
 mod camp;
-mod collecting;
-mod concluding;
-mod conducting;
+mod claim;
+mod collection;
+mod collection_error;
+mod collector;
+mod conclusion;
+mod conductor;
 mod ending;
 mod error;
 mod failure;
 mod gate;
-mod gathering;
 mod halt;
 mod inbox;
-mod made;
+mod knowledge;
+mod ledger_letters;
 mod mishap;
-mod mustering;
-mod receiving;
+mod musters;
+mod post;
+mod poster;
 mod resident;
+mod round_letters;
+mod rule;
+mod served_accesses;
 mod session;
-mod taking;
 mod tally;
 mod task;
-mod uncollected;
 
 pub use answers::ended;
+pub use claim::{AnyLetter, Claim};
+pub use collector::Collector;
 pub use error::MusterError;
 pub use gate::{Gate, Open};
-pub use gathering::gather;
-pub use mustering::{muster, muster_with};
-pub use post::{Collector, Post, Poster};
+pub use ledger_letters::gather;
+pub use musters::{muster, muster_with};
+pub use post::{Post, PostOf};
+pub use poster::Poster;
 pub use shared_board::{Room, SharedBoard, Unshared, Witness};

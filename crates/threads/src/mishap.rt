@@ -3,9 +3,9 @@ ghost use Rattle.std.specs.Prelude.{◌≡◌};
 ghost use Rattle.threads.specs.Answers.{mishap_as};
 ghost use Rattle.threads.specs.declared.mishap.Mishap.TheVariants.{Memory, Uncollected as NotAll, Unlike as NotTheirs};
 
-use crate::concluding::Unlike;
+use crate::collection_error::Uncollected;
+use crate::conclusion::Unlike;
 use crate::error::MusterError;
-use crate::uncollected::Uncollected;
 use std::alloc::AllocError;
 
 /// Why a muster has no chronicle: memory aside, only what finds it can tell so.

@@ -2,7 +2,7 @@
 ghost use Rattle.std.specs.Prelude.{◌≡◌, ◌≤◌, ◌↔◌, suc, length, All, IfOk, IfErr};
 ghost use mathlib.Core.List.{IsPrefix};
 ghost use Rattle.board.specs.Board.{IsLegal};
-ghost use Rattle.letter.specs.Letters.{Letter as LetterSeen, messages};
+ghost use Rattle.round.specs.Letters.{Letter as LetterSeen, messages};
 ghost use Rattle.world.specs.Chronicle.{decisions, chronicle_of};
 ghost use Rattle.world.specs.Lists.{IsComplete, replayed, names_in};
 ghost use Rattle.world.specs.Promises.{AgreeUnderBound, IsVerdictOn, IsWellUnderBound};
@@ -11,14 +11,14 @@ ghost use Rattle.world.specs.Safety.{IsShort};
 ghost use Rattle.threads.specs.Answers.{IfUnlike};
 ghost use Rattle.threads.specs.Served.{AreGated, IsGated};
 
-use crate::collecting::collect;
-use crate::concluding::{conclude, judge};
+use crate::claim::Claim;
+use crate::collection::collect;
+use crate::conclusion::{conclude, judge};
 use crate::error::MusterError;
 use crate::gate::Gate;
 use crate::mishap::Mishap;
 use board::Board;
-use post::Claim;
-use roster::Scenario;
+use round::Scenario;
 use shared_board::{Room, SharedBoard, Unshared, Witness};
 use std::alloc::Global;
 use std::marker::Brand;

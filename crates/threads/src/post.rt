@@ -1,17 +1,17 @@
 //! The post. Of each general, letters are taken in the order in which he has posted them, each once.
 ghost use Rattle.std.specs.Prelude.{◌≡◌, ℕ, ◌<◌, ◌++◌, ◌∷◌, [], List, All, map, true, length, IfOk, IfErr, slice_index_or, IfSome, MatchOption, MatchResult};
 ghost use Rattle.crossbeam_queue.specs.Passes.{view, IsPassOf};
-ghost use Rattle.letter.specs.Letters.{Letter as LetterSeen};
-ghost use Rattle.post.specs.Delivery.{AreDelivered, posted};
-ghost use Rattle.post.specs.Seen.{PosterSeen, poster_seen, collector_seen};
+ghost use Rattle.round.specs.Letters.{Letter as LetterSeen};
+ghost use Rattle.threads.specs.Delivery.{AreDelivered, posted};
+ghost use Rattle.threads.specs.Seen.{PosterSeen, poster_seen, collector_seen};
 
 use crate::claim::{AnyLetter, Claim};
 use crate::collector::Collector;
-use crate::known::Known;
+use crate::knowledge::Known;
 use crate::poster::Poster;
 use crate::rule::{Hire, Put, Queue, Return, Took};
 use crossbeam_queue::Pass;
-use letter::Letter;
+use round::Letter;
 use std::alloc::{AllocError, Global};
 use std::marker::Model;
 use std::sync::Wait;
@@ -29,7 +29,7 @@ pub type Post = PostOf<AnyLetter>;
 
 impl<C: Claim> Model for PostOf<C> {
     ghost use Rattle.crossbeam_queue.specs.Passes.{ruled_capacity};
-    ghost use Rattle.post.specs.Seen.{PostSeen};
+    ghost use Rattle.threads.specs.Seen.{PostSeen};
 
     ghost Value = { PostSeen };
 

@@ -1,7 +1,7 @@
 //! The pass of one general.
-use crate::known::Known;
+use crate::knowledge::Known;
 use crossbeam_queue::Pass;
-use letter::Letter;
+use round::Letter;
 use std::marker::Model;
 
 /// One general's leave to post. It takes no bytes, and there is one for each general of a post.
@@ -12,7 +12,7 @@ pub struct Poster {
 
 impl Model for Poster {
     ghost use Rattle.std.specs.Prelude.{◌≡◌, [], true};
-    ghost use Rattle.post.specs.Seen.{PosterSeen};
+    ghost use Rattle.threads.specs.Seen.{PosterSeen};
 
     ghost Value = { PosterSeen };
 

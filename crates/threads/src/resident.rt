@@ -1,21 +1,23 @@
 //! A general's thread through all rounds.
 ghost use Rattle.std.specs.Prelude.{◌≡◌, ◌≢◌, ℕ, ◌++◌, ◌∷◌, [], All, IfOk, IfErr, IsErrAnd};
-ghost use Rattle.letter.specs.Letters.{Letter as LetterSeen};
+ghost use Rattle.round.specs.Letters.{Letter as LetterSeen};
 ghost use Rattle.threads.specs.Answers.{failure_of, failure_as, IsFailureOf};
 ghost use Rattle.threads.specs.Duties.{IsDone};
 ghost use Rattle.threads.specs.Served.{told_in, IsGated, AreWitnessed};
 ghost use Rattle.threads.specs.declared.error.MusterError.TheVariants.{Unaccounted, Post as PostFull};
 
+use crate::claim::Claim;
+use crate::collection_error::Uncollected;
 use crate::error::MusterError;
 use crate::failure::{Failure, is_his};
 use crate::gate::{Gate, Gated, Settled};
 use crate::inbox::{Closed, Inbox};
+use crate::post::PostOf;
+use crate::poster::Poster;
 use crate::session::Session;
-use crate::tally::{Reported, Tally, Uncounted, send};
+use crate::tally::{PostedCount, Reported, Uncounted, send};
 use crate::task::Task;
-use crate::uncollected::Uncollected;
-use letter::Letter;
-use post::{Claim, PostOf, Poster};
+use round::Letter;
 use shared_board::{Room, SharedBoard, Witness};
 use std::alloc::Global;
 use std::marker::Brand;
@@ -68,15 +70,15 @@ impl Answer {
 
 /// A general who stays for all rounds: his inbox, and what he shares with the others.
 #[derive(Drop)]
-pub(crate) struct Resident<'a, G, J: Room> {
+pub(crate) struct GeneralThread<'a, G, J: Room> {
     pub(crate) general: u32,
     pub(crate) gate: &'a G,
     pub(crate) board: &'a SharedBoard<J>,
     pub(crate) inbox: &'a Inbox,
-    pub(crate) tally: &'a Tally,
+    pub(crate) tally: &'a PostedCount,
 }
 
-impl<'a, G: Gate, J: Room> Resident<'a, G, J> {
+impl<'a, G: Gate, J: Room> GeneralThread<'a, G, J> {
     /// Does his tasks until his inbox is closed, or he fails; where he fails, he says so to the one who waits for the
     /// letters.
     pub(crate) fn stay<R: Wait, C: Claim>(

@@ -1,17 +1,17 @@
 //! The letters of a round, taken out of the post.
 ghost use Rattle.std.specs.Prelude.{◌≡◌, ◌≢◌, ◌≤◌, ◌++◌, suc, All, List, IsPermutation, IsSortedByKey, IfOk, OnOk, IfErr};
 ghost use Rattle.std.specs.Ordering.{nat_cmp};
-ghost use Rattle.letter.specs.Letters.{Letter as LetterSeen};
-ghost use Rattle.letter.specs.Origin.{AreLettersOf};
+ghost use Rattle.round.specs.Letters.{Letter as LetterSeen};
+ghost use Rattle.round.specs.Origin.{AreLettersOf};
 ghost use Rattle.threads.specs.Answers.{halt_as, HasStrayedIn};
 ghost use Rattle.threads.specs.declared.error.MusterError.TheVariants.{Spawn, Post as PostFull};
 
+use crate::claim::Claim;
+use crate::collector::Collector;
 use crate::halt::Halt;
+use crate::post::PostOf;
 use crate::tally::AllPosted;
-use delivery::Told;
-use letter::{Letter, are_letters_of};
-use post::{Claim, Collector, PostOf};
-use roster::Scenario;
+use round::{Letter, Received, Scenario, are_letters_of};
 use std::alloc::{AllocError, Global};
 use std::sync::Wait;
 
@@ -31,7 +31,7 @@ pub(crate) fn receive<R: Wait, C: Claim>(
     rt: &R,
     alloc: Global,
     scenario: &Scenario,
-    told: &Told,
+    told: &Received,
     post: &PostOf<C>,
     collector: Collector,
     all: AllPosted,

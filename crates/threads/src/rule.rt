@@ -1,9 +1,9 @@
 //! The rule of the post, and the moves that it admits.
 use crate::claim::Claim;
-use crate::known::Known;
+use crate::knowledge::Known;
 use crossbeam_queue::RuledArrayQueue;
 use crossbeam_queue::protocol::{Join, Lesson, Outcome, Protocol, Split};
-use letter::Letter;
+use round::Letter;
 use std::marker::PhantomData;
 
 /// A queue under the rule.
@@ -18,7 +18,7 @@ pub(crate) struct Delivery<C> {
 
 impl<C: Claim> Protocol<Letter, Known> for Delivery<C> {
     ghost use Rattle.std.specs.Prelude.{[]};
-    ghost use Rattle.post.specs.Rule.{collector, DeliversOnly};
+    ghost use Rattle.threads.specs.Rule.{collector, DeliversOnly};
 
     ghost holds = { DeliversOnly C.holds };
 
@@ -30,7 +30,7 @@ pub(crate) struct Hire;
 
 impl Split<Known> for Hire {
     ghost use Rattle.std.specs.Prelude.{[], ◌+◌};
-    ghost use Rattle.post.specs.Rule.{collector, poster};
+    ghost use Rattle.threads.specs.Rule.{collector, poster};
 
     ghost left = { λ v. collector v.letters (v.made + 1) v.back };
 
@@ -42,8 +42,8 @@ pub(crate) struct Return;
 
 impl Join<Known> for Return {
     ghost use Rattle.std.specs.Prelude.{◌∷◌};
-    ghost use Rattle.post.specs.Delivery.{posted};
-    ghost use Rattle.post.specs.Rule.{collector, spent};
+    ghost use Rattle.threads.specs.Delivery.{posted};
+    ghost use Rattle.threads.specs.Rule.{collector, spent};
 
     ghost both = { λ v u. collector v.letters v.made (posted u.general u.letters ∷ v.back) };
 
@@ -55,7 +55,7 @@ pub(crate) struct Put;
 
 impl Outcome<Letter, Known> for Put {
     ghost use Rattle.std.specs.Prelude.{[], ◌∷◌, ◌++◌, ◌≡◌};
-    ghost use Rattle.post.specs.Rule.{poster};
+    ghost use Rattle.threads.specs.Rule.{poster};
 
     ghost then = { λ v x w. w ≡ poster v.general (v.letters ++ x ∷ []) };
 }
@@ -71,14 +71,14 @@ pub(crate) struct Took<C> {
 
 impl<C: Claim> Outcome<Letter, Known> for Took<C> {
     ghost use Rattle.std.specs.Prelude.{[], ◌∷◌, ◌++◌, ◌≡◌};
-    ghost use Rattle.post.specs.Rule.{collector};
+    ghost use Rattle.threads.specs.Rule.{collector};
 
     ghost then = { λ v x w. (w ≡ collector (v.letters ++ x ∷ []) v.made v.back) × C.holds x };
 }
 
 impl<C: Claim> Lesson<Letter, Known> for Took<C> {
     ghost use Rattle.std.specs.Prelude.{◌++◌};
-    ghost use Rattle.post.specs.Delivery.{AreDelivered};
+    ghost use Rattle.threads.specs.Delivery.{AreDelivered};
 
     ghost fact = { λ v items. AreDelivered (v.letters ++ items) v.back };
 }

@@ -3,19 +3,19 @@ ghost use Rattle.std.specs.Prelude.{◌≡◌, ◌≤◌, IfOk};
 ghost use Rattle.threads.specs.Answers.{failure_as};
 
 mod count;
-mod returned;
+mod returned_letter;
 
 use crate::camp::HandedOut;
 use crate::error::MusterError;
+use crate::poster::Poster;
 use crate::resident::Failed;
 use count::{Count, Counted};
 pub(crate) use count::{AllPosted, SomeoneFailed, Uncounted, send};
-use post::Poster;
-pub(crate) use returned::Returned;
+pub(crate) use returned_letter::Returned;
 use std::sync::{Condvar, Mutex, Wait};
 
 /// That a general has failed, and that it was counted where the one who waits for the letters reads it, as
-/// `Tally::failed` alone tells.
+/// `PostedCount::failed` alone tells.
 #[derive(Clone, Copy)]
 pub(crate) struct Reported {
     failed: Failed,
@@ -33,18 +33,18 @@ impl Reported {
 
 /// What the generals tell the one who waits for their letters.
 #[derive(Drop)]
-pub(crate) struct Tally {
+pub(crate) struct PostedCount {
     generals: usize,
     count: Mutex<Count>,
     changed: Condvar,
 }
 
-impl Tally {
+impl PostedCount {
     /// The tally of so many generals, none of whom has posted a letter.
-    pub(crate) fn new(generals: usize) -> Tally
+    pub(crate) fn new(generals: usize) -> PostedCount
         ensures { result.generals ≡ generals }
     {
-        Tally {
+        PostedCount {
             generals,
             count: Mutex::new(Count::new()),
             changed: Condvar::new(),

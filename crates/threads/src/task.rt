@@ -1,13 +1,10 @@
 //! What a general does in a round.
 ghost use Rattle.std.specs.Prelude.{◌≡◌, ◌<◌, ◌≤◌, ◌++◌, List, IfOk};
-ghost use Rattle.letter.specs.Letters.{Letter as LetterSeen};
-ghost use Rattle.delivery.specs.Told.{WasTold};
+ghost use Rattle.round.specs.Letters.{Letter as LetterSeen};
+ghost use Rattle.round.specs.Told.{WasTold};
 ghost use Rattle.threads.specs.Duties.{duty_of, IsDone};
 
-use delivery::Told;
-use letter::{Letter, loyal_letter};
-use roster::{Scenario, Seat};
-use round::{Server, live};
+use round::{Letter, Player, Received, Scenario, Server, live, loyal_letter};
 use std::alloc::{AllocError, Global};
 use std::marker::Model;
 
@@ -15,7 +12,7 @@ use std::marker::Model;
 /// duty.
 #[derive(Drop)]
 pub(crate) struct Task {
-    program: Seat,
+    program: Player,
     context: Vec<u8>,
     general: u32,
     round: u32,
@@ -25,7 +22,7 @@ pub(crate) struct Task {
 impl Model for Task {
     ghost use Rattle.std.specs.Prelude.{◌≡◌, length};
     ghost use Rattle.label.specs.Relay.{IsShape};
-    ghost use Rattle.letter.specs.Contexts.{IsToldTo, shape_told};
+    ghost use Rattle.round.specs.Contexts.{IsToldTo, shape_told};
     ghost use Rattle.threads.specs.Duties.{Duty};
 
     ghost Value = { Duty };
@@ -51,7 +48,7 @@ impl Task {
     pub(crate) fn new(
         alloc: Global,
         scenario: &Scenario,
-        told: &Told,
+        told: &Received,
         general: u8,
     ) -> Result<Task, AllocError>
         requires told { (before : List (List LetterSeen)) × WasTold scenario.now before told.now }

@@ -3,7 +3,7 @@ use Rattle.std.proofs.Common.{◌≡◌, ◌≢◌, ℕ, zero, suc, ◌+◌, ◌
 use Rattle.std.specs.Prelude.{filter, slice_get}
 use Rattle.label.specs.Labels.{on}
 use Rattle.label.specs.Lieutenants.{lieutenants}
-use Rattle.roster.specs.Scenario.{Scenario}
+use Rattle.round.specs.Scenario.{Scenario}
 use Rattle.trace.specs.Sinks.{Wrote}
 use Rattle.trace.specs.Text.{Line, text, decision_lines}
 use Rattle.trace.specs.Lines.{decided_lines}

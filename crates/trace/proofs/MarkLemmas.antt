@@ -11,7 +11,7 @@ use Rattle.text.specs.Parts.{GivesPieces, pieces, onto_first}
 use Rattle.trace.specs.Text.{Line, Word}
 use Rattle.trace.specs.Names.{Named, named, with_line}
 use Rattle.trace.specs.Marks.{all_names, behind, lines_left, marked}
-use Rattle.trace.specs.declared.named.Mark.TheVariants.{Round}
+use Rattle.trace.specs.declared.access_names.Mark.TheVariants.{Round}
 
 -- there is a piece
 pub some_piece : (stop : Stop) (t : List ℕ) → (v : List ℕ) × (vs : List (List ℕ)) × (pieces stop t ≡ v ∷ vs)

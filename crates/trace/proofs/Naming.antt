@@ -10,8 +10,8 @@ use Rattle.std.proofs.lemmas.Bool.Decides.{eqb_tells}
 use Rattle.std.proofs.Common.{⊎_elim}
 use Rattle.label.specs.Labels.{generals}
 use Rattle.board.specs.Board.{Access}
-use Rattle.roster.specs.Scenario.{Scenario, is_traitor}
-use Rattle.letter.specs.Letters.{Letter}
+use Rattle.round.specs.Scenario.{Scenario, is_traitor}
+use Rattle.round.specs.Letters.{Letter}
 use Rattle.world.specs.Lists.{names_in}
 use Rattle.world.specs.Chronicle.{Chronicle}
 use Rattle.label.specs.Lieutenants.{lieutenants}

@@ -1,6 +1,6 @@
 -- The text of a campaign, for the campaigns that are computed here.
 use Rattle.std.specs.Prelude.{ℕ, List, [], ◌∷◌, ◌++◌, flat_map}
-use Rattle.roster.specs.Scenario.{Scenario}
+use Rattle.round.specs.Scenario.{Scenario}
 use Rattle.world.specs.World.{opening, run}
 use Rattle.world.specs.Lists.{listed}
 use Rattle.world.specs.Chronicle.{chronicle_of}

@@ -4,7 +4,7 @@ use Rattle.std.specs.Prelude.{filter, ◌==◌}
 use Rattle.std.proofs.lemmas.List.{take_more, length-take-le}
 use Rattle.std.proofs.lemmas.Grind.{flat_map-append}
 use Rattle.board.specs.Board.{Access}
-use Rattle.letter.specs.Letters.{Letter}
+use Rattle.round.specs.Letters.{Letter}
 use Rattle.trace.specs.Sinks.{Wrote, WroteBut}
 use Rattle.trace.specs.Text.{Word, Line, further, text, access_line, row_lines, author_line, letter_lines, steps_of, rounds_told}
 use Rattle.trace.specs.Lines.{round_line, round_told, row_line}

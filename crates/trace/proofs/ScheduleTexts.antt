@@ -2,7 +2,7 @@
 use Rattle.std.specs.Prelude.{◌≡◌, ℕ, [], ◌∷◌, ◌++◌, replicate, codes, Ok, Err, refl}
 use Rattle.text.specs.Number.{decimal_of}
 use Rattle.world.specs.declared.schedule.Repeat.{Repeat}
-use Rattle.trace.specs.declared.fault.Fault.TheVariants.{Line}
+use Rattle.trace.specs.declared.fault.TraceFault.TheVariants.{Line}
 use Rattle.trace.specs.declared.fault.TraceError.TheVariants.{At}
 use Rattle.trace.specs.Schedules.{number_within, schedule_told}
 

@@ -1,7 +1,7 @@
 -- An audit's answer and the texts of signed replays.
 use Rattle.std.proofs.Common.{◌≡◌, ℕ, true, false, List, sym, ap, ◌∙◌, refl}
 use Rattle.std.specs.Prelude.{slice_get}
-use Rattle.roster.specs.Scenario.{Scenario}
+use Rattle.round.specs.Scenario.{Scenario}
 use Rattle.world.specs.Chronicle.{Chronicle}
 use Rattle.trace.specs.Audit.{IsFirstDifference}
 use Rattle.trace.specs.SignedAudit.{IsSoundSignedText, is_third_version, signed_chronicle_told}

@@ -1,8 +1,8 @@
 -- The lines of signed letters and of the first lines, part by part.
 use Rattle.std.proofs.Common.{◌≡◌, ℕ, List, [], ◌∷◌, ◌++◌, map, sym, ap, ◌∙◌, append_assoc, Option}
 use Rattle.std.specs.Prelude.{codes, decimal}
-use Rattle.letter.specs.Letters.{Letter}
-use Rattle.roster.specs.Scenario.{Scenario}
+use Rattle.round.specs.Letters.{Letter}
+use Rattle.round.specs.Scenario.{Scenario}
 use Rattle.signed.specs.Chains.{Chain}
 use Rattle.signed.specs.Sending.{dispatch_of}
 use Rattle.signed.specs.Sent.{Sent, sent_by}

@@ -1,8 +1,8 @@
 -- The names of a signed text are those of its accesses.
 use Rattle.std.proofs.Common.{◌≡◌, ◌<◌, ℕ, List, [], ◌∷◌, ◌++◌, map, flat_map, length, refl, arith}
 use Rattle.std.specs.Prelude.{All, codes, decimal}
-use Rattle.letter.specs.Letters.{Letter}
-use Rattle.roster.specs.Scenario.{Scenario}
+use Rattle.round.specs.Letters.{Letter}
+use Rattle.round.specs.Scenario.{Scenario}
 use Rattle.signed.specs.Entries.{Dispatch}
 use Rattle.signed.specs.Sent.{Sent, sent_by, sent_in}
 use Rattle.world.specs.Chronicle.{Chronicle}

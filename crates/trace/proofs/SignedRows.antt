@@ -3,7 +3,7 @@ use Rattle.std.proofs.Common.{◌≡◌, ℕ, List, [], ◌∷◌, ◌++◌, ref
 use Rattle.std.specs.Prelude.{codes}
 use Rattle.std.specs.Fmt.{digits}
 use Rattle.semantics.specs.Execution.{step}
-use Rattle.contexts.specs.Layout.{context_bytes}
+use Rattle.mem.specs.ContextLayout.{context_bytes}
 use Rattle.world.specs.KindLists.{listed, replayed}
 use Rattle.signed.specs.Accepted.{held, accepted}
 use Rattle.signed.specs.Loyal.{loyal_entries}

@@ -1,6 +1,6 @@
 -- The texts that an audit of a signed campaign finds sound are those of complete runs.
 use Rattle.std.proofs.Common.{◌≡◌, ℕ, suc, List, sym, ap, ◌∙◌, arith}
-use Rattle.roster.specs.Scenario.{Scenario, IsScenario}
+use Rattle.round.specs.Scenario.{Scenario, IsScenario}
 use Rattle.world.specs.declared.event.Event.{Event}
 use Rattle.world.specs.Kind.{World}
 use Rattle.world.specs.KindLists.{IsComplete, names_in, replayed}

@@ -4,8 +4,8 @@ use Rattle.std.specs.Prelude.{sum_by}
 use Rattle.std.proofs.lemmas.List.{take-append-drop}
 use Rattle.board.specs.Board.{Access}
 use Rattle.world.specs.declared.event.Event.{Event}
-use Rattle.roster.specs.Scenario.{Scenario, IsScenario}
-use Rattle.letter.specs.Letters.{Letter}
+use Rattle.round.specs.Scenario.{Scenario, IsScenario}
+use Rattle.round.specs.Letters.{Letter}
 use Rattle.world.specs.World.{oral_kind, opening, run}
 use Rattle.world.specs.Accounted.{AreAccounted}
 use Rattle.world.specs.Lists.{IsComplete, names_in, replayed}

@@ -7,13 +7,13 @@ use Rattle.insn.specs.declared.insn.Insn.{Insn}
 use Rattle.insn.specs.declared.insn.Insn.TheVariants as i
 use Rattle.insn.specs.declared.insn.Operand.TheVariants.{Immediate}
 use Rattle.combine.specs.Rule.{majority}
-use Rattle.combine.specs.declared.chosen.Rule.TheVariants.{Majority}
+use Rattle.combine.specs.declared.campaign_rule.Rule.TheVariants.{Majority}
 use Rattle.label.specs.Labels.{labels}
 use Rattle.label.specs.Oral.{om}
 use Rattle.semantics.specs.Execution.{step}
-use Rattle.roster.specs.Scenario.{Scenario}
-use Rattle.contexts.specs.Layout.{context_bytes}
-use Rattle.letter.specs.Letters.{messages}
+use Rattle.round.specs.Scenario.{Scenario}
+use Rattle.mem.specs.ContextLayout.{context_bytes}
+use Rattle.round.specs.Letters.{messages}
 use Rattle.world.specs.Chronicle.{decisions}
 use Rattle.trace.specs.Text.{lines_in, text_in}
 use Rattle.trace.proofs.Printed.{printed, lines}

@@ -7,14 +7,14 @@ use Rattle.insn.specs.declared.insn.Insn.{Insn}
 use Rattle.insn.specs.declared.insn.Insn.TheVariants as i
 use Rattle.insn.specs.declared.insn.Operand.TheVariants.{Immediate}
 use Rattle.combine.specs.Rule.{majority}
-use Rattle.combine.specs.declared.chosen.Rule.TheVariants.{Majority}
+use Rattle.combine.specs.declared.campaign_rule.Rule.TheVariants.{Majority}
 use Rattle.label.specs.Labels.{labels}
 use Rattle.label.specs.Oral.{om}
 use Rattle.semantics.specs.Execution.{step}
-use Rattle.roster.specs.Scenario.{Scenario}
-use Rattle.contexts.specs.Layout.{context_bytes}
-use Rattle.letter.specs.Contexts.{context_of}
-use Rattle.letter.specs.Letters.{messages}
+use Rattle.round.specs.Scenario.{Scenario}
+use Rattle.mem.specs.ContextLayout.{context_bytes}
+use Rattle.round.specs.Contexts.{context_of}
+use Rattle.round.specs.Letters.{messages}
 use Rattle.world.specs.declared.event.EventError.TheVariants.{NotOpen, NoGeneral}
 use Rattle.world.specs.World.{opening, run, refusal}
 use Rattle.world.specs.declared.event.Event.TheVariants.{Tick, Post, Close}

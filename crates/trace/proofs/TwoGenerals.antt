@@ -2,13 +2,13 @@
 use Rattle.std.specs.Prelude.{◌≡◌, [], ◌∷◌, replicate, codes, None, refl}
 use Rattle.std.specs.Fmt.{digits}
 use Rattle.combine.specs.Rule.{majority}
-use Rattle.combine.specs.declared.chosen.Rule.TheVariants.{Majority}
+use Rattle.combine.specs.declared.campaign_rule.Rule.TheVariants.{Majority}
 use Rattle.label.specs.Labels.{labels}
 use Rattle.label.specs.Oral.{om}
 use Rattle.semantics.specs.Execution.{step}
-use Rattle.roster.specs.Scenario.{Scenario}
-use Rattle.contexts.specs.Layout.{context_bytes}
-use Rattle.letter.specs.Letters.{messages}
+use Rattle.round.specs.Scenario.{Scenario}
+use Rattle.mem.specs.ContextLayout.{context_bytes}
+use Rattle.round.specs.Letters.{messages}
 use Rattle.world.specs.Chronicle.{decisions}
 use Rattle.trace.specs.Text.{lines_in, text_in}
 use Rattle.trace.proofs.Printed.{printed, lines}

@@ -1,7 +1,7 @@
 -- The text that a campaign has in place of one that is not sound: that of the replay of the accesses that the text
 -- tells (own).
 use Rattle.std.specs.Prelude.{ℕ, List, Option, Some, None}
-use Rattle.roster.specs.Scenario.{Scenario}
+use Rattle.round.specs.Scenario.{Scenario}
 use Rattle.world.specs.Chronicle.{Chronicle}
 use Rattle.trace.specs.declared.version.Version.{Version}
 use Rattle.trace.specs.Audit.{version_named}

@@ -1,14 +1,14 @@
 -- What an audit answers to a text that is not sound (own).
 use Rattle.std.specs.Prelude.{ℕ, suc, ◌≡◌, ◌≢◌, ◌≤◌, ◌==◌, nat_le, if◌then◌else◌, List, [], ◌∷◌, length, take, slice_get, count_by, bytes_eq, codes, Option, Some, None}
-use Rattle.combine.specs.declared.chosen.Rule.{Rule}
+use Rattle.combine.specs.declared.campaign_rule.Rule.{Rule}
 use Rattle.combine.specs.Names.{is_default}
 use Rattle.text.specs.Stop.{feed}
 use Rattle.text.specs.Parts.{pieces}
-use Rattle.roster.specs.Scenario.{Scenario}
+use Rattle.round.specs.Scenario.{Scenario}
 use Rattle.trace.specs.declared.version.Version.{Version}
 use Rattle.trace.specs.declared.version.Version.TheVariants.{First, Second}
-use Rattle.trace.specs.declared.fault.Fault.{Fault}
-use Rattle.trace.specs.declared.fault.Fault.TheVariants.{Line, Scenario as NotTheScenarios, Differs}
+use Rattle.trace.specs.declared.fault.TraceFault.{TraceFault}
+use Rattle.trace.specs.declared.fault.TraceFault.TheVariants.{Line, Scenario as NotTheScenarios, Differs}
 use Rattle.trace.specs.declared.fault.TraceError.{TraceError}
 use Rattle.trace.specs.declared.fault.TraceError.TheVariants.{At}
 use Rattle.trace.specs.Text.{text_in}
@@ -41,7 +41,7 @@ abbrev pub line_at : List ℕ → ℕ → ℕ
 line_at t place = suc (count_by (λ c. c == 10) (take place t))
 
 -- a first or second line that differs is not the scenario's
-abbrev pub differing : ℕ → Fault
+abbrev pub differing : ℕ → TraceFault
 differing line = if nat_le line 2 then NotTheScenarios else Differs
 
 -- a line of no shape comes before a difference

@@ -1,12 +1,12 @@
 -- What is said of a fault.
 use Rattle.std.specs.Prelude.{ℕ, List, ◌++◌, codes}
 use Rattle.std.specs.Fmt.{decimal}
-use Rattle.trace.specs.declared.fault.Fault.{Fault}
-use Rattle.trace.specs.declared.fault.Fault.TheVariants.{Line, Scenario, Differs}
+use Rattle.trace.specs.declared.fault.TraceFault.{TraceFault}
+use Rattle.trace.specs.declared.fault.TraceFault.TheVariants.{Line, Scenario, Differs}
 use Rattle.trace.specs.declared.fault.TraceError.{TraceError}
 use Rattle.trace.specs.declared.fault.TraceError.TheVariants.{At, Write, Memory}
 
-abbrev pub code_of : Fault → List ℕ
+abbrev pub code_of : TraceFault → List ℕ
 code_of Line = codes "X1"
 code_of Scenario = codes "X2"
 code_of Differs = codes "X3"

@@ -1,9 +1,9 @@
 -- What holds of every chronicle's text. Each statement is the contract of a function of this crate.
 use Rattle.std.specs.Prelude.{ℕ, ◌≡◌, ◌<◌, ◌↔◌, true, All, List, length}
-use Rattle.combine.specs.declared.chosen.Rule.{Rule}
+use Rattle.combine.specs.declared.campaign_rule.Rule.{Rule}
 use Rattle.combine.specs.Names.{is_default}
 use Rattle.world.specs.declared.event.Event.{Event}
-use Rattle.roster.specs.Scenario.{Scenario, IsScenario}
+use Rattle.round.specs.Scenario.{Scenario, IsScenario}
 use Rattle.world.specs.World.{opening, run}
 use Rattle.world.specs.Lists.{IsComplete, names_in}
 use Rattle.world.specs.Chronicle.{Chronicle, chronicle_of}

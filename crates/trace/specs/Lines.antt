@@ -1,8 +1,8 @@
 -- Single lines of a chronicle, by the numbers that they tell, and parts of them.
 use Rattle.std.specs.Prelude.{ℕ, zero, suc, Bool, true, false, List, [], ◌∷◌, ◌++◌, ◌==◌, map, filter, flat_map, decimal, codes, Option, None, Some}
 use Rattle.board.specs.Board.{Access}
-use Rattle.letter.specs.Letters.{Letter}
-use Rattle.roster.specs.Scenario.{Scenario, is_traitor}
+use Rattle.round.specs.Letters.{Letter}
+use Rattle.round.specs.Scenario.{Scenario, is_traitor}
 use Rattle.trace.specs.Text.{Word, Line, access_line, letter_lines, place, decision_line}
 
 abbrev pub round_line : ℕ → Line

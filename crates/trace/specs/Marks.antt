@@ -3,8 +3,8 @@ use Rattle.std.specs.Prelude.{ℕ, List, [], ◌∷◌, ◌++◌, Option, Some, 
 use Rattle.std.proofs.Common.{Bor}
 use Rattle.text.specs.Stop.{feed}
 use Rattle.text.specs.Parts.{pieces}
-use Rattle.trace.specs.declared.named.Mark.{Mark}
-use Rattle.trace.specs.declared.named.Mark.TheVariants.{Round, Access, Other}
+use Rattle.trace.specs.declared.access_names.Mark.{Mark}
+use Rattle.trace.specs.declared.access_names.Mark.TheVariants.{Round, Access, Other}
 use Rattle.trace.specs.Names.{Named}
 
 -- what is named from a line on, by what it says

@@ -3,7 +3,7 @@ use Rattle.std.specs.Prelude.{ℕ, cond, List, [], ◌∷◌, ◌++◌, map, fil
 use Rattle.text.specs.Stop.{space, feed}
 use Rattle.text.specs.Parts.{pieces}
 use Rattle.label.specs.Labels.{generals}
-use Rattle.roster.specs.Scenario.{Scenario}
+use Rattle.round.specs.Scenario.{Scenario}
 use Rattle.world.specs.World.{opening, run}
 use Rattle.world.specs.Lists.{replayed}
 use Rattle.world.specs.Chronicle.{Chronicle, chronicle_of}

@@ -7,7 +7,7 @@ use Rattle.text.specs.Stop.{space}
 use Rattle.text.specs.Parts.{pieces, lines_of}
 use Rattle.text.specs.Number.{decimal_of}
 use Rattle.world.specs.declared.schedule.Repeat.{Repeat}
-use Rattle.trace.specs.declared.fault.Fault.TheVariants.{Line}
+use Rattle.trace.specs.declared.fault.TraceFault.TheVariants.{Line}
 use Rattle.trace.specs.declared.fault.TraceError.{TraceError}
 use Rattle.trace.specs.declared.fault.TraceError.TheVariants.{At}
 

@@ -5,7 +5,7 @@ use Rattle.combine.specs.Names.{rule_named}
 use Rattle.text.specs.Stop.{dot, space}
 use Rattle.text.specs.Parts.{pieces}
 use Rattle.text.specs.Number.{decimal_of}
-use Rattle.asking.specs.Wording.{Row, rows}
+use Rattle.board.specs.Wording.{Row, rows}
 use Rattle.trace.specs.Text.{Word, acting_shape, loyal_shape}
 
 -- a decimal number without leading zeros, of any size

@@ -2,7 +2,7 @@
 use Rattle.std.specs.Prelude.{ℕ, ◌≡◌, Bool, true, false, List, [], ◌∷◌, bytes_eq, codes}
 use Rattle.text.specs.Stop.{feed}
 use Rattle.text.specs.Parts.{pieces}
-use Rattle.roster.specs.Scenario.{Scenario}
+use Rattle.round.specs.Scenario.{Scenario}
 use Rattle.world.specs.Chronicle.{Chronicle}
 use Rattle.world.specs.KindLists.{replayed}
 use Rattle.signed.specs.Kind.{signed_kind, played}

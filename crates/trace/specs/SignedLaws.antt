@@ -1,6 +1,6 @@
 -- What holds of every text of a signed campaign. Each statement is the contract of a function of this crate.
 use Rattle.std.specs.Prelude.{◌≡◌, ◌<◌, ◌↔◌, ℕ, All, List, length}
-use Rattle.roster.specs.Scenario.{Scenario, IsScenario}
+use Rattle.round.specs.Scenario.{Scenario, IsScenario}
 use Rattle.world.specs.declared.event.Event.{Event}
 use Rattle.world.specs.KindLists.{IsComplete, names_in, replay_world}
 use Rattle.world.specs.Chronicle.{Chronicle}

@@ -1,8 +1,8 @@
 -- The text of a signed campaign's chronicle, the third version, line by line (own). Lines of rounds and accesses, the
 -- first of a letter, those of decisions and of the verdict are those of the other versions.
 use Rattle.std.specs.Prelude.{ℕ, List, [], ◌∷◌, ◌++◌, map, flat_map, decimal, codes}
-use Rattle.roster.specs.Scenario.{Scenario}
-use Rattle.letter.specs.Letters.{Letter}
+use Rattle.round.specs.Scenario.{Scenario}
+use Rattle.round.specs.Letters.{Letter}
 use Rattle.world.specs.Chronicle.{Chronicle}
 use Rattle.signed.specs.Entries.{Dispatch}
 use Rattle.signed.specs.Sent.{Sent, sent_by, sent_in}

@@ -1,15 +1,15 @@
 -- The text of a chronicle, line by line (own).
 use Rattle.std.specs.Prelude.{ℕ, suc, ◌==◌, Bool, true, false, List, [], ◌∷◌, ◌++◌, bytes_eq, map, flat_map, filter, decimal, codes, Option, None, Some, option_map, if◌then◌else◌}
-use Rattle.combine.specs.declared.chosen.Rule.{Rule}
+use Rattle.combine.specs.declared.campaign_rule.Rule.{Rule}
 use Rattle.combine.specs.Names.{is_default}
 use Rattle.combine.specs.Rule.{rule_name}
 use Rattle.text.specs.Parts.{pieces}
 use Rattle.text.specs.Stop.{space}
 use Rattle.semantics.specs.declared.request.Request.{Request}
-use Rattle.asking.specs.Wording.{numbers_asked, row_asked}
+use Rattle.board.specs.Wording.{numbers_asked, row_asked}
 use Rattle.board.specs.Board.{Access}
-use Rattle.roster.specs.Scenario.{Scenario, is_traitor}
-use Rattle.letter.specs.Letters.{Letter}
+use Rattle.round.specs.Scenario.{Scenario, is_traitor}
+use Rattle.round.specs.Letters.{Letter}
 use Rattle.world.specs.declared.verdict.Verdict.{Verdict}
 use Rattle.world.specs.Chronicle.{Chronicle}
 use Rattle.label.specs.Lieutenants.{lieutenants}

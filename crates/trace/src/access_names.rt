@@ -6,8 +6,8 @@ ghost use Rattle.world.specs.Playing.{lists_in};
 ghost use Rattle.trace.specs.Names.{Named, general_of, with_line, named};
 ghost use Rattle.trace.specs.Marks.{all_names, lines_left, marked};
 
-use crate::parting::parted;
-use crate::scheduling::number_within;
+use crate::first_line::parted;
+use crate::schedule_reader::number_within;
 use memchr::{memchr2, memrchr};
 use std::alloc::{AllocError, Global};
 use text::{SPACE, piece};

@@ -6,14 +6,14 @@ ghost use Rattle.trace.specs.Laws.{IsSoundText};
 ghost use Rattle.trace.specs.Audit.{IsFaultOf, IsFirstDifference, first_version, line_version, version_named};
 ghost use Rattle.trace.specs.Names.{chronicle_told};
 
-use crate::chronicling::put_chronicle;
-use crate::comparing::Comparison;
+use crate::access_names::names;
+use crate::chronicles::put_chronicle;
+use crate::comparison::ComparingSink;
 use crate::fault::TraceError;
-use crate::named::names;
-use crate::refusing::refusal;
+use crate::refusal::refusal;
 use crate::version::Version;
 use combine::Rule;
-use roster::Scenario;
+use round::Scenario;
 use std::alloc::{AllocError, Global};
 use text::{FEED, piece};
 use world::{Chronicle, Verdict, replay};
@@ -71,7 +71,7 @@ fn difference(text: &[u8], version: Version, chronicle: &Chronicle) -> Option<us
     ensures same { IfNone result (text.now ≡ text_in version chronicle.now) }
     ensures differs { IfSome result (IsFirstDifference text.now (text_in version chronicle.now)) }
 {
-    let mut comparison = Comparison::new(text);
+    let mut comparison = ComparingSink::new(text);
     put_chronicle(&mut comparison, version, chronicle);
     comparison.difference()
 }

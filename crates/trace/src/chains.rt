@@ -7,7 +7,7 @@ ghost use Rattle.trace.specs.Text.{text};
 
 use crate::receivers::named;
 use crate::sink::Sink;
-use crate::writing::{put_all, put_behind, put_headed, put_next};
+use crate::writer::{put_all, put_behind, put_headed, put_next};
 use signed::Chain;
 
 /// Generals, each behind a dot.

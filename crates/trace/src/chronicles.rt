@@ -12,8 +12,8 @@ use crate::letters::{put_decisions, put_rounds};
 use crate::lines::put_verdict;
 use crate::sink::Sink;
 use crate::version::{Version, version_by};
-use crate::writing::put_all;
-use roster::Scenario;
+use crate::writer::put_all;
+use round::Scenario;
 use world::{Chronicle, Verdict};
 
 /// The campaign's numbers, which begin the second line.

@@ -7,7 +7,7 @@ use crate::sink::Sink;
 
 /// A sink that compares what it takes with a text, and keeps the first difference.
 #[derive(Drop)]
-pub struct Comparison<'a> {
+pub struct ComparingSink<'a> {
     text: &'a [u8],
     /// How many bytes of the text it has taken.
     same: usize,
@@ -20,13 +20,13 @@ pub struct Comparison<'a> {
     ghost refused: { failed ≡ true → is_some other ≡ true },
 }
 
-impl<'a> Comparison<'a> {
+impl<'a> ComparingSink<'a> {
     /// A comparison with this text, which has taken nothing.
-    pub fn new(text: &'a [u8]) -> Comparison<'a>
+    pub fn new(text: &'a [u8]) -> ComparingSink<'a>
         ensures text { result.text.now ≡ text.now }
         ensures fresh { (result.same ≡ 0) × (result.other ≡ None) × (result.failed ≡ false) }
     {
-        Comparison {
+        ComparingSink {
             text,
             same: 0,
             other: None,
@@ -48,7 +48,7 @@ impl<'a> Comparison<'a> {
     }
 }
 
-impl<'a> Sink for Comparison<'a> {
+impl<'a> Sink for ComparingSink<'a> {
     ghost use Rattle.trace.specs.Compared.{compared, taken};
 
     // What it has taken, behind the text itself: so the text is known to stay the same.

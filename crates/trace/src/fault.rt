@@ -7,7 +7,7 @@ use std::fmt;
 
 /// What is wrong with a line of a schedule or a chronicle.
 #[derive(Clone, Copy, Debug, PartialEq, Eq, Drop)]
-pub enum Fault {
+pub enum TraceFault {
     /// A line of no shape.
     Line,
     /// A first or second line that is missing or not the scenario's.
@@ -16,7 +16,7 @@ pub enum Fault {
     Differs,
 }
 
-impl fmt::Display for Fault {
+impl fmt::Display for TraceFault {
     ghost use Rattle.std.specs.Prelude.{Some};
     ghost use Rattle.trace.specs.ErrorText.{code_of};
 
@@ -24,20 +24,20 @@ impl fmt::Display for Fault {
 
     fn fmt<W: fmt::Write>(&self, f: &mut fmt::Formatter<W>) -> fmt::Result {
         f.write_str(match self {
-            Fault::Line => "X1",
-            Fault::Scenario => "X2",
-            Fault::Differs => "X3",
+            TraceFault::Line => "X1",
+            TraceFault::Scenario => "X2",
+            TraceFault::Differs => "X3",
         })
     }
 }
 
-impl Error for Fault {}
+impl Error for TraceFault {}
 
 /// Why a text is no schedule or no chronicle of a scenario: the first fault with its line; or why one was not written.
 #[derive(Clone, Copy, Debug, PartialEq, Eq, Drop)]
 pub enum TraceError {
     /// A fault at a line, counted from 1.
-    At(Fault, u64),
+    At(TraceFault, u64),
     /// The sink has failed.
     Write,
     Memory,

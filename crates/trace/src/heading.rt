@@ -7,7 +7,7 @@ ghost use Rattle.trace.specs.Text.{spaced, further, text, version_line, campaign
 use crate::lines::put_order;
 use crate::sink::Sink;
 use crate::version::Version;
-use crate::writing::{put_all, put_headed};
+use crate::writer::{put_all, put_headed};
 use combine::Rule;
 
 /// The line of the version.

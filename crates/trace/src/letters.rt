@@ -1,19 +1,18 @@
 //! The letters of a campaign and what the lieutenants decided, written to a sink.
 ghost use Rattle.std.specs.Prelude.{◌≡◌, ◌<◌, [], flat_map, length, slice_get, slice_index_or};
-ghost use Rattle.roster.specs.Scenario.{is_traitor};
+ghost use Rattle.round.specs.Scenario.{is_traitor};
 ghost use Rattle.label.specs.Lieutenants.{lieutenants};
 ghost use Rattle.trace.specs.Sinks.{Wrote};
 ghost use Rattle.trace.specs.Text.{text, row_lines, letter_lines, round_lines, decision_lines, steps_of};
 ghost use Rattle.trace.specs.Lines.{decided_lines, one_round};
 
-use crate::composing::LineBuffer;
+use crate::line_buffer::LineBuffer;
 use crate::lines::{put_accesses, put_author, put_decision, put_round, put_row};
 use crate::sink::Sink;
-use crate::writing::put_all;
+use crate::writer::put_all;
 use board::Access;
-use letter::{Letter, Round};
 use outbox::Outbox;
-use roster::Scenario;
+use round::{Letter, Round, Scenario};
 
 /// The lines of an outbox's rows, by rank.
 fn put_rows<S: Sink>(sink: &mut S, outbox: &Outbox)

@@ -5,12 +5,11 @@ ghost use Rattle.trace.specs.Sinks.{Wrote, WroteBut};
 ghost use Rattle.trace.specs.Text.{author_line, further, text, access_line, place, question, yes_no, yes_no_none, verdict_line, decision_line};
 ghost use Rattle.trace.specs.Lines.{mark, round_line, row_line};
 
-use crate::composing::LineBuffer;
+use crate::line_buffer::LineBuffer;
 use crate::sink::Sink;
-use crate::writing::{put_all, put_headed, put_next};
-use asking::{numbers, worded};
-use board::Access;
-use outbox::{Outbox, Told};
+use crate::writer::{put_all, put_headed, put_next};
+use board::{Access, numbers, worded};
+use outbox::{Outbox, ReceiverOrders};
 use semantics::{Reply, Request};
 use world::Verdict;
 
@@ -117,8 +116,8 @@ fn add_orders(line: &mut LineBuffer, outbox: &Outbox, rank: u32)
     ensures short { length line.new ≤ length line.old + 143 }
 {
     match outbox.told(rank) {
-        Told::Alike { order, times } => line.add_alike(order, times),
-        Told::Apart(orders) => line.add_orders(orders.as_slice()),
+        ReceiverOrders::Alike { order, times } => line.add_alike(order, times),
+        ReceiverOrders::Apart(orders) => line.add_orders(orders.as_slice()),
     }
 }
 

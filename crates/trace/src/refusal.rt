@@ -2,7 +2,7 @@
 ghost use Rattle.std.specs.Prelude.{◌≡◌, ◌≤◌, ◌==◌, count_by, length};
 ghost use Rattle.trace.specs.Audit.{differing, fault_at, line_at};
 
-use crate::fault::{Fault, TraceError};
+use crate::fault::{TraceError, TraceFault};
 use crate::shapes::unshaped;
 
 /// How many line feeds stand in a text.
@@ -26,13 +26,13 @@ fn line_at(text: &[u8], place: usize) -> u64
 }
 
 /// A first or second line that differs is not the scenario's.
-fn differing(line: u64) -> Fault
+fn differing(line: u64) -> TraceFault
     ensures { result ≡ differing line }
 {
     if line <= 2 {
-        Fault::Scenario
+        TraceFault::Scenario
     } else {
-        Fault::Differs
+        TraceFault::Differs
     }
 }
 
@@ -43,7 +43,7 @@ pub fn refusal(text: &[u8], place: usize) -> TraceError
     ensures { result ≡ fault_at text.now place }
 {
     match unshaped(text) {
-        Some(line) => TraceError::At(Fault::Line, line),
+        Some(line) => TraceError::At(TraceFault::Line, line),
         None => {
             let line = line_at(text, place);
             TraceError::At(differing(line), line)

@@ -4,13 +4,13 @@ ghost use Rattle.std.specs.Io.KnownBytes.{Appends};
 ghost use Rattle.trace.specs.Again.{text_again, told_again, signed_told_again};
 ghost use Rattle.trace.specs.SignedText.{signed_text};
 
-use crate::auditing::{replayed, version_named};
-use crate::chronicling::{write_chronicle, write_in};
-use crate::signed_auditing::signed_replayed;
-use crate::signed_chronicling::write_signed;
+use crate::audit::{replayed, version_named};
+use crate::chronicles::{write_chronicle, write_in};
+use crate::signed_audit::signed_replayed;
+use crate::signed_chronicles::write_signed;
 use crate::sink::Latch;
 use crate::version::Version;
-use roster::Scenario;
+use round::Scenario;
 use signed::SignedChronicle;
 use std::alloc::{AllocError, Global};
 use world::Chronicle;

@@ -4,10 +4,10 @@ ghost use Rattle.text.specs.Parts.{pieces, lines_of};
 ghost use Rattle.trace.specs.declared.fault.TraceError.TheVariants.{Memory};
 ghost use Rattle.trace.specs.Schedules.{star, number_within, entry_of, entries_told, line_told, schedule_lines_told, schedule_told};
 
-use crate::fault::{Fault, TraceError};
+use crate::fault::{TraceError, TraceFault};
 use std::alloc::{AllocError, Global};
 use text::{SPACE, Stop, decimal, line, piece};
-use world::{Entries, Repeat, Schedule};
+use world::{Repeat, Schedule, ScheduleLine};
 
 const STAR: Stop = Stop::Byte(b'*');
 
@@ -50,12 +50,12 @@ fn entry(part: &[u8]) -> Option<Repeat>
 }
 
 /// The entries of a line; none where a part of it is no entry.
-fn entries(alloc: Global, line: &[u8]) -> Result<Option<Entries>, AllocError>
+fn entries(alloc: Global, line: &[u8]) -> Result<Option<ScheduleLine>, AllocError>
     ensures { IfOk result (λ told. told ≡ line_told line.now) }
 {
     let mut repeats = Vec::new(alloc);
     if line.is_empty() {
-        return Ok(Some(Entries { repeats }));
+        return Ok(Some(ScheduleLine { repeats }));
     }
     let mut rest = Some(line);
     while let Some(parts) = rest {
@@ -66,7 +66,7 @@ fn entries(alloc: Global, line: &[u8]) -> Result<Option<Entries>, AllocError>
         repeats.push(repeat)?;
         rest = behind;
     }
-    Ok(Some(Entries { repeats }))
+    Ok(Some(ScheduleLine { repeats }))
 }
 
 /// The schedule that a text tells.
@@ -81,17 +81,17 @@ pub fn read_schedule(alloc: Global, text: &str) -> Result<Schedule, TraceError>
     ensures fault { IfErr result (λ e. e ≢ Memory → schedule_told text.now ≡ Err e) }
 {
     if text.len() > MOST_SCHEDULE_BYTES {
-        return Err(TraceError::At(Fault::Line, 1));
+        return Err(TraceError::At(TraceFault::Line, 1));
     }
     let mut lines = Vec::new(alloc);
     let mut rest = text.as_bytes();
     let mut number = 1;
     while let Some((next, behind)) = line(rest) {
         let Some(entries) = entries(alloc, next)? else {
-            return Err(TraceError::At(Fault::Line, number));
+            return Err(TraceError::At(TraceFault::Line, number));
         };
         if number > MOST_LINES {
-            return Err(TraceError::At(Fault::Line, number));
+            return Err(TraceError::At(TraceFault::Line, number));
         }
         lines.push(entries)?;
         rest = behind;

@@ -4,10 +4,10 @@ ghost use Rattle.std.specs.List.{list_all, list_any};
 ghost use Rattle.text.specs.Stop.{dot, space, feed};
 ghost use Rattle.text.specs.Parts.{left, pieces};
 ghost use Rattle.trace.specs.Shapes.{are_joined, are_places, are_receivers, behind, behind_shape, fits, is_access, is_copied, is_count, is_end};
-ghost use Rattle.asking.specs.Wording.{row_of};
+ghost use Rattle.board.specs.Wording.{row_of};
 ghost use Rattle.trace.specs.Shapes.{is_campaign, is_number, is_place, is_shaped, is_told, is_version, is_worded, is_yes_no, stands_for, unshaped_from};
 
-use asking::{Wording, wordings};
+use board::{Wording, wordings};
 use combine::Rule;
 use text::{DOT, FEED, SPACE, decimal, piece};
 

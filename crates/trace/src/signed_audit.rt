@@ -5,12 +5,12 @@ ghost use Rattle.trace.specs.Audit.{IsFirstDifference};
 ghost use Rattle.trace.specs.SignedAudit.{IsSignedFaultOf, IsSoundSignedText, is_third_version, signed_chronicle_told};
 ghost use Rattle.trace.specs.SignedText.{signed_text};
 
-use crate::comparing::Comparison;
+use crate::access_names::names;
+use crate::comparison::ComparingSink;
 use crate::fault::TraceError;
-use crate::named::names;
-use crate::refusing::refusal;
-use crate::signed_chronicling::put_signed;
-use roster::Scenario;
+use crate::refusal::refusal;
+use crate::signed_chronicles::put_signed;
+use round::Scenario;
 use signed::{SignedChronicle, replay_signed};
 use std::alloc::{AllocError, Global};
 use text::{FEED, piece};
@@ -44,7 +44,7 @@ fn signed_difference(text: &[u8], chronicle: &SignedChronicle) -> Option<usize>
     ensures same { IfNone result (text.now ≡ signed_text chronicle.now) }
     ensures differs { IfSome result (IsFirstDifference text.now (signed_text chronicle.now)) }
 {
-    let mut comparison = Comparison::new(text);
+    let mut comparison = ComparingSink::new(text);
     put_signed(&mut comparison, chronicle);
     comparison.difference()
 }

@@ -6,14 +6,14 @@ ghost use Rattle.trace.specs.SignedText.{head_lines, signed_text};
 ghost use Rattle.trace.specs.Sinks.{Wrote};
 ghost use Rattle.trace.specs.Text.{text};
 
-use crate::chronicling::{put_campaign_of, written};
+use crate::chronicles::{put_campaign_of, written};
 use crate::fault::TraceError;
 use crate::letters::put_decisions;
 use crate::lines::{put_order, put_verdict};
 use crate::signed_letters::put_signed_rounds;
 use crate::sink::Sink;
-use crate::writing::put_all;
-use roster::Scenario;
+use crate::writer::put_all;
+use round::Scenario;
 use signed::SignedChronicle;
 
 /// The first two lines: the version and the campaign.

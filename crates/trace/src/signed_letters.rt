@@ -11,7 +11,7 @@ use crate::chains::put_chains;
 use crate::letters::{general_of, letters_of, steps_of};
 use crate::lines::{put_accesses, put_author, put_round};
 use crate::sink::Sink;
-use letter::Letter;
+use round::Letter;
 use signed::{Chain, SignedChronicle};
 
 /// Whose letter it is: one of at most 13 generals.

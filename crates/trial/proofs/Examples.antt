@@ -11,12 +11,12 @@ use Rattle.insn.specs.declared.insn.Insn.TheVariants.{Arithmetic, Call, Exit}
 use Rattle.insn.specs.declared.insn.Operand.TheVariants.{Immediate}
 use Rattle.label.specs.Labels.{labels}
 use Rattle.semantics.specs.Execution.{step}
-use Rattle.contexts.specs.Layout.{context_bytes}
-use Rattle.trial.specs.declared.place.Name.TheVariants as names
-use Rattle.trial.specs.declared.place.Place.{Place}
-use Rattle.trial.specs.declared.place.Place.TheVariants as places
-use Rattle.trial.specs.declared.fault.Fault.{Fault}
-use Rattle.trial.specs.declared.fault.Fault.TheVariants as faults
+use Rattle.mem.specs.ContextLayout.{context_bytes}
+use Rattle.trial.specs.declared.place.SettingKey.TheVariants as names
+use Rattle.trial.specs.declared.place.SettingPlace.{SettingPlace}
+use Rattle.trial.specs.declared.place.SettingPlace.TheVariants as places
+use Rattle.trial.specs.declared.fault.SettingFault.{SettingFault}
+use Rattle.trial.specs.declared.fault.SettingFault.TheVariants as faults
 use Rattle.trial.specs.Flaws.{Flaw, unknown, faulty}
 use Rattle.trial.specs.Checks.{setting, number, general, over, orders, taken, word, words, board}
 use Rattle.trial.specs.Setting.{Setting}
@@ -44,7 +44,7 @@ printed = refl
 read_of : List (List ℕ) → Option (Result Setting Flaw)
 read_of lines = option_map setting (parse_document (flat_map (λ l. l ++ 10 ∷ []) lines))
 
-stops : Fault → Place → Option (Result Setting Flaw)
+stops : SettingFault → SettingPlace → Option (Result Setting Flaw)
 stops fault place = Some (Err (faulty fault place))
 
 whole : read_of (codes "generals = 5" ∷ codes "bound = 2" ∷ codes "commander = 0" ∷ codes "general = 2" ∷ codes "round = 3" ∷ codes "taken = [1, 0, 1]" ∷ []) ≡ Some (Ok told)

@@ -14,8 +14,8 @@ use Rattle.semantics.specs.Execution.{step}
 use Rattle.board.specs.Board.{Access, IsBoard, IsLegal, words_after, reply, next}
 use Rattle.board.proofs.Asking.{asks_within}
 use Rattle.board.proofs.Serving.{reply_fits, next_board}
-use Rattle.letter.specs.Activation.{Activation, turned}
-use Rattle.letter.specs.Runs.{Onward, Runs, AreFitting}
+use Rattle.round.specs.Activation.{Activation, turned}
+use Rattle.round.specs.Runs.{Onward, Runs, AreFitting}
 use Rattle.round.specs.Running.{AreAccessesOf}
 use Rattle.round.proofs.Onwards.{all_none}
 use Rattle.trial.specs.Trial.{Ending, accesses, served, ending, trial_on}

@@ -12,7 +12,7 @@ use Rattle.semantics.specs.Relay.{Relay, relayed}
 use Rattle.semantics.specs.Outbox.{Choice, along_row, as_taken, at_place, at_receiver, places_set, taken_value}
 use Rattle.semantics.proofs.PlacesLaws.{row_from, rows_from, sets, sets_in, sets_in-cons}
 use Rattle.outbox.proofs.Writing.{sets_along, sets_one}
-use Rattle.tracing.specs.Laws.{ReasonsHold}
+use Rattle.trial.specs.TraceLaws.{ReasonsHold}
 
 -- where no row is set, a label's row is not
 none_here : (choice : Choice) (s : Shape) (a i : ℕ) (ws : List (List ℕ)) (w : List ℕ) → sets_in choice (rows_from s a ws) ≡ 0 → slice_get ws i ≡ Some w

@@ -5,7 +5,7 @@ use Rattle.std.proofs.lemmas.List.{take_all}
 use Rattle.std.proofs.lemmas.Option.{slice_get-map}
 use Rattle.label.specs.Relay.{IsShape, relay, receivers}
 use Rattle.outbox.specs.Contents.{Contents, order_at}
-use Rattle.letter.proofs.Senders.{order_tells}
+use Rattle.round.proofs.Senders.{order_tells}
 use Rattle.semantics.specs.Relay.{Kind, Oral, Signed, labels_told, relayed}
 use Rattle.label.specs.declared.shape.Shape.{Shape}
 use Rattle.trial.specs.Lines.{put_line, label_lines}

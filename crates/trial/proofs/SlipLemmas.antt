@@ -18,24 +18,24 @@ use Rattle.board.specs.Board.{reply, next}
 use Rattle.board.specs.Ledger.{RecordedBoard}
 use Rattle.machine.specs.Standing.{Standing}
 use Rattle.machine.specs.Advance.{IsOfRun}
-use Rattle.tracing.specs.Trace.{Rest}
-use Rattle.tracing.specs.Slips.{call_at, call_by, followed, note_of, number_at, says_none, slip, slip_at, slips_at, slips_from, slips_on, where_none, where_said}
-use Rattle.tracing.specs.declared.reasons.Call.{Call}
+use Rattle.trial.specs.Trace.{Rest}
+use Rattle.trial.specs.Slips.{call_at, call_by, followed, note_of, number_at, says_none, slip, slip_at, slips_at, slips_from, slips_on, where_none, where_said}
+use Rattle.trial.specs.declared.reasons.HelperCall.{HelperCall}
 
 -- ---- r0 says whether a call set a place
 
 -- what an outcome says of the line that is told
-abbrev Says : List (String Global) → Relay → Option Call → List ℕ → Outcome → Type 0
+abbrev Says : List (String Global) → Relay → Option HelperCall → List ℕ → Outcome → Type 0
 Says places r call line (Next t) = line ≡ where_said places r (number_at t 0) call
 Says places r call line (Ask request t) = line ≡ []
 Says places r call line (Exit r0 t) = line ≡ []
 Says places r call line (Trap cause) = Unit {0}
 
-abbrev made : State → Helper → Call
+abbrev made : State → Helper → HelperCall
 made s helper = record { unit = s.unit; helper = helper; first = number_at s 1; second = number_at s 2; third = number_at s 3 }
 
 -- nothing is told of what is no call that puts orders
-quiet : (places : List (String Global)) (r : Relay) (call : Option Call) → ((r0 : ℕ) → where_said places r r0 call ≡ []) → (o : Outcome) → Says places r call [] o
+quiet : (places : List (String Global)) (r : Relay) (call : Option HelperCall) → ((r0 : ℕ) → where_said places r r0 call ≡ []) → (o : Outcome) → Says places r call [] o
 quiet places r call none (Next t) = sym (none (number_at t 0))
 quiet places r call none (Ask request t) = refl
 quiet places r call none (Exit r0 t) = refl
@@ -45,7 +45,7 @@ one_less : (n : ℕ) → (n == 0) ≡ ((1 - n) == 1)
 one_less zero = refl
 one_less (suc n) = let none : 1 - suc n ≡ 0 = omega arith in ne_eqb (suc n) 0 (λ (e : suc n ≡ 0). let no : ⊥ = omega arith in no) ∙ ap (λ (m : ℕ). m == 1) (sym none)
 
-sent_says : (places : List (String Global)) (r : Relay) (s : State) (r0 : ℕ → ℕ) (call : Call) → ((n : ℕ) → (n == 0) ≡ says_none call.helper (r0 n)) → (chosen : Result Choice Cause)
+sent_says : (places : List (String Global)) (r : Relay) (s : State) (r0 : ℕ → ℕ) (call : HelperCall) → ((n : ℕ) → (n == 0) ≡ says_none call.helper (r0 n)) → (chosen : Result Choice Cause)
     → Says places r (Some call) (where_none r (note_of places r call) (Some chosen)) (sent r s r0 chosen)
 sent_says places r s r0 call same (Err cause) = tt
 sent_says places r s r0 call same (Ok choice) = ap (λ (b : Bool). if b then note_of places r call else []) (same (places_set r choice))

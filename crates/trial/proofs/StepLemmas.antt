@@ -17,8 +17,8 @@ use Rattle.board.specs.Ledger.{RecordedBoard}
 use Rattle.machine.specs.Standing.{Standing, before}
 use Rattle.machine.specs.Advance.{IsOfRun, Leads, Requests, Exits, Stops}
 use Rattle.machine.proofs.AdvanceLemmas.{fewer}
-use Rattle.tracing.specs.Lines.{before_told, after_told, request_told}
-use Rattle.tracing.specs.Trace.{Rest, line_of, told, told_at, lines_from, trace_on}
+use Rattle.trial.specs.StepLines.{before_told, after_told, request_told}
+use Rattle.trial.specs.Trace.{Rest, line_of, told, told_at, lines_from, trace_on}
 
 -- ---- one step
 

@@ -18,12 +18,12 @@ use Rattle.semantics.proofs.StepLaws.{step_counts, resumed_counts}
 use Rattle.asm.specs.Printing.{insn_text, register_text}
 use Rattle.board.specs.Board.{reply, next}
 use Rattle.trial.specs.Trial.{Ending, served, ending, trial_on}
-use Rattle.tracing.specs.Lines.{before_told, after_told, request_told}
-use Rattle.tracing.specs.Values.{value_text}
-use Rattle.tracing.specs.Trace.{lines_from, told_at, trace_on}
-use Rattle.tracing.specs.Laws.{AreLinesOf, IsRun, IsTraceOf, LeadsTo}
-use Rattle.tracing.proofs.ExitLemmas.{stands}
-use Rattle.tracing.proofs.StepLemmas.{told_by}
+use Rattle.trial.specs.StepLines.{before_told, after_told, request_told}
+use Rattle.trial.specs.Values.{value_text}
+use Rattle.trial.specs.Trace.{lines_from, told_at, trace_on}
+use Rattle.trial.specs.TraceLaws.{AreLinesOf, IsRun, IsTraceOf, LeadsTo}
+use Rattle.trial.proofs.ExitLemmas.{stands}
+use Rattle.trial.proofs.StepLemmas.{told_by}
 
 -- the law from a state on
 record Traces (program : List Insn) (context : List ℕ) (relay : Relay) (words : List ℕ) (s : State) (e : Ending) (text : List ℕ) : Type 0 where

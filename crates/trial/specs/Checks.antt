@@ -5,11 +5,11 @@ use Rattle.toml.specs.Data.{Data, Items, Members, no_items, item, no_members, me
 use Rattle.semantics.specs.Limits.{board_words}
 use Rattle.label.specs.declared.shape.Shape.{Shape}
 use Rattle.label.specs.Relay.{relay}
-use Rattle.trial.specs.declared.place.Name.TheVariants as names
-use Rattle.trial.specs.declared.place.Place.{Place}
-use Rattle.trial.specs.declared.place.Place.TheVariants as places
-use Rattle.trial.specs.declared.fault.Fault.{Fault}
-use Rattle.trial.specs.declared.fault.Fault.TheVariants as faults
+use Rattle.trial.specs.declared.place.SettingKey.TheVariants as names
+use Rattle.trial.specs.declared.place.SettingPlace.{SettingPlace}
+use Rattle.trial.specs.declared.place.SettingPlace.TheVariants as places
+use Rattle.trial.specs.declared.fault.SettingFault.{SettingFault}
+use Rattle.trial.specs.declared.fault.SettingFault.TheVariants as faults
 use Rattle.trial.specs.Names.{is_key}
 use Rattle.trial.specs.Flaws.{Flaw, unknown, faulty, ◌>>=◌}
 use Rattle.trial.specs.Setting.{Setting}
@@ -23,22 +23,22 @@ abbrev pub known : Option (List ℕ) → Result (Unit {0}) Flaw
 known None = Ok tt
 known (Some k) = Err (unknown k)
 
-abbrev pub required : Place → Option Data → Result Data Flaw
+abbrev pub required : SettingPlace → Option Data → Result Data Flaw
 required s None = Err (faulty faults.Key s)
 required s (Some d) = Ok d
 
-abbrev pub whole : Place → Data → Result ℤ Flaw
+abbrev pub whole : SettingPlace → Data → Result ℤ Flaw
 whole s d = ok_or (as_integer d) (faulty faults.Kind s)
 
-abbrev pub natural : Fault → Place → ℤ → Result ℕ Flaw
+abbrev pub natural : SettingFault → SettingPlace → ℤ → Result ℕ Flaw
 natural f s (pos n) = Ok n
 natural f s (negsuc n) = Err (faulty f s)
 
-abbrev pub test : Bool → Fault → Place → Result (Unit {0}) Flaw
+abbrev pub test : Bool → SettingFault → SettingPlace → Result (Unit {0}) Flaw
 test b f s = cond b (Ok tt) (Err (faulty f s))
 
 -- a number between two others
-unfoldable pub number : Place → ℕ → ℕ → Option Data → Result ℕ Flaw
+unfoldable pub number : SettingPlace → ℕ → ℕ → Option Data → Result ℕ Flaw
 number s least most o = do
   d ← required s o
   z ← whole s d
@@ -47,7 +47,7 @@ number s least most o = do
   Ok n
 
 -- one of n generals
-unfoldable pub general : Place → ℕ → Option Data → Result ℕ Flaw
+unfoldable pub general : SettingPlace → ℕ → Option Data → Result ℕ Flaw
 general s n o = do
   d ← required s o
   z ← whole s d
@@ -69,7 +69,7 @@ items_length no_items = 0
 items_length (item d ds) = suc (items_length ds)
 
 -- the items of an array
-abbrev pub elements : Place → Data → Result Items Flaw
+abbrev pub elements : SettingPlace → Data → Result Items Flaw
 elements s d = ok_or (as_array d) (faulty faults.Kind s)
 
 -- at most as many orders as labels
@@ -90,7 +90,7 @@ taken labels (Some d) = do
   orders labels ds
 
 -- a word of the board, which no integer of the text exceeds
-unfoldable pub word : Place → Data → Result ℕ Flaw
+unfoldable pub word : SettingPlace → Data → Result ℕ Flaw
 word s d = do
   z ← whole s d
   natural faults.Range s z

@@ -2,19 +2,19 @@
 use Rattle.std.specs.Prelude.{ℕ, List, ◌++◌, codes, string_bytes}
 use Rattle.std.specs.Fmt.{decimal}
 use Rattle.trial.specs.Names.{text_of}
-use Rattle.trial.specs.declared.place.Place.{Place}
-use Rattle.trial.specs.declared.place.Place.TheVariants as place
-use Rattle.trial.specs.declared.fault.Fault.{Fault}
-use Rattle.trial.specs.declared.fault.Fault.TheVariants.{Key, Kind, Range, General}
+use Rattle.trial.specs.declared.place.SettingPlace.{SettingPlace}
+use Rattle.trial.specs.declared.place.SettingPlace.TheVariants as place
+use Rattle.trial.specs.declared.fault.SettingFault.{SettingFault}
+use Rattle.trial.specs.declared.fault.SettingFault.TheVariants.{Key, Kind, Range, General}
 use Rattle.trial.specs.declared.fault.SettingError.{SettingError}
 use Rattle.trial.specs.declared.fault.SettingError.TheVariants.{Toml, Unknown, At, Memory}
 
-abbrev pub place_text : Place → List ℕ
+abbrev pub place_text : SettingPlace → List ℕ
 place_text (place.Key name) = text_of name
 place_text (place.Order index) = codes "taken[" ++ decimal index ++ codes "]"
 place_text (place.Word index) = codes "board[" ++ decimal index ++ codes "]"
 
-abbrev pub code_of : Fault → List ℕ
+abbrev pub code_of : SettingFault → List ℕ
 code_of Key = codes "K2"
 code_of Kind = codes "K3"
 code_of Range = codes "K4"

@@ -1,14 +1,14 @@
 -- The first fault of a setting's keys, and how an answer tells it (own).
 use Rattle.std.specs.Prelude.{◌≡◌, ℕ, List, Result, Ok, Err, string_bytes}
-use Rattle.trial.specs.declared.place.Place.{Place}
-use Rattle.trial.specs.declared.fault.Fault.{Fault}
+use Rattle.trial.specs.declared.place.SettingPlace.{SettingPlace}
+use Rattle.trial.specs.declared.fault.SettingFault.{SettingFault}
 use Rattle.trial.specs.declared.fault.SettingError.{SettingError}
 use Rattle.trial.specs.declared.fault.SettingError.TheVariants as errors
 
 -- an unknown key, or a fault at a place
 pub data Flaw : Type 0 where
   unknown : List ℕ → Flaw
-  faulty : Fault → Place → Flaw
+  faulty : SettingFault → SettingPlace → Flaw
 
 -- one check behind another that found no fault
 infixl 10 ◌>>=◌

@@ -7,11 +7,11 @@ use Rattle.semantics.specs.Run.{IsSound}
 use Rattle.semantics.specs.State.{Exit}
 use Rattle.semantics.specs.Execution.{step}
 use Rattle.board.specs.Board.{Access, IsBoard, IsLegal, words_after}
-use Rattle.letter.specs.Activation.{Activation, started}
+use Rattle.round.specs.Activation.{Activation, started}
 use Rattle.round.specs.Running.{IsOnWay}
-use Rattle.roster.specs.Scenario.{Scenario, IsScenario, shape_of}
-use Rattle.letter.specs.Letters.{Letter}
-use Rattle.letter.specs.Contexts.{context_of, took}
+use Rattle.round.specs.Scenario.{Scenario, IsScenario, shape_of}
+use Rattle.round.specs.Letters.{Letter}
+use Rattle.round.specs.Contexts.{context_of, took}
 use Rattle.trial.specs.Setting.{Setting, IsTold, context_in}
 use Rattle.trial.specs.Trial.{Ending, accesses_on, trial_on}
 

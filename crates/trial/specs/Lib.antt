@@ -1,5 +1,14 @@
-pub mod Values
+pub mod Names
+pub mod Flaws
+pub mod Checks
+pub mod Setting
+pub mod Trial
 pub mod Lines
+pub mod Answers
+pub mod ErrorText
+pub mod Laws
+pub mod Values
+pub mod StepLines
 pub mod Trace
 pub mod Slips
-pub mod Laws
+pub mod TraceLaws

@@ -7,7 +7,7 @@ use Rattle.insn.specs.Program.{slots_of}
 use Rattle.label.specs.Relay.{receivers}
 use Rattle.semantics.specs.Relay.{oral, relayed}
 use Rattle.outbox.specs.Contents.{Contents}
-use Rattle.letter.specs.Letters.{tells}
+use Rattle.round.specs.Letters.{tells}
 use Rattle.trial.specs.Setting.{Setting}
 use Rattle.trial.specs.Trial.{Ending}
 

@@ -1,10 +1,10 @@
 -- The keys of a setting, as they are written (own).
 use Rattle.std.specs.Prelude.{ℕ, Bool, ◌||◌, List, codes}
 use Rattle.std.specs.Str.{bytes_eq}
-use Rattle.trial.specs.declared.place.Name.{Name}
-use Rattle.trial.specs.declared.place.Name.TheVariants.{Generals, Bound, Commander, General, Round, Taken, Board}
+use Rattle.trial.specs.declared.place.SettingKey.{SettingKey}
+use Rattle.trial.specs.declared.place.SettingKey.TheVariants.{Generals, Bound, Commander, General, Round, Taken, Board}
 
-abbrev pub text_of : Name → List ℕ
+abbrev pub text_of : SettingKey → List ℕ
 text_of Generals = codes "generals"
 text_of Bound = codes "bound"
 text_of Commander = codes "commander"

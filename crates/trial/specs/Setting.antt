@@ -3,7 +3,7 @@ use Rattle.std.specs.Prelude.{ℕ, ◌≡◌, ◌≤◌, ◌+◌, List, [], leng
 use Rattle.semantics.specs.Limits.{board_words}
 use Rattle.label.specs.declared.shape.Shape.{Shape}
 use Rattle.label.specs.Relay.{IsShape, relay}
-use Rattle.letter.specs.Contexts.{context_bytes, context_numbers}
+use Rattle.round.specs.Contexts.{context_bytes, context_numbers}
 
 -- whose relay it is, the campaign's bound, the order that the general took for each label that he relays, by rank, and
 -- the words of the board at first

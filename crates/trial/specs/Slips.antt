@@ -16,8 +16,8 @@ use Rattle.semantics.specs.Call.{helper_of, honest_in, resumed, send_in, send_ro
 use Rattle.semantics.specs.Execution.{step}
 use Rattle.board.specs.Board.{reply, next}
 use Rattle.explain.specs.Names.{helper_name}
-use Rattle.tracing.specs.Trace.{Rest}
-use Rattle.tracing.specs.declared.reasons.Call.{Call}
+use Rattle.trial.specs.Trace.{Rest}
+use Rattle.trial.specs.declared.reasons.HelperCall.{HelperCall}
 
 -- ---- the reason
 
@@ -70,7 +70,7 @@ abbrev pub number_at : State → ℕ → ℕ
 number_at s r = number_in (value_at s.registers r)
 
 -- the call of a helper that an instruction is, with the numbers in r1, r2 and r3
-abbrev pub call_by : State → Option Helper → Option Call
+abbrev pub call_by : State → Option Helper → Option HelperCall
 call_by s None = None
 call_by s (Some helper) = Some (record {
   unit = s.unit;
@@ -80,7 +80,7 @@ call_by s (Some helper) = Some (record {
   third = number_at s 3;
 })
 
-abbrev pub call_at : State → Insn → Option Call
+abbrev pub call_at : State → Insn → Option HelperCall
 call_at s (insn.Call number) = call_by s (helper_of number)
 call_at s _ = None
 
@@ -92,7 +92,7 @@ reason_by r first second third Sway = no_label r.shape first (length (relayed r)
 reason_by r first second third Honest = no_label r.shape first (length (relayed r))
 reason_by r first second third _ = []
 
-abbrev pub reason_of : Relay → Call → List ℕ
+abbrev pub reason_of : Relay → HelperCall → List ℕ
 reason_of r call = reason_by r call.first call.second call.third call.helper
 
 -- the place of a unit in the text that the program was written in, in brackets; nothing where that is not known
@@ -111,7 +111,7 @@ unit_told places unit = decimal unit ++ in_brackets (place_of (slice_get places 
 unfoldable pub slip_told : Helper → List ℕ
 slip_told helper = codes ", " ++ helper_name helper ++ codes " puts nothing: "
 
-abbrev pub note_of : List (String Global) → Relay → Call → List ℕ
+abbrev pub note_of : List (String Global) → Relay → HelperCall → List ℕ
 note_of places r call = codes "note: at " ++ unit_told places call.unit ++ slip_told call.helper ++ reason_of r call
     ++ codes "\n"
 
@@ -129,7 +129,7 @@ where_none r line (Some (Ok choice)) = if places_set r choice == 0 then line els
 where_none r line _ = []
 
 -- what is told of a call, and of the instruction that stands at a state's unit
-abbrev pub slip : List (String Global) → List ℕ → Relay → State → Option Call → List ℕ
+abbrev pub slip : List (String Global) → List ℕ → Relay → State → Option HelperCall → List ℕ
 slip places context r s None = []
 slip places context r s (Some call) = where_none r (note_of places r call) (chosen context s call.helper)
 
@@ -146,7 +146,7 @@ says_none Honest r0 = r0 == 0
 says_none _ r0 = false
 
 -- the line, where a call said so, and left this number there
-abbrev pub where_said : List (String Global) → Relay → ℕ → Option Call → List ℕ
+abbrev pub where_said : List (String Global) → Relay → ℕ → Option HelperCall → List ℕ
 where_said places r r0 None = []
 where_said places r r0 (Some call) = if says_none call.helper r0 then note_of places r call else []
 

@@ -4,11 +4,11 @@ use Rattle.insn.specs.declared.insn.Insn.{Insn}
 use Rattle.insn.specs.declared.insn.Insn.TheVariants.{Arithmetic, Negate, SignExtend, Swap, LoadImmediate, Jump, LongJump, Branch, Load, LoadSigned, Store, Call, Exit}
 use Rattle.semantics.specs.declared.value.Value.{Value}
 use Rattle.semantics.specs.declared.request.Request.{Request}
-use Rattle.asking.specs.Wording.{span_asked}
+use Rattle.board.specs.Wording.{span_asked}
 use Rattle.semantics.specs.State.{value_at}
 use Rattle.asm.specs.Printing.{insn_text}
 use Rattle.helper.specs.Reads.{read_by}
-use Rattle.tracing.specs.Values.{register_told, place_told}
+use Rattle.trial.specs.Values.{register_told, place_told}
 
 -- ---- before the step
 

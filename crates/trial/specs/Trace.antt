@@ -8,7 +8,7 @@ use Rattle.semantics.specs.Outbox.{empty_outbox}
 use Rattle.semantics.specs.Call.{resumed}
 use Rattle.semantics.specs.Execution.{step}
 use Rattle.board.specs.Board.{reply, next}
-use Rattle.tracing.specs.Lines.{before_told, after_told, request_told}
+use Rattle.trial.specs.StepLines.{before_told, after_told, request_told}
 
 -- what follows from a state and the board's words
 abbrev pub Rest : Type 0

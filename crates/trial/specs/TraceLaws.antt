@@ -12,8 +12,8 @@ use Rattle.semantics.specs.Call.{resumed}
 use Rattle.semantics.specs.Execution.{step}
 use Rattle.board.specs.Board.{reply, next}
 use Rattle.trial.specs.Trial.{Ending, trial_on}
-use Rattle.tracing.specs.Lines.{before_told}
-use Rattle.tracing.specs.Trace.{trace_on}
+use Rattle.trial.specs.StepLines.{before_told}
+use Rattle.trial.specs.Trace.{trace_on}
 
 -- the outcome leads to this state, and leaves the board, which had the first words and answers a request at once, the
 -- second

@@ -2,13 +2,13 @@
 ghost use Rattle.std.specs.Prelude.{◌≡◌};
 ghost use Rattle.trial.specs.declared.fault.SettingError.TheVariants.{Memory};
 
-use crate::place::Place;
+use crate::place::SettingPlace;
 use std::alloc::{AllocError, AllocFailed};
 use std::fmt;
 
 /// What is wrong at a place.
 #[derive(Clone, Copy, Debug, PartialEq, Eq)]
-pub enum Fault {
+pub enum SettingFault {
     /// The key is missing.
     Key,
     /// The value is of another kind.
@@ -19,7 +19,7 @@ pub enum Fault {
     General,
 }
 
-impl fmt::Display for Fault {
+impl fmt::Display for SettingFault {
     ghost use Rattle.std.specs.Prelude.{Some};
     ghost use Rattle.trial.specs.ErrorText.{code_of};
 
@@ -27,10 +27,10 @@ impl fmt::Display for Fault {
 
     fn fmt<W: fmt::Write>(&self, f: &mut fmt::Formatter<W>) -> fmt::Result {
         f.write_str(match self {
-            Fault::Key => "K2",
-            Fault::Kind => "K3",
-            Fault::Range => "K4",
-            Fault::General => "K5",
+            SettingFault::Key => "K2",
+            SettingFault::Kind => "K3",
+            SettingFault::Range => "K4",
+            SettingFault::General => "K5",
         })
     }
 }
@@ -43,7 +43,7 @@ pub enum SettingError {
     /// K2: a key is none.
     Unknown(String),
     /// K2 to K5: a fault at a place.
-    At(Fault, Place),
+    At(SettingFault, SettingPlace),
     /// Memory was refused.
     Memory,
 }

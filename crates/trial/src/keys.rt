@@ -7,8 +7,8 @@ ghost use Rattle.trial.specs.Checks.{first_unknown, known, required, whole, elem
 ghost use Rattle.trial.specs.Flaws.{Gives};
 ghost use Rattle.trial.specs.declared.fault.SettingError.TheVariants.{Unknown, Memory};
 
-use crate::fault::{Fault, SettingError};
-use crate::place::{Name, Place};
+use crate::fault::{SettingError, SettingFault};
+use crate::place::{SettingKey, SettingPlace};
 use std::alloc::{AllocError, Global};
 use toml::{Table, Value};
 
@@ -63,47 +63,47 @@ pub fn keys_are_known(alloc: Global, table: &Table) -> Result<(), SettingError>
 }
 
 /// The value at a key.
-pub fn at<'a>(table: &'a Table, name: Name) -> Option<&'a Value>
+pub fn at<'a>(table: &'a Table, name: SettingKey) -> Option<&'a Value>
     ensures { option_map (λ v. view v.now) result ≡ get_member (text_of name) (table_view table.now) }
 {
     table.get(name.text())
 }
 
 /// The value of a required key.
-fn required(place: Place, value: Option<&Value>) -> Result<&Value, SettingError>
+fn required(place: SettingPlace, value: Option<&Value>) -> Result<&Value, SettingError>
     ensures value { Gives (λ v. view v.now) result (required place (option_map (λ v. view v.now) value.entry)) }
     ensures fault { IfErr result (λ e. e ≢ Memory) }
 {
     match value {
         Some(value) => Ok(value),
-        None => Err(SettingError::At(Fault::Key, place)),
+        None => Err(SettingError::At(SettingFault::Key, place)),
     }
 }
 
 /// An integer.
-pub fn whole(place: Place, value: &Value) -> Result<i64, SettingError>
+pub fn whole(place: SettingPlace, value: &Value) -> Result<i64, SettingError>
     ensures value { Gives (λ z. z) result (whole place (view value.now)) }
     ensures fault { IfErr result (λ e. e ≢ Memory) }
 {
     match value.as_integer() {
         Some(integer) => Ok(integer),
-        None => Err(SettingError::At(Fault::Kind, place)),
+        None => Err(SettingError::At(SettingFault::Kind, place)),
     }
 }
 
 /// The elements of an array.
-pub fn elements(place: Place, value: &Value) -> Result<&[Value], SettingError>
+pub fn elements(place: SettingPlace, value: &Value) -> Result<&[Value], SettingError>
     ensures value { Gives (λ a. items_view a.now) result (elements place (view value.now)) }
     ensures fault { IfErr result (λ e. e ≢ Memory) }
 {
     match value.as_array() {
         Some(array) => Ok(array.as_slice()),
-        None => Err(SettingError::At(Fault::Kind, place)),
+        None => Err(SettingError::At(SettingFault::Kind, place)),
     }
 }
 
 /// An integer that is not below 0.
-pub fn natural(fault: Fault, place: Place, integer: i64) -> Result<u64, SettingError>
+pub fn natural(fault: SettingFault, place: SettingPlace, integer: i64) -> Result<u64, SettingError>
     ensures value { Gives (λ n. n) result (natural fault place integer) }
     ensures fault { IfErr result (λ e. e ≢ Memory) }
 {
@@ -116,7 +116,7 @@ pub fn natural(fault: Fault, place: Place, integer: i64) -> Result<u64, SettingE
 /// A number between two others.
 #[tactic(auto, unfolding(crate::specs::Checks::number))]
 pub fn number(
-    place: Place,
+    place: SettingPlace,
     least: u32,
     most: u32,
     value: Option<&Value>,
@@ -127,25 +127,29 @@ pub fn number(
 {
     let value = required(place, value)?;
     let integer = whole(place, value)?;
-    let number = natural(Fault::Range, place, integer)?;
+    let number = natural(SettingFault::Range, place, integer)?;
     if u64::from(least) <= number && number <= u64::from(most) {
         return Ok(number as u32);
     }
-    Err(SettingError::At(Fault::Range, place))
+    Err(SettingError::At(SettingFault::Range, place))
 }
 
 /// One of the generals.
 #[tactic(auto, unfolding(crate::specs::Checks::general))]
-pub fn general(place: Place, generals: u32, value: Option<&Value>) -> Result<u32, SettingError>
+pub fn general(
+    place: SettingPlace,
+    generals: u32,
+    value: Option<&Value>,
+) -> Result<u32, SettingError>
     ensures value { Gives (λ n. n) result (general place generals (option_map (λ v. view v.now) value.entry)) }
     ensures small { IfOk result (λ g. g < generals) }
     ensures fault { IfErr result (λ e. e ≢ Memory) }
 {
     let value = required(place, value)?;
     let integer = whole(place, value)?;
-    let number = natural(Fault::General, place, integer)?;
+    let number = natural(SettingFault::General, place, integer)?;
     if number < u64::from(generals) {
         return Ok(number as u32);
     }
-    Err(SettingError::At(Fault::General, place))
+    Err(SettingError::At(SettingFault::General, place))
 }

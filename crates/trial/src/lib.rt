@@ -1,13 +1,32 @@
+//! Trials: a program is run by its author in a setting that a text tells. What is said of them stands in specs/.
 //! Traces: the run of a program told step by step, each instruction with what it read and what it wrote.
 #![tactic(auto)]
 
+mod fault;
+mod keys;
 mod laws;
+mod lines;
+mod orders;
+mod place;
+mod program_run;
+mod reader;
 mod reasons;
-mod running;
-mod slipping;
+mod relayed_labels;
+mod run_slips;
+mod setting;
 mod steps;
+mod trace_laws;
+mod traced_run;
 mod values;
+mod words;
 
-pub use laws::{reasons_hold, traces_are_trials};
-pub use running::traced;
-pub use slipping::slips;
+pub use fault::{SettingError, SettingFault};
+pub use laws::{contexts_are_settings, trials_are_runs, trials_end};
+pub use lines::{first_lines, tried};
+pub use place::{SettingKey, SettingPlace};
+pub use program_run::{Exited, run_in, run_on};
+pub use reader::read;
+pub use run_slips::slips;
+pub use setting::Setting;
+pub use trace_laws::{reasons_hold, traces_are_trials};
+pub use traced_run::traced;

@@ -5,7 +5,7 @@ ghost use Rattle.semantics.specs.Relay.{relayed};
 ghost use Rattle.trial.specs.Lines.{first_lines, put_line, label_lines, put_lines, word_line, word_lines};
 ghost use Rattle.trial.specs.Answers.{IsTried};
 
-use crate::running::{Exited, run_in};
+use crate::program_run::{Exited, run_in};
 use crate::setting::Setting;
 use insn::Program;
 use outbox::Outbox;

@@ -5,9 +5,9 @@ ghost use Rattle.trial.specs.Checks.{over, set_order, are_few, orders, taken};
 ghost use Rattle.trial.specs.Flaws.{Gives};
 ghost use Rattle.trial.specs.declared.fault.SettingError.TheVariants.{Memory};
 
-use crate::fault::{Fault, SettingError};
+use crate::fault::{SettingError, SettingFault};
 use crate::keys::{elements, number};
-use crate::place::{Name, Place};
+use crate::place::{SettingKey, SettingPlace};
 use std::alloc::Global;
 use toml::Value;
 
@@ -20,7 +20,12 @@ fn listed(alloc: Global, labels: u32, values: &[Value]) -> Result<Vec<u32>, Sett
 {
     let mut orders = vec![in alloc; 0; labels as usize]?;
     for index in 0..values.len() {
-        orders[index] = number(Place::Order(index), 0, u32::MAX, Some(&values[index]))?;
+        orders[index] = number(
+            SettingPlace::Order(index),
+            0,
+            u32::MAX,
+            Some(&values[index]),
+        )?;
     }
     Ok(orders)
 }
@@ -32,7 +37,7 @@ fn are_few(labels: u32, number: usize) -> Result<(), SettingError>
     ensures fault { IfErr result (λ e. e ≢ Memory) }
 {
     if number > labels as usize {
-        return Err(SettingError::At(Fault::Range, Place::Key(Name::Taken)));
+        return Err(SettingError::At(SettingFault::Range, SettingPlace::Key(SettingKey::Taken)));
     }
     Ok(())
 }
@@ -54,6 +59,10 @@ pub fn taken(alloc: Global, labels: u32, value: Option<&Value>) -> Result<Vec<u3
 {
     match value {
         None => Ok(vec![in alloc; 0; labels as usize]?),
-        Some(value) => orders(alloc, labels, elements(Place::Key(Name::Taken), value)?),
+        Some(value) => orders(
+            alloc,
+            labels,
+            elements(SettingPlace::Key(SettingKey::Taken), value)?,
+        ),
     }
 }

@@ -6,7 +6,7 @@ use std::fmt;
 
 /// A key that a setting may have.
 #[derive(Clone, Copy, Debug, PartialEq, Eq)]
-pub enum Name {
+pub enum SettingKey {
     Generals,
     Bound,
     Commander,
@@ -16,35 +16,35 @@ pub enum Name {
     Board,
 }
 
-impl Name {
+impl SettingKey {
     /// The key as it is written.
     pub fn text(self) -> &'static str
         ensures { result.now ≡ text_of self }
     {
         match self {
-            Name::Generals => "generals",
-            Name::Bound => "bound",
-            Name::Commander => "commander",
-            Name::General => "general",
-            Name::Round => "round",
-            Name::Taken => "taken",
-            Name::Board => "board",
+            SettingKey::Generals => "generals",
+            SettingKey::Bound => "bound",
+            SettingKey::Commander => "commander",
+            SettingKey::General => "general",
+            SettingKey::Round => "round",
+            SettingKey::Taken => "taken",
+            SettingKey::Board => "board",
         }
     }
 }
 
 /// A place in a setting.
 #[derive(Clone, Copy, Debug, PartialEq, Eq)]
-pub enum Place {
+pub enum SettingPlace {
     /// A key.
-    Key(Name),
+    Key(SettingKey),
     /// An order of the list of those taken, counted from 0.
     Order(usize),
     /// A word of the board, counted from 0.
     Word(usize),
 }
 
-impl fmt::Display for Place {
+impl fmt::Display for SettingPlace {
     ghost use Rattle.std.specs.Prelude.{Some};
     ghost use Rattle.trial.specs.ErrorText.{place_text};
 
@@ -52,9 +52,9 @@ impl fmt::Display for Place {
 
     fn fmt<W: fmt::Write>(&self, f: &mut fmt::Formatter<W>) -> fmt::Result {
         match *self {
-            Place::Key(name) => write!(f, "{}", name.text()),
-            Place::Order(index) => write!(f, "taken[{index}]"),
-            Place::Word(index) => write!(f, "board[{index}]"),
+            SettingPlace::Key(name) => write!(f, "{}", name.text()),
+            SettingPlace::Order(index) => write!(f, "taken[{index}]"),
+            SettingPlace::Word(index) => write!(f, "board[{index}]"),
         }
     }
 }

@@ -10,7 +10,7 @@ ghost use Rattle.trial.specs.Trial.{accesses_in, accesses_on, trial_in, trial_on
 use crate::setting::Setting;
 use board::Board;
 use label::Shape;
-use machine::{Activation, Stop};
+use machine::{Machine, StopReason};
 use mem::Context;
 use outbox::Outbox;
 use std::alloc::{AllocError, Global};
@@ -22,7 +22,7 @@ pub struct Exited {
     /// What it exited with.
     pub r0: u64,
     /// The activation at its end, with its outbox.
-    pub activation: Activation,
+    pub activation: Machine,
     /// The board as it left it.
     pub board: Board,
 }
@@ -71,7 +71,7 @@ fn run(
         (λ e. e.board.ledger ≡ accesses_on words verified.now context.now (oral shape)) }
 {
     let mut board = Board::new(alloc, words);
-    let mut activation = Activation::start(verified, context, Outbox::new(alloc, shape)?);
+    let mut activation = Machine::start(verified, context, Outbox::new(alloc, shape)?);
     let r0 = run_on(&mut board, verified, context, shape, &mut activation)?;
     Ok(Exited {
         r0,
@@ -91,7 +91,7 @@ pub fn run_on(
     verified: &Verified,
     context: &Context,
     shape: Shape,
-    activation: &mut Activation,
+    activation: &mut Machine,
 ) -> Result<u64, AllocError>
     requires relay { activation.old.relay ≡ oral shape }
     requires started { activation.old.state ≡ entry (empty_outbox (oral shape)) }
@@ -114,12 +114,12 @@ pub fn run_on(
     let limit = verified.program().len() as u32;
     loop {
         match activation.run(verified, context, limit) {
-            Stop::Asked(request) => {
+            StopReason::Asked(request) => {
                 let reply = board.apply(shape.general, shape.round, request)?;
                 activation.resume(&request, &reply);
             }
-            Stop::Exited(r0) => return Ok(r0),
-            Stop::Limit => unreachable!(),
+            StopReason::Exited(r0) => return Ok(r0),
+            StopReason::Limit => unreachable!(),
         }
     }
 }

@@ -10,8 +10,8 @@ ghost use Rattle.trial.specs.declared.fault.SettingError.TheVariants.{Memory, To
 use crate::fault::SettingError;
 use crate::keys::{at, general, keys_are_known, number};
 use crate::orders::taken;
-use crate::place::{Name, Place};
-use crate::relayed::labels_relayed;
+use crate::place::{SettingKey, SettingPlace};
+use crate::relayed_labels::labels_relayed;
 use crate::setting::Setting;
 use crate::words::board;
 use label::Shape;
@@ -31,24 +31,34 @@ fn setting(alloc: Global, table: &Table) -> Result<Setting, SettingError>
     ensures { Gives (λ s. s) result (setting (table_view table.now)) }
 {
     keys_are_known(alloc, table)?;
-    let generals = number(Place::Key(Name::Generals), 2, 13, at(table, Name::Generals))?;
+    let generals = number(
+        SettingPlace::Key(SettingKey::Generals),
+        2,
+        13,
+        at(table, SettingKey::Generals),
+    )?;
     let most = greatest_bound(generals);
-    let bound = number(Place::Key(Name::Bound), 0, most, at(table, Name::Bound))?;
+    let bound = number(
+        SettingPlace::Key(SettingKey::Bound),
+        0,
+        most,
+        at(table, SettingKey::Bound),
+    )?;
     let commander = general(
-        Place::Key(Name::Commander),
+        SettingPlace::Key(SettingKey::Commander),
         generals,
-        at(table, Name::Commander),
+        at(table, SettingKey::Commander),
     )?;
     let own = general(
-        Place::Key(Name::General),
+        SettingPlace::Key(SettingKey::General),
         generals,
-        at(table, Name::General),
+        at(table, SettingKey::General),
     )?;
     let round = number(
-        Place::Key(Name::Round),
+        SettingPlace::Key(SettingKey::Round),
         1,
         bound + 1,
-        at(table, Name::Round),
+        at(table, SettingKey::Round),
     )?;
     let shape = Shape {
         generals,
@@ -56,8 +66,8 @@ fn setting(alloc: Global, table: &Table) -> Result<Setting, SettingError>
         general: own,
         round,
     };
-    let taken = taken(alloc, labels_relayed(shape), at(table, Name::Taken))?;
-    let board = board(at(table, Name::Board))?;
+    let taken = taken(alloc, labels_relayed(shape), at(table, SettingKey::Taken))?;
+    let board = board(at(table, SettingKey::Board))?;
     Ok(Setting::new(shape, bound, taken, board))
 }
 

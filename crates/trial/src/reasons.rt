@@ -2,7 +2,7 @@
 ghost use Rattle.std.specs.Prelude.{◌≡◌, ◌<◌, ◌∷◌, ◌++◌, List, ℕ, Some, length, slice_get, string_bytes, IfOk, OnOk};
 ghost use Rattle.label.specs.Relay.{IsShape, relay};
 ghost use Rattle.semantics.specs.Relay.{relayed};
-ghost use Rattle.tracing.specs.Slips.{note_of, reason_of, dotted, in_brackets, no_label, no_place, no_row, passed_over, past, place_of, says_none, slip_told, unheard, unit_told};
+ghost use Rattle.trial.specs.Slips.{note_of, reason_of, dotted, in_brackets, no_label, no_place, no_row, passed_over, past, place_of, says_none, slip_told, unheard, unit_told};
 
 use explain::helper_name;
 use helper::Helper;
@@ -12,7 +12,7 @@ use std::alloc::{AllocError, Global};
 
 /// A call of a helper: where it stands, and the numbers in r1, r2 and r3.
 #[derive(Clone, Copy)]
-pub struct Call {
+pub struct HelperCall {
     pub unit: usize,
     pub helper: Helper,
     pub first: u64,
@@ -37,7 +37,7 @@ pub fn put_note(
     out: &mut String,
     places: &[String],
     outbox: &Outbox,
-    call: Call,
+    call: HelperCall,
 ) -> Result<(), AllocError>
     ensures { OnOk result (string_bytes out.new ≡ string_bytes out.old ++ note_of places.now outbox.now.relay call) }
 {
@@ -93,7 +93,7 @@ fn put_reason(
     alloc: Global,
     out: &mut String,
     outbox: &Outbox,
-    call: Call,
+    call: HelperCall,
 ) -> Result<(), AllocError>
     ensures { OnOk result (string_bytes out.new ≡ string_bytes out.old ++ reason_of outbox.now.relay call) }
 {

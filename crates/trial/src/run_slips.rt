@@ -6,16 +6,16 @@ ghost use Rattle.semantics.specs.Relay.{oral};
 ghost use Rattle.semantics.specs.Call.{helper_of, resumed};
 ghost use Rattle.board.specs.Board.{reply, next};
 ghost use Rattle.machine.specs.Advance.{IsAskOfRun, IsOfRun};
-ghost use Rattle.tracing.specs.Trace.{Rest};
-ghost use Rattle.tracing.specs.Slips.{call_at, call_by, number_at, number_in, slips_at, slips_on, where_said};
+ghost use Rattle.trial.specs.Trace.{Rest};
+ghost use Rattle.trial.specs.Slips.{call_at, call_by, number_at, number_in, slips_at, slips_on, where_said};
 
-use crate::reasons::{Call, put_note, says_none};
+use crate::reasons::{HelperCall, put_note, says_none};
 use board::Board;
 use helper::reads::numbered;
 use helper::{Helper, helper_of};
 use insn::Insn;
 use label::Shape;
-use machine::{Activation, Stop};
+use machine::{Machine, StopReason};
 use mem::Context;
 use outbox::Outbox;
 use semantics::{Request, Value};
@@ -44,7 +44,7 @@ pub fn slips(
 {
     let mut text = String::new(alloc);
     let mut board = Board::new(alloc, words);
-    let mut activation = Activation::start(verified, context, Outbox::new(alloc, shape)?);
+    let mut activation = Machine::start(verified, context, Outbox::new(alloc, shape)?);
     loop {
         if go_on(
             alloc,
@@ -69,7 +69,7 @@ fn go_on(
     verified: &Verified,
     context: &Context,
     shape: Shape,
-    activation: &mut Activation,
+    activation: &mut Machine,
     board: &mut Board,
 ) -> Result<bool, AllocError>
     requires { IsOfRun verified.now context.now activation.old }
@@ -95,15 +95,15 @@ fn go_on(
     let call = call_at(activation, &insn);
     let limit = activation.steps() + 1;
     match activation.run(verified, context, limit) {
-        Stop::Limit => {
+        StopReason::Limit => {
             put_slip(alloc, out, places, activation, call)?;
             Ok(false)
         }
-        Stop::Asked(request) => {
+        StopReason::Asked(request) => {
             answer(shape, request, activation, board)?;
             Ok(false)
         }
-        Stop::Exited(_) => Ok(true),
+        StopReason::Exited(_) => Ok(true),
     }
 }
 
@@ -111,7 +111,7 @@ fn go_on(
 fn answer(
     shape: Shape,
     request: Request,
-    activation: &mut Activation,
+    activation: &mut Machine,
     board: &mut Board,
 ) -> Result<(), AllocError>
     ensures relay { activation.new.relay ≡ activation.old.relay }
@@ -127,7 +127,7 @@ fn answer(
 }
 
 /// The number in a register.
-fn number_at(activation: &Activation, register: u8) -> u64
+fn number_at(activation: &Machine, register: u8) -> u64
     requires { register ≤ 10 }
     ensures { result ≡ number_at activation.now.state register }
 {
@@ -138,7 +138,7 @@ fn number_at(activation: &Activation, register: u8) -> u64
 }
 
 /// The call of a helper that the instruction is.
-fn call_at(activation: &Activation, insn: &Insn) -> Option<Call>
+fn call_at(activation: &Machine, insn: &Insn) -> Option<HelperCall>
     ensures { result ≡ call_at activation.now.state insn.now }
 {
     match insn {
@@ -148,11 +148,11 @@ fn call_at(activation: &Activation, insn: &Insn) -> Option<Call>
 }
 
 /// The call of this helper.
-fn call_by(activation: &Activation, helper: Option<Helper>) -> Option<Call>
+fn call_by(activation: &Machine, helper: Option<Helper>) -> Option<HelperCall>
     ensures { result ≡ call_by activation.now.state helper }
 {
     let helper = helper?;
-    Some(Call {
+    Some(HelperCall {
         unit: activation.unit(),
         helper,
         first: number_at(activation, 1),
@@ -166,8 +166,8 @@ fn put_slip(
     alloc: Global,
     out: &mut String,
     places: &[String],
-    activation: &Activation,
-    call: Option<Call>,
+    activation: &Machine,
+    call: Option<HelperCall>,
 ) -> Result<(), AllocError>
     ensures { OnOk result (string_bytes out.new ≡ string_bytes out.old
         ++ where_said places.now activation.now.relay (number_at activation.now.state 0) call) }

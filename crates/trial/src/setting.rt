@@ -2,8 +2,8 @@ ghost use Rattle.std.specs.Prelude.{◌≡◌, ◌≤◌, ◌+◌, length, vec_l
 ghost use Rattle.label.specs.Relay.{IsShape, relay};
 ghost use Rattle.trial.specs.Setting.{bench, context_in};
 
-use contexts::context_telling;
 use label::Shape;
+use mem::context_telling;
 use std::alloc::{AllocError, Global};
 use std::marker::Model;
 

@@ -1,33 +1,29 @@
 //! The line of a step.
 ghost use Rattle.std.specs.Prelude.{◌≡◌, ◌++◌, ◌+◌, ◌<◌, ◌≤◌, codes, decimal, length, slice_index, string_bytes, OnOk};
-ghost use Rattle.tracing.specs.Lines.{read_told, reads_told, stored_told, before_told, wrote, went, after_told, word_told, words_told, request_told};
-ghost use Rattle.tracing.specs.Values.{register_told, place_told};
+ghost use Rattle.trial.specs.StepLines.{read_told, reads_told, stored_told, before_told, wrote, went, after_told, word_told, words_told, request_told};
+ghost use Rattle.trial.specs.Values.{register_told, place_told};
 
-use crate::values::{Held, Place};
-use asking::span;
+use crate::values::{RegionText, ValueText};
 use asm::put_instruction;
-use helper::reads::{Registers, numbered, read_by};
+use board::span;
+use helper::reads::{RegisterTriple, numbered, read_by};
 use insn::{Insn, Reg};
-use machine::Activation;
+use machine::Machine;
 use semantics::{Request, Value};
 use std::alloc::AllocError;
 
 /// Adds a register and what it holds.
-fn put_register(out: &mut String, activation: &Activation, register: Reg) -> Result<(), AllocError>
+fn put_register(out: &mut String, activation: &Machine, register: Reg) -> Result<(), AllocError>
     ensures { OnOk result (string_bytes out.new ≡ string_bytes out.old
         ++ register_told activation.now.state.registers register) }
 {
-    let held = Held(activation.value(register));
+    let held = ValueText(activation.value(register));
     let number = register.number();
     write!(out, "r{number} {held}")
 }
 
 /// Adds a register that is read.
-fn put_read(
-    out: &mut String,
-    activation: &Activation,
-    register: Option<Reg>,
-) -> Result<(), AllocError>
+fn put_read(out: &mut String, activation: &Machine, register: Option<Reg>) -> Result<(), AllocError>
     ensures { OnOk result (string_bytes out.new ≡ string_bytes out.old
         ++ read_told activation.now.state.registers register) }
 {
@@ -39,7 +35,7 @@ fn put_read(
 }
 
 /// Adds the registers that are read.
-fn put_reads(out: &mut String, activation: &Activation, read: Registers) -> Result<(), AllocError>
+fn put_reads(out: &mut String, activation: &Machine, read: RegisterTriple) -> Result<(), AllocError>
     ensures { OnOk result (string_bytes out.new ≡ string_bytes out.old
         ++ reads_told activation.now.state.registers read) }
 {
@@ -56,13 +52,13 @@ fn put_place(out: &mut String, base: Value, offset: i16) -> Result<(), AllocErro
     let Value::Pointer(region, at) = base else {
         return Ok(());
     };
-    let place = Place(region);
+    let place = RegionText(region);
     let at = i64::from(at) + i64::from(offset);
     write!(out, " -> {place} {at}")
 }
 
 /// Adds where an instruction stores, if it does.
-fn put_stored(out: &mut String, activation: &Activation, insn: &Insn) -> Result<(), AllocError>
+fn put_stored(out: &mut String, activation: &Machine, insn: &Insn) -> Result<(), AllocError>
     ensures { OnOk result (string_bytes out.new ≡ string_bytes out.old
         ++ stored_told activation.now.state.registers insn.now) }
 {
@@ -73,7 +69,7 @@ fn put_stored(out: &mut String, activation: &Activation, insn: &Insn) -> Result<
 }
 
 /// Adds what is told before a step: the unit, its instruction, the registers that it reads, and where it stores.
-pub fn put_before(out: &mut String, activation: &Activation, insn: &Insn) -> Result<(), AllocError>
+pub fn put_before(out: &mut String, activation: &Machine, insn: &Insn) -> Result<(), AllocError>
     ensures { OnOk result (string_bytes out.new ≡ string_bytes out.old
         ++ before_told activation.now.state.unit activation.now.state.registers insn.now) }
 {
@@ -85,7 +81,7 @@ pub fn put_before(out: &mut String, activation: &Activation, insn: &Insn) -> Res
 }
 
 /// Adds a register that was written.
-fn put_wrote(out: &mut String, activation: &Activation, register: Reg) -> Result<(), AllocError>
+fn put_wrote(out: &mut String, activation: &Machine, register: Reg) -> Result<(), AllocError>
     ensures { OnOk result (string_bytes out.new ≡ string_bytes out.old
         ++ wrote activation.now.state.registers register) }
 {
@@ -94,7 +90,7 @@ fn put_wrote(out: &mut String, activation: &Activation, register: Reg) -> Result
 }
 
 /// Adds where a jump led.
-fn put_went(out: &mut String, activation: &Activation) -> Result<(), AllocError>
+fn put_went(out: &mut String, activation: &Machine) -> Result<(), AllocError>
     ensures { OnOk result (string_bytes out.new ≡ string_bytes out.old ++ went activation.now.state.unit) }
 {
     let unit = activation.unit();
@@ -102,7 +98,7 @@ fn put_went(out: &mut String, activation: &Activation) -> Result<(), AllocError>
 }
 
 /// Adds what is told behind a step: the register that it wrote, or where it led.
-pub fn put_after(out: &mut String, activation: &Activation, insn: &Insn) -> Result<(), AllocError>
+pub fn put_after(out: &mut String, activation: &Machine, insn: &Insn) -> Result<(), AllocError>
     ensures { OnOk result (string_bytes out.new ≡ string_bytes out.old
         ++ after_told activation.now.state.unit activation.now.state.registers insn.now) }
 {
@@ -137,7 +133,7 @@ fn put_word(
 }
 
 /// Adds so many words of the board in a row.
-#[tactic(auto, unfolding(crate::specs::Lines::words_told))]
+#[tactic(auto, unfolding(crate::specs::StepLines::words_told))]
 fn put_words(
     out: &mut String,
     slot: usize,

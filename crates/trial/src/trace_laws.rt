@@ -1,5 +1,5 @@
 //! Laws of what is told of a run: each function does nothing, and its contract is the law.
-ghost use Rattle.tracing.specs.Laws.{ReasonsHold, TracesAreTrials};
+ghost use Rattle.trial.specs.TraceLaws.{ReasonsHold, TracesAreTrials};
 
 /// What a trace tells is the trial: a line for each of its steps, of the state before that step, and in the last one
 /// the number that it ends with.

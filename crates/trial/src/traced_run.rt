@@ -6,14 +6,14 @@ ghost use Rattle.semantics.specs.Relay.{oral};
 ghost use Rattle.semantics.specs.Call.{resumed};
 ghost use Rattle.board.specs.Board.{reply, next};
 ghost use Rattle.machine.specs.Advance.{IsAskOfRun, IsOfRun};
-ghost use Rattle.tracing.specs.Lines.{after_told, request_told};
-ghost use Rattle.tracing.specs.Trace.{Rest, told_at, trace_on};
+ghost use Rattle.trial.specs.StepLines.{after_told, request_told};
+ghost use Rattle.trial.specs.Trace.{Rest, told_at, trace_on};
 
 use crate::steps::{put_after, put_before, put_request};
 use board::Board;
 use insn::Insn;
 use label::Shape;
-use machine::{Activation, Stop};
+use machine::{Machine, StopReason};
 use mem::Context;
 use outbox::Outbox;
 use semantics::Request;
@@ -38,7 +38,7 @@ pub fn traced(
 {
     let mut text = String::with_capacity(alloc, 32 * verified.program().len())?;
     let mut board = Board::new(alloc, words);
-    let mut activation = Activation::start(verified, context, Outbox::new(alloc, shape)?);
+    let mut activation = Machine::start(verified, context, Outbox::new(alloc, shape)?);
     loop {
         if turn(
             &mut text,
@@ -59,7 +59,7 @@ fn turn(
     verified: &Verified,
     context: &Context,
     shape: Shape,
-    activation: &mut Activation,
+    activation: &mut Machine,
     board: &mut Board,
 ) -> Result<bool, AllocError>
     requires of_run { IsOfRun verified.now context.now activation.old }
@@ -83,16 +83,16 @@ fn turn(
     put_before(out, activation, &insn)?;
     let limit = activation.steps() + 1;
     match activation.run(verified, context, limit) {
-        Stop::Limit => {
+        StopReason::Limit => {
             put_after(out, activation, &insn)?;
             out.push_str("\n")?;
             Ok(false)
         }
-        Stop::Asked(request) => {
+        StopReason::Asked(request) => {
             serve(out, shape, &insn, request, activation, board)?;
             Ok(false)
         }
-        Stop::Exited(_) => {
+        StopReason::Exited(_) => {
             out.push_str("\n")?;
             Ok(true)
         }
@@ -105,7 +105,7 @@ fn serve(
     shape: Shape,
     insn: &Insn,
     request: Request,
-    activation: &mut Activation,
+    activation: &mut Machine,
     board: &mut Board,
 ) -> Result<(), AllocError>
     ensures relay { activation.new.relay ≡ activation.old.relay }

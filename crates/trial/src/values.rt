@@ -3,11 +3,11 @@ use std::fmt;
 
 /// A region, as it is told.
 #[derive(Clone, Copy)]
-pub struct Place(pub Region);
+pub struct RegionText(pub Region);
 
-impl fmt::Display for Place {
+impl fmt::Display for RegionText {
     ghost use Rattle.std.specs.Prelude.{Some};
-    ghost use Rattle.tracing.specs.Values.{region_text};
+    ghost use Rattle.trial.specs.Values.{region_text};
 
     ghost output = { λ place. Some (region_text place.0) };
 
@@ -21,11 +21,11 @@ impl fmt::Display for Place {
 
 /// What a register holds, as it is told.
 #[derive(Clone, Copy)]
-pub struct Held(pub Value);
+pub struct ValueText(pub Value);
 
-impl fmt::Display for Held {
+impl fmt::Display for ValueText {
     ghost use Rattle.std.specs.Prelude.{Some};
-    ghost use Rattle.tracing.specs.Values.{value_text};
+    ghost use Rattle.trial.specs.Values.{value_text};
 
     ghost output = { λ held. Some (value_text held.0) };
 
@@ -34,7 +34,7 @@ impl fmt::Display for Held {
             Value::Unset => f.write_str("unset"),
             Value::Number(number) => write!(f, "{number}"),
             Value::Pointer(region, offset) => {
-                let place = Place(region);
+                let place = RegionText(region);
                 write!(f, "{place} {offset}")
             }
         }

@@ -6,19 +6,19 @@ ghost use Rattle.trial.specs.Checks.{board, over, set_word, word, words};
 ghost use Rattle.trial.specs.Flaws.{Gives};
 ghost use Rattle.trial.specs.declared.fault.SettingError.TheVariants.{Memory};
 
-use crate::fault::{Fault, SettingError};
+use crate::fault::{SettingError, SettingFault};
 use crate::keys::{elements, natural, whole};
-use crate::place::{Name, Place};
+use crate::place::{SettingKey, SettingPlace};
 use toml::Value;
 
 /// A word, 0 to 2^63 - 1.
 #[tactic(auto, unfolding(crate::specs::Checks::word))]
-fn word(place: Place, value: &Value) -> Result<u64, SettingError>
+fn word(place: SettingPlace, value: &Value) -> Result<u64, SettingError>
     ensures value { Gives (λ n. n) result (word place (view value.now)) }
     ensures fault { IfErr result (λ e. e ≢ Memory) }
 {
     let integer = whole(place, value)?;
-    natural(Fault::Range, place, integer)
+    natural(SettingFault::Range, place, integer)
 }
 
 /// The words of a list, and 0 for those that are missing.
@@ -29,7 +29,7 @@ fn listed(values: &[Value]) -> Result<[u64; 64], SettingError>
 {
     let mut words = [0; 64];
     for index in 0..values.len() {
-        words[index] = word(Place::Word(index), &values[index])?;
+        words[index] = word(SettingPlace::Word(index), &values[index])?;
     }
     Ok(words)
 }
@@ -40,7 +40,7 @@ fn words(values: &[Value]) -> Result<[u64; 64], SettingError>
     ensures fault { IfErr result (λ e. e ≢ Memory) }
 {
     if values.len() > 64 {
-        return Err(SettingError::At(Fault::Range, Place::Key(Name::Board)));
+        return Err(SettingError::At(SettingFault::Range, SettingPlace::Key(SettingKey::Board)));
     }
     listed(values)
 }
@@ -53,6 +53,6 @@ pub fn board(value: Option<&Value>) -> Result<[u64; 64], SettingError>
 {
     match value {
         None => Ok([0; 64]),
-        Some(value) => words(elements(Place::Key(Name::Board), value)?),
+        Some(value) => words(elements(SettingPlace::Key(SettingKey::Board), value)?),
     }
 }

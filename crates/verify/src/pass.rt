@@ -14,8 +14,8 @@ ghost use Rattle.verify.specs.Ready.{IsMade, AreMade, ready_at};
 
 use crate::comparison::Comparison;
 use crate::error::VerifyError;
-use crate::pending::{Pending, boxed, come, empty, flow, put_back, second, take_next};
-use crate::ready::{Change, Other, Ready, blank_codes, put_ready};
+use crate::pending_states::{Pending, boxed, come, empty, flow, put_back, second, take_next};
+use crate::ready_form::{Change, Other, Ready, blank_codes, put_ready};
 use crate::state::AbsState;
 use crate::structure::forward_target;
 use crate::{branches, registers, steps};

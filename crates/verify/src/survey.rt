@@ -5,8 +5,8 @@ ghost use Rattle.verify.specs.KnownAtUnits.{IsSurvey};
 
 use crate::error::VerifyError;
 use crate::pass::{opened, pass_units};
-use crate::pending::kept;
-use crate::ready::blank_codes;
+use crate::pending_states::kept;
+use crate::ready_form::blank_codes;
 use crate::state::AbsState;
 use crate::structure::find_fault;
 use insn::Program;
@@ -14,7 +14,7 @@ use std::alloc::{AllocError, Global};
 
 /// What the pass knows of a program as it comes to each unit, up to the first fault.
 #[derive(Drop)]
-pub struct Survey {
+pub struct KnownStates {
     /// What is known at each unit to which the pass comes, that of the fault the last; None where no path leads there.
     pub states: Vec<Option<AbsState>>,
     /// Why the program is refused, if so.
@@ -23,11 +23,11 @@ pub struct Survey {
 
 /// What is known at each unit of a program, up to its first fault. The pass does not come to a program with a fault of
 /// structure.
-pub fn known_at_units(alloc: Global, program: &Program) -> Result<Survey, AllocError>
+pub fn known_at_units(alloc: Global, program: &Program) -> Result<KnownStates, AllocError>
     ensures { IfOk result (λ s. IsSurvey program.now s.states.items s.fault) }
 {
     if let Some(fault) = find_fault(program) {
-        return Ok(Survey {
+        return Ok(KnownStates {
             states: Vec::new(alloc),
             fault: Some(fault),
         });
@@ -36,7 +36,7 @@ pub fn known_at_units(alloc: Global, program: &Program) -> Result<Survey, AllocE
 }
 
 /// The same of a program without a fault of structure.
-fn known_forward(alloc: Global, program: &Program) -> Result<Survey, AllocError>
+fn known_forward(alloc: Global, program: &Program) -> Result<KnownStates, AllocError>
     requires { structural_fault program.now ≡ None }
     ensures { IfOk result (λ s. IsSurvey program.now s.states.items s.fault) }
 {
@@ -49,11 +49,11 @@ fn known_forward(alloc: Global, program: &Program) -> Result<Survey, AllocError>
             Ok(()) => {}
             Err(fault) => {
                 let fault = Some(named(fault)?);
-                return Ok(Survey { states, fault });
+                return Ok(KnownStates { states, fault });
             }
         }
     }
-    Ok(Survey {
+    Ok(KnownStates {
         states,
         fault: None,
     })

@@ -8,12 +8,12 @@ ghost use Rattle.verify.specs.Ready.{AreMade};
 ghost use Rattle.insn.specs.Program.{slots_of};
 
 use crate::error::{Refused, VerifyError};
-use crate::pairing::paired;
+use crate::kept_facts::recall_program;
+use crate::pairs::paired;
 use crate::pass::pass;
-use crate::ready::Ready;
-use crate::recalling::recall_program;
+use crate::ready_form::Ready;
 use crate::structure::find_fault;
-use crate::verified::Verified;
+use crate::verified_program::Verified;
 use insn::Program;
 use std::alloc::Global;
 

@@ -4,7 +4,7 @@ ghost use Rattle.std.specs.Prelude.{◌≡◌, ◌<◌, ◌^◌, ◌%◌, ℤ};
 ghost use Rattle.std.specs.Int.{cast_signed, cast_unsigned, w32, w64, int_shr};
 ghost use Rattle.word.specs.Arithmetic.{arithmetic, operated, negated, sign_extended, signed_part};
 
-use crate::low::{low_byte, low_half, low_word};
+use crate::low_bits::{low_byte, low_half, low_word};
 use crate::{Narrow, Operation, Width};
 
 /// What an operation makes of two words; shift counts are taken modulo 64.

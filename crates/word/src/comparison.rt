@@ -3,7 +3,7 @@
 ghost use Rattle.std.specs.Prelude.{◌≡◌, ◌↔◌, IsTrue};
 ghost use Rattle.word.specs.Arithmetic.{compared, related};
 
-use crate::low::low_word;
+use crate::low_bits::low_word;
 use crate::{Condition, Width};
 
 /// Whether two words meet a condition.

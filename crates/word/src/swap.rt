@@ -3,7 +3,7 @@
 ghost use Rattle.std.specs.Prelude.{◌≡◌};
 ghost use Rattle.word.specs.Arithmetic.{swapped};
 
-use crate::low::{low_half, low_word};
+use crate::low_bits::{low_half, low_word};
 use crate::{ByteOrder, SwapSize};
 
 /// The low bytes of a word in an order, on a little-endian host; the bytes above them are zero.

@@ -9,12 +9,12 @@ use Rattle.std.proofs.Math.Seq.{drop-append_seam}
 use Rattle.insn.specs.declared.insn.Insn.{Insn}
 use Rattle.board.specs.Board.{Access, words_after, IsLegal}
 use Rattle.world.specs.declared.event.Event.TheVariants.{Close}
-use Rattle.roster.specs.Scenario.{Scenario, program_of}
-use Rattle.letter.specs.Letters.{Letter}
-use Rattle.letter.specs.Activation.{Activation, started, is_reached}
-use Rattle.world.specs.Part.{Part, Acting, Silent, Posted, owes_no_letter}
+use Rattle.round.specs.Scenario.{Scenario, program_of}
+use Rattle.round.specs.Letters.{Letter}
+use Rattle.round.specs.Activation.{Activation, started, is_reached}
+use Rattle.world.specs.Part.{Progress, Acting, Silent, Posted, owes_no_letter}
 use Rattle.world.specs.Kind.{Kind, loyal_letter, World, each, round_open, begins, begun, accesses_of, letters_at, round_letters, happen, run}
-use Rattle.letter.specs.Runs.{Runs, IsWithin}
+use Rattle.round.specs.Runs.{Runs, IsWithin}
 use Rattle.world.specs.KindAccounted.{IsLetterOf, IsAccountedRound}
 use Rattle.world.specs.KindLists.{names_events, wound_up, IsRipe}
 use Rattle.world.proofs.Kept.{Fits, IsKept}
@@ -23,8 +23,8 @@ use Rattle.world.proofs.Moves.{moves_same, then_same, moves_keep, run-append, Al
 use Rattle.world.proofs.Punctual.{all_posted}
 use Rattle.world.proofs.Complete.{posts, ends, posts_moves, ends_moves, ripens, part_within}
 use Rattle.world.proofs.Lasting.{IsOnTime, moves_due, close_open, names_moves}
-use Rattle.letter.proofs.Stepping.{runs_steps}
-use Rattle.letter.proofs.Patience.{under, runs_under}
+use Rattle.round.proofs.Stepping.{runs_steps}
+use Rattle.round.proofs.Patience.{under, runs_under}
 use Rattle.world.proofs.Following.{Act, of_first, Ways, Followed, follow, ways_last, moves_still, way_ended}
 use Rattle.world.proofs.Cutting.{entries_of, entries_below, AreBelow}
 use Rattle.world.specs.Campaigns.{IsCampaign}
@@ -85,7 +85,7 @@ module _ (K : Kind) where
     pub ways_begin : (b : Bool) → AllParts (Ways K (Tells letters) piece) (cond b (each s.generals (λ g. begins K s closed g (program_of s g) ∷ [])) [])
     ways_begin true g part e =
         let h = each-get_only s.generals (λ g. begins K s closed g (program_of s g)) g part e in
-        (let A : Part → Type 0 = λ p. Ways K (Tells letters) piece g p in subst A (sym h.1) (way_begins g (program_of s g) refl h.0))
+        (let A : Progress → Type 0 = λ p. Ways K (Tells letters) piece g p in subst A (sym h.1) (way_begins g (program_of s g) refl h.0))
     ways_begin false g part e = cc
 
     of_has : (front rest : List Access) (x : Access) → accesses_of x.general (front ++ x ∷ rest) ≡ [] → ⊥
@@ -108,7 +108,7 @@ module _ (K : Kind) where
         absurd (of_has front rest x (ap (accesses_of x.general) (sym e) ∙ none))
     acts_one front rest x e lt (Some program) is = (started s.patience program (K.context s closed x.general) (K.relay s closed x.general), refl)
 
-    acts_from : (parts : List Part) → ((g : ℕ) → g < s.generals → slice_get parts g ≡ Some (begins K s closed g (program_of s g)))
+    acts_from : (parts : List Progress) → ((g : ℕ) → g < s.generals → slice_get parts g ≡ Some (begins K s closed g (program_of s g)))
         → (front rest : List Access) → piece ≡ front ++ rest → AreBelow s.generals rest → Act parts rest
     acts_from parts at front [] e below = tt
     acts_from parts at front (x ∷ rest) e below =
@@ -159,7 +159,7 @@ module _ (K : Kind) where
       ap (letters_at K w g) p.1 ∙ by g l at p.0 p.1 (subst A sc (k.parts g p.0 p.1).1)) in
       ap (λ (n : ℕ). each n f) (ap (λ (t : Scenario). t.generals) sc ∙ sym round.count) ∙ (each_is letters f one (length letters) (omega arith) ∙ take_all (length letters) letters (omega arith))
     where
-      by : (g : ℕ) (l : Letter) → slice_get letters g ≡ Some l → (part : Part) → slice_get w.parts g ≡ Some part → Fits (program_of s g) part → letters_at K w g (Some part) ≡ l ∷ []
+      by : (g : ℕ) (l : Letter) → slice_get letters g ≡ Some l → (part : Progress) → slice_get w.parts g ≡ Some part → Fits (program_of s g) part → letters_at K w g (Some part) ≡ l ∷ []
       by g l at (Acting a) is fits =
           let both = round.each g l at in
           let ends : Tells letters g a = way_ended K (Tells letters) g a (ripe.ended_all g (Acting a) is) (ways g (Acting a) is) in

@@ -7,12 +7,12 @@ use Rattle.std.proofs.lemmas.Bool.Decides.{eqb_tells}
 use Rattle.std.proofs.lemmas.List.{take_all}
 use Rattle.insn.specs.declared.insn.Insn.{Insn}
 use Rattle.board.specs.Board.{Access}
-use Rattle.roster.specs.Scenario.{Scenario, program_of}
-use Rattle.letter.specs.Letters.{Letter}
+use Rattle.round.specs.Scenario.{Scenario, program_of}
+use Rattle.round.specs.Letters.{Letter}
 use Rattle.world.specs.Kind.{Kind, each}
 use Rattle.world.specs.KindAccounted.{IsLetterOf, AreAccounted, letter_by, letters_by, rounds_of, IsAccounted}
 use Rattle.world.proofs.Accounting.{accounted_count}
-use Rattle.letter.proofs.Lists.{some_at}
+use Rattle.round.proofs.Lists.{some_at}
 
 abbrev pub is_by : ℕ → ℕ → Letter → Bool
 is_by g round l = (l.general == g) && (l.round == round)

@@ -1,8 +1,8 @@
 -- Oral campaigns have what a kind owes them.
 use Rattle.std.specs.Prelude.{suc, length}
 use Rattle.std.proofs.Common.{refl, sym}
-use Rattle.letter.proofs.Contexts.{context_is, shape_is}
-use Rattle.letter.proofs.Loyal.{own_is_told, shape_is_told}
+use Rattle.round.proofs.Contexts.{context_is, shape_is}
+use Rattle.round.proofs.Loyal.{own_is_told, shape_is_told}
 use Rattle.world.specs.World.{oral_kind}
 use Rattle.world.specs.Campaigns.{AreCampaigns, TellRelays}
 

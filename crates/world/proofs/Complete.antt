@@ -9,19 +9,19 @@ use Rattle.board.specs.Board.{IsBoard, reply}
 use Rattle.board.proofs.Serving.{reply_fits, next_board}
 use Rattle.world.specs.declared.event.Event.{Event}
 use Rattle.world.specs.declared.event.Event.TheVariants.{Tick, Post, Close}
-use Rattle.roster.specs.Scenario.{Scenario, program_of}
-use Rattle.letter.specs.Activation.{Activation, Turn, Goes, Asks, Ended, turn, has_ended}
-use Rattle.world.specs.Part.{Part, Acting, Silent, Posted, owes_no_letter}
+use Rattle.round.specs.Scenario.{Scenario, program_of}
+use Rattle.round.specs.Activation.{Activation, Turn, Goes, Asks, Ended, turn, has_ended}
+use Rattle.world.specs.Part.{Progress, Acting, Silent, Posted, owes_no_letter}
 use Rattle.world.specs.Kind.{Kind, World, happen, run, each, ticked, served, posting}
 use Rattle.world.specs.KindLists.{Throughout, AtClose, OwesNoLetter, HasEnded, post_of, ticks_of, IsMove, AreMoves, IsRipe}
 use Rattle.world.proofs.Kept.{Fits, IsKept}
 use Rattle.world.proofs.Listing.{set-here}
 use Rattle.world.proofs.Moves.{moves-append, moves_same, moves_board, run-append, AllParts, IsLasting, moves_keep}
-use Rattle.letter.proofs.Going.{turn_within, IsGoing, TurnsTo, turn_safe, going_zero, over_ended, ended_over}
+use Rattle.round.proofs.Going.{turn_within, IsGoing, TurnsTo, turn_safe, going_zero, over_ended, ended_over}
 use Rattle.world.proofs.Rounds.{run_kept}
 use Rattle.world.proofs.Due.{IsDue, Due, due_lasts}
 
-move_at : (Q : Part → Type 0) (w : World) (e : Event) → IsMove e → AtClose Q w e
+move_at : (Q : Progress → Type 0) (w : World) (e : Event) → IsMove e → AtClose Q w e
 move_at Q w (Tick g) i = tt
 move_at Q w (Post g) i = tt
 move_at Q w Close i = absurd i
@@ -79,12 +79,12 @@ each_moves : (n : ℕ) (f : ℕ → List Event) → ((g : ℕ) → AreMoves (f g
 each_moves zero f h = tt
 each_moves (suc n) f h = moves-append (each n f) (f n) (each_moves n f h) (h n)
 
-pub part_within : (ps : List Part) (g : ℕ) → g < length ps → (part : Part) × (slice_get ps g ≡ Some part)
+pub part_within : (ps : List Progress) (g : ℕ) → g < length ps → (part : Progress) × (slice_get ps g ≡ Some part)
 part_within [] g lt = absurd (omega arith)
 part_within (p ∷ ps) zero lt = (p, refl)
 part_within (p ∷ ps) (suc g) lt = part_within ps g (omega arith)
 
-FitsIn : Scenario → ℕ → Part → Type 0
+FitsIn : Scenario → ℕ → Progress → Type 0
 FitsIn s g part = Fits (program_of s g) part
 
 fits_lasts : (s : Scenario) → IsLasting (FitsIn s)
@@ -125,7 +125,7 @@ module _ (K : Kind) where
   throughout-append Q [] fs w a b = b
   throughout-append Q (e ∷ es) fs w a b = (a.0, throughout-append Q es fs (happen K w e) a.1 b)
 
-  pub moves_throughout : (Q : Part → Type 0) (es : List Event) (w : World) → AreMoves es → Throughout K (AtClose Q) w es
+  pub moves_throughout : (Q : Progress → Type 0) (es : List Event) (w : World) → AreMoves es → Throughout K (AtClose Q) w es
   moves_throughout Q [] w i = tt
   moves_throughout Q (e ∷ es) w i = (move_at Q w e i.0, moves_throughout Q es (happen K w e) i.1)
 
@@ -150,12 +150,12 @@ module _ (K : Kind) where
       by zero le going = going_zero a going
       by (suc n) le going = absurd (omega arith)
   ticks_end (suc k) w g a at board h =
-      let A : Option Part → Type 0 = λ o. Arrives k (ticked w g o) g in
+      let A : Option Progress → Type 0 = λ o. Arrives k (ticked w g o) g in
       subst A (sym at) (tick_end k w g a at board (λ v b. ticks_end k v g b) (turn a) refl (turn_left k a h))
 
   -- a property that each general's own events bring about, and that lasts
-  brought : (Q : Part → Type 0) (s : Scenario) (f : ℕ → List Event) → ((n : ℕ) → IsLasting (λ g part. g < n → Q part)) → ((g : ℕ) → AreMoves (f g))
-      → ((g : ℕ) (w : World) (part : Part) → IsBoard w.words → Due s g part → Fits (program_of s g) part → slice_get w.parts g ≡ Some part → (part' : Part) → slice_get (run K w (f g)).parts g ≡ Some part' → Q part')
+  brought : (Q : Progress → Type 0) (s : Scenario) (f : ℕ → List Event) → ((n : ℕ) → IsLasting (λ g part. g < n → Q part)) → ((g : ℕ) → AreMoves (f g))
+      → ((g : ℕ) (w : World) (part : Progress) → IsBoard w.words → Due s g part → Fits (program_of s g) part → slice_get w.parts g ≡ Some part → (part' : Progress) → slice_get (run K w (f g)).parts g ≡ Some part' → Q part')
       → (n : ℕ) (w : World) → IsBoard w.words → AllParts (Due s) w.parts → AllParts (FitsIn s) w.parts
       → AllParts (λ g part. g < n → Q part) (run K w (each n f)).parts
   unfolding FitsIn
@@ -175,29 +175,29 @@ module _ (K : Kind) where
       moves_keep K (λ g part. g < n → Q part) (lasts n) (f n) w' (moves n) (moves_board K first w before board) (brought Q s f lasts moves brings n w board due fits) g part e' (let ne = x.1 in omega arith))
       (eqb_tells g n)
 
-  post_brings : (s : Scenario) (g : ℕ) (w : World) (part : Part) → (o : Option (List Insn)) → Fits o part → slice_get w.parts g ≡ Some part → (part' : Part) → slice_get (run K w (post_of g o)).parts g ≡ Some part' → OwesNoLetter part'
+  post_brings : (s : Scenario) (g : ℕ) (w : World) (part : Progress) → (o : Option (List Insn)) → Fits o part → slice_get w.parts g ≡ Some part → (part' : Progress) → slice_get (run K w (post_of g o)).parts g ≡ Some part' → OwesNoLetter part'
   post_brings s g w (Acting a) None fits at part' e = absurd fits
   post_brings s g w Silent None fits at part' e =
-      let A : Option Part → Type 0 = λ o. slice_get (posting w g o).parts g ≡ Some part' in
+      let A : Option Progress → Type 0 = λ o. slice_get (posting w g o).parts g ≡ Some part' in
       let f : slice_get (slice_set w.parts g Posted) g ≡ Some part' = subst A at e in
       let h : Some Posted ≡ Some part' = sym (set-here w.parts g Posted Silent at) ∙ f in
       let i : Posted ≡ part' = cc in ap owes_no_letter (sym i)
   post_brings s g w Posted None fits at part' e =
-      let A : Option Part → Type 0 = λ o. slice_get (posting w g o).parts g ≡ Some part' in
+      let A : Option Progress → Type 0 = λ o. slice_get (posting w g o).parts g ≡ Some part' in
       let f : slice_get w.parts g ≡ Some part' = subst A at e in
       let i : Posted ≡ part' = (let h = sym at ∙ f in cc) in ap owes_no_letter (sym i)
   post_brings s g w (Acting a) (Some p) fits at part' e = let i : Acting a ≡ part' = (let h = sym at ∙ e in cc) in ap owes_no_letter (sym i)
   post_brings s g w Silent (Some p) fits at part' e = absurd fits
   post_brings s g w Posted (Some p) fits at part' e = absurd fits
 
-  tick_brings : (s : Scenario) (g : ℕ) (w : World) (part : Part) → (o : Option (List Insn)) → program_of s g ≡ o → IsBoard w.words → Due s g part → Fits o part → slice_get w.parts g ≡ Some part → (part' : Part) → slice_get (run K w (ticks_of g o)).parts g ≡ Some part' → HasEnded part'
+  tick_brings : (s : Scenario) (g : ℕ) (w : World) (part : Progress) → (o : Option (List Insn)) → program_of s g ≡ o → IsBoard w.words → Due s g part → Fits o part → slice_get w.parts g ≡ Some part → (part' : Progress) → slice_get (run K w (ticks_of g o)).parts g ≡ Some part' → HasEnded part'
   unfolding Arrives
   tick_brings s g w (Acting a) None is board due fits at part' e = absurd fits
-  tick_brings s g w Silent None is board due fits at part' e = let i : Silent ≡ part' = (let h = sym at ∙ e in cc) in (let A : Part → Type 0 = λ p. HasEnded p in subst A i tt)
-  tick_brings s g w Posted None is board due fits at part' e = let i : Posted ≡ part' = (let h = sym at ∙ e in cc) in (let A : Part → Type 0 = λ p. HasEnded p in subst A i tt)
+  tick_brings s g w Silent None is board due fits at part' e = let i : Silent ≡ part' = (let h = sym at ∙ e in cc) in (let A : Progress → Type 0 = λ p. HasEnded p in subst A i tt)
+  tick_brings s g w Posted None is board due fits at part' e = let i : Posted ≡ part' = (let h = sym at ∙ e in cc) in (let A : Progress → Type 0 = λ p. HasEnded p in subst A i tt)
   tick_brings s g w (Acting a) (Some p) is board due fits at part' e =
       let c = ticks_end (length p) w g a at board (due_within s g p a is due) in
-      let i : Acting c.0 ≡ part' = (let h = sym c.1 ∙ e in cc) in (let A : Part → Type 0 = λ p. HasEnded p in subst A i c.2)
+      let i : Acting c.0 ≡ part' = (let h = sym c.1 ∙ e in cc) in (let A : Progress → Type 0 = λ p. HasEnded p in subst A i c.2)
   tick_brings s g w Silent (Some p) is board due fits at part' e = absurd fits
   tick_brings s g w Posted (Some p) is board due fits at part' e = absurd fits
 
@@ -211,7 +211,7 @@ module _ (K : Kind) where
       let k2 = run_kept K (ends s) w1 k1 in
       let same1 = moves_same K (posts s) w (posts_moves s) in
       let same2 = moves_same K (ends s) w1 (ends_moves s) in
-      let below : (g : ℕ) (part : Part) → slice_get (run K w1 (ends s)).parts g ≡ Some part → g < s.generals = (λ g part e. (let A : Scenario → Type 0 = λ t. g < t.generals in subst A (same2.scenario ∙ same1.scenario ∙ is) (k2.parts g part e).0)) in
+      let below : (g : ℕ) (part : Progress) → slice_get (run K w1 (ends s)).parts g ≡ Some part → g < s.generals = (λ g part e. (let A : Scenario → Type 0 = λ t. g < t.generals in subst A (same2.scenario ∙ same1.scenario ∙ is) (k2.parts g part e).0)) in
       let p1 = brought OwesNoLetter s (λ g. post_of g (program_of s g)) posted_lasts (λ g. post_of_moves g (program_of s g)) (λ g v part board d f at part' e. post_brings s g v part (program_of s g) f at part' e) s.generals w k.board due fits in
       let p2 = moves_keep K (λ g part. g < s.generals → OwesNoLetter part) (posted_lasts s.generals) (ends s) w1 (ends_moves s) k1.board p1 in
       let e2 = brought HasEnded s (λ g. ticks_of g (program_of s g)) ended_lasts (λ g. ticks_of_moves g (program_of s g)) (λ g v part board d f at part' e. tick_brings s g v part (program_of s g) refl board d f at part' e) s.generals w1 k1.board

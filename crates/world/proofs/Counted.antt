@@ -6,7 +6,7 @@ use Rattle.std.proofs.lemmas.Bool.{ne_eqb, eq-eqb}
 use Rattle.std.proofs.lemmas.List.Sums.{sum_by-cons}
 use Rattle.label.specs.Labels.{generals, on}
 use Rattle.label.specs.Lieutenants.{lieutenants}
-use Rattle.roster.specs.Scenario.{Scenario, is_traitor}
+use Rattle.round.specs.Scenario.{Scenario, is_traitor}
 use Rattle.world.specs.Chronicle.{of_loyal}
 use Rattle.world.specs.Chronicle.{counted}
 

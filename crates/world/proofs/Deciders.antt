@@ -7,15 +7,15 @@ use Rattle.label.specs.Labels.{on, others}
 use Rattle.label.proofs.Ranks.{others-more_no, others-more_yes}
 use Rattle.label.specs.Oral.{om}
 use Rattle.label.specs.Lieutenants.{lieutenants}
-use Rattle.combine.specs.declared.chosen.Rule.{Rule}
+use Rattle.combine.specs.declared.campaign_rule.Rule.{Rule}
 use Rattle.combine.specs.Rule.{combined_by}
 use Rattle.board.specs.Ledger.{RecordedBoard as Board}
 use Rattle.tree.specs.LieutenantTree.{LieutenantTree}
 use Rattle.resolve.specs.Decided.{Decides}
-use Rattle.roster.specs.Scenario.{Scenario, IsScenario}
-use Rattle.letter.specs.Letters.{Letter, messages}
-use Rattle.delivery.specs.Told.{ToldSeen, WasTold, lieutenant_at}
-use Rattle.world.specs.Part.{Part}
+use Rattle.round.specs.Scenario.{Scenario, IsScenario}
+use Rattle.round.specs.Letters.{Letter, messages}
+use Rattle.round.specs.Told.{ToldSeen, WasTold, lieutenant_at}
+use Rattle.world.specs.Part.{Progress}
 use Rattle.world.specs.World.{World, each}
 use Rattle.world.specs.Reached.{world_of}
 use Rattle.world.specs.Chronicle.{decision, decisions}
@@ -72,7 +72,7 @@ few_decided s before told trees f i xs is was same lt long =
     let few = is.few in
     omega arith
 
-module _ (s : Scenario) (closed : List (List Letter)) (k : Board) (opened : ℕ) (ps : List Part) (full : Bool) (w : World) (told : ToldSeen) (trees : List LieutenantTree) (is : world_of s closed k opened ps full ≡ w) (was : WasTold s closed told) (same : trees ≡ told.trees) where
+module _ (s : Scenario) (closed : List (List Letter)) (k : Board) (opened : ℕ) (ps : List Progress) (full : Bool) (w : World) (told : ToldSeen) (trees : List LieutenantTree) (is : world_of s closed k opened ps full ≡ w) (was : WasTold s closed told) (same : trees ≡ told.trees) where
   -- what is resolved of a tree is its lieutenant's decision
   pub tree_decides : (rule : Rule) (i order : ℕ) (t : LieutenantTree) → rule ≡ s.rule → i < length trees → t ≡ get_or trees i t → Decides (combined_by rule) t order →
       order ≡ decision w.scenario (messages w.closed) (lieutenant_at w.scenario.commander i)

@@ -4,14 +4,14 @@ use Rattle.insn.specs.declared.insn.Insn.{Insn}
 use Rattle.semantics.specs.declared.request.Request.{Request}
 use Rattle.semantics.specs.Call.{fits}
 use Rattle.semantics.proofs.SafetyLaws.{safe_of_sound}
-use Rattle.roster.specs.Scenario.{Scenario, program_of}
-use Rattle.letter.specs.Letters.{Letter}
-use Rattle.letter.specs.Activation.{Activation, Turn, Goes, Asks, Ended, turn}
-use Rattle.world.specs.Part.{Part, Acting, Silent, Posted}
+use Rattle.round.specs.Scenario.{Scenario, program_of}
+use Rattle.round.specs.Letters.{Letter}
+use Rattle.round.specs.Activation.{Activation, Turn, Goes, Asks, Ended, turn}
+use Rattle.world.specs.Part.{Progress, Acting, Silent, Posted}
 use Rattle.world.specs.Kind.{Kind, begins, each}
 use Rattle.world.proofs.Listing.{each-get_only}
 use Rattle.world.proofs.Moves.{AllParts, IsLasting}
-use Rattle.letter.proofs.Going.{IsGoing, IsAfter, TurnsTo, turn_safe, going_zero, over_ended}
+use Rattle.round.proofs.Going.{IsGoing, IsAfter, TurnsTo, turn_safe, going_zero, over_ended}
 use Rattle.world.specs.Campaigns.{IsCampaign}
 
 -- it runs its general's program, has some steps left at most, and is safe for these
@@ -25,7 +25,7 @@ pub record IsDue (s : Scenario) (g : ℕ) (a : Activation) : Type 0 where
 pub due_few : (s : Scenario) (g : ℕ) (a : Activation) → IsDue s g a → a.state.steps ≤ length a.program
 due_few s g a d = (let l = d.within in omega arith)
 
-abbrev pub Due : Scenario → ℕ → Part → Type 0
+abbrev pub Due : Scenario → ℕ → Progress → Type 0
 Due s g (Acting a) = IsDue s g a
 Due s g Silent = Unit {0}
 Due s g Posted = Unit {0}
@@ -70,5 +70,5 @@ module _ (K : Kind) where
   pub due_parts : (s : Scenario) (closed : List (List Letter)) (b : Bool) → IsCampaign K s → (b ≡ true → length closed ≤ s.bound) → AllParts (Due s) (cond b (each s.generals (λ g. begins K s closed g (program_of s g) ∷ [])) [])
   due_parts s closed true is le g part e =
       let h = each-get_only s.generals (λ g. begins K s closed g (program_of s g)) g part e in
-      (let A : Part → Type 0 = λ p. Due s g p in subst A (sym h.1) (due_begins s closed g is h.0 (le refl) (program_of s g) refl))
+      (let A : Progress → Type 0 = λ p. Due s g p in subst A (sym h.1) (due_begins s closed g is h.0 (le refl) (program_of s g) refl))
   due_parts s closed false is le g part e = cc

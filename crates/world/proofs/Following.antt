@@ -7,15 +7,15 @@ use Rattle.semantics.specs.declared.request.Request.{Request}
 use Rattle.board.specs.Board.{IsBoard, Access, words_after, IsLegal}
 use Rattle.world.specs.declared.event.Event.{Event}
 use Rattle.world.specs.declared.event.Event.TheVariants.{Tick, Post, Close}
-use Rattle.roster.specs.Scenario.{Scenario}
-use Rattle.letter.specs.Letters.{Letter}
-use Rattle.letter.specs.Activation.{Activation, Turn, Goes, Asks, Ended, turn, has_ended}
-use Rattle.world.specs.Part.{Part, Acting, Silent, Posted}
+use Rattle.round.specs.Scenario.{Scenario}
+use Rattle.round.specs.Letters.{Letter}
+use Rattle.round.specs.Activation.{Activation, Turn, Goes, Asks, Ended, turn, has_ended}
+use Rattle.world.specs.Part.{Progress, Acting, Silent, Posted}
 use Rattle.world.specs.Kind.{Kind, World, accesses_of, served, ticked, posting, happen, run}
-use Rattle.letter.specs.Runs.{Onward, Runs}
+use Rattle.round.specs.Runs.{Onward, Runs}
 use Rattle.world.specs.KindLists.{ticks_named, names_events, IsMove, AreMoves}
 use Rattle.world.proofs.Moves.{moves_same, moves_board, move_board, moves_keep, move_keeps, run-append, AllParts, IsLasting}
-use Rattle.letter.proofs.Going.{over_ended}
+use Rattle.round.proofs.Going.{over_ended}
 use Rattle.world.proofs.Due.{Due, due_lasts}
 use Rattle.world.proofs.Complete.{due_within}
 use Rattle.world.proofs.Lasting.{named_moves}
@@ -27,11 +27,11 @@ AreOf r [] = Unit {0}
 AreOf r (x ∷ piece) = (x.round ≡ r) × AreOf r piece
 
 -- whoever is named acts
-abbrev pub Act : List Part → List Access → Type 0
+abbrev pub Act : List Progress → List Access → Type 0
 Act parts [] = Unit {0}
 Act parts (x ∷ piece) = ((a : Activation) × (slice_get parts x.general ≡ Some (Acting a))) × Act parts piece
 
-act_moved : (parts later : List Part) (g : ℕ) (now : Activation) (piece : List Access) → slice_get later g ≡ Some (Acting now) → ((h : ℕ) → h ≢ g → slice_get later h ≡ slice_get parts h) → Act parts piece → Act later piece
+act_moved : (parts later : List Progress) (g : ℕ) (now : Activation) (piece : List Access) → slice_get later g ≡ Some (Acting now) → ((h : ℕ) → h ≢ g → slice_get later h ≡ slice_get parts h) → Act parts piece → Act later piece
 act_moved parts later g now [] at others acts = tt
 act_moved parts later g now (x ∷ piece) at others acts = (
   ⊎_elim (λ (q : (x.general == g ≡ true) × (x.general ≡ g)). (now, ap (slice_get later) q.1 ∙ at))
@@ -56,12 +56,12 @@ module _ (K : Kind) where
       pub over : has_ended end ≡ true
       pub is : E h end
 
-    abbrev pub Ways : List Access → ℕ → Part → Type 0
+    abbrev pub Ways : List Access → ℕ → Progress → Type 0
     Ways piece h (Acting a) = Way piece h a
     Ways piece h Silent = Unit {0}
     Ways piece h Posted = Unit {0}
 
-    way_other : (x : Access) (piece : List Access) (h : ℕ) (part : Part) → x.general ≢ h → Ways (x ∷ piece) h part → Ways piece h part
+    way_other : (x : Access) (piece : List Access) (h : ℕ) (part : Progress) → x.general ≢ h → Ways (x ∷ piece) h part → Ways piece h part
     way_other x piece h (Acting a) ne w = record { k = w.k; end = w.end; runs = (let A : List Access → Type 0 = λ t. Runs w.k a t w.end in subst A (of_next h x piece ne) w.runs); over = w.over; is = w.is }
     way_other x piece h Silent ne w = tt
     way_other x piece h Posted ne w = tt
@@ -84,7 +84,7 @@ module _ (K : Kind) where
         let runs : Runs way.k a (x ∷ accesses_of g piece) way.end = (let A : List Access → Type 0 = λ t. Runs way.k a t way.end in subst A (of_first g x piece refl) way.runs) in
         let ticks = ticks_named g (slice_get w.parts g) in
         let c : Comes w (run K w ticks) g x (accesses_of g piece) way.end =
-        (let A : Option Part → Type 0 = λ o. Comes w (run K w (ticks_named g o)) g x (accesses_of g piece) way.end in
+        (let A : Option Progress → Type 0 = λ o. Comes w (run K w (ticks_named g o)) g x (accesses_of g piece) way.end in
         subst A (sym at) (reach K (length a.program) way.k w g a x (accesses_of g piece) way.end at board refl in_round.0 legal.0 (due_within s g a.program a d.program d) runs)) in
         let v = run K w ticks in
         let moves = named_moves g (slice_get w.parts g) in
@@ -93,8 +93,8 @@ module _ (K : Kind) where
         (λ (q : (h == g ≡ true) × (h ≡ g)).
         let now : Some (Acting c.now) ≡ Some part = sym c.at ∙ (ap (slice_get v.parts) (sym q.1) ∙ e) in
         let part_is : Acting c.now ≡ part = cc in
-        let A : ℕ → Part → Type 0 = λ j p. Ways piece j p in
-        subst (λ (j : ℕ). A j part) (sym q.1) (subst (λ (p : Part). A g p) part_is (record { k = c.k; end = way.end; runs = c.way; over = way.over; is = way.is })))
+        let A : ℕ → Progress → Type 0 = λ j p. Ways piece j p in
+        subst (λ (j : ℕ). A j part) (sym q.1) (subst (λ (p : Progress). A g p) part_is (record { k = c.k; end = way.end; runs = c.way; over = way.over; is = way.is })))
         (λ (q : (h == g ≡ false) × (h ≢ g)). way_other x piece h part (λ s'. q.1 (sym s')) (ways h part (sym (c.others h q.1) ∙ e)))
         (eqb_tells h g)) in
         let r = follow s piece v (moves_board K ticks w moves board) (moves_keep K (Due s) (due_lasts s) ticks w moves board due)
@@ -138,13 +138,13 @@ module _ (K : Kind) where
     served_still w g a way (Asks q f) e = absurd (no_asks way.k a way.end q f way.over e way.runs)
     served_still w g a way Ended e = (refl, refl)
 
-    ticked_still : (w : World) (g : ℕ) → AllParts (Ways []) w.parts → (o : Option Part) → slice_get w.parts g ≡ o → Still w (ticked w g o)
+    ticked_still : (w : World) (g : ℕ) → AllParts (Ways []) w.parts → (o : Option Progress) → slice_get w.parts g ≡ o → Still w (ticked w g o)
     ticked_still w g ways None e = (refl, refl)
     ticked_still w g ways (Some (Acting a)) e = served_still w g a (ways g (Acting a) e) (turn a) refl
     ticked_still w g ways (Some Silent) e = (refl, refl)
     ticked_still w g ways (Some Posted) e = (refl, refl)
 
-    posting_still : (w : World) (g : ℕ) (o : Option Part) → Still w (posting w g o)
+    posting_still : (w : World) (g : ℕ) (o : Option Progress) → Still w (posting w g o)
     posting_still w g None = (refl, refl)
     posting_still w g (Some (Acting a)) = (refl, refl)
     posting_still w g (Some Silent) = (refl, refl)

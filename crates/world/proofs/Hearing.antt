@@ -7,15 +7,15 @@ use Rattle.label.specs.Relay.{IsShape}
 use Rattle.board.specs.Board.{Access}
 use Rattle.board.specs.Ledger.{RecordedBoard}
 use Rattle.semantics.specs.Relay.{Relay}
-use Rattle.roster.specs.Scenario.{Scenario, IsScenario, shape_of}
-use Rattle.letter.specs.Letters.{Letter}
-use Rattle.letter.specs.Contexts.{AreWords, IsToldTo, context_of, shape_told, letter_told, faithful_letter}
-use Rattle.letter.specs.Activation.{Activation}
-use Rattle.letter.specs.Origin.{AreLettersOf}
-use Rattle.delivery.specs.Told.{ToldSeen, WasTold}
-use Rattle.letter.proofs.Contexts.{shape_is}
-use Rattle.letter.proofs.Loyal.{shape_is_told, own_is_told, letter_is}
-use Rattle.world.specs.Part.{Part, Acting, Silent, Posted}
+use Rattle.round.specs.Scenario.{Scenario, IsScenario, shape_of}
+use Rattle.round.specs.Letters.{Letter}
+use Rattle.round.specs.Contexts.{AreWords, IsToldTo, context_of, shape_told, letter_told, faithful_letter}
+use Rattle.round.specs.Activation.{Activation}
+use Rattle.round.specs.Origin.{AreLettersOf}
+use Rattle.round.specs.Told.{ToldSeen, WasTold}
+use Rattle.round.proofs.Contexts.{shape_is}
+use Rattle.round.proofs.Loyal.{shape_is_told, own_is_told, letter_is}
+use Rattle.world.specs.Part.{Progress, Acting, Silent, Posted}
 use Rattle.world.specs.World.{oral_kind, World, each}
 use Rattle.world.specs.Reached.{IsHeld}
 use Rattle.world.specs.Held.{letter_held, letters_held}
@@ -35,7 +35,7 @@ each_all P (suc n) f h = All-append P (each n f) (f n) (each_all P n f h) (h n)
 abbrev IsOfRound : Scenario → ℕ → Letter → Type 0
 IsOfRound s round l = (l.round ≡ round) × (l.outbox.relay.shape ≡ shape_of s l.general round)
 
-written_round : (s : Scenario) (closed : List (List Letter)) (accesses : List Access) (g : ℕ) (o : Option Part) → ((a : Activation) → o ≡ Some (Acting a) → IsPlaced oral_kind s closed g a) →
+written_round : (s : Scenario) (closed : List (List Letter)) (accesses : List Access) (g : ℕ) (o : Option Progress) → ((a : Activation) → o ≡ Some (Acting a) → IsPlaced oral_kind s closed g a) →
     All (IsOfRound s (suc (length closed))) (letter_held s closed accesses g o)
 written_round s closed accesses g None h = All-nil (IsOfRound s (suc (length closed)))
 written_round s closed accesses g (Some (Acting a)) h = all_one (IsOfRound s (suc (length closed))) _ (refl, ap (λ (r : Relay). r.shape) (h a refl).relay)
@@ -43,7 +43,7 @@ written_round s closed accesses g (Some Silent) h = All-nil (IsOfRound s (suc (l
 written_round s closed accesses g (Some Posted) h = all_one (IsOfRound s (suc (length closed))) (faithful_letter s closed g) (refl, refl)
 
 -- the letters of a held world's round are of that round
-pub row_told : (s : Scenario) (closed : List (List Letter)) (k : RecordedBoard) (opened : ℕ) (ps : List Part) (full : Bool) (told : ToldSeen) (row : List Letter) → IsScenario s → IsHeld s closed k opened ps full → WasTold s closed told →
+pub row_told : (s : Scenario) (closed : List (List Letter)) (k : RecordedBoard) (opened : ℕ) (ps : List Progress) (full : Bool) (told : ToldSeen) (row : List Letter) → IsScenario s → IsHeld s closed k opened ps full → WasTold s closed told →
     row ≡ letters_held s closed (drop opened k.ledger) ps → AreLettersOf s (suc told.rounds) row
 row_told s closed k opened ps full told row is h was same i l at =
     let Q : World → Type 0 = λ v. (g : ℕ) (a : Activation) → slice_get v.parts g ≡ Some (Acting a) → IsPlaced oral_kind s v.closed g a in

@@ -2,13 +2,13 @@
 use Rattle.std.specs.Prelude.{ℕ, suc, ◌≡◌, ◌<◌, ◌≤◌, true, List, [], length, take, slice_index_or, slice_get, Option, None, Some}
 use Rattle.insn.specs.declared.insn.Insn.{Insn}
 use Rattle.board.specs.Board.{IsBoard}
-use Rattle.roster.specs.Scenario.{Scenario, program_of}
-use Rattle.letter.specs.Letters.{Letter, letter_of}
-use Rattle.world.specs.Part.{Part, Acting, Silent, Posted}
+use Rattle.round.specs.Scenario.{Scenario, program_of}
+use Rattle.round.specs.Letters.{Letter, letter_of}
+use Rattle.world.specs.Part.{Progress, Acting, Silent, Posted}
 use Rattle.world.specs.Kind.{Kind, loyal_letter, World}
 
 -- a traitor acts, a loyal general does not
-abbrev pub Fits : Option (List Insn) → Part → Type 0
+abbrev pub Fits : Option (List Insn) → Progress → Type 0
 Fits None (Acting a) = ⊥
 Fits None Silent = Unit {0}
 Fits None Posted = Unit {0}
@@ -23,7 +23,7 @@ module _ (K : Kind) where
 
   -- the invariant of a world
   pub record IsKept (w : World) : Type 0 where
-    pub parts : (g : ℕ) (part : Part) → slice_get w.parts g ≡ Some part → (g < w.scenario.generals) × Fits (program_of w.scenario g) part
+    pub parts : (g : ℕ) (part : Progress) → slice_get w.parts g ≡ Some part → (g < w.scenario.generals) × Fits (program_of w.scenario g) part
     pub open_parts : length w.closed < suc w.scenario.bound → length w.parts ≡ w.scenario.generals
     pub board : IsBoard w.words
     pub closed : length w.closed ≤ suc w.scenario.bound

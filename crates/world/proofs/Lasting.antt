@@ -5,8 +5,8 @@ use Rattle.std.proofs.lemmas.Bool.{lt-ltb, ltb-true}
 use Rattle.insn.specs.declared.insn.Insn.{Insn}
 use Rattle.world.specs.declared.event.Event.{Event}
 use Rattle.world.specs.declared.event.Event.TheVariants.{Close}
-use Rattle.roster.specs.Scenario.{Scenario, program_of}
-use Rattle.world.specs.Part.{Part, Acting, Silent, Posted}
+use Rattle.round.specs.Scenario.{Scenario, program_of}
+use Rattle.world.specs.Part.{Progress, Acting, Silent, Posted}
 use Rattle.world.specs.Kind.{Kind, World, begun, opening, round_open, round_letters, closing, happen, run}
 use Rattle.world.specs.KindLists.{first_line, later_lines, Throughout, AtClose, OwesNoLetter, HasEnded, IsComplete, wound_up, event_of, listed_rounds, listed, ticks_named, names_events, replayed_rounds, replayed, IsMove, AreMoves}
 use Rattle.world.specs.Replay.{ListsAreComplete}
@@ -31,7 +31,7 @@ entry_moves s (g ∷ gs) = (one (program_of s g), entry_moves s gs)
     one None = tt
     one (Some p) = tt
 
-pub named_moves : (g : ℕ) (part : Option Part) → AreMoves (ticks_named g part)
+pub named_moves : (g : ℕ) (part : Option Progress) → AreMoves (ticks_named g part)
 named_moves g None = tt
 named_moves g (Some (Acting a)) = ticks_are_moves _ g
 named_moves g (Some Silent) = tt
@@ -76,7 +76,7 @@ module _ (K : Kind) where
       let more : IsOpen w3 = (let A : Scenario → Type 0 = λ t. nat_lt (length w3.closed) (suc t.bound) ≡ true in
       subst A (sym d3.scenario) (lt-ltb (length w3.closed) (suc s.bound) (let c = ap length closed_is in omega arith))) in
       let end : run K w (es ++ all) ≡ closing K w3 = run-append K es all w ∙ there ∙ close_open w3 more in
-      let thus : (Q : Part → Type 0) → AtClose Q w3 Close → Throughout K (AtClose Q) w (es ++ all) =
+      let thus : (Q : Progress → Type 0) → AtClose Q w3 Close → Throughout K (AtClose Q) w (es ++ all) =
       (λ Q q. throughout-append K (AtClose Q) es all w (moves_throughout K Q es w i)
       (throughout-append K (AtClose Q) (posts s) (ends s ++ Close ∷ []) w1 (moves_throughout K Q (posts s) w1 (posts_moves s))
       (throughout-append K (AtClose Q) (ends s) (Close ∷ []) w2 (moves_throughout K Q (ends s) w2 (ends_moves s)) (q, tt)))) in

@@ -5,11 +5,11 @@ use Rattle.std.proofs.lemmas.List.Elements.{All-append}
 use Rattle.insn.specs.declared.insn.Insn.{Insn}
 use Rattle.board.specs.Board.{Access, reply, next, words_after, IsLegal}
 use Rattle.board.proofs.Histories.{words_after-snoc, IsLegal-snoc}
-use Rattle.roster.specs.Scenario.{Scenario, program_of, is_traitor}
-use Rattle.letter.specs.Activation.{Activation, Turn, Goes, Asks, Ended, turn}
+use Rattle.round.specs.Scenario.{Scenario, program_of, is_traitor}
+use Rattle.round.specs.Activation.{Activation, Turn, Goes, Asks, Ended, turn}
 use Rattle.world.specs.declared.event.Event.{Event}
 use Rattle.world.specs.declared.event.Event.TheVariants.{Tick, Post, Close}
-use Rattle.world.specs.Part.{Part, Acting, Silent, Posted}
+use Rattle.world.specs.Part.{Progress, Acting, Silent, Posted}
 use Rattle.world.specs.Kind.{Kind, World, opening, round_open, served, ticked, posting, closing, happen, run}
 use Rattle.world.specs.Replay.{LedgersAreLegal}
 use Rattle.world.proofs.Kept.{Fits, IsKept}
@@ -43,7 +43,7 @@ served_recorded s w g (Asks q f) lt is h =
     }
 served_recorded s w g Ended lt is h = h
 
-ticked_recorded : (s : Scenario) (w : World) (g : ℕ) (o : Option Part) → ((part : Part) → o ≡ Some part → (g < s.generals) × Fits (program_of s g) part) → IsRecorded s w → IsRecorded s (ticked w g o)
+ticked_recorded : (s : Scenario) (w : World) (g : ℕ) (o : Option Progress) → ((part : Progress) → o ≡ Some part → (g < s.generals) × Fits (program_of s g) part) → IsRecorded s w → IsRecorded s (ticked w g o)
 ticked_recorded s w g None own h = h
 ticked_recorded s w g (Some (Acting a)) own h =
     let both = own (Acting a) refl in
@@ -51,7 +51,7 @@ ticked_recorded s w g (Some (Acting a)) own h =
 ticked_recorded s w g (Some Silent) own h = h
 ticked_recorded s w g (Some Posted) own h = h
 
-posting_recorded : (s : Scenario) (w : World) (g : ℕ) (o : Option Part) → IsRecorded s w → IsRecorded s (posting w g o)
+posting_recorded : (s : Scenario) (w : World) (g : ℕ) (o : Option Progress) → IsRecorded s w → IsRecorded s (posting w g o)
 posting_recorded s w g None h = h
 posting_recorded s w g (Some (Acting a)) h = h
 posting_recorded s w g (Some Silent) h = record { words = h.words; legal = h.legal; traitors = h.traitors }
@@ -60,7 +60,7 @@ posting_recorded s w g (Some Posted) h = h
 module _ (K : Kind) where
   event_recorded : (s : Scenario) (w : World) (e : Event) → w.scenario ≡ s → IsKept K w → IsRecorded s w → IsRecorded s (happen K w e)
   event_recorded s w (Tick g) sc k h =
-      let A : Scenario → Type 0 = λ v. (part : Part) → slice_get w.parts g ≡ Some part → (g < v.generals) × Fits (program_of v g) part in
+      let A : Scenario → Type 0 = λ v. (part : Progress) → slice_get w.parts g ≡ Some part → (g < v.generals) × Fits (program_of v g) part in
       ticked_recorded s w g (slice_get w.parts g) (subst A sc (λ part at. k.parts g part at)) h
   event_recorded s w (Post g) sc k h = posting_recorded s w g (slice_get w.parts g) h
   event_recorded s w Close sc k h = by (round_open w.scenario w.closed)

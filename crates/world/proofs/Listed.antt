@@ -8,14 +8,14 @@ use Rattle.std.proofs.lemmas.Bool.{lt-ltb, le-ltb}
 use Rattle.world.specs.declared.event.Event.{Event}
 use Rattle.world.specs.declared.event.Event.TheVariants.{Post, Close}
 use Rattle.world.specs.declared.schedule.Repeat.{Repeat}
-use Rattle.roster.specs.Scenario.{Scenario, program_of}
-use Rattle.world.specs.Part.{Part, Acting, Silent, Posted}
+use Rattle.round.specs.Scenario.{Scenario, program_of}
+use Rattle.world.specs.Part.{Progress, Acting, Silent, Posted}
 use Rattle.world.specs.Kind.{Kind, World, each, opening, posting, happen, run}
 use Rattle.world.specs.KindLists.{first_line, later_lines, event_of, post_of, ticks_of, wound_up, listed_rounds, listed, ticks_named, names_events, replayed_rounds, replayed}
 use Rattle.world.specs.Schedules.{entries_of, lines_by}
 use Rattle.world.specs.Playing.{line_events}
 use Rattle.world.proofs.Listing.{set-here}
-use Rattle.roster.specs.Scenario.{IsScenario}
+use Rattle.round.specs.Scenario.{IsScenario}
 use Rattle.world.specs.Agreement.{IsFinished}
 use Rattle.world.proofs.Lasting.{listed_complete, replayed_complete}
 use Rattle.world.proofs.Punctual.{punctual_full}
@@ -65,11 +65,11 @@ drop_at (y ∷ ys) (suc i) x e = drop_at ys i x e
 
 module _ (K : Kind) where
   -- a second post changes nothing
-  post_again : (w : World) (g : ℕ) (o : Option Part) → slice_get w.parts g ≡ o → happen K (posting w g o) (Post g) ≡ posting w g o
-  post_again w g None e = ap (λ (p : Option Part). posting w g p) e
-  post_again w g (Some (Acting a)) e = ap (λ (p : Option Part). posting w g p) e
-  post_again w g (Some Silent) e = ap (λ (p : Option Part). posting (posting w g (Some Silent)) g p) (set-here w.parts g Posted Silent e)
-  post_again w g (Some Posted) e = ap (λ (p : Option Part). posting w g p) e
+  post_again : (w : World) (g : ℕ) (o : Option Progress) → slice_get w.parts g ≡ o → happen K (posting w g o) (Post g) ≡ posting w g o
+  post_again w g None e = ap (λ (p : Option Progress). posting w g p) e
+  post_again w g (Some (Acting a)) e = ap (λ (p : Option Progress). posting w g p) e
+  post_again w g (Some Silent) e = ap (λ (p : Option Progress). posting (posting w g (Some Silent)) g p) (set-here w.parts g Posted Silent e)
+  post_again w g (Some Posted) e = ap (λ (p : Option Progress). posting w g p) e
 
   pub posts_once : (n : ℕ) (w : World) (g : ℕ) → run K w (replicate (suc n) (Post g)) ≡ happen K w (Post g)
   posts_once zero w g = refl

@@ -10,12 +10,12 @@ use Rattle.label.proofs.Ranks.{get_left, get_right}
 use Rattle.board.specs.Board.{Access, reply}
 use Rattle.world.specs.declared.event.Event.{Event}
 use Rattle.world.specs.declared.event.Event.TheVariants.{Tick, Post, Close}
-use Rattle.roster.specs.Scenario.{Scenario, program_of, is_traitor}
-use Rattle.letter.specs.Letters.{Letter}
-use Rattle.letter.specs.Activation.{Activation, Turn, Goes, Asks, Ended, turn, started, is_reached}
-use Rattle.world.specs.Part.{Part, Acting, Silent, Posted}
+use Rattle.round.specs.Scenario.{Scenario, program_of, is_traitor}
+use Rattle.round.specs.Letters.{Letter}
+use Rattle.round.specs.Activation.{Activation, Turn, Goes, Asks, Ended, turn, started, is_reached}
+use Rattle.world.specs.Part.{Progress, Acting, Silent, Posted}
 use Rattle.world.specs.Kind.{Kind, loyal_letter, World, each, round_open, begins, begun, accesses_of, letters_at, round_letters, served, ticked, posting, happen}
-use Rattle.letter.specs.Runs.{Runs}
+use Rattle.round.specs.Runs.{Runs}
 use Rattle.world.specs.KindAccounted.{IsLetterOf, IsAccountedRound}
 use Rattle.world.specs.KindLists.{IsMove, IsRipe}
 use Rattle.world.proofs.Kept.{Fits, IsKept}
@@ -23,8 +23,8 @@ use Rattle.world.proofs.Listing.{each-get_only}
 use Rattle.world.proofs.Due.{IsDue}
 use Rattle.world.proofs.Complete.{part_within}
 use Rattle.world.proofs.Lasting.{IsOnTime}
-use Rattle.letter.proofs.Stepping.{runs_steps}
-use Rattle.letter.proofs.Patience.{under, runs_under, Kept, runs_kept, within_none}
+use Rattle.round.proofs.Stepping.{runs_steps}
+use Rattle.round.proofs.Patience.{under, runs_under, Kept, runs_kept, within_none}
 use Rattle.world.proofs.Ways.{access, Came}
 use Rattle.world.proofs.Cutting.{AreBelow}
 
@@ -143,7 +143,7 @@ module _ (K : Kind) where
       }
   served_added s first w g a closed lt due d Ended = d
 
-  ticked_added : (s : Scenario) (first w : World) (g : ℕ) → w.closed ≡ first.closed → IsOnTime K s w → Added s first w → (o : Option Part) → slice_get w.parts g ≡ o → Added s first (ticked w g o)
+  ticked_added : (s : Scenario) (first w : World) (g : ℕ) → w.closed ≡ first.closed → IsOnTime K s w → Added s first w → (o : Option Progress) → slice_get w.parts g ≡ o → Added s first (ticked w g o)
   ticked_added s first w g closed t d None e = d
   ticked_added s first w g closed t d (Some (Acting a)) e =
       let A : Scenario → Type 0 = λ v. g < v.generals in
@@ -151,7 +151,7 @@ module _ (K : Kind) where
   ticked_added s first w g closed t d (Some Silent) e = d
   ticked_added s first w g closed t d (Some Posted) e = d
 
-  posting_added : (s : Scenario) (first w : World) (g : ℕ) → Added s first w → (o : Option Part) → Added s first (posting w g o)
+  posting_added : (s : Scenario) (first w : World) (g : ℕ) → Added s first w → (o : Option Progress) → Added s first (posting w g o)
   posting_added s first w g d None = d
   posting_added s first w g d (Some (Acting a)) = d
   posting_added s first w g d (Some Silent) = record { piece = d.piece; ledger = d.ledger; made = d.made }
@@ -177,7 +177,7 @@ module _ (K : Kind) where
     -- a general's letter, in a ripe world
     letter_made : (w : World) (piece : List Access) → w.scenario ≡ s → w.closed ≡ closed → drop w.opened w.ledger ≡ piece → AreMade s (suc (length closed)) piece → IsRipe w
         → ((g : ℕ) (a : Activation) → slice_get w.parts g ≡ Some (Acting a) → Came K (begun K s closed words ledger true) piece g a)
-        → (g : ℕ) (part : Part) → slice_get w.parts g ≡ Some part → (o : Option (List Insn)) → program_of s g ≡ o → Fits o part
+        → (g : ℕ) (part : Progress) → slice_get w.parts g ≡ Some part → (o : Option (List Insn)) → program_of s g ≡ o → Fits o part
         → (l : Letter) × (letters_at K w g (Some part) ≡ l ∷ []) × IsLetterOf K s closed g o l × (accesses_of g piece ≡ l.transcript)
     letter_made w piece sc cl op made ripe came g (Acting a) at None is fits = absurd fits
     letter_made w piece sc cl op made ripe came g (Acting a) at (Some program) is fits =

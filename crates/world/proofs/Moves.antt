@@ -9,10 +9,10 @@ use Rattle.board.specs.Board.{IsBoard, reply}
 use Rattle.board.proofs.Serving.{reply_fits, next_board}
 use Rattle.world.specs.declared.event.Event.{Event}
 use Rattle.world.specs.declared.event.Event.TheVariants.{Tick, Post, Close}
-use Rattle.letter.specs.Activation.{Activation, Turn, Goes, Asks, Ended, turn}
-use Rattle.world.specs.Part.{Part, Acting, Silent, Posted}
+use Rattle.round.specs.Activation.{Activation, Turn, Goes, Asks, Ended, turn}
+use Rattle.world.specs.Part.{Progress, Acting, Silent, Posted}
 use Rattle.world.specs.Kind.{Kind, World, ticked, served, posting, happen, run}
-use Rattle.letter.proofs.Going.{turn_within}
+use Rattle.round.proofs.Going.{turn_within}
 
 pub set-cases : {A : Type 0} (xs : List A) (i j : ℕ) (v x : A) → slice_get (slice_set xs i v) j ≡ Some x → ((j ≡ i) × (x ≡ v)) ⊎ ((j ≢ i) × (slice_get xs j ≡ Some x))
 set-cases [] i j v x e = absurd (let f : None ≡ Some x = e in cc)
@@ -44,13 +44,13 @@ served_same w g (Goes a) = record { scenario = refl; closed = refl; opened = ref
 served_same w g (Asks q f) = record { scenario = refl; closed = refl; opened = refl; full = refl; count = length-set w.parts g _ }
 served_same w g Ended = same_round w
 
-ticked_same : (w : World) (g : ℕ) (o : Option Part) → SameRound w (ticked w g o)
+ticked_same : (w : World) (g : ℕ) (o : Option Progress) → SameRound w (ticked w g o)
 ticked_same w g None = same_round w
 ticked_same w g (Some (Acting a)) = served_same w g (turn a)
 ticked_same w g (Some Silent) = same_round w
 ticked_same w g (Some Posted) = same_round w
 
-posting_same : (w : World) (g : ℕ) (o : Option Part) → SameRound w (posting w g o)
+posting_same : (w : World) (g : ℕ) (o : Option Progress) → SameRound w (posting w g o)
 posting_same w g None = same_round w
 posting_same w g (Some (Acting a)) = same_round w
 posting_same w g (Some Silent) = record { scenario = refl; closed = refl; opened = refl; full = refl; count = length-set w.parts g Posted }
@@ -61,24 +61,24 @@ served_board w g a (Goes b) e board = board
 served_board w g a (Asks q f) e board = next_board w.words q board (turn_within a q f e)
 served_board w g a Ended e board = board
 
-ticked_board : (w : World) (g : ℕ) (o : Option Part) → IsBoard w.words → IsBoard (ticked w g o).words
+ticked_board : (w : World) (g : ℕ) (o : Option Progress) → IsBoard w.words → IsBoard (ticked w g o).words
 ticked_board w g None board = board
 ticked_board w g (Some (Acting a)) board = served_board w g a (turn a) refl board
 ticked_board w g (Some Silent) board = board
 ticked_board w g (Some Posted) board = board
 
-posting_board : (w : World) (g : ℕ) (o : Option Part) → IsBoard w.words → IsBoard (posting w g o).words
+posting_board : (w : World) (g : ℕ) (o : Option Progress) → IsBoard w.words → IsBoard (posting w g o).words
 posting_board w g None board = board
 posting_board w g (Some (Acting a)) board = board
 posting_board w g (Some Silent) board = board
 posting_board w g (Some Posted) board = board
 
 -- each general's part has the property
-abbrev pub AllParts : (ℕ → Part → Type 0) → List Part → Type 0
-AllParts Q parts = (g : ℕ) (part : Part) → slice_get parts g ≡ Some part → Q g part
+abbrev pub AllParts : (ℕ → Progress → Type 0) → List Progress → Type 0
+AllParts Q parts = (g : ℕ) (part : Progress) → slice_get parts g ≡ Some part → Q g part
 
 -- a property that steps and posts keep
-pub record IsLasting (Q : ℕ → Part → Type 0) : Type 0 where
+pub record IsLasting (Q : ℕ → Progress → Type 0) : Type 0 where
   pub goes : (g : ℕ) (a b : Activation) → Q g (Acting a) → turn a ≡ Goes b → Q g (Acting b)
   pub asks : (g : ℕ) (a : Activation) (q : Request) (f : List ℕ → Activation) (r : List ℕ) → Q g (Acting a) → turn a ≡ Asks q f → fits q r ≡ true → Q g (Acting (f r))
   pub posts : (g : ℕ) → Q g Silent → Q g Posted
@@ -107,10 +107,10 @@ module _ (K : Kind) where
   moves_board [] w i board = board
   moves_board (e ∷ es) w i board = moves_board es (happen K w e) i.1 (move_board w e i.0 board)
 
-  module _ (Q : ℕ → Part → Type 0) (kept : IsLasting Q) where
-    parts-set : (parts : List Part) (g : ℕ) (v : Part) → AllParts Q parts → Q g v → AllParts Q (slice_set parts g v)
+  module _ (Q : ℕ → Progress → Type 0) (kept : IsLasting Q) where
+    parts-set : (parts : List Progress) (g : ℕ) (v : Progress) → AllParts Q parts → Q g v → AllParts Q (slice_set parts g v)
     parts-set parts g v all new j part e =
-        ⊎_elim (λ (h : (j ≡ g) × (part ≡ v)). (let A : ℕ → Type 0 = λ i. Q i part in let B : Part → Type 0 = λ p. Q g p in subst A (sym h.0) (subst B (sym h.1) new)))
+        ⊎_elim (λ (h : (j ≡ g) × (part ≡ v)). (let A : ℕ → Type 0 = λ i. Q i part in let B : Progress → Type 0 = λ p. Q g p in subst A (sym h.0) (subst B (sym h.1) new)))
         (λ (h : (j ≢ g) × (slice_get parts j ≡ Some part)). all j part h.1)
         (set-cases parts g j v part e)
 
@@ -120,13 +120,13 @@ module _ (K : Kind) where
         parts-set w.parts g (Acting (f (reply w.words q))) all (kept.asks g a q f (reply w.words q) (all g (Acting a) at) e (reply_fits w.words q board (turn_within a q f e)))
     served_keeps w g a at board all Ended e = all
 
-    ticked_keeps : (w : World) (g : ℕ) → IsBoard w.words → AllParts Q w.parts → (o : Option Part) → slice_get w.parts g ≡ o → AllParts Q (ticked w g o).parts
+    ticked_keeps : (w : World) (g : ℕ) → IsBoard w.words → AllParts Q w.parts → (o : Option Progress) → slice_get w.parts g ≡ o → AllParts Q (ticked w g o).parts
     ticked_keeps w g board all None e = all
     ticked_keeps w g board all (Some (Acting a)) e = served_keeps w g a e board all (turn a) refl
     ticked_keeps w g board all (Some Silent) e = all
     ticked_keeps w g board all (Some Posted) e = all
 
-    posting_keeps : (w : World) (g : ℕ) → AllParts Q w.parts → (o : Option Part) → slice_get w.parts g ≡ o → AllParts Q (posting w g o).parts
+    posting_keeps : (w : World) (g : ℕ) → AllParts Q w.parts → (o : Option Progress) → slice_get w.parts g ≡ o → AllParts Q (posting w g o).parts
     posting_keeps w g all None e = all
     posting_keeps w g all (Some (Acting a)) e = all
     posting_keeps w g all (Some Silent) e = parts-set w.parts g Posted all (kept.posts g (all g Silent e))

@@ -4,11 +4,11 @@ use Rattle.std.proofs.lemmas.List.{length-map}
 use Rattle.label.specs.Oral.{Messages}
 use Rattle.label.specs.Lieutenants.{lieutenants, AgreeInList}
 use Rattle.board.specs.Ledger.{RecordedBoard}
-use Rattle.roster.specs.Scenario.{Scenario, IsScenario, is_traitor}
-use Rattle.letter.specs.Letters.{Letter, messages}
+use Rattle.round.specs.Scenario.{Scenario, IsScenario, is_traitor}
+use Rattle.round.specs.Letters.{Letter, messages}
 use Rattle.world.specs.declared.event.Event.{Event}
 use Rattle.world.specs.declared.verdict.Verdict.{Verdict}
-use Rattle.world.specs.Part.{Part}
+use Rattle.world.specs.Part.{Progress}
 use Rattle.world.specs.World.{oral_kind, World, opening, run}
 use Rattle.world.specs.Reached.{world_of, IsHeld}
 use Rattle.world.specs.Agreement.{IsFinished}
@@ -19,20 +19,20 @@ use Rattle.world.proofs.Holding.{held_few}
 use Rattle.world.proofs.Verdicts.{proved_decisions_agree, proved_verdicts_mean}
 
 -- in a held world that is finished they agree
-pub held_agree : (s : Scenario) (closed : List (List Letter)) (k : RecordedBoard) (opened : ℕ) (ps : List Part) (full : Bool) → IsScenario s → IsHeld s closed k opened ps full → IsFinished (world_of s closed k opened ps full) →
+pub held_agree : (s : Scenario) (closed : List (List Letter)) (k : RecordedBoard) (opened : ℕ) (ps : List Progress) (full : Bool) → IsScenario s → IsHeld s closed k opened ps full → IsFinished (world_of s closed k opened ps full) →
     AgreeUnderBound s (decisions s (messages closed))
 held_agree s closed k opened ps full is h done bound =
     let Q : World → Type 0 = λ v. IsFinished v → AgreeInList s.generals s.commander s.order (is_traitor s) (decisions s (messages v.closed)) in
     subst Q h.reached.1 (λ over. proved_decisions_agree s h.reached.0 is over bound) done
 
-pub decided_agree : (s : Scenario) (closed : List (List Letter)) (k : RecordedBoard) (opened : ℕ) (ps : List Part) (full : Bool) (w : World) (xs : List ℕ) → IsScenario s → IsHeld s closed k opened ps full → world_of s closed k opened ps full ≡ w →
+pub decided_agree : (s : Scenario) (closed : List (List Letter)) (k : RecordedBoard) (opened : ℕ) (ps : List Progress) (full : Bool) (w : World) (xs : List ℕ) → IsScenario s → IsHeld s closed k opened ps full → world_of s closed k opened ps full ≡ w →
     xs ≡ decisions w.scenario (messages w.closed) → IsFinished w → AgreeUnderBound w.scenario xs
 decided_agree s closed k opened ps full w xs is h same decided done =
     let A : World → Type 0 = λ v. IsFinished v → AgreeUnderBound v.scenario (decisions v.scenario (messages v.closed)) in
     subst (λ (ds : List ℕ). AgreeUnderBound w.scenario ds) (sym decided) (subst A same (held_agree s closed k opened ps full is h) done)
 
 -- where no round is open and it is full
-pub is_done : (s : Scenario) (closed : List (List Letter)) (k : RecordedBoard) (opened : ℕ) (ps : List Part) (full : Bool) (w : World) (len from : ℕ) → IsScenario s → IsHeld s closed k opened ps full → world_of s closed k opened ps full ≡ w →
+pub is_done : (s : Scenario) (closed : List (List Letter)) (k : RecordedBoard) (opened : ℕ) (ps : List Progress) (full : Bool) (w : World) (len from : ℕ) → IsScenario s → IsHeld s closed k opened ps full → world_of s closed k opened ps full ≡ w →
     len ≡ length closed → from ≡ s.bound → from < len → full ≡ true → IsFinished w
 is_done s closed k opened ps full w len from is h same counted bound past filled =
     let few = held_few oral_kind s closed k opened ps full is h in

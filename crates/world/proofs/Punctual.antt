@@ -4,13 +4,13 @@ use Rattle.std.specs.Prelude.{slice_get, ◌&&◌}
 use Rattle.std.specs.List.{list_all}
 use Rattle.world.specs.declared.event.Event.{Event}
 use Rattle.world.specs.declared.event.Event.TheVariants.{Tick, Post, Close}
-use Rattle.roster.specs.Scenario.{Scenario}
-use Rattle.world.specs.Part.{Part, owes_no_letter}
+use Rattle.round.specs.Scenario.{Scenario}
+use Rattle.world.specs.Part.{Progress, owes_no_letter}
 use Rattle.world.specs.Kind.{Kind, World, opening, round_open, closing, happen, run}
 use Rattle.world.specs.KindLists.{Throughout, AtClose, OwesNoLetter, IsPunctual}
 use Rattle.world.proofs.Moves.{move_same}
 
-pub all_posted : (parts : List Part) → ((g : ℕ) (part : Part) → slice_get parts g ≡ Some part → OwesNoLetter part) → list_all owes_no_letter parts ≡ true
+pub all_posted : (parts : List Progress) → ((g : ℕ) (part : Progress) → slice_get parts g ≡ Some part → OwesNoLetter part) → list_all owes_no_letter parts ≡ true
 all_posted [] h = refl
 all_posted (p ∷ ps) h = rw (h 0 p refl) (all_posted ps (λ g part e. h (suc g) part e))
 

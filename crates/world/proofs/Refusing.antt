@@ -3,11 +3,11 @@ use Rattle.std.proofs.Common.{◌≡◌, ℕ, List, [], ◌∷◌, length, Bool,
 use Rattle.std.specs.Prelude.{slice_get}
 use Rattle.world.specs.declared.event.Event.{Event}
 use Rattle.world.specs.declared.event.Event.TheVariants.{Tick, Post, Close}
-use Rattle.roster.specs.Scenario.{Scenario, program_of}
-use Rattle.letter.specs.Letters.{Letter}
-use Rattle.world.specs.Part.{Part, Acting, Silent, Posted}
+use Rattle.round.specs.Scenario.{Scenario, program_of}
+use Rattle.round.specs.Letters.{Letter}
+use Rattle.world.specs.Part.{Progress, Acting, Silent, Posted}
 use Rattle.world.specs.Refusals.{IdleEventsChangeNothing}
-use Rattle.letter.proofs.Going.{over_ended}
+use Rattle.round.proofs.Going.{over_ended}
 use Rattle.world.specs.Kind.{Kind, World, each, begins, round_open, opening, served, ticked, posting, closing, happen, run, unfit, named_by, refusal}
 use Rattle.world.specs.declared.event.EventError.{EventError}
 use Rattle.world.specs.declared.event.EventError.TheVariants.{NotOpen}
@@ -19,25 +19,25 @@ use Rattle.std.proofs.lemmas.List.{nil_from_length}
 abbrev IsClear : World → Type 0
 IsClear w = round_open w.scenario w.closed ≡ false → w.parts ≡ []
 
-tick_still : (w : World) (g : ℕ) (r : EventError) (o : Option Part) → unfit (Tick g) o ≡ Some r → ticked w g o ≡ w
+tick_still : (w : World) (g : ℕ) (r : EventError) (o : Option Progress) → unfit (Tick g) o ≡ Some r → ticked w g o ≡ w
 tick_still w g r None e = refl
 tick_still w g r (Some (Acting a)) e = absurd (let f : None ≡ Some r = e in cc)
 tick_still w g r (Some Silent) e = refl
 tick_still w g r (Some Posted) e = refl
 
-post_still : (w : World) (g : ℕ) (r : EventError) (o : Option Part) → unfit (Post g) o ≡ Some r → posting w g o ≡ w
+post_still : (w : World) (g : ℕ) (r : EventError) (o : Option Progress) → unfit (Post g) o ≡ Some r → posting w g o ≡ w
 post_still w g r None e = refl
 post_still w g r (Some (Acting a)) e = refl
 post_still w g r (Some Silent) e = absurd (let f : None ≡ Some r = e in cc)
 post_still w g r (Some Posted) e = refl
 
 -- behind the last round nobody acts or has posted
-part_open : (w : World) → IsClear w → (g : ℕ) (part : Part) → slice_get w.parts g ≡ Some part → round_open w.scenario w.closed ≡ true
+part_open : (w : World) → IsClear w → (g : ℕ) (part : Progress) → slice_get w.parts g ≡ Some part → round_open w.scenario w.closed ≡ true
 part_open w clear g part at = by (round_open w.scenario w.closed) refl
   where
     by : (b : Bool) → round_open w.scenario w.closed ≡ b → b ≡ true
     by true e = refl
-    by false e = absurd (let f : None ≡ Some part = ap (λ (ps : List Part). slice_get ps g) (sym (clear e)) ∙ at in cc)
+    by false e = absurd (let f : None ≡ Some part = ap (λ (ps : List Progress). slice_get ps g) (sym (clear e)) ∙ at in cc)
 
 module _ (K : Kind) where
   clear_begins : (s : Scenario) (closed : List (List Letter)) (b : Bool) → b ≡ false → cond b (each s.generals (λ g. begins K s closed g (program_of s g) ∷ [])) [] ≡ []
@@ -64,8 +64,8 @@ module _ (K : Kind) where
   run_clear (e ∷ es) w h = run_clear es (happen K w e) (event_clear w e h)
 
   closed_still : (w : World) (e : Event) → round_open w.scenario w.closed ≡ false → w.parts ≡ [] → happen K w e ≡ w
-  closed_still w (Tick g) past none = ap (λ (ps : List Part). ticked w g (slice_get ps g)) none
-  closed_still w (Post g) past none = ap (λ (ps : List Part). posting w g (slice_get ps g)) none
+  closed_still w (Tick g) past none = ap (λ (ps : List Progress). ticked w g (slice_get ps g)) none
+  closed_still w (Post g) past none = ap (λ (ps : List Progress). posting w g (slice_get ps g)) none
   closed_still w Close past none = ap (λ b. cond b (closing K w) w) past
 
   open_still : (w : World) (e : Event) (r : EventError) → unfit e (slice_get w.parts (named_by e)) ≡ Some r → happen K w e ≡ w

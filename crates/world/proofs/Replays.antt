@@ -3,14 +3,14 @@ use Rattle.std.proofs.Common.{◌≡◌, ◌≢◌, ℕ, zero, suc, ◌≤◌, L
 use Rattle.std.specs.Prelude.{slice_get, replicate}
 use Rattle.board.specs.Board.{IsBoard, Access, reply, next}
 use Rattle.world.specs.declared.event.Event.TheVariants.{Tick}
-use Rattle.letter.specs.Letters.{Letter}
-use Rattle.letter.specs.Activation.{Activation, Turn, Goes, Asks, Ended, turn, has_ended}
-use Rattle.world.specs.Part.{Part, Acting}
+use Rattle.round.specs.Letters.{Letter}
+use Rattle.round.specs.Activation.{Activation, Turn, Goes, Asks, Ended, turn, has_ended}
+use Rattle.world.specs.Part.{Progress, Acting}
 use Rattle.world.specs.Kind.{Kind, World, served, ticked, happen, run}
-use Rattle.letter.specs.Runs.{Onward, Runs}
+use Rattle.round.specs.Runs.{Onward, Runs}
 use Rattle.world.specs.KindLists.{further_turns, until_access}
 use Rattle.world.proofs.Listing.{set-here, set-other}
-use Rattle.letter.proofs.Going.{IsGoing, going_zero, over_ended}
+use Rattle.round.proofs.Going.{IsGoing, going_zero, over_ended}
 use Rattle.world.proofs.Complete.{Within, WithinAfter, turn_left}
 use Rattle.world.proofs.Ways.{access}
 
@@ -38,7 +38,7 @@ within_none a h = by h.0 h.1 h.2
 
 module _ (K : Kind) where
   pub tick_is : (w : World) (g : ℕ) (a : Activation) (o : Turn) → slice_get w.parts g ≡ Some (Acting a) → turn a ≡ o → happen K w (Tick g) ≡ served w g o
-  tick_is w g a o at e = ap (λ (p : Option Part). ticked w g p) at ∙ ap (λ (t : Turn). served w g t) e
+  tick_is w g a o at e = ap (λ (p : Option Progress). ticked w g p) at ∙ ap (λ (t : Turn). served w g t) e
 
   reach_by : (fuel : ℕ) (w : World) (g : ℕ) (a : Activation) (x : Access) (t : List Access) (end : Activation) → slice_get w.parts g ≡ Some (Acting a) → IsBoard w.words
       → x.general ≡ g → x.round ≡ suc (length w.closed) → x.reply ≡ reply w.words x.request

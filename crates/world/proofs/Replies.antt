@@ -3,13 +3,13 @@ use Rattle.std.proofs.Common.{◌≡◌, ℕ, suc, length, refl, Option, Some, N
 use Rattle.std.specs.Prelude.{slice_get}
 use Rattle.board.specs.Board.{IsBoard, reply}
 use Rattle.board.proofs.Serving.{reply_fits}
-use Rattle.letter.specs.Activation.{Activation, Turn, Goes, Asks, Ended, turn}
-use Rattle.letter.specs.Runs.{AreFitting}
-use Rattle.letter.proofs.Going.{turn_within}
-use Rattle.letter.proofs.Fitting.{fitting_more}
+use Rattle.round.specs.Activation.{Activation, Turn, Goes, Asks, Ended, turn}
+use Rattle.round.specs.Runs.{AreFitting}
+use Rattle.round.proofs.Going.{turn_within}
+use Rattle.round.proofs.Fitting.{fitting_more}
 use Rattle.world.specs.declared.event.Event.{Event}
 use Rattle.world.specs.declared.event.Event.TheVariants.{Tick, Post, Close}
-use Rattle.world.specs.Part.{Part, Acting, Silent, Posted}
+use Rattle.world.specs.Part.{Progress, Acting, Silent, Posted}
 use Rattle.world.specs.Kind.{Kind, World, served, ticked, posting, happen}
 use Rattle.world.specs.KindLists.{IsMove}
 
@@ -19,13 +19,13 @@ served_fitting w g a (Asks q f) e board h =
     fitting_more w.ledger (record { general = g; round = suc (length w.closed); request = q; reply = reply w.words q }) h (reply_fits w.words q board (turn_within a q f e))
 served_fitting w g a Ended e board h = h
 
-ticked_fitting : (w : World) (g : ℕ) (o : Option Part) → IsBoard w.words → AreFitting w.ledger → AreFitting (ticked w g o).ledger
+ticked_fitting : (w : World) (g : ℕ) (o : Option Progress) → IsBoard w.words → AreFitting w.ledger → AreFitting (ticked w g o).ledger
 ticked_fitting w g None board h = h
 ticked_fitting w g (Some (Acting a)) board h = served_fitting w g a (turn a) refl board h
 ticked_fitting w g (Some Silent) board h = h
 ticked_fitting w g (Some Posted) board h = h
 
-posting_fitting : (w : World) (g : ℕ) (o : Option Part) → AreFitting w.ledger → AreFitting (posting w g o).ledger
+posting_fitting : (w : World) (g : ℕ) (o : Option Progress) → AreFitting w.ledger → AreFitting (posting w g o).ledger
 posting_fitting w g None h = h
 posting_fitting w g (Some (Acting a)) h = h
 posting_fitting w g (Some Silent) h = h

@@ -8,17 +8,17 @@ use Rattle.insn.specs.declared.insn.Insn.{Insn}
 use Rattle.board.specs.Board.{IsBoard}
 use Rattle.world.specs.declared.event.Event.{Event}
 use Rattle.world.specs.declared.event.Event.TheVariants.{Tick, Post, Close}
-use Rattle.roster.specs.Scenario.{Scenario, program_of}
-use Rattle.letter.specs.Letters.{Letter, letter_of}
-use Rattle.letter.specs.Activation.{Activation}
-use Rattle.world.specs.Part.{Part, Acting, Silent, Posted, owes_no_letter}
+use Rattle.round.specs.Scenario.{Scenario, program_of}
+use Rattle.round.specs.Letters.{Letter, letter_of}
+use Rattle.round.specs.Activation.{Activation}
+use Rattle.world.specs.Part.{Progress, Acting, Silent, Posted, owes_no_letter}
 use Rattle.world.specs.Kind.{Kind, loyal_letter, World, begins, opening, round_open, letters_at, round_letters, closing, happen, run, each}
 use Rattle.world.proofs.Kept.{Fits, Tells, IsKept}
 use Rattle.world.proofs.Listing.{each-find, each-get_only, each-length, all-at, take-front, take-whole, get_or-left, get_or-seam}
 use Rattle.world.specs.KindLists.{IsMove}
 use Rattle.world.proofs.Moves.{move_same, AllParts, IsLasting, move_keeps, move_board}
 
-Suits : Scenario → ℕ → Part → Type 0
+Suits : Scenario → ℕ → Progress → Type 0
 Suits s g part = (g < s.generals) × Fits (program_of s g) part
 
 fits_go : (o : Option (List Insn)) (a b : Activation) → Fits o (Acting a) → Fits o (Acting b)
@@ -60,23 +60,23 @@ module _ (K : Kind) where
       }
 
   -- letters of others are not g's
-  not_his : (w : World) (g j : ℕ) (o : Option Part) → j ≢ g → find (λ l. l.general == g) (letters_at K w j o) ≡ None
+  not_his : (w : World) (g j : ℕ) (o : Option Progress) → j ≢ g → find (λ l. l.general == g) (letters_at K w j o) ≡ None
   not_his w g j None ne = refl
   not_his w g j (Some (Acting a)) ne = rw (ne_eqb j g ne) refl
   not_his w g j (Some Silent) ne = refl
   not_his w g j (Some Posted) ne = rw (ne_eqb j g ne) refl
 
-  his : (w : World) (g : ℕ) (o : Option (List Insn)) (part : Part) → o ≡ None → Fits o part → owes_no_letter part ≡ true
+  his : (w : World) (g : ℕ) (o : Option (List Insn)) (part : Progress) → o ≡ None → Fits o part → owes_no_letter part ≡ true
       → find (λ l. l.general == g) (letters_at K w g (Some part)) ≡ Some (loyal_letter K w.scenario w.closed g)
   his w g None (Acting a) n f h = absurd f
   his w g None Silent n f h = cc
   his w g None Posted n f h = rw (eq-eqb g g refl) refl
   his w g (Some p) part n f h = cc
 
-  some_part : (w : World) → IsKept K w → length w.closed < suc w.scenario.bound → (g : ℕ) → g < w.scenario.generals → (part : Part) × (slice_get w.parts g ≡ Some part)
+  some_part : (w : World) → IsKept K w → length w.closed < suc w.scenario.bound → (g : ℕ) → g < w.scenario.generals → (part : Progress) × (slice_get w.parts g ≡ Some part)
   some_part w k more g lt = within w.parts g (let h = k.open_parts more in omega arith)
     where
-      within : (ps : List Part) (g : ℕ) → g < length ps → (part : Part) × (slice_get ps g ≡ Some part)
+      within : (ps : List Progress) (g : ℕ) → g < length ps → (part : Progress) × (slice_get ps g ≡ Some part)
       within [] g lt = absurd (omega arith)
       within (p ∷ ps) zero lt = (p, refl)
       within (p ∷ ps) (suc g) lt = within ps g (omega arith)
@@ -105,7 +105,7 @@ module _ (K : Kind) where
   unfolding Suits
   begun_parts s closed true g part e =
       let h = each-get_only s.generals (λ g. begins K s closed g (program_of s g)) g part e in
-      (h.0, (let A : Part → Type 0 = λ p. Fits (program_of s g) p in subst A (sym h.1) (fits_begins s closed g (program_of s g))))
+      (h.0, (let A : Progress → Type 0 = λ p. Fits (program_of s g) p in subst A (sym h.1) (fits_begins s closed g (program_of s g))))
   begun_parts s closed false g part e = cc
 
   pub opening_kept : (s : Scenario) → IsBoard s.board → IsKept K (opening K s)

@@ -9,18 +9,18 @@ use Rattle.insn.specs.declared.insn.Insn.{Insn}
 use Rattle.board.specs.Board.{Access, IsBoard}
 use Rattle.semantics.specs.Relay.{IsContext, Relay}
 use Rattle.label.proofs.Ranks.{get_left, get_right}
-use Rattle.roster.specs.Scenario.{Scenario, program_of}
-use Rattle.letter.specs.Letters.{Letter}
-use Rattle.letter.specs.Contexts.{IsToldTo, shape_told, tells_oral}
-use Rattle.letter.specs.Activation.{Activation, started}
-use Rattle.letter.specs.Runs.{Runs, AreFitting, IsRunOf, IsLetter}
-use Rattle.letter.proofs.Fitting.{fitting_from, fitting_among}
-use Rattle.letter.proofs.Patience.{under, runs_under, within_none}
-use Rattle.letter.proofs.Ends.{steps_taken, proved_patience_is_kept}
-use Rattle.letter.proofs.Settled.{runs_settled, start_told}
+use Rattle.round.specs.Scenario.{Scenario, program_of}
+use Rattle.round.specs.Letters.{Letter}
+use Rattle.round.specs.Contexts.{IsToldTo, shape_told, tells_oral}
+use Rattle.round.specs.Activation.{Activation, started}
+use Rattle.round.specs.Runs.{Runs, AreFitting, IsRunOf, IsLetter}
+use Rattle.round.proofs.Fitting.{fitting_from, fitting_among}
+use Rattle.round.proofs.Patience.{under, runs_under, within_none}
+use Rattle.round.proofs.Ends.{steps_taken, proved_patience_is_kept}
+use Rattle.round.proofs.Settled.{runs_settled, start_told}
 use Rattle.world.specs.declared.event.Event.{Event}
 use Rattle.world.specs.declared.event.Event.TheVariants.{Tick, Post, Close}
-use Rattle.world.specs.Part.{Part, Acting, Silent, Posted}
+use Rattle.world.specs.Part.{Progress, Acting, Silent, Posted}
 use Rattle.world.specs.Kind.{Kind, loyal_letter, World, each, accesses_of, begins, begun, round_open, opening, letters_at, round_letters, closing, happen, run}
 use Rattle.world.specs.KindLists.{IsMove}
 use Rattle.world.specs.Safety.{IsPlaced, PartsArePlaced, HasRun, IsMade, IsLetterIn, ActivationsAreRuns}
@@ -149,7 +149,7 @@ module _ (K : Kind) where
   made_by : (s : Scenario) (before : List (List Letter)) (l : Letter) (program : List Insn) → l.program ≡ Some program → IsRunOf l (Some program) → IsMade K s before l l.program
   made_by s before l program e h = (let A : Option (List Insn) → Type 0 = λ o. IsMade K s before l o in subst A (sym e) h)
 
-  letter_in : (s : Scenario) (w : World) → w.scenario ≡ s → length w.closed ≤ s.bound → IsKept K w → Midway s w → (g : ℕ) → g < s.generals → (o : Option Part) → slice_get w.parts g ≡ o → All (λ l. IsLetterIn K s w.closed l) (letters_at K w g o)
+  letter_in : (s : Scenario) (w : World) → w.scenario ≡ s → length w.closed ≤ s.bound → IsKept K w → Midway s w → (g : ℕ) → g < s.generals → (o : Option Progress) → slice_get w.parts g ≡ o → All (λ l. IsLetterIn K s w.closed l) (letters_at K w g o)
   letter_in s w sc more k m g lt None e = All-nil (λ l. IsLetterIn K s w.closed l)
   letter_in s w sc more k m g lt (Some (Acting a)) e =
       let r = ran s w g a m e in

@@ -5,23 +5,23 @@ use Rattle.board.specs.Board.{IsBoard, reply}
 use Rattle.board.proofs.Serving.{reply_fits}
 use Rattle.world.specs.declared.event.Event.{Event}
 use Rattle.world.specs.declared.event.Event.TheVariants.{Tick}
-use Rattle.roster.specs.Scenario.{Scenario}
-use Rattle.letter.specs.Activation.{Activation, Turn, Goes, Asks, Ended, turn}
-use Rattle.world.specs.Part.{Part, Acting, Silent, Posted}
+use Rattle.round.specs.Scenario.{Scenario}
+use Rattle.round.specs.Activation.{Activation, Turn, Goes, Asks, Ended, turn}
+use Rattle.world.specs.Part.{Progress, Acting, Silent, Posted}
 use Rattle.world.specs.Kind.{Kind, World, served, ticked, happen, run}
-use Rattle.letter.specs.Runs.{Onward, Runs}
+use Rattle.round.specs.Runs.{Onward, Runs}
 use Rattle.world.specs.KindLists.{further_turns, until_access, ticks_named}
 use Rattle.round.specs.Running.{Pauses}
 use Rattle.std.specs.Prelude.{OnOk}
 use Rattle.std.proofs.Common.{Result, Ok, Err}
-use Rattle.roster.specs.Scenario.{IsScenario}
+use Rattle.round.specs.Scenario.{IsScenario}
 use Rattle.world.specs.KindHeld.{AheadTo, IsReached}
 use Rattle.world.proofs.Lasting.{IsOnTime}
 use Rattle.world.proofs.Untrapped.{held}
 use Rattle.world.proofs.Listing.{set-here}
 use Rattle.world.specs.Playing.{IsStill, program_length}
-use Rattle.letter.proofs.Going.{turn_within, over_ended, ended_over}
-use Rattle.letter.proofs.Stepping.{runs_steps, turn_counts, CountsTurn}
+use Rattle.round.proofs.Going.{turn_within, over_ended, ended_over}
+use Rattle.round.proofs.Stepping.{runs_steps, turn_counts, CountsTurn}
 use Rattle.world.proofs.Due.{IsDue, due_few, due_lasts}
 use Rattle.world.specs.Campaigns.{AreCampaigns}
 
@@ -85,11 +85,11 @@ module _ (K : Kind) where
   events_add (suc m) n w e = (let c : suc m + n ≡ suc (m + n) = omega arith in ap (λ (k : ℕ). run K w (replicate k e)) c ∙ events_add m n (happen K w e) e)
 
   -- the ticks of who has ended, or does not act, change nothing
-  pub still_tick : (w : World) (g : ℕ) (o : Option Part) → slice_get w.parts g ≡ o → IsStill o → happen K w (Tick g) ≡ w
-  still_tick w g None e h = ap (λ (p : Option Part). ticked w g p) e
-  still_tick w g (Some (Acting a)) e h = ap (λ (p : Option Part). ticked w g p) e ∙ ap (λ (t : Turn). served w g t) (over_ended a h)
-  still_tick w g (Some Silent) e h = ap (λ (p : Option Part). ticked w g p) e
-  still_tick w g (Some Posted) e h = ap (λ (p : Option Part). ticked w g p) e
+  pub still_tick : (w : World) (g : ℕ) (o : Option Progress) → slice_get w.parts g ≡ o → IsStill o → happen K w (Tick g) ≡ w
+  still_tick w g None e h = ap (λ (p : Option Progress). ticked w g p) e
+  still_tick w g (Some (Acting a)) e h = ap (λ (p : Option Progress). ticked w g p) e ∙ ap (λ (t : Turn). served w g t) (over_ended a h)
+  still_tick w g (Some Silent) e h = ap (λ (p : Option Progress). ticked w g p) e
+  still_tick w g (Some Posted) e h = ap (λ (p : Option Progress). ticked w g p) e
 
   pub still_ticks : (n : ℕ) (w : World) (g : ℕ) → IsStill (slice_get w.parts g) → run K w (replicate n (Tick g)) ≡ w
   still_ticks zero w g h = refl
@@ -127,25 +127,25 @@ module _ (K : Kind) where
       ∙ (ap (λ (x : World). run K x (replicate (until_access m.0 b) (Tick g))) is
       ∙ (sym (events_add n (until_access m.0 b) w (Tick g))
       ∙ (ap (λ (k : ℕ). run K w (replicate k (Tick g))) (sym all)
-      ∙ ap (λ (o : Option Part). run K w (ticks_named g o)) (sym at))))
+      ∙ ap (λ (o : Option Progress). run K w (ticks_named g o)) (sym at))))
 
   -- a name's ticks: ahead to the next request or the end, and one more
-  named_by : (s : Scenario) (w v : World) (g most taken : ℕ) → IsOnTime K s w → (o : Option Part) → slice_get w.parts g ≡ o → program_length o ≡ Some most → AheadTo most taken w.parts g o v.parts → v ≡ run K w (replicate taken (Tick g)) →
+  named_by : (s : Scenario) (w v : World) (g most taken : ℕ) → IsOnTime K s w → (o : Option Progress) → slice_get w.parts g ≡ o → program_length o ≡ Some most → AheadTo most taken w.parts g o v.parts → v ≡ run K w (replicate taken (Tick g)) →
       happen K v (Tick g) ≡ run K w (ticks_named g (slice_get w.parts g))
   named_by s w v g most taken t None at is far ahead = absurd (let f : None ≡ Some most = is in cc)
   named_by s w v g most taken t (Some (Acting a)) at is (b, way, le, pause, new) ahead =
       let same : length a.program ≡ most = (let f : Some (length a.program) ≡ Some most = is in cc) in
-      let here : slice_get v.parts g ≡ Some (Acting b) = ap (λ (l : List Part). slice_get l g) new ∙ set-here w.parts g (Acting b) (Acting a) at in
+      let here : slice_get v.parts g ≡ Some (Acting b) = ap (λ (l : List Progress). slice_get l g) new ∙ set-here w.parts g (Acting b) (Acting a) at in
       named_is s w v g taken a b t.kept.board (t.due g (Acting a) at) at here ahead way (omega arith) (subst (λ (n : ℕ). Pauses n b (turn b)) (sym same) pause)
   named_by s w v g most taken t (Some Silent) at is far ahead = absurd (let f : None ≡ Some most = is in cc)
   named_by s w v g most taken t (Some Posted) at is far ahead = absurd (let f : None ≡ Some most = is in cc)
 
 module _ (K : Kind) (good : AreCampaigns K) where
-  pub named_turn : {A E : Type 0} (result : Result A E) (w v u : World) (s : Scenario) (ps : List Part) (g most taken : ℕ) → s ≡ w.scenario → IsScenario s → IsReached K w → ps ≡ w.parts →
+  pub named_turn : {A E : Type 0} (result : Result A E) (w v u : World) (s : Scenario) (ps : List Progress) (g most taken : ℕ) → s ≡ w.scenario → IsScenario s → IsReached K w → ps ≡ w.parts →
       Some most ≡ program_length (slice_get ps g) → AheadTo most taken w.parts g (slice_get w.parts g) v.parts → v ≡ run K w (replicate taken (Tick g)) → OnOk result (u ≡ happen K v (Tick g)) →
       OnOk result (u ≡ run K w (ticks_named g (slice_get w.parts g)))
   named_turn (Ok x) w v u s ps g most taken same is h parts most_is far ahead done =
       let inside : IsScenario w.scenario = subst (λ (t : Scenario). IsScenario t) same is in
       let timely : IsOnTime K w.scenario w = subst (λ (x : World). IsOnTime K w.scenario x) h.1 ((held K w.scenario h.0 (good w.scenario inside)).timely) in
-      done ∙ named_by K w.scenario w v g most taken timely (slice_get w.parts g) refl (ap (λ (l : List Part). program_length (slice_get l g)) (sym parts) ∙ sym most_is) far ahead
+      done ∙ named_by K w.scenario w v g most taken timely (slice_get w.parts g) refl (ap (λ (l : List Progress). program_length (slice_get l g)) (sym parts) ∙ sym most_is) far ahead
   named_turn (Err x) w v u s ps g most taken same is h parts most_is far ahead done = tt

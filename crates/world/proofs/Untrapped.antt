@@ -8,10 +8,10 @@ use Rattle.semantics.specs.Safety.{LeadsTo}
 use Rattle.semantics.proofs.SafetyLaws.{IsSafe-no_trap}
 use Rattle.world.specs.declared.event.Event.{Event}
 use Rattle.world.specs.declared.event.Event.TheVariants.{Tick, Post, Close}
-use Rattle.roster.specs.Scenario.{Scenario, program_of}
-use Rattle.letter.specs.Letters.{Letter}
-use Rattle.letter.specs.Activation.{Activation, has_ended}
-use Rattle.world.specs.Part.{Part, Acting, Silent, Posted}
+use Rattle.round.specs.Scenario.{Scenario, program_of}
+use Rattle.round.specs.Letters.{Letter}
+use Rattle.round.specs.Activation.{Activation, has_ended}
+use Rattle.world.specs.Part.{Progress, Acting, Silent, Posted}
 use Rattle.world.specs.Kind.{Kind, loyal_letter, World, each, begun, opening, round_open, letters_at, round_letters, closing, happen, run}
 use Rattle.world.specs.Safety.{IsShort, ActivationsAreSafe}
 use Rattle.world.proofs.Moves.{AllParts, move_same}
@@ -38,7 +38,7 @@ untrapped s g a cause d on e =
     (let A : Outcome → Type 0 = λ o. LeadsTo (λ next. Unit {0}) o in subst A e h)
 
 module _ (K : Kind) where
-  letter_short : (w : World) (s : Scenario) → IsOnTime K s w → (g : ℕ) (o : Option Part) → slice_get w.parts g ≡ o → All IsShort (letters_at K w g o)
+  letter_short : (w : World) (s : Scenario) → IsOnTime K s w → (g : ℕ) (o : Option Progress) → slice_get w.parts g ≡ o → All IsShort (letters_at K w g o)
   letter_short w s t g None e = All-nil IsShort
   letter_short w s t g (Some (Acting a)) e = one_letter IsShort _ (λ p is.
       let d = t.due g (Acting a) e in

@@ -12,8 +12,8 @@ use Rattle.label.specs.Lieutenants.{lieutenants, AgreeInList}
 use Rattle.book.specs.Conditions.{are_alike}
 use Rattle.book.proofs.Induction.{holds}
 use Rattle.book.proofs.Listed.{listed}
-use Rattle.roster.specs.Scenario.{Scenario, is_traitor}
-use Rattle.letter.specs.Letters.{messages}
+use Rattle.round.specs.Scenario.{Scenario, is_traitor}
+use Rattle.round.specs.Letters.{messages}
 use Rattle.world.specs.World.{oral_kind, opening, run}
 use Rattle.world.specs.Chronicle.{decisions, of_loyal, verdict_of}
 use Rattle.world.specs.Agreement.{DecisionsAgree, AreAlike, AreObedient, VerdictsMean}

@@ -7,16 +7,16 @@ use Rattle.board.specs.Board.{Access, reply, next, words_after, IsLegal}
 use Rattle.board.proofs.Histories.{words_after-snoc, IsLegal-snoc}
 use Rattle.world.specs.declared.event.Event.{Event}
 use Rattle.world.specs.declared.event.Event.TheVariants.{Tick, Post, Close}
-use Rattle.roster.specs.Scenario.{program_of}
-use Rattle.letter.specs.Activation.{Activation, Turn, Goes, Asks, Ended, turn}
-use Rattle.world.specs.Part.{Part, Acting, Silent, Posted}
+use Rattle.round.specs.Scenario.{program_of}
+use Rattle.round.specs.Activation.{Activation, Turn, Goes, Asks, Ended, turn}
+use Rattle.world.specs.Part.{Progress, Acting, Silent, Posted}
 use Rattle.world.specs.Kind.{Kind, World, accesses_of, served, ticked, posting, happen, run}
-use Rattle.letter.specs.Runs.{Onward, Runs}
+use Rattle.round.specs.Runs.{Onward, Runs}
 use Rattle.world.specs.KindLists.{OwesNoLetter, HasEnded, IsMove, AreMoves}
 use Rattle.world.proofs.Kept.{Fits}
 use Rattle.world.proofs.Moves.{set-cases, SameRound}
-use Rattle.letter.proofs.Going.{over_ended}
-use Rattle.letter.proofs.Runnings.{StopsAt, Runs-snoc, Runs-same}
+use Rattle.round.proofs.Going.{over_ended}
+use Rattle.round.proofs.Runnings.{StopsAt, Runs-snoc, Runs-same}
 use Rattle.world.proofs.Accesses.{of_mine, of_other}
 
 -- one access
@@ -79,7 +79,7 @@ module _ (K : Kind) where
         }
     one g w a at d Ended e = d
 
-    tick_midst : (w : World) (g : ℕ) → Midst w → (o : Option Part) → slice_get w.parts g ≡ o → Midst (ticked w g o)
+    tick_midst : (w : World) (g : ℕ) → Midst w → (o : Option Progress) → slice_get w.parts g ≡ o → Midst (ticked w g o)
     tick_midst w g d None e = d
     tick_midst w g d (Some (Acting a)) e = one g w a e d (turn a) refl
     tick_midst w g d (Some Silent) e = d
@@ -88,7 +88,7 @@ module _ (K : Kind) where
     not_acting : (a : Activation) → Posted ≡ Acting a → ⊥
     not_acting a e = cc
 
-    post_midst : (w : World) (g : ℕ) → Midst w → (o : Option Part) → slice_get w.parts g ≡ o → Midst (posting w g o)
+    post_midst : (w : World) (g : ℕ) → Midst w → (o : Option Progress) → slice_get w.parts g ≡ o → Midst (posting w g o)
     post_midst w g d None e = d
     post_midst w g d (Some (Acting a)) e = d
     post_midst w g d (Some Silent) e = record {
@@ -128,7 +128,7 @@ module _ (K : Kind) where
         let same : c.1 ≡ d.1 = (let h = sym c.2 ∙ d.2 in cc) in
         Runs-same c.0 d.0 d.1 (accesses_of g piece) a b (let A : Activation → Type 0 = λ s. Runs c.0 s (accesses_of g piece) a in subst A same c.3) d.3 e f
 
-    part_same : (piece : List Access) (g : ℕ) (o : Option (List Insn)) (x y : Part) → Fits o x → Fits o y → OwesNoLetter x → OwesNoLetter y → HasEnded x → HasEnded y
+    part_same : (piece : List Access) (g : ℕ) (o : Option (List Insn)) (x y : Progress) → Fits o x → Fits o y → OwesNoLetter x → OwesNoLetter y → HasEnded x → HasEnded y
         → ((a : Activation) → x ≡ Acting a → Came piece g a) → ((a : Activation) → y ≡ Acting a → Came piece g a) → x ≡ y
     part_same piece g None (Acting a) y f f' p p' e e' c c' = absurd f
     part_same piece g None Silent y f f' p p' e e' c c' = cc
@@ -142,9 +142,9 @@ module _ (K : Kind) where
     part_same piece g (Some q) Posted y f f' p p' e e' c c' = absurd f
 
     pub record IsReady (w : World) : Type 0 where
-      pub fits : (g : ℕ) (part : Part) → slice_get w.parts g ≡ Some part → Fits (program_of first.scenario g) part
-      pub posted_all : (g : ℕ) (part : Part) → slice_get w.parts g ≡ Some part → OwesNoLetter part
-      pub ended_all : (g : ℕ) (part : Part) → slice_get w.parts g ≡ Some part → HasEnded part
+      pub fits : (g : ℕ) (part : Progress) → slice_get w.parts g ≡ Some part → Fits (program_of first.scenario g) part
+      pub posted_all : (g : ℕ) (part : Progress) → slice_get w.parts g ≡ Some part → OwesNoLetter part
+      pub ended_all : (g : ℕ) (part : Progress) → slice_get w.parts g ≡ Some part → HasEnded part
 
     -- from one beginning and with one ledger, two ripe worlds are one
     pub same_end : (v w : World) → SameRound first v → SameRound first w → Midst v → Midst w → IsReady v → IsReady w → v.ledger ≡ w.ledger → v ≡ w

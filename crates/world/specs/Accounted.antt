@@ -2,8 +2,8 @@
 use Rattle.std.specs.Prelude.{ℕ, List, Option}
 use Rattle.insn.specs.declared.insn.Insn.{Insn}
 use Rattle.board.specs.Board.{Access}
-use Rattle.roster.specs.Scenario.{Scenario}
-use Rattle.letter.specs.Letters.{Letter}
+use Rattle.round.specs.Scenario.{Scenario}
+use Rattle.round.specs.Letters.{Letter}
 use Rattle.world.specs.World.{oral_kind}
 use Rattle.world.specs.KindAccounted as accounted
 pub use Rattle.world.specs.KindAccounted.{letter_by, letters_by, rounds_of}

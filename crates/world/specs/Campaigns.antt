@@ -1,9 +1,9 @@
 -- What a kind owes its campaigns (own).
 use Rattle.std.specs.Prelude.{ℕ, suc, ◌≡◌, ◌<◌, ◌≤◌, List, length}
 use Rattle.semantics.specs.Relay.{IsContext, IsRelay, Oral}
-use Rattle.roster.specs.Scenario.{Scenario, IsScenario}
-use Rattle.letter.specs.Letters.{Letter}
-use Rattle.letter.specs.Contexts.{IsToldTo, shape_told, tells_oral}
+use Rattle.round.specs.Scenario.{Scenario, IsScenario}
+use Rattle.round.specs.Letters.{Letter}
+use Rattle.round.specs.Contexts.{IsToldTo, shape_told, tells_oral}
 use Rattle.world.specs.Kind.{Kind}
 
 -- a scenario within the limits, in whose rounds every general is told a context, and relays, as sound programs want it

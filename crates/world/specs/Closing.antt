@@ -6,38 +6,38 @@ use Rattle.semantics.specs.Limits.{context_size}
 use Rattle.insn.specs.declared.insn.Insn.{Insn}
 use Rattle.board.specs.Board.{Access}
 use Rattle.semantics.specs.Relay.{oral}
-use Rattle.roster.specs.Scenario.{Scenario, program_of, shape_of}
-use Rattle.letter.specs.Letters.{Letter}
-use Rattle.letter.specs.Contexts.{faithful_letter}
-use Rattle.letter.specs.Activation.{Activation, started}
+use Rattle.round.specs.Scenario.{Scenario, program_of, shape_of}
+use Rattle.round.specs.Letters.{Letter}
+use Rattle.round.specs.Contexts.{faithful_letter}
+use Rattle.round.specs.Activation.{Activation, started}
 use Rattle.round.specs.Running.{letter_left}
-use Rattle.letter.specs.Runs.{IsLetter}
-pub use Rattle.world.specs.declared.draft.Draft.{Draft}
-pub use Rattle.world.specs.declared.draft.Draft.TheVariants.{Begun, Whole, Missing}
-use Rattle.world.specs.Part.{Part, Acting, Silent, Posted}
+use Rattle.round.specs.Runs.{IsLetter}
+pub use Rattle.world.specs.declared.draft.LetterDraft.{LetterDraft}
+pub use Rattle.world.specs.declared.draft.LetterDraft.TheVariants.{Begun, Whole, Missing}
+use Rattle.world.specs.Part.{Progress, Acting, Silent, Posted}
 use Rattle.world.specs.World.{each, accesses_of}
 
 -- of a traitor's letter his accesses, a loyal general's letter, or none
-abbrev pub draft_of : Scenario → List (List Letter) → List Access → ℕ → Option Part → Draft
+abbrev pub draft_of : Scenario → List (List Letter) → List Access → ℕ → Option Progress → LetterDraft
 draft_of s closed accesses g (Some (Acting a)) = Begun (accesses_of g accesses)
 draft_of s closed accesses g (Some Silent) = Missing
 draft_of s closed accesses g (Some Posted) = Whole (faithful_letter s closed g)
 draft_of s closed accesses g None = Missing
 
-abbrev pub drafts_held : Scenario → List (List Letter) → List Access → List Part → List Draft
+abbrev pub drafts_held : Scenario → List (List Letter) → List Access → List Progress → List LetterDraft
 drafts_held s closed accesses parts = each s.generals (λ g. draft_of s closed accesses g (slice_get parts g) ∷ [])
 
 -- the letter of a draft and a part, where there is one
-abbrev pub letter_from : ℕ → ℕ → Option Draft → Option Part → List Letter
+abbrev pub letter_from : ℕ → ℕ → Option LetterDraft → Option Progress → List Letter
 letter_from g round (Some (Begun transcript)) (Some (Acting a)) = letter_left g round transcript a ∷ []
 letter_from g round (Some (Whole letter)) part = letter ∷ []
 letter_from g round _ _ = []
 
-abbrev pub letters_from : ℕ → ℕ → List Draft → List Part → List Letter
+abbrev pub letters_from : ℕ → ℕ → List LetterDraft → List Progress → List Letter
 letters_from n round drafts parts = each n (λ g. letter_from g round (slice_get drafts g) (slice_get parts g))
 
 -- each activation has done what its letter tells
-abbrev pub AreDraftsOf : ℕ → List Draft → List Part → Type 0
+abbrev pub AreDraftsOf : ℕ → List LetterDraft → List Progress → Type 0
 AreDraftsOf round drafts parts = (g : ℕ) (transcript : List Access) (a : Activation) →
     slice_get drafts g ≡ Some (Begun transcript) → slice_get parts g ≡ Some (Acting a) →
     IsLetter (letter_left g round transcript a)
@@ -47,9 +47,9 @@ unfoldable pub zeros : List ℕ
 zeros = replicate context_size 0
 
 -- how a general begins the round behind so many before he is told anything
-abbrev pub blank : Scenario → ℕ → ℕ → Option (List Insn) → Part
+abbrev pub blank : Scenario → ℕ → ℕ → Option (List Insn) → Progress
 blank s before g None = Silent
 blank s before g (Some program) = Acting (started s.patience program zeros (oral (shape_of s g (suc before))))
 
-abbrev pub blanks : Scenario → ℕ → List Part
+abbrev pub blanks : Scenario → ℕ → List Progress
 blanks s before = cond (nat_lt before (suc s.bound)) (each s.generals (λ g. blank s before g (program_of s g) ∷ [])) []

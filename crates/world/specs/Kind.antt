@@ -6,15 +6,15 @@ use Rattle.insn.specs.declared.insn.Insn.{Insn}
 use Rattle.board.specs.Board.{Access, reply, next}
 use Rattle.semantics.specs.Relay.{Relay}
 use Rattle.semantics.specs.declared.entry.Entry.{Entry}
-use Rattle.roster.specs.Scenario.{Scenario, program_of}
-use Rattle.letter.specs.Letters.{Letter}
-use Rattle.letter.specs.Contexts.{faithful_letter_with}
-use Rattle.letter.specs.Activation.{Activation, started, Turn, Goes, Asks, Ended, turn}
+use Rattle.round.specs.Scenario.{Scenario, program_of}
+use Rattle.round.specs.Letters.{Letter}
+use Rattle.round.specs.Contexts.{faithful_letter_with}
+use Rattle.round.specs.Activation.{Activation, started, Turn, Goes, Asks, Ended, turn}
 use Rattle.world.specs.declared.event.Event.{Event}
 use Rattle.world.specs.declared.event.Event.TheVariants.{Tick, Post, Close}
 use Rattle.world.specs.declared.event.EventError.{EventError}
 use Rattle.world.specs.declared.event.EventError.TheVariants.{NotOpen, NoGeneral}
-use Rattle.world.specs.Part.{Part, Acting, Silent, Posted, owes_no_letter}
+use Rattle.world.specs.Part.{Progress, Acting, Silent, Posted, owes_no_letter}
 
 -- a kind of campaign: of a general in the round behind these, what he is told, to whom he relays what,
 -- and what is in his outbox where he is loyal
@@ -32,7 +32,7 @@ pub record World : Type 0 where
   pub words : List ℕ
   pub ledger : List Access
   pub opened : ℕ
-  pub parts : List Part
+  pub parts : List Progress
   pub full : Bool
 
 -- what f gives for each number below n, in order
@@ -44,7 +44,7 @@ abbrev pub round_open : Scenario → List (List Letter) → Bool
 round_open s closed = nat_lt (length closed) (suc s.bound)
 
 -- how a general begins the round behind these
-abbrev pub begins : Kind → Scenario → List (List Letter) → ℕ → Option (List Insn) → Part
+abbrev pub begins : Kind → Scenario → List (List Letter) → ℕ → Option (List Insn) → Progress
 begins K s closed g None = Silent
 begins K s closed g (Some program) = Acting (started s.patience program (K.context s closed g) (K.relay s closed g))
 
@@ -90,14 +90,14 @@ loyal_letter K s before g =
     (record { relay = K.relay s before g; rows = K.rows s before g; entries = K.entries s before g })
 
 -- the letter of a part, or none: an activation's, or a loyal general's who has posted it
-abbrev pub letter_of_part : (Activation → Letter) → Letter → Option Part → List Letter
+abbrev pub letter_of_part : (Activation → Letter) → Letter → Option Progress → List Letter
 letter_of_part acted loyal (Some (Acting a)) = acted a ∷ []
 letter_of_part acted loyal (Some Silent) = []
 letter_of_part acted loyal (Some Posted) = loyal ∷ []
 letter_of_part acted loyal None = []
 
 -- a general's letter as he stands, or none
-abbrev pub letters_at : Kind → World → ℕ → Option Part → List Letter
+abbrev pub letters_at : Kind → World → ℕ → Option Progress → List Letter
 letters_at K w g part =
     letter_of_part
     (λ a. traitor_letter_with K w.scenario w.closed g (program_of w.scenario g)
@@ -122,12 +122,12 @@ served w g (Asks request answered) =
 served w g Ended = w
 
 -- a traitor's activation takes its next step; with a loyal general nothing happens
-abbrev pub ticked : World → ℕ → Option Part → World
+abbrev pub ticked : World → ℕ → Option Progress → World
 ticked w g (Some (Acting a)) = served w g (turn a)
 ticked w g _ = w
 
 -- a loyal general's letter of the open round counts as given
-abbrev pub posting : World → ℕ → Option Part → World
+abbrev pub posting : World → ℕ → Option Progress → World
 posting w g (Some Silent) = record w { parts = slice_set w.parts g Posted }
 posting w g _ = w
 
@@ -148,7 +148,7 @@ run K w [] = w
 run K w (e ∷ events) = run K (happen K w e) events
 
 -- that there is no such general, or he is not of that kind
-abbrev pub unfit : Event → Option Part → Option EventError
+abbrev pub unfit : Event → Option Progress → Option EventError
 unfit (Tick g) (Some (Acting a)) = None
 unfit (Post g) (Some Silent) = None
 unfit (Post g) (Some Posted) = None

@@ -2,10 +2,10 @@
 use Rattle.std.specs.Prelude.{ℕ, suc, ◌≡◌, ◌<◌, ◌*◌, ◌==◌, ◌&&◌, ◌||◌, true, List, [], ◌∷◌, ◌++◌, All, length, take, drop, find, sum_by, slice_get, Option, None, Some, option_to_list}
 use Rattle.insn.specs.declared.insn.Insn.{Insn}
 use Rattle.board.specs.Board.{Access}
-use Rattle.roster.specs.Scenario.{Scenario, program_of}
-use Rattle.letter.specs.Letters.{Letter}
-use Rattle.letter.specs.Activation.{Activation, started, is_reached}
-use Rattle.letter.specs.Runs.{Runs, IsWithin}
+use Rattle.round.specs.Scenario.{Scenario, program_of}
+use Rattle.round.specs.Letters.{Letter}
+use Rattle.round.specs.Activation.{Activation, started, is_reached}
+use Rattle.round.specs.Runs.{Runs, IsWithin}
 use Rattle.world.specs.Kind.{Kind, accesses_of, each, traitor_letter_with, loyal_letter}
 
 -- the letter is what the general's program, or the loyal general, makes of the round behind these:

@@ -3,16 +3,16 @@
 use Rattle.std.specs.Prelude.{ℕ, suc, ◌≡◌, ◌≤◌, ◌-◌, cond, Bool, List, [], ◌∷◌, length, slice_set, slice_get, Option, None, Some}
 use Rattle.board.specs.Board.{Access}
 use Rattle.board.specs.Ledger.{RecordedBoard}
-use Rattle.roster.specs.Scenario.{Scenario, program_of}
-use Rattle.letter.specs.Letters.{Letter}
-use Rattle.letter.specs.Activation.{Activation, turn}
-use Rattle.letter.specs.Runs.{Runs, IsLetter}
+use Rattle.round.specs.Scenario.{Scenario, program_of}
+use Rattle.round.specs.Letters.{Letter}
+use Rattle.round.specs.Activation.{Activation, turn}
+use Rattle.round.specs.Runs.{Runs, IsLetter}
 use Rattle.round.specs.Running.{moved, Pauses, letter_left}
 use Rattle.world.specs.declared.event.Event.{Event}
 use Rattle.world.specs.declared.event.Event.TheVariants.{Post}
 use Rattle.world.specs.declared.event.EventError.{EventError}
 use Rattle.world.specs.declared.event.EventError.TheVariants.{Memory}
-use Rattle.world.specs.Part.{Part, Acting, Silent, Posted}
+use Rattle.world.specs.Part.{Progress, Acting, Silent, Posted}
 use Rattle.world.specs.Kind.{Kind, World, each, accesses_of, begins, round_open, opening, run, loyal_letter, letter_of_part}
 
 -- a tick enters an access, and a close keeps letters; a post takes no memory
@@ -26,7 +26,7 @@ IsAnswer event error (Some refused) = error ≡ refused
 IsAnswer event error None = (error ≡ Memory) × TakesMemory event
 
 -- what a tick leaves
-abbrev pub ticked_of : ℕ → ℕ → List Part → RecordedBoard → Option Part → List Part × RecordedBoard
+abbrev pub ticked_of : ℕ → ℕ → List Progress → RecordedBoard → Option Progress → List Progress × RecordedBoard
 ticked_of general round parts board (Some (Acting a)) = (
   slice_set parts general (Acting (moved general round a board (turn a)).0),
   (moved general round a board (turn a)).1,
@@ -34,38 +34,38 @@ ticked_of general round parts board (Some (Acting a)) = (
 ticked_of general round parts board _ = (parts, board)
 
 -- what a post leaves
-abbrev pub posted_of : ℕ → List Part → Option Part → List Part
+abbrev pub posted_of : ℕ → List Progress → Option Progress → List Progress
 posted_of general parts (Some Silent) = slice_set parts general Posted
 posted_of general parts _ = parts
 
 -- what some turns of a general without an access leave, up to so many steps in all
-abbrev pub AheadTo : ℕ → ℕ → List Part → ℕ → Option Part → List Part → Type 0
+abbrev pub AheadTo : ℕ → ℕ → List Progress → ℕ → Option Progress → List Progress → Type 0
 AheadTo limit taken parts g (Some (Acting a)) new =
     (b : Activation) × Runs taken a [] b × (taken ≤ limit - a.state.steps) × Pauses limit b (turn b)
     × (new ≡ slice_set parts g (Acting b))
 AheadTo limit taken parts g _ new = (taken ≡ 0) × (new ≡ parts)
 
 -- how many steps a part has taken
-abbrev pub steps_of : Option Part → ℕ
+abbrev pub steps_of : Option Progress → ℕ
 steps_of (Some (Acting a)) = a.state.steps
 steps_of _ = 0
 
 -- a general's letter, or none, from his part and the round's accesses
-abbrev pub letter_held : Kind → Scenario → List (List Letter) → List Access → ℕ → Option Part → List Letter
+abbrev pub letter_held : Kind → Scenario → List (List Letter) → List Access → ℕ → Option Progress → List Letter
 letter_held K s closed accesses g part =
     letter_of_part (λ a. letter_left g (suc (length closed)) (accesses_of g accesses) a) (loyal_letter K s closed g)
     part
 
 -- the letters of a round
-abbrev pub letters_held : Kind → Scenario → List (List Letter) → List Access → List Part → List Letter
+abbrev pub letters_held : Kind → Scenario → List (List Letter) → List Access → List Progress → List Letter
 letters_held K s closed accesses parts = each s.generals (λ g. letter_held K s closed accesses g (slice_get parts g))
 
 -- how the generals begin the round behind these
-abbrev pub beginnings : Kind → Scenario → List (List Letter) → List Part
+abbrev pub beginnings : Kind → Scenario → List (List Letter) → List Progress
 beginnings K s closed = cond (round_open s closed) (each s.generals (λ g. begins K s closed g (program_of s g) ∷ [])) []
 
 -- what each acting general has done is a letter's run
-abbrev pub AreLetters : ℕ → List Access → List Part → Type 0
+abbrev pub AreLetters : ℕ → List Access → List Progress → Type 0
 AreLetters round accesses parts = (g : ℕ) (a : Activation) → slice_get parts g ≡ Some (Acting a) →
     IsLetter (letter_left g round (accesses_of g accesses) a)
 
@@ -74,7 +74,7 @@ abbrev pub IsReached : Kind → World → Type 0
 IsReached K w = (events : List Event) × (run K (opening K w.scenario) events ≡ w)
 
 -- a world by what it is made of
-abbrev pub world_of : Scenario → List (List Letter) → RecordedBoard → ℕ → List Part → Bool → World
+abbrev pub world_of : Scenario → List (List Letter) → RecordedBoard → ℕ → List Progress → Bool → World
 world_of s closed board opened parts full =
     record {
       scenario = s;
@@ -88,6 +88,6 @@ world_of s closed board opened parts full =
 
 -- what is kept of a world: some list of events leads here, and its board opened as the scenario says
 pub record IsHeld (K : Kind) (s : Scenario) (closed : List (List Letter)) (board : RecordedBoard) (opened : ℕ)
-    (parts : List Part) (full : Bool) : Type 0 where
+    (parts : List Progress) (full : Bool) : Type 0 where
   pub reached : IsReached K (world_of s closed board opened parts full)
   pub opening : board.opening ≡ s.board

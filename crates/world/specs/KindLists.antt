@@ -4,9 +4,9 @@ use Rattle.insn.specs.declared.insn.Insn.{Insn}
 use Rattle.board.specs.Board.{Access}
 use Rattle.world.specs.declared.event.Event.{Event}
 use Rattle.world.specs.declared.event.Event.TheVariants.{Tick, Post, Close}
-use Rattle.roster.specs.Scenario.{Scenario, program_of}
-use Rattle.letter.specs.Activation.{Activation, Turn, Goes, Asks, Ended, turn, has_ended}
-use Rattle.world.specs.Part.{Part, Acting, owes_no_letter}
+use Rattle.round.specs.Scenario.{Scenario, program_of}
+use Rattle.round.specs.Activation.{Activation, Turn, Goes, Asks, Ended, turn, has_ended}
+use Rattle.world.specs.Part.{Progress, Acting, owes_no_letter}
 use Rattle.world.specs.Kind.{Kind, World, each, opening, happen, run}
 
 -- a property of the world before each event
@@ -15,14 +15,14 @@ Throughout K Q w [] = Unit {0}
 Throughout K Q w (e ∷ events) = Q w e × Throughout K Q (happen K w e) events
 
 -- a property of each part before each close
-abbrev pub AtClose : (Part → Type 0) → World → Event → Type 0
-AtClose Q w Close = (g : ℕ) (part : Part) → slice_get w.parts g ≡ Some part → Q part
+abbrev pub AtClose : (Progress → Type 0) → World → Event → Type 0
+AtClose Q w Close = (g : ℕ) (part : Progress) → slice_get w.parts g ≡ Some part → Q part
 AtClose Q w _ = Unit {0}
 
-abbrev pub OwesNoLetter : Part → Type 0
+abbrev pub OwesNoLetter : Progress → Type 0
 OwesNoLetter part = owes_no_letter part ≡ true
 
-abbrev pub HasEnded : Part → Type 0
+abbrev pub HasEnded : Progress → Type 0
 HasEnded (Acting a) = has_ended a ≡ true
 HasEnded _ = Unit {0}
 
@@ -48,8 +48,8 @@ AreMoves (e ∷ events) = IsMove e × AreMoves events
 
 -- every loyal general has posted, and every activation has ended
 pub record IsRipe (w : World) : Type 0 where
-  pub posted_all : (g : ℕ) (part : Part) → slice_get w.parts g ≡ Some part → OwesNoLetter part
-  pub ended_all : (g : ℕ) (part : Part) → slice_get w.parts g ≡ Some part → HasEnded part
+  pub posted_all : (g : ℕ) (part : Progress) → slice_get w.parts g ≡ Some part → OwesNoLetter part
+  pub ended_all : (g : ℕ) (part : Progress) → slice_get w.parts g ≡ Some part → HasEnded part
 
 -- the first of some lists, where there is one, and the others
 abbrev pub first_line : List (List ℕ) → List ℕ
@@ -104,7 +104,7 @@ until_access zero a = 0
 until_access (suc k) a = further_turns (until_access k) (turn a)
 
 -- a named traitor is ticked until he has made one more access or has ended; of another name nothing comes
-abbrev pub ticks_named : ℕ → Option Part → List Event
+abbrev pub ticks_named : ℕ → Option Progress → List Event
 ticks_named g (Some (Acting a)) = replicate (until_access (length a.program) a) (Tick g)
 ticks_named g _ = []
 

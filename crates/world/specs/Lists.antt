@@ -1,7 +1,7 @@
 -- Kinds of lists of events of oral campaigns (own).
 use Rattle.std.specs.Prelude.{ℕ, List}
 use Rattle.world.specs.declared.event.Event.{Event}
-use Rattle.roster.specs.Scenario.{Scenario}
+use Rattle.round.specs.Scenario.{Scenario}
 use Rattle.world.specs.World.{World, oral_kind}
 use Rattle.world.specs.KindLists as lists
 pub use Rattle.world.specs.KindLists.{AreMoves, AtClose, HasEnded, IsMove, IsRipe, OwesNoLetter, event_of, first_line, further_turns, later_lines, listed, listed_rounds, names_in, post_of, ticks_named, ticks_of, until_access, wound_up}

@@ -1,20 +1,20 @@
 -- How a world is played on (own).
 use Rattle.std.specs.Prelude.{ℕ, ◌≡◌, nat_lt, true, List, map, filter, Option, Some, None, length}
 use Rattle.world.specs.declared.event.Event.{Event}
-use Rattle.roster.specs.Scenario.{Scenario, program_of}
+use Rattle.round.specs.Scenario.{Scenario, program_of}
 use Rattle.world.specs.Lists.{event_of}
 use Rattle.std.proofs.Common.{Vec}
 use Rattle.std.specs.Global.{Global}
-use Rattle.letter.specs.Activation.{has_ended}
-use Rattle.world.specs.Part.{Part, Acting}
+use Rattle.round.specs.Activation.{has_ended}
+use Rattle.world.specs.Part.{Progress, Acting}
 
 -- nobody acts there, or his activation has ended
-abbrev pub IsStill : Option Part → Type 0
+abbrev pub IsStill : Option Progress → Type 0
 IsStill (Some (Acting a)) = has_ended a ≡ true
 IsStill _ = Unit {0}
 
 -- how many instructions the program has that is acting there
-abbrev pub program_length : Option Part → Option ℕ
+abbrev pub program_length : Option Progress → Option ℕ
 program_length (Some (Acting a)) = Some (length a.program)
 program_length _ = None
 

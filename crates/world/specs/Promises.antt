@@ -2,7 +2,7 @@
 use Rattle.std.specs.Prelude.{ℕ, ◌≡◌, ◌≢◌, ◌↔◌, true, false, List, None, Some}
 use Rattle.label.specs.Oral.{IsBound}
 use Rattle.label.specs.Lieutenants.{AgreeInList}
-use Rattle.roster.specs.Scenario.{Scenario, is_traitor}
+use Rattle.round.specs.Scenario.{Scenario, is_traitor}
 use Rattle.world.specs.declared.verdict.Verdict.{Verdict}
 use Rattle.world.specs.Agreement.{AreAlike, AreObedient}
 

@@ -1,7 +1,7 @@
 -- Events that change nothing, in campaigns of some kind. Each law is the contract of a function, here of oral ones.
 use Rattle.std.specs.Prelude.{ℕ, ◌≡◌, true, List, slice_get, None, Some}
-use Rattle.roster.specs.Scenario.{Scenario}
-use Rattle.letter.specs.Activation.{Activation, has_ended}
+use Rattle.round.specs.Scenario.{Scenario}
+use Rattle.round.specs.Activation.{Activation, has_ended}
 use Rattle.world.specs.declared.event.Event.{Event}
 use Rattle.world.specs.declared.event.Event.TheVariants.{Tick, Post}
 use Rattle.world.specs.declared.event.EventError.{EventError}

@@ -3,10 +3,10 @@
 use Rattle.std.specs.Prelude.{ℕ, ◌≡◌, ◌<◌, true, All, List, [], map, flat_map}
 use Rattle.semantics.specs.declared.request.Request.{Request}
 use Rattle.board.specs.Board.{Access, words_after, IsLegal}
-use Rattle.roster.specs.Scenario.{Scenario, IsScenario, is_traitor}
-use Rattle.letter.specs.Letters.{Letter}
-use Rattle.letter.specs.Activation.{Activation, Asks, turn}
-use Rattle.letter.specs.Runs.{Runs}
+use Rattle.round.specs.Scenario.{Scenario, IsScenario, is_traitor}
+use Rattle.round.specs.Letters.{Letter}
+use Rattle.round.specs.Activation.{Activation, Asks, turn}
+use Rattle.round.specs.Runs.{Runs}
 use Rattle.world.specs.declared.event.Event.{Event}
 use Rattle.world.specs.Kind.{Kind, opening, run}
 use Rattle.world.specs.World.{World, oral_kind}

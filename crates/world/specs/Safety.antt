@@ -4,10 +4,10 @@ use Rattle.std.specs.Prelude.{ℕ, suc, ◌≡◌, ◌≢◌, ◌<◌, ◌≤◌
 use Rattle.insn.specs.declared.insn.Insn.{Insn}
 use Rattle.semantics.specs.State.{Cause, Trap}
 use Rattle.semantics.specs.Execution.{step}
-use Rattle.roster.specs.Scenario.{Scenario, IsScenario, program_of}
-use Rattle.letter.specs.Letters.{Letter}
-use Rattle.letter.specs.Activation.{Activation, started, has_ended}
-use Rattle.letter.specs.Runs.{Runs, AreFitting, IsRunOf, IsWithin, IsLetter}
+use Rattle.round.specs.Scenario.{Scenario, IsScenario, program_of}
+use Rattle.round.specs.Letters.{Letter}
+use Rattle.round.specs.Activation.{Activation, started, has_ended}
+use Rattle.round.specs.Runs.{Runs, AreFitting, IsRunOf, IsWithin, IsLetter}
 use Rattle.world.specs.declared.event.Event.{Event}
 use Rattle.world.specs.Part.{Acting}
 use Rattle.world.specs.Kind.{Kind, World, accesses_of, opening, run, loyal_letter}

@@ -3,12 +3,12 @@ use Rattle.std.specs.Prelude.{ℕ, suc, Bool, List, [], length, Option}
 use Rattle.insn.specs.declared.insn.Insn.{Insn}
 use Rattle.board.specs.Board.{Access}
 use Rattle.semantics.specs.Relay.{oral}
-use Rattle.roster.specs.Scenario.{Scenario, shape_of}
-use Rattle.letter.specs.Letters.{Letter, telling}
-use Rattle.letter.specs.Contexts.{context_of, took}
-use Rattle.letter.specs.Activation.{Activation}
+use Rattle.round.specs.Scenario.{Scenario, shape_of}
+use Rattle.round.specs.Letters.{Letter, telling}
+use Rattle.round.specs.Contexts.{context_of, took}
+use Rattle.round.specs.Activation.{Activation}
 use Rattle.world.specs.declared.event.Event.{Event}
-use Rattle.world.specs.Part.{Part}
+use Rattle.world.specs.Part.{Progress}
 use Rattle.world.specs.Kind as kind
 use Rattle.world.specs.Kind.{Kind}
 pub use Rattle.world.specs.Kind.{World, each, round_open, accesses_of, served, ticked, posting, unfit, named_by, refusal}
@@ -23,7 +23,7 @@ oral_kind = record {
   entries = λ s before g. [];
 }
 
-abbrev pub begins : Scenario → List (List Letter) → ℕ → Option (List Insn) → Part
+abbrev pub begins : Scenario → List (List Letter) → ℕ → Option (List Insn) → Progress
 begins s closed g program = kind.begins oral_kind s closed g program
 
 abbrev pub begun : Scenario → List (List Letter) → List ℕ → List Access → Bool → World
@@ -37,7 +37,7 @@ abbrev pub traitor_letter_with : Scenario → List (List Letter) → ℕ → Opt
 traitor_letter_with s before g program transcript steps a =
     kind.traitor_letter_with oral_kind s before g program transcript steps a
 
-abbrev pub letters_at : World → ℕ → Option Part → List Letter
+abbrev pub letters_at : World → ℕ → Option Progress → List Letter
 letters_at w g part = kind.letters_at oral_kind w g part
 
 abbrev pub round_letters : World → List Letter

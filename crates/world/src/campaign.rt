@@ -1,6 +1,6 @@
 //! Campaigns from a scenario to their chronicle, and from their opening to their end in a world of whichever kind.
 ghost use Rattle.std.specs.Prelude.{◌≡◌, IfOk, ◌<◌, [], suc, OnOk, replicate, slice_get, slice_index_or};
-ghost use Rattle.letter.specs.Letters.{messages};
+ghost use Rattle.round.specs.Letters.{messages};
 ghost use Rattle.world.specs.Agreement.{IsFinished};
 ghost use Rattle.world.specs.Chronicle.{decisions, chronicle_of};
 ghost use Rattle.world.specs.Lists.{listed, replayed};
@@ -9,16 +9,16 @@ ghost use Rattle.world.specs.Promises.{AgreeUnderBound, IsVerdictOn, IsWellUnder
 ghost use Rattle.world.specs.Schedules.{lines_by, entries_of};
 ghost use Rattle.world.specs.World.{opening, run};
 ghost use Rattle.world.specs.declared.event.Event.TheVariants.{Tick, Post, Close};
-ghost use Rattle.roster.specs.Scenario.{program_of};
+ghost use Rattle.round.specs.Scenario.{program_of};
 ghost use Rattle.world.specs.Kind.{each, happen, run as run_of};
 ghost use Rattle.world.specs.KindLists.{event_of, post_of, ticks_of, wound_up, listed_rounds, replayed_rounds, ticks_named, names_events};
 
 use crate::chronicle::Chronicle;
 use crate::parts;
-use crate::plays::Plays;
+use crate::plays::PlayableWorld;
 use crate::schedule::{Repeat, Schedule};
 use crate::world::World;
-use roster::Scenario;
+use round::Scenario;
 use std::alloc::{AllocError, Global};
 
 /// The chronicle of the scenario's campaign by a schedule: in each round its entries one by one, then the letters of
@@ -88,7 +88,7 @@ fn replayed(alloc: Global, scenario: Scenario, names: &[Vec<u8>]) -> Result<Worl
 }
 
 /// So many ticks of a general. They are not gone through one by one: from one access to the next he runs on.
-fn tick_often<W: Plays>(world: &mut W, general: u32, times: u32) -> Result<(), AllocError>
+fn tick_often<W: PlayableWorld>(world: &mut W, general: u32, times: u32) -> Result<(), AllocError>
     ensures { OnOk result (W.seen world.new ≡ run_of W.kind (W.seen world.old) (replicate times (Tick general))) }
 {
     let mut left = times;
@@ -108,7 +108,7 @@ fn tick_often<W: Plays>(world: &mut W, general: u32, times: u32) -> Result<(), A
 }
 
 /// A general's entries: a traitor's ticks or a loyal general's posts; none where there is no such general.
-fn play_entry<W: Plays>(world: &mut W, repeat: Repeat) -> Result<(), AllocError>
+fn play_entry<W: PlayableWorld>(world: &mut W, repeat: Repeat) -> Result<(), AllocError>
     ensures { OnOk result (W.seen world.new
         ≡ run_of W.kind (W.seen world.old)
         (line_events (W.seen world.old).scenario (replicate repeat.times repeat.general))) }
@@ -123,7 +123,7 @@ fn play_entry<W: Plays>(world: &mut W, repeat: Repeat) -> Result<(), AllocError>
 }
 
 /// So many entries of one general.
-fn repeated<W: Plays>(world: &mut W, general: u8, times: u32) -> Result<(), AllocError>
+fn repeated<W: PlayableWorld>(world: &mut W, general: u8, times: u32) -> Result<(), AllocError>
     requires inside { general < (W.seen world.old).scenario.generals }
     requires some { 0 < times }
     ensures { OnOk result (W.seen world.new
@@ -138,7 +138,7 @@ fn repeated<W: Plays>(world: &mut W, general: u8, times: u32) -> Result<(), Allo
 }
 
 /// So many posts of a loyal general are one.
-fn post_often<W: Plays>(world: &mut W, general: u32, times: u32)
+fn post_often<W: PlayableWorld>(world: &mut W, general: u32, times: u32)
     requires { 0 < times }
     ensures { W.seen world.new ≡ run_of W.kind (W.seen world.old) (replicate times (Post general)) }
 {
@@ -147,7 +147,7 @@ fn post_often<W: Plays>(world: &mut W, general: u32, times: u32)
 }
 
 /// The entries of a schedule's line.
-fn play_line<W: Plays>(world: &mut W, repeats: &[Repeat]) -> Result<(), AllocError>
+fn play_line<W: PlayableWorld>(world: &mut W, repeats: &[Repeat]) -> Result<(), AllocError>
     ensures { OnOk result (W.seen world.new
         ≡ run_of W.kind (W.seen world.old) (line_events (W.seen world.old).scenario (entries_of repeats.now))) }
 {
@@ -158,7 +158,7 @@ fn play_line<W: Plays>(world: &mut W, repeats: &[Repeat]) -> Result<(), AllocErr
 }
 
 /// A named traitor's ticks until he has made one more access or has ended; nothing for another name.
-fn tick_to_access<W: Plays>(world: &mut W, general: u32) -> Result<(), AllocError>
+fn tick_to_access<W: PlayableWorld>(world: &mut W, general: u32) -> Result<(), AllocError>
     ensures { OnOk result (W.seen world.new
         ≡ run_of W.kind (W.seen world.old) (ticks_named general (slice_get (W.seen world.old).parts general))) }
 {
@@ -177,7 +177,7 @@ fn tick_to_access<W: Plays>(world: &mut W, general: u32) -> Result<(), AllocErro
 /// # Errors
 ///
 /// `AllocError` where memory is refused. No more is said of the world then than of every world of its kind: let it go.
-pub fn play_names<W: Plays>(world: &mut W, names: &[u8]) -> Result<(), AllocError>
+pub fn play_names<W: PlayableWorld>(world: &mut W, names: &[u8]) -> Result<(), AllocError>
     ensures { OnOk result (W.seen world.new
         ≡ run_of W.kind (W.seen world.old) (names_events W.kind (W.seen world.old) names.now)) }
 {
@@ -188,7 +188,7 @@ pub fn play_names<W: Plays>(world: &mut W, names: &[u8]) -> Result<(), AllocErro
 }
 
 /// Marks the general as one who has posted, where he is loyal.
-fn post_if_loyal<W: Plays>(world: &mut W, general: u8)
+fn post_if_loyal<W: PlayableWorld>(world: &mut W, general: u8)
     requires { general < (W.seen world.old).scenario.generals }
     ensures { W.seen world.new
         ≡ run_of W.kind (W.seen world.old) (post_of general (program_of (W.seen world.old).scenario general)) }
@@ -199,7 +199,7 @@ fn post_if_loyal<W: Plays>(world: &mut W, general: u8)
 }
 
 /// A traitor's ticks to his end.
-fn tick_to_end<W: Plays>(world: &mut W, general: u8) -> Result<(), AllocError>
+fn tick_to_end<W: PlayableWorld>(world: &mut W, general: u8) -> Result<(), AllocError>
     requires { general < (W.seen world.old).scenario.generals }
     ensures { OnOk result (W.seen world.new
         ≡ run_of W.kind (W.seen world.old) (ticks_of general (program_of (W.seen world.old).scenario general))) }
@@ -214,7 +214,7 @@ fn tick_to_end<W: Plays>(world: &mut W, general: u8) -> Result<(), AllocError>
 }
 
 /// Marks all loyal generals as having posted, ascending.
-fn all_post<W: Plays>(world: &mut W)
+fn all_post<W: PlayableWorld>(world: &mut W)
     ensures { W.seen world.new
         ≡ run_of W.kind (W.seen world.old)
         (each (W.seen world.old).scenario.generals (λ g. post_of g (program_of (W.seen world.old).scenario g))) }
@@ -225,7 +225,7 @@ fn all_post<W: Plays>(world: &mut W)
 }
 
 /// All traitors' ticks to their ends, ascending.
-fn all_end<W: Plays>(world: &mut W) -> Result<(), AllocError>
+fn all_end<W: PlayableWorld>(world: &mut W) -> Result<(), AllocError>
     ensures { OnOk result (W.seen world.new
         ≡ run_of W.kind (W.seen world.old)
         (each (W.seen world.old).scenario.generals (λ g. ticks_of g (program_of (W.seen world.old).scenario g)))) }
@@ -237,7 +237,7 @@ fn all_end<W: Plays>(world: &mut W) -> Result<(), AllocError>
 }
 
 /// The end of the round, where one is open.
-fn end_round<W: Plays>(world: &mut W) -> Result<(), AllocError>
+fn end_round<W: PlayableWorld>(world: &mut W) -> Result<(), AllocError>
     ensures { OnOk result (W.seen world.new ≡ happen W.kind (W.seen world.old) Close) }
 {
     if world.rounds() > usize::from(world.campaign().bound()) {
@@ -251,7 +251,7 @@ fn end_round<W: Plays>(world: &mut W) -> Result<(), AllocError>
 /// # Errors
 ///
 /// `AllocError` where memory is refused. No more is said of the world then than of every world of its kind: let it go.
-pub fn wind_up<W: Plays>(world: &mut W) -> Result<(), AllocError>
+pub fn wind_up<W: PlayableWorld>(world: &mut W) -> Result<(), AllocError>
     ensures { OnOk result (W.seen world.new ≡ run_of W.kind (W.seen world.old) (wound_up (W.seen world.old).scenario)) }
 {
     all_post(world);
@@ -260,7 +260,7 @@ pub fn wind_up<W: Plays>(world: &mut W) -> Result<(), AllocError>
 }
 
 /// A round by a line of a schedule.
-fn listed_round<W: Plays>(world: &mut W, line: &[Repeat]) -> Result<(), AllocError>
+fn listed_round<W: PlayableWorld>(world: &mut W, line: &[Repeat]) -> Result<(), AllocError>
     ensures { OnOk result (W.seen world.new
         ≡ run_of W.kind
         (run_of W.kind (W.seen world.old) (line_events (W.seen world.old).scenario (entries_of line.now)))
@@ -275,7 +275,7 @@ fn listed_round<W: Plays>(world: &mut W, line: &[Repeat]) -> Result<(), AllocErr
 /// # Errors
 ///
 /// `AllocError` where memory is refused. No more is said of the world then than of every world of its kind: let it go.
-pub fn named_round<W: Plays>(world: &mut W, names: &[u8]) -> Result<(), AllocError>
+pub fn named_round<W: PlayableWorld>(world: &mut W, names: &[u8]) -> Result<(), AllocError>
     ensures { OnOk result (W.seen world.new
         ≡ run_of W.kind (run_of W.kind (W.seen world.old) (names_events W.kind (W.seen world.old) names.now))
         (wound_up (W.seen world.old).scenario)) }
@@ -289,7 +289,7 @@ pub fn named_round<W: Plays>(world: &mut W, names: &[u8]) -> Result<(), AllocErr
 /// # Errors
 ///
 /// `AllocError` where memory is refused. No more is said of the world then than of every world of its kind: let it go.
-pub fn play_listed<W: Plays>(world: &mut W, schedule: &Schedule) -> Result<(), AllocError>
+pub fn play_listed<W: PlayableWorld>(world: &mut W, schedule: &Schedule) -> Result<(), AllocError>
     ensures { OnOk result (W.seen world.new
         ≡ run_of W.kind (W.seen world.old)
         (listed_rounds (W.seen world.old).scenario (suc (W.seen world.old).scenario.bound) (lines_by schedule.now))) }
@@ -307,7 +307,7 @@ pub fn play_listed<W: Plays>(world: &mut W, schedule: &Schedule) -> Result<(), A
 /// # Errors
 ///
 /// `AllocError` where memory is refused. No more is said of the world then than of every world of its kind: let it go.
-pub fn play_named<W: Plays>(world: &mut W, names: &[Vec<u8>]) -> Result<(), AllocError>
+pub fn play_named<W: PlayableWorld>(world: &mut W, names: &[Vec<u8>]) -> Result<(), AllocError>
     ensures { OnOk result (W.seen world.new
         ≡ run_of W.kind (W.seen world.old)
         (replayed_rounds W.kind (W.seen world.old) (suc (W.seen world.old).scenario.bound) (lists_in names.now))) }

@@ -2,12 +2,11 @@
 ghost use Rattle.std.specs.Prelude.{◌≡◌};
 ghost use Rattle.world.specs.Chronicle.{chronicle_with, verdict_of};
 
-use crate::judging::verdict;
+use crate::judgement::verdict;
 use crate::verdict::Verdict;
 use arrayvec::ArrayVec;
 use board::Access;
-use letter::Round;
-use roster::Scenario;
+use round::{Round, Scenario};
 use std::marker::Model;
 
 /// What is told of a finished campaign: its letters, its accesses, the lieutenants' decisions and the verdict on them.

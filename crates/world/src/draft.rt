@@ -1,6 +1,6 @@
 //! What is written of a general's letter before his activation is taken apart.
 use board::Access;
-use letter::Letter;
+use round::Letter;
 use std::marker::Model;
 
 /// One general's accesses of a round, seen as their list.
@@ -20,7 +20,7 @@ impl Model for Transcript {
 
 /// A general's letter as far as it takes memory.
 #[derive(Drop)]
-pub enum Draft {
+pub enum LetterDraft {
     /// A traitor's accesses: all else is in his activation.
     Begun(Transcript),
     /// A loyal general's letter.

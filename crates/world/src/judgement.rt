@@ -4,12 +4,12 @@ ghost use Rattle.std.specs.List.{list_all};
 ghost use Rattle.label.specs.Labels.{generals};
 ghost use Rattle.book.specs.Conditions.{are_alike};
 ghost use Rattle.label.specs.Lieutenants.{lieutenants};
-ghost use Rattle.roster.specs.Scenario.{is_traitor};
+ghost use Rattle.round.specs.Scenario.{is_traitor};
 ghost use Rattle.world.specs.Chronicle.{counted, of_loyal, verdict_of};
 
 use crate::verdict::Verdict;
 use arrayvec::ArrayVec;
-use roster::Scenario;
+use round::Scenario;
 
 /// The verdict on these decisions of the lieutenants, ascending by number.
 pub(crate) fn verdict(scenario: &Scenario, decisions: &[u32]) -> Verdict

@@ -2,33 +2,31 @@
 ghost use Rattle.std.specs.Prelude.{◌≡◌, ◌≢◌, ◌<◌, ◌≤◌, ◌+◌, ℕ, [], suc, List, Some, length, ◌++◌, ◌&&◌, drop, IfOk, slice_get, vec_len, vec_capacity};
 ghost use Rattle.std.specs.List.{list_all};
 ghost use Rattle.board.specs.Board.{Access as Entry};
-ghost use Rattle.letter.specs.Activation.{Activation};
-ghost use Rattle.letter.specs.Contexts.{faithful_letter};
+ghost use Rattle.round.specs.Activation.{Activation};
+ghost use Rattle.round.specs.Contexts.{faithful_letter};
 ghost use Rattle.round.specs.Running.{letter_left};
-ghost use Rattle.letter.specs.Runs.{IsLetter};
-ghost use Rattle.delivery.specs.Told.{WasTold};
+ghost use Rattle.round.specs.Runs.{IsLetter};
+ghost use Rattle.round.specs.Told.{WasTold};
 ghost use Rattle.world.specs.Closing.{AreDraftsOf, Begun, draft_of, drafts_held, letter_from, letters_from};
 ghost use Rattle.world.specs.Part.{Acting, owes_no_letter};
 ghost use Rattle.world.specs.World.{accesses_of};
 
-use crate::draft::{Draft, Transcript};
-use crate::part::Part;
+use crate::draft::{LetterDraft, Transcript};
+use crate::part::Progress;
 use board::Access;
-use delivery::Told;
-use letter::{Letter, Round, loyal_letter};
-use roster::Scenario;
+use round::{Letter, Received, Round, Scenario, loyal_letter};
 use std::alloc::{AllocError, Global};
 use std::mem::replace;
 
 /// The drafts of all generals' letters, as they stand: all that the round's list takes memory for.
 pub(crate) fn drafts(
     alloc: Global,
-    told: &Told,
+    told: &Received,
     scenario: &Scenario,
     closed: &[Round],
     accesses: &[Access],
-    parts: &[Part],
-) -> Result<Vec<Draft>, AllocError>
+    parts: &[Progress],
+) -> Result<Vec<LetterDraft>, AllocError>
     requires told { WasTold scenario.now closed.now told.now }
     requires left { length closed.now ≤ scenario.now.bound }
     ensures { IfOk result (λ drafts. drafts.items ≡ drafts_held scenario.now closed.now accesses.now parts.now) }
@@ -43,13 +41,13 @@ pub(crate) fn drafts(
 /// The draft of one general's letter.
 fn draft(
     alloc: Global,
-    told: &Told,
+    told: &Received,
     scenario: &Scenario,
     closed: &[Round],
     accesses: &[Access],
-    parts: &[Part],
+    parts: &[Progress],
     general: u8,
-) -> Result<Draft, AllocError>
+) -> Result<LetterDraft, AllocError>
     requires told { WasTold scenario.now closed.now told.now }
     requires left { length closed.now ≤ scenario.now.bound }
     requires inside { general < scenario.now.generals }
@@ -57,17 +55,23 @@ fn draft(
         ≡ draft_of scenario.now closed.now accesses.now general (slice_get parts.now general)) }
 {
     match parts.get(usize::from(general)) {
-        Some(Part::Acting(_)) => Ok(Draft::Begun(transcript(alloc, accesses, u32::from(general))?)),
-        Some(Part::Posted) => Ok(Draft::Whole(loyal(alloc, told, scenario, closed, general)?)),
-        Some(Part::Silent) => Ok(Draft::Missing),
-        None => Ok(Draft::Missing),
+        Some(Progress::Acting(_)) => Ok(LetterDraft::Begun(transcript(
+            alloc,
+            accesses,
+            u32::from(general),
+        )?)),
+        Some(Progress::Posted) => Ok(LetterDraft::Whole(loyal(
+            alloc, told, scenario, closed, general,
+        )?)),
+        Some(Progress::Silent) => Ok(LetterDraft::Missing),
+        None => Ok(LetterDraft::Missing),
     }
 }
 
 /// A loyal general's letter.
 fn loyal(
     alloc: Global,
-    told: &Told,
+    told: &Received,
     scenario: &Scenario,
     closed: &[Round],
     general: u8,
@@ -108,8 +112,8 @@ pub fn transcript(
 /// have. The activations are gone from the parts, which are of no use then: let them go. It takes no memory.
 pub fn letters(
     mut list: Vec<Letter>,
-    mut drafts: Vec<Draft>,
-    parts: &mut Vec<Part>,
+    mut drafts: Vec<LetterDraft>,
+    parts: &mut Vec<Progress>,
     generals: u8,
     round: u32,
 ) -> Vec<Letter>
@@ -128,8 +132,8 @@ pub fn letters(
 /// One general's letter, where there is one.
 fn write(
     list: &mut Vec<Letter>,
-    drafts: &mut Vec<Draft>,
-    parts: &mut Vec<Part>,
+    drafts: &mut Vec<LetterDraft>,
+    parts: &mut Vec<Progress>,
     general: u8,
     round: u32,
 )
@@ -147,8 +151,8 @@ fn write(
     ensures parts { (j : ℕ) → j ≢ general → slice_get parts.new.items j ≡ slice_get parts.old.items j }
 {
     let place = usize::from(general);
-    match replace(&mut drafts[place], Draft::Missing) {
-        Draft::Begun(transcript) => {
+    match replace(&mut drafts[place], LetterDraft::Missing) {
+        LetterDraft::Begun(transcript) => {
             if place < parts.len() {
                 leave(
                     list,
@@ -159,13 +163,19 @@ fn write(
                 );
             }
         }
-        Draft::Whole(letter) => list.push_reserved(letter),
-        Draft::Missing => {}
+        LetterDraft::Whole(letter) => list.push_reserved(letter),
+        LetterDraft::Missing => {}
     }
 }
 
 /// A traitor's letter is what his activation leaves.
-fn leave(list: &mut Vec<Letter>, part: &mut Part, transcript: Transcript, general: u32, round: u32)
+fn leave(
+    list: &mut Vec<Letter>,
+    part: &mut Progress,
+    transcript: Transcript,
+    general: u32,
+    round: u32,
+)
     requires room { vec_len list.old < vec_capacity list.old }
     requires run { (a : Activation) → part.old ≡ Acting a → IsLetter (letter_left general round transcript a) }
     ensures list { list.new.items ≡ list.old.items
@@ -173,7 +183,7 @@ fn leave(list: &mut Vec<Letter>, part: &mut Part, transcript: Transcript, genera
     ensures few { vec_len list.new ≤ vec_len list.old + 1 }
     ensures room { vec_capacity list.new ≡ vec_capacity list.old }
 {
-    if let Part::Acting(running) = replace(part, Part::Silent) {
+    if let Progress::Acting(running) = replace(part, Progress::Silent) {
         list.push_reserved(running.into_letter(general, round, transcript.accesses));
     }
 }
@@ -189,14 +199,14 @@ pub fn since(ledger: &[Access], opened: usize) -> &[Access]
 }
 
 /// Whether it was full before and every loyal general has posted.
-pub fn is_full(full: bool, parts: &[Part]) -> bool
+pub fn is_full(full: bool, parts: &[Progress]) -> bool
     ensures { result ≡ (full && list_all owes_no_letter parts.now) }
 {
     full && all_posted(parts)
 }
 
 /// Whether every loyal general has posted.
-fn all_posted(parts: &[Part]) -> bool
+fn all_posted(parts: &[Progress]) -> bool
     ensures { result ≡ list_all owes_no_letter parts.now }
 {
     parts.iter().all(|part| part.owes_no_letter())

@@ -5,10 +5,9 @@ mod campaign;
 mod chronicle;
 pub mod draft;
 mod event;
-pub mod judging;
+pub mod judgement;
 mod laws;
 pub mod letters;
-mod looking;
 mod opening;
 mod outcome;
 mod part;
@@ -17,6 +16,7 @@ mod plays;
 mod schedule;
 mod verdict;
 mod world;
+mod world_view;
 
 pub use campaign::{named_round, play, play_listed, play_named, play_names, replay, wind_up};
 pub use chronicle::Chronicle;
@@ -27,8 +27,8 @@ pub use laws::{
     parts_are_placed, refusals_change_nothing, runs_are_accounted, runs_are_replays, verdicts_mean,
     worlds_agree,
 };
-pub use part::Part;
-pub use plays::Plays;
-pub use schedule::{Entries, Repeat, Schedule};
+pub use part::Progress;
+pub use plays::PlayableWorld;
+pub use schedule::{Repeat, Schedule, ScheduleLine};
 pub use verdict::Verdict;
 pub use world::World;

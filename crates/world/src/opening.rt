@@ -2,20 +2,17 @@
 ghost use Rattle.std.specs.Prelude.{◌≡◌, ◌<◌, ◌≤◌, ◌+◌, ◌++◌, ◌∷◌, [], suc, Some, length, slice_get, slice_set, IfOk, OnOk, vec_len, vec_capacity};
 ghost use Rattle.std.specs.Arc.{arc_value};
 ghost use Rattle.semantics.specs.Relay.{oral};
-ghost use Rattle.letter.specs.Activation.{started};
-ghost use Rattle.roster.specs.Scenario.{program_of, shape_of};
-ghost use Rattle.delivery.specs.Told.{WasTold};
+ghost use Rattle.round.specs.Activation.{started};
+ghost use Rattle.round.specs.Scenario.{program_of, shape_of};
+ghost use Rattle.round.specs.Told.{WasTold};
 ghost use Rattle.world.specs.Closing.{blank, blanks, zeros};
 ghost use Rattle.world.specs.Held.{beginnings};
 ghost use Rattle.world.specs.World.{begins};
 
-use crate::part::Part;
-use delivery::Told;
-use letter::Round;
+use crate::part::Progress;
 use mem::Context;
 use outbox::Outbox;
-use roster::Scenario;
-use round::Running;
+use round::{Received, Round, Running, Scenario};
 use std::alloc::{AllocError, Global};
 use std::sync::Arc;
 use verify::Verified;
@@ -26,7 +23,7 @@ pub(crate) fn blanks(
     alloc: Global,
     scenario: &Scenario,
     before: usize,
-) -> Result<Vec<Part>, AllocError>
+) -> Result<Vec<Progress>, AllocError>
     ensures { IfOk result (λ parts. parts.items ≡ blanks scenario.now before) }
 {
     if before > usize::from(scenario.bound()) {
@@ -41,7 +38,7 @@ pub(crate) fn blanks(
 
 /// One general's part behind, for which there is room.
 fn push_blank(
-    parts: &mut Vec<Part>,
+    parts: &mut Vec<Progress>,
     alloc: Global,
     scenario: &Scenario,
     before: u8,
@@ -57,10 +54,10 @@ fn push_blank(
     ensures room { OnOk result (vec_capacity parts.new ≡ vec_capacity parts.old) }
 {
     match scenario.seat(general).program() {
-        None => parts.push_reserved(Part::Silent),
+        None => parts.push_reserved(Progress::Silent),
         Some(program) => {
             let running = blank(alloc, scenario, program, before, general)?;
-            parts.push_reserved(Part::Acting(running));
+            parts.push_reserved(Progress::Acting(running));
         }
     }
     Ok(())
@@ -98,7 +95,12 @@ fn zeros(alloc: Global) -> Result<Vec<u8>, AllocError>
 }
 
 /// Tells the traitors' activations what their generals are told. It takes no memory.
-pub(crate) fn brief(parts: &mut Vec<Part>, told: &Told, scenario: &Scenario, closed: &[Round])
+pub(crate) fn brief(
+    parts: &mut Vec<Progress>,
+    told: &Received,
+    scenario: &Scenario,
+    closed: &[Round],
+)
     requires told { WasTold scenario.now closed.now told.now }
     requires blank { parts.old.items ≡ blanks scenario.now (length closed.now) }
     ensures { parts.new.items ≡ beginnings scenario.now closed.now }
@@ -112,7 +114,13 @@ pub(crate) fn brief(parts: &mut Vec<Part>, told: &Told, scenario: &Scenario, clo
 }
 
 /// Tells a traitor's activation what its general is told.
-fn brief_one(parts: &mut Vec<Part>, told: &Told, scenario: &Scenario, closed: &[Round], general: u8)
+fn brief_one(
+    parts: &mut Vec<Progress>,
+    told: &Received,
+    scenario: &Scenario,
+    closed: &[Round],
+    general: u8,
+)
     requires told { WasTold scenario.now closed.now told.now }
     requires left { length closed.now ≤ scenario.now.bound }
     requires inside { general < scenario.now.generals }
@@ -123,8 +131,8 @@ fn brief_one(parts: &mut Vec<Part>, told: &Told, scenario: &Scenario, closed: &[
 {
     let _ = closed;
     match &mut parts[usize::from(general)] {
-        Part::Acting(running) => running.brief(told, scenario, general),
-        Part::Silent => {}
-        Part::Posted => {}
+        Progress::Acting(running) => running.brief(told, scenario, general),
+        Progress::Silent => {}
+        Progress::Posted => {}
     }
 }

@@ -1,6 +1,6 @@
 //! What a campaign has come to.
 ghost use Rattle.std.specs.Prelude.{◌≡◌, ◌↔◌, IfSome, IsSome};
-ghost use Rattle.letter.specs.Letters.{messages};
+ghost use Rattle.round.specs.Letters.{messages};
 ghost use Rattle.world.specs.Agreement.{IsFinished};
 ghost use Rattle.world.specs.Chronicle.{decisions, chronicle_of};
 ghost use Rattle.world.specs.Promises.{AgreeUnderBound};

@@ -5,7 +5,7 @@ use round::Running;
 
 /// Where a general stands in the open round.
 #[derive(Drop)]
-pub enum Part {
+pub enum Progress {
     /// A traitor in his activation.
     Acting(Running),
     /// A loyal general before his letter.
@@ -14,14 +14,14 @@ pub enum Part {
     Posted,
 }
 
-impl Part {
+impl Progress {
     /// Whether no letter is awaited of him.
     pub fn owes_no_letter(&self) -> bool
         ensures { result ≡ owes_no_letter self.now }
     {
         match self {
-            Part::Acting(_) | Part::Posted => true,
-            Part::Silent => false,
+            Progress::Acting(_) | Progress::Posted => true,
+            Progress::Silent => false,
         }
     }
 }

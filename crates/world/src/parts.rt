@@ -5,19 +5,19 @@ ghost use Rattle.world.specs.Held.{ticked_of, posted_of, AheadTo, steps_of};
 ghost use Rattle.world.specs.Playing.{IsStill, program_length};
 
 use crate::event::Event;
-use crate::part::Part;
+use crate::part::Progress;
 use board::Board;
 use std::alloc::AllocError;
 
 /// Whether there is no such general, or he is not of the event's kind.
-pub fn is_unfit(parts: &[Part], event: Event) -> bool
+pub fn is_unfit(parts: &[Progress], event: Event) -> bool
     ensures { result ≡ is_some (unfit event (slice_get parts.now (named_by event))) }
 {
     match event {
-        Event::Tick(general) => !matches!(parts.get(general as usize), Some(Part::Acting(_))),
+        Event::Tick(general) => !matches!(parts.get(general as usize), Some(Progress::Acting(_))),
         Event::Post(general) => !matches!(
             parts.get(general as usize),
-            Some(Part::Silent | Part::Posted)
+            Some(Progress::Silent | Progress::Posted)
         ),
         Event::Close => false,
     }
@@ -29,7 +29,7 @@ pub fn is_unfit(parts: &[Part], event: Event) -> bool
 ///
 /// `AllocError` where memory is refused; nothing has changed then.
 pub fn turn(
-    parts: &mut Vec<Part>,
+    parts: &mut Vec<Progress>,
     board: &mut Board,
     general: u32,
     round: u32,
@@ -44,14 +44,14 @@ pub fn turn(
         return Ok(());
     }
     match &mut parts[place] {
-        Part::Acting(running) => running.turn(board, general, round),
-        Part::Silent => Ok(()),
-        Part::Posted => Ok(()),
+        Progress::Acting(running) => running.turn(board, general, round),
+        Progress::Silent => Ok(()),
+        Progress::Posted => Ok(()),
     }
 }
 
 /// A traitor's turns up to so many steps in all, his next access or his end: how many there were.
-pub fn ahead(parts: &mut Vec<Part>, general: u32, limit: u32) -> u32
+pub fn ahead(parts: &mut Vec<Progress>, general: u32, limit: u32) -> u32
     ensures { AheadTo limit result parts.old.items general (slice_get parts.old.items general) parts.new.items }
 {
     let place = general as usize;
@@ -59,58 +59,58 @@ pub fn ahead(parts: &mut Vec<Part>, general: u32, limit: u32) -> u32
         return 0;
     }
     match &mut parts[place] {
-        Part::Acting(running) => {
+        Progress::Acting(running) => {
             let before = running.steps();
             running.ahead(limit);
             running.steps() - before
         }
-        Part::Silent => 0,
-        Part::Posted => 0,
+        Progress::Silent => 0,
+        Progress::Posted => 0,
     }
 }
 
 /// Marks a loyal general as one who has posted; a second time changes nothing.
-pub fn mark_posted(parts: &mut Vec<Part>, general: u32)
+pub fn mark_posted(parts: &mut Vec<Progress>, general: u32)
     ensures { parts.new.items ≡ posted_of general parts.old.items (slice_get parts.old.items general) }
 {
     let place = general as usize;
-    if let Some(Part::Silent) = parts.get(place) {
-        parts[place] = Part::Posted;
+    if let Some(Progress::Silent) = parts.get(place) {
+        parts[place] = Progress::Posted;
     }
 }
 
 /// Whether nobody acts there, or his activation has ended.
-pub fn is_still(parts: &[Part], general: u32) -> bool
+pub fn is_still(parts: &[Progress], general: u32) -> bool
     ensures { IsTrue result ↔ IsStill (slice_get parts.now general) }
 {
     match parts.get(general as usize) {
-        Some(Part::Acting(running)) => running.has_ended(),
-        Some(Part::Silent) => true,
-        Some(Part::Posted) => true,
+        Some(Progress::Acting(running)) => running.has_ended(),
+        Some(Progress::Silent) => true,
+        Some(Progress::Posted) => true,
         None => true,
     }
 }
 
 /// How many steps a traitor's activation has taken.
-pub fn steps(parts: &[Part], general: u32) -> u32
+pub fn steps(parts: &[Progress], general: u32) -> u32
     ensures { result ≡ steps_of (slice_get parts.now general) }
 {
     match parts.get(general as usize) {
-        Some(Part::Acting(running)) => running.steps(),
-        Some(Part::Silent) => 0,
-        Some(Part::Posted) => 0,
+        Some(Progress::Acting(running)) => running.steps(),
+        Some(Progress::Silent) => 0,
+        Some(Progress::Posted) => 0,
         None => 0,
     }
 }
 
 /// How many instructions the program of an acting general has; none where nobody acts.
-pub fn instructions(parts: &[Part], general: u32) -> Option<u32>
+pub fn instructions(parts: &[Progress], general: u32) -> Option<u32>
     ensures { result ≡ program_length (slice_get parts.now general) }
 {
     match parts.get(general as usize) {
-        Some(Part::Acting(running)) => Some(running.program().program().len() as u32),
-        Some(Part::Silent) => None,
-        Some(Part::Posted) => None,
+        Some(Progress::Acting(running)) => Some(running.program().program().len() as u32),
+        Some(Progress::Silent) => None,
+        Some(Progress::Posted) => None,
         None => None,
     }
 }

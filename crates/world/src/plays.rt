@@ -6,13 +6,13 @@ ghost use Rattle.world.specs.Kind.{Kind, World as WorldSeen, happen, run};
 ghost use Rattle.world.specs.KindHeld.{AheadTo, IsReached};
 ghost use Rattle.world.specs.World.{oral_kind};
 
-use crate::part::Part;
+use crate::part::Progress;
 use crate::world::World;
-use roster::Scenario;
+use round::Scenario;
 use std::alloc::AllocError;
 
 /// A world that can be played on, turn by turn, post by post and close by close.
-pub trait Plays {
+pub trait PlayableWorld {
     ghost kind: { Kind };
 
     ghost seen: { Self → WorldSeen };
@@ -24,7 +24,7 @@ pub trait Plays {
         ensures campaigns { AreCampaigns kind };
 
     /// By general the parts of the open round.
-    fn open_parts(&self) -> &[Part]
+    fn open_parts(&self) -> &[Progress]
         ensures { result.now ≡ (seen self.now).parts };
 
     /// How many rounds are closed.
@@ -61,7 +61,7 @@ pub trait Plays {
         ensures undone { OnErr result (seen self.new ≡ seen self.old) };
 }
 
-impl Plays for World {
+impl PlayableWorld for World {
     ghost kind = { oral_kind };
 
     ghost seen = { λ w. w };
@@ -70,7 +70,7 @@ impl Plays for World {
         &self.scenario
     }
 
-    fn open_parts(&self) -> &[Part] {
+    fn open_parts(&self) -> &[Progress] {
         self.parts.as_slice()
     }
 

@@ -1,7 +1,7 @@
 //! Schedules: in which order the generals act in each round.
 use std::marker::Model;
 
-/// Entries of one general, one behind the other.
+/// ScheduleLine of one general, one behind the other.
 #[derive(Clone, Copy)]
 pub struct Repeat {
     /// The general's number.
@@ -12,11 +12,11 @@ pub struct Repeat {
 
 /// The entries for one round, in their order.
 #[derive(Drop)]
-pub struct Entries {
+pub struct ScheduleLine {
     pub repeats: Vec<Repeat>,
 }
 
-impl Model for Entries {
+impl Model for ScheduleLine {
     ghost use Rattle.std.specs.Prelude.{List};
     ghost use Rattle.world.specs.declared.schedule.Repeat.{Repeat};
 
@@ -28,7 +28,7 @@ impl Model for Entries {
 /// A line of entries for each round from the first on; rounds without a line have no entries.
 #[derive(Drop)]
 pub struct Schedule {
-    pub lines: Vec<Entries>,
+    pub lines: Vec<ScheduleLine>,
 }
 
 impl Model for Schedule {

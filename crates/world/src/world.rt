@@ -7,12 +7,10 @@ ghost use Rattle.world.specs.Held.{AheadTo, IsAnswer};
 use crate::event::{Event, EventError};
 use crate::letters::{drafts, is_full, letters, since};
 use crate::opening::{blanks, brief};
-use crate::part::Part;
+use crate::part::Progress;
 use crate::parts;
 use board::Board;
-use delivery::Told;
-use letter::Round;
-use roster::Scenario;
+use round::{Received, Round, Scenario};
 use std::alloc::{AllocError, Global};
 use std::marker::Model;
 
@@ -29,11 +27,11 @@ pub struct World {
     /// Where the open round's entries begin in the ledger.
     pub(crate) opened: usize,
     /// By general the parts of the open round.
-    pub(crate) parts: Vec<Part>,
+    pub(crate) parts: Vec<Progress>,
     /// Whether in each closed round all loyal generals had posted.
     pub(crate) full: bool,
     /// What the letters of the closed rounds have told.
-    pub(crate) told: Told,
+    pub(crate) told: Received,
 }
 
 impl Model for World {
@@ -41,7 +39,7 @@ impl Model for World {
 
     ghost Value = { WorldSeen };
 
-    ghost use Rattle.delivery.specs.Told.{WasTold};
+    ghost use Rattle.round.specs.Told.{WasTold};
     ghost use Rattle.world.specs.Reached.{world_of, IsHeld};
 
     ghost view = { λ w. world_of w.scenario w.closed.items w.board w.opened w.parts.items w.full };
@@ -59,7 +57,7 @@ impl World {
     pub fn open(alloc: Global, scenario: Scenario) -> Result<World, AllocError>
         ensures { IfOk result (λ world. world ≡ opening scenario) }
     {
-        let told = Told::new(alloc, &scenario)?;
+        let told = Received::new(alloc, &scenario)?;
         let mut parts = blanks(alloc, &scenario, 0)?;
         brief(&mut parts, &told, &scenario, &[]);
         let board = Board::new(alloc, *scenario.board());

@@ -2,7 +2,7 @@
 ghost use Rattle.std.specs.Prelude.{◌≡◌};
 
 use crate::world::World;
-use letter::Round;
+use round::Round;
 
 impl World {
     /// The board's words.

@@ -4,7 +4,7 @@ use crate::scenarios::joined;
 use crate::texts::{COLLUDING, SEVEN};
 use scenario::{ScenarioError, read};
 use std::alloc::{AllocError, Global};
-use trace::{Fault, TraceError, read_schedule};
+use trace::{TraceError, TraceFault, read_schedule};
 
 /// What each of five rounds begins with.
 const SCHEDULE: &str = "4*15 0*2
@@ -16,9 +16,9 @@ const SCHEDULE: &str = "4*15 0*2
 
 /// Faults, and how they are printed.
 const PRINTED_FAULTS: &[(TraceError, &str)] = &[
-    (TraceError::At(Fault::Line, 6), "X1 line 6"),
-    (TraceError::At(Fault::Scenario, 2), "X2 line 2"),
-    (TraceError::At(Fault::Differs, 16), "X3 line 16"),
+    (TraceError::At(TraceFault::Line, 6), "X1 line 6"),
+    (TraceError::At(TraceFault::Scenario, 2), "X2 line 2"),
+    (TraceError::At(TraceFault::Differs, 16), "X3 line 16"),
     (TraceError::Write, "X4"),
     (TraceError::Memory, "out of memory"),
 ];
@@ -61,7 +61,7 @@ fn tells_scenario(alloc: Global, text: &str) -> Result<bool, AllocError> {
 fn tells_schedule(alloc: Global, text: &str) -> Result<bool, AllocError> {
     match read_schedule(alloc, text) {
         Ok(_) => Ok(true),
-        Err(TraceError::At(Fault::Line, 1..=6)) => Ok(false),
+        Err(TraceError::At(TraceFault::Line, 1..=6)) => Ok(false),
         Err(_) => Err(AllocError),
     }
 }

@@ -4,9 +4,9 @@ use crate::scenarios::told;
 use crate::texts::{
     COLLUDING_AND_LOOKING, LOOKING, SETTING, SEVEN, SEVEN_ADDERS, SEVEN_AND_SIXTEEN_STEPS,
 };
-use crate::threaded::{AGREED, count, mustered, replays, word};
+use crate::threaded_campaigns::{AGREED, count, mustered, replays, word};
 use board::Access;
-use letter::Letter;
+use round::Letter;
 use semantics::Request;
 use std::alloc::Global;
 use std::sync::Wait;

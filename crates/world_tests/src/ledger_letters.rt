@@ -1,9 +1,9 @@
 //! Which letters a ledger accounts for.
 
 use crate::texts::{COLLUDING, SEVEN};
-use crate::threaded::{letters, mustered};
+use crate::threaded_campaigns::{letters, mustered};
 use board::Access;
-use letter::{Letter, Round};
+use round::{Letter, Round};
 use std::alloc::{AllocError, Global};
 use std::sync::Wait;
 use std::thread::Threads;

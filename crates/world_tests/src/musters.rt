@@ -4,7 +4,7 @@ use crate::scenarios::{are_told_alike, played, told};
 use crate::texts::{
     COLLUDING, FOUR, SEVEN, SEVEN_AND_THREE_STEPS, SEVEN_AND_TWO_STEPS, SEVEN_ON_A_BOARD, SWAYING,
 };
-use crate::threaded::{AGREED, count, mustered, replays};
+use crate::threaded_campaigns::{AGREED, count, mustered, replays};
 use board::Access;
 use std::alloc::Global;
 use std::sync::Wait;

@@ -2,7 +2,7 @@
 ghost use Rattle.std.specs.Prelude.{◌≡◌, IfSome};
 
 use crate::scenarios::{first_letters, played};
-use letter::Letter;
+use round::Letter;
 use std::alloc::{AllocError, Global};
 use std::process::Abort;
 use std::sync::Wait;

@@ -1,16 +1,14 @@
 //! Contexts, loyal generals' letters and what letters tell.
 ghost use Rattle.std.specs.Prelude.{◌≡◌, ◌<◌, IsTrue};
-ghost use Rattle.delivery.specs.Told.{AreDue};
+ghost use Rattle.round.specs.Told.{AreDue};
 
 use crate::scenarios::{first_letters, played};
 use crate::texts::{
     FIVE, FOUR, FOUR_AND_THREE_STEPS, FOUR_AND_TWO_STEPS, FOUR_OF_BYTES, NINE_FOR_FOUR,
     SEVEN_FOR_ONE, SWAYING,
 };
-use delivery::{context_for, deliver};
 use label::Label;
-use letter::{Letter, Round, are_rounds_of, loyal_letter};
-use roster::Scenario;
+use round::{Letter, Round, Scenario, are_rounds_of, context_for, deliver, loyal_letter};
 use std::alloc::{AllocError, Global};
 use tree::Tree;
 use world::Chronicle;

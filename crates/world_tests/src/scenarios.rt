@@ -1,7 +1,6 @@
 //! Campaigns told by texts. Where memory is refused, there is none.
 
-use letter::Letter;
-use roster::Scenario;
+use round::{Letter, Scenario};
 use scenario::read;
 use std::alloc::{AllocError, Global};
 use trace::{Latch, read_schedule, write_chronicle};

@@ -2,7 +2,7 @@
 
 use crate::scenarios::joined;
 use crate::texts::{PASSING, SIGNING_TWICE, THREE_SIGNED};
-use roster::Scenario;
+use round::Scenario;
 use scenario::{Campaign, read_any};
 use signed::{Chain, SignedChronicle, SignedWorld};
 use std::alloc::Global;

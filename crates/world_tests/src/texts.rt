@@ -1,6 +1,6 @@
 //! The texts of campaigns: their keys, and the tables of their traitors.
 
-use fixtures::{campaign, counting, swaying};
+use crate::{campaign, counting, swaying};
 
 /// Four generals, bound 1, whose commander 0 has order 1.
 pub(crate) const FOUR: &str = "generals = 4\nbound = 1\ncommander = 0\norder = 1\n";

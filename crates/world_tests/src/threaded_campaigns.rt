@@ -2,7 +2,7 @@
 
 use crate::scenarios::{are_told_alike, told};
 use board::Access;
-use letter::Letter;
+use round::Letter;
 use semantics::Reply;
 use std::alloc::{AllocError, Global};
 use std::sync::Wait;

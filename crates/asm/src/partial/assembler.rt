@@ -6,10 +6,10 @@ ghost use Rattle.text.specs.Parts.{before};
 ghost use Rattle.asm.specs.declared.fault.AsmError.TheVariants.{Memory};
 ghost use Rattle.asm.specs.Faults.{at_line};
 ghost use Rattle.asm.specs.Program.{said};
-ghost use Rattle.partial.specs.Reading.{alone, bytes_said, eight_of, line_bytes, raw_in, unit_in};
+ghost use Rattle.asm.specs.Reading.{alone, bytes_said, eight_of, line_bytes, raw_in, unit_in};
 
-use crate::lines::first_line;
-use asm::{AsmError, Fault};
+use crate::fault::{AsmError, AsmFault};
+use crate::partial::lines::first_line;
 use codec::encode;
 use std::alloc::Global;
 use text::{Stop, cut};
@@ -19,7 +19,7 @@ use text::{Stop, cut};
 ///
 /// # Errors
 ///
-/// The fault of the first line that has one, as of [`asm::assemble`]; or want of memory.
+/// The fault of the first line that has one, as of [`crate::assembler::assemble`]; or want of memory.
 #[tactic(auto, unfolding(crate::specs::Reading::bytes_said))]
 pub fn assemble(alloc: Global, text: &str) -> Result<Vec<u8>, AsmError>
     ensures said { IfOk result (λ bytes. bytes_said text.now ≡ Ok bytes.items) }
@@ -57,30 +57,30 @@ fn bytes_alone(alloc: Global, number: u64, line: &str) -> Result<Vec<u8>, AsmErr
     ensures said { IfOk result (λ bytes. alone (said line.now) ≡ Ok bytes.items) }
     ensures fault { IfErr result (λ e. e ≢ Memory → at_line number (alone (said line.now)) ≡ Err e) }
 {
-    match asm::assemble(alloc, line) {
+    match crate::assembler::assemble(alloc, line) {
         Ok(program) => Ok(encode(alloc, &program)?),
-        Err(AsmError::At(Fault::Count, _)) => Ok(Vec::new(alloc)),
+        Err(AsmError::At(AsmFault::Count, _)) => Ok(Vec::new(alloc)),
         Err(AsmError::At(fault, _)) => Err(AsmError::At(fault, number)),
         Err(AsmError::Memory) => Err(AsmError::Memory),
     }
 }
 
 /// The eight bytes of a line that a dot begins.
-fn raw(solid: &[u8]) -> Result<[u8; 8], Fault>
+fn raw(solid: &[u8]) -> Result<[u8; 8], AsmFault>
     ensures said { IfOk result (λ unit. raw_in (before semicolon solid.now) ≡ Ok unit) }
     ensures fault { IfErr result (λ e. raw_in (before semicolon solid.now) ≡ Err e) }
 {
     let (code, _) = cut(Stop::Byte(b';'), solid);
     let (word, rest) = cut(Stop::Blank, code);
     if word != b".unit".as_slice() {
-        return Err(Fault::Mnemonic);
+        return Err(AsmFault::Mnemonic);
     }
     let (_, operand) = cut(Stop::Solid, rest);
     unit(operand)
 }
 
 /// The eight bytes of an operand, with white space behind it.
-fn unit(operand: &[u8]) -> Result<[u8; 8], Fault>
+fn unit(operand: &[u8]) -> Result<[u8; 8], AsmFault>
     ensures said { IfOk result (λ unit. unit_in operand.now ≡ Ok unit) }
     ensures fault { IfErr result (λ e. unit_in operand.now ≡ Err e) }
 {
@@ -89,22 +89,22 @@ fn unit(operand: &[u8]) -> Result<[u8; 8], Fault>
     if behind.is_empty() {
         eight(number)
     } else {
-        Err(Fault::Operand)
+        Err(AsmFault::Operand)
     }
 }
 
 /// The eight bytes of `0x` and sixteen digits.
-fn eight(number: &[u8]) -> Result<[u8; 8], Fault>
+fn eight(number: &[u8]) -> Result<[u8; 8], AsmFault>
     ensures said { IfOk result (λ unit. eight_of number.now ≡ Ok unit) }
     ensures fault { IfErr result (λ e. eight_of number.now ≡ Err e) }
 {
     if !number.starts_with(b"0x") {
-        return Err(Fault::Operand);
+        return Err(AsmFault::Operand);
     }
     let mut unit = [0; 8];
     match hex::decode_to_slice(digits(number), &mut unit) {
         Ok(()) => Ok(unit),
-        Err(_) => Err(Fault::Operand),
+        Err(_) => Err(AsmFault::Operand),
     }
 }
 

@@ -1,14 +1,14 @@
 //! The disassembler that goes on past what cannot be decoded.
 
 ghost use Rattle.std.specs.Prelude.{◌≡◌, ◌≢◌, ◌<◌, ◌≤◌, ◌/◌, ◌%◌, ◌++◌, codes, drop, length, slice_index, string_bytes, IfOk, IfErr, OnOk, Ok};
-ghost use Rattle.codec.specs.declared.fault.Fault.TheVariants.{Length};
+ghost use Rattle.codec.specs.declared.fault.CodecFault.TheVariants.{Length};
 ghost use Rattle.codec.specs.declared.fault.CodecError.TheVariants.{At, Memory};
-ghost use Rattle.partial.specs.Pieces.{Piece, Raw, IsFirst};
-ghost use Rattle.partial.specs.Printing.{IsTextOf, kind_of, piece_text};
-ghost use Rattle.partial.specs.Reading.{bytes_said};
+ghost use Rattle.asm.specs.Pieces.{Piece, Raw, IsFirst};
+ghost use Rattle.asm.specs.PieceText.{IsTextOf, kind_of, piece_text};
+ghost use Rattle.asm.specs.Reading.{bytes_said};
 
-use asm::put_instruction;
-use codec::{CodecError, Fault, instruction};
+use crate::printer::put_instruction;
+use codec::{CodecError, CodecFault, instruction};
 use std::alloc::{AllocError, Global};
 
 /// The text of whole units: one instruction a line, as ever, and for each unit with which none begins a line
@@ -25,7 +25,7 @@ pub fn disassemble(alloc: Global, bytes: &[u8]) -> Result<String, CodecError>
     ensures fault { IfErr result (λ e. e ≢ Memory → e ≡ At Length (length bytes.now / 8)) }
 {
     if bytes.len() % 8 != 0 {
-        return Err(CodecError::At(Fault::Length, bytes.len() / 8));
+        return Err(CodecError::At(CodecFault::Length, bytes.len() / 8));
     }
     Ok(text_of(alloc, bytes)?)
 }
@@ -89,7 +89,12 @@ fn put_piece(alloc: Global, text: &mut String, bytes: &[u8]) -> Result<usize, Al
 }
 
 /// Adds a unit with which no instruction begins, by this fault.
-fn put_raw(alloc: Global, text: &mut String, unit: &[u8], fault: Fault) -> Result<(), AllocError>
+fn put_raw(
+    alloc: Global,
+    text: &mut String,
+    unit: &[u8],
+    fault: CodecFault,
+) -> Result<(), AllocError>
     requires { 0 < length unit.now }
     ensures { OnOk result (string_bytes text.new ≡ string_bytes text.old ++ piece_text (Raw unit.now fault)) }
 {
@@ -99,11 +104,11 @@ fn put_raw(alloc: Global, text: &mut String, unit: &[u8], fault: Fault) -> Resul
 }
 
 /// Which instruction is left out, by its opcode.
-fn kind(fault: Fault, opcode: u8) -> &'static str
+fn kind(fault: CodecFault, opcode: u8) -> &'static str
     ensures { result.now ≡ kind_of fault opcode }
 {
     match fault {
-        Fault::LeftOut => left_out(opcode),
+        CodecFault::LeftOut => left_out(opcode),
         _ => "",
     }
 }

@@ -1,18 +1,18 @@
 //! The call that audits a chronicle, and chronicles that are cut off or changed.
-use crate::chronicles::{Messages, audited, told, told_freely};
-use crate::hostile::campaign::Campaign;
-use crate::hostile::changes::{next, with_byte};
-use crate::hostile::marks::{back, ready};
-use crate::hostile::outcome::{Outcome, Told, compared};
+use crate::chronicles::{MessageKind, audited, told, told_freely};
+use crate::hostile_calls::campaign::SampleCampaign;
+use crate::hostile_calls::changes::{next, with_byte};
+use crate::hostile_calls::marks::{back, ready};
+use crate::hostile_calls::outcome::{CallAnswer, CallOutcome, compared};
 use anyhow::{Result, bail};
-use roster::Scenario;
+use round::Scenario;
 use std::alloc::{AllocError, Global};
 use std::str;
 use trace::TraceError;
 use world::Verdict;
 
 /// The text of the campaign's chronicle by its schedule.
-fn scheduled(alloc: Global, messages: Messages, campaign: Campaign) -> Result<Vec<u8>> {
+fn scheduled(alloc: Global, messages: MessageKind, campaign: SampleCampaign) -> Result<Vec<u8>> {
     let schedule = campaign.schedule(alloc)?;
     told(
         alloc,
@@ -25,9 +25,9 @@ fn scheduled(alloc: Global, messages: Messages, campaign: Campaign) -> Result<Ve
 /// `check` of the chronicle by the campaign's schedule, or `check_signed`.
 pub fn checks<R: Print + AllocGlobal>(
     rt: &R,
-    messages: Messages,
-    campaign: Campaign,
-) -> Result<Outcome> {
+    messages: MessageKind,
+    campaign: SampleCampaign,
+) -> Result<CallOutcome> {
     let scenario = campaign.scenario(rt.alloc(), messages)?;
     let text = scheduled(rt.alloc(), messages, campaign)?;
     checks_text(rt, messages, &scenario, str::from_utf8(text.as_slice())?)
@@ -36,10 +36,10 @@ pub fn checks<R: Print + AllocGlobal>(
 /// The same of this text.
 fn checks_text<R: Print + AllocGlobal>(
     rt: &R,
-    messages: Messages,
+    messages: MessageKind,
     scenario: &Scenario,
     text: &str,
-) -> Result<Outcome> {
+) -> Result<CallOutcome> {
     ready(rt);
     let first = audited(rt.alloc(), messages, scenario, text);
     back(rt);
@@ -49,10 +49,10 @@ fn checks_text<R: Print + AllocGlobal>(
 }
 
 /// What an audit tells: its verdict.
-fn judged(alloc: Global, answer: Result<Verdict, TraceError>) -> Result<Told> {
+fn judged(alloc: Global, answer: Result<Verdict, TraceError>) -> Result<CallAnswer> {
     match answer {
-        Ok(verdict) => Ok(Told::Bytes(verdict_bytes(alloc, verdict)?)),
-        Err(TraceError::Memory) => Ok(Told::Memory),
+        Ok(verdict) => Ok(CallAnswer::Bytes(verdict_bytes(alloc, verdict)?)),
+        Err(TraceError::Memory) => Ok(CallAnswer::Memory),
         Err(_) => bail!("a chronicle is not sound"),
     }
 }
@@ -74,13 +74,13 @@ const TIMES: u32 = 9;
 /// Audits each proper beginning of the chronicle of seven generals, and the chronicle with one byte changed; then those
 /// of the same generals with signed messages.
 pub fn report<R: Print + AllocGlobal>(rt: &R) -> Result<()> {
-    damage(rt, Messages::Oral)?;
-    damage(rt, Messages::Signed)
+    damage(rt, MessageKind::Oral)?;
+    damage(rt, MessageKind::Signed)
 }
 
 /// The same of those of one kind of messages.
-fn damage<R: Print + AllocGlobal>(rt: &R, messages: Messages) -> Result<()> {
-    let scenario = Campaign::Seven.scenario(rt.alloc(), messages)?;
+fn damage<R: Print + AllocGlobal>(rt: &R, messages: MessageKind) -> Result<()> {
+    let scenario = SampleCampaign::Seven.scenario(rt.alloc(), messages)?;
     let chronicle = told_freely(rt.alloc(), messages, scenario.copy(rt.alloc())?)?;
     cut_off(rt, messages, &scenario, chronicle.as_slice())?;
     change(rt, messages, &scenario, chronicle.as_slice())
@@ -89,7 +89,7 @@ fn damage<R: Print + AllocGlobal>(rt: &R, messages: Messages) -> Result<()> {
 /// Audits each proper beginning.
 fn cut_off<R: Print + AllocGlobal>(
     rt: &R,
-    messages: Messages,
+    messages: MessageKind,
     scenario: &Scenario,
     bytes: &[u8],
 ) -> Result<()> {
@@ -104,7 +104,7 @@ fn cut_off<R: Print + AllocGlobal>(
 /// Audits the chronicle with one byte changed.
 fn change<R: Print + AllocGlobal>(
     rt: &R,
-    messages: Messages,
+    messages: MessageKind,
     scenario: &Scenario,
     bytes: &[u8],
 ) -> Result<()> {
@@ -118,7 +118,7 @@ fn change<R: Print + AllocGlobal>(
 /// Whether each proper beginning is refused.
 fn are_beginnings_refused(
     alloc: Global,
-    messages: Messages,
+    messages: MessageKind,
     scenario: &Scenario,
     bytes: &[u8],
 ) -> Result<bool, AllocError> {
@@ -133,7 +133,7 @@ fn are_beginnings_refused(
 /// Whether the chronicle is refused with another byte at any place, as often as it is changed.
 fn are_changes_refused(
     alloc: Global,
-    messages: Messages,
+    messages: MessageKind,
     scenario: &Scenario,
     bytes: &[u8],
 ) -> Result<bool, AllocError> {
@@ -152,7 +152,7 @@ fn are_changes_refused(
 /// Whether the chronicle is refused with this byte at a place.
 fn is_refused_with(
     alloc: Global,
-    messages: Messages,
+    messages: MessageKind,
     scenario: &Scenario,
     bytes: &[u8],
     place: usize,
@@ -172,7 +172,7 @@ fn difference(state: &mut u64) -> u8 {
 /// an error.
 fn is_refused(
     alloc: Global,
-    messages: Messages,
+    messages: MessageKind,
     scenario: &Scenario,
     bytes: &[u8],
 ) -> Result<bool, AllocError> {

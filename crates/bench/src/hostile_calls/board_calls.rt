@@ -1,6 +1,6 @@
 //! The board's calls.
-use crate::hostile::marks::{back, ready};
-use crate::hostile::outcome::{Outcome, led};
+use crate::hostile_calls::marks::{back, ready};
+use crate::hostile_calls::outcome::{CallOutcome, led};
 use anyhow::{Result, bail};
 use board::{Access, Board};
 use semantics::{Reply, Request, Slot, Span};
@@ -38,7 +38,7 @@ fn requests() -> Option<[Request; 6]> {
 
 /// `Board::apply` of six requests. Where memory is refused, the words and the ledger are as before, and the request is
 /// made again.
-pub fn applies<R: Print + AllocGlobal>(rt: &R) -> Result<Outcome> {
+pub fn applies<R: Print + AllocGlobal>(rt: &R) -> Result<CallOutcome> {
     let Some(requests) = requests() else {
         bail!("the requests");
     };
@@ -50,7 +50,12 @@ pub fn applies<R: Print + AllocGlobal>(rt: &R) -> Result<Outcome> {
 }
 
 /// What comes of a board that has served these requests.
-fn ended(alloc: Global, is_refused: bool, board: &Board, requests: &[Request]) -> Result<Outcome> {
+fn ended(
+    alloc: Global,
+    is_refused: bool,
+    board: &Board,
+    requests: &[Request],
+) -> Result<CallOutcome> {
     let first = ledger_bytes(alloc, board.ledger())?;
     let ample = ample(alloc, requests)?;
     led(is_refused, first.as_slice(), ample.as_slice())

@@ -1,5 +1,5 @@
 //! Bytes that are to be programs, and what is owed to any of them.
-use crate::hostile::changes::stepped;
+use crate::hostile_calls::changes::stepped;
 use anyhow::{Result, bail};
 use codec::{CodecError, decode, encode};
 use insn::Program;

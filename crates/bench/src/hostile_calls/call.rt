@@ -1,8 +1,8 @@
-use crate::chronicles::Messages;
+use crate::chronicles::MessageKind;
 
 /// A call that takes memory.
 #[derive(Clone, Copy)]
-pub enum Call {
+pub enum AllocatingCall {
     Decode,
     Encode,
     Assemble,
@@ -10,43 +10,46 @@ pub enum Call {
     Verify,
     BoardApply,
     /// `World::open`, or `SignedWorld::open`.
-    Open(Messages),
+    Open(MessageKind),
     /// The same of `apply`.
-    WorldApply(Messages),
+    WorldApply(MessageKind),
     /// `play` or `play_signed`.
-    Play(Messages),
+    Play(MessageKind),
     ResolveAll,
     Muster,
     Read,
     ReadSchedule,
     /// `check` or `check_signed`.
-    Check(Messages),
+    Check(MessageKind),
 }
 
 /// All of them, each with its name among the words.
-pub const CALLS: &[(&str, Call)] = &[
-    ("decode", Call::Decode),
-    ("encode", Call::Encode),
-    ("assemble", Call::Assemble),
-    ("disassemble", Call::Disassemble),
-    ("verify", Call::Verify),
-    ("board_apply", Call::BoardApply),
-    ("open", Call::Open(Messages::Oral)),
-    ("world_apply", Call::WorldApply(Messages::Oral)),
-    ("play", Call::Play(Messages::Oral)),
-    ("resolve_all", Call::ResolveAll),
-    ("muster", Call::Muster),
-    ("read", Call::Read),
-    ("read_schedule", Call::ReadSchedule),
-    ("check", Call::Check(Messages::Oral)),
-    ("open_signed", Call::Open(Messages::Signed)),
-    ("signed_apply", Call::WorldApply(Messages::Signed)),
-    ("play_signed", Call::Play(Messages::Signed)),
-    ("check_signed", Call::Check(Messages::Signed)),
+pub const CALLS: &[(&str, AllocatingCall)] = &[
+    ("decode", AllocatingCall::Decode),
+    ("encode", AllocatingCall::Encode),
+    ("assemble", AllocatingCall::Assemble),
+    ("disassemble", AllocatingCall::Disassemble),
+    ("verify", AllocatingCall::Verify),
+    ("board_apply", AllocatingCall::BoardApply),
+    ("open", AllocatingCall::Open(MessageKind::Oral)),
+    ("world_apply", AllocatingCall::WorldApply(MessageKind::Oral)),
+    ("play", AllocatingCall::Play(MessageKind::Oral)),
+    ("resolve_all", AllocatingCall::ResolveAll),
+    ("muster", AllocatingCall::Muster),
+    ("read", AllocatingCall::Read),
+    ("read_schedule", AllocatingCall::ReadSchedule),
+    ("check", AllocatingCall::Check(MessageKind::Oral)),
+    ("open_signed", AllocatingCall::Open(MessageKind::Signed)),
+    (
+        "signed_apply",
+        AllocatingCall::WorldApply(MessageKind::Signed),
+    ),
+    ("play_signed", AllocatingCall::Play(MessageKind::Signed)),
+    ("check_signed", AllocatingCall::Check(MessageKind::Signed)),
 ];
 
 /// The call of this name.
-pub fn named(name: &str) -> Option<Call> {
+pub fn named(name: &str) -> Option<AllocatingCall> {
     for &(own, call) in CALLS {
         if own == name {
             return Some(call);

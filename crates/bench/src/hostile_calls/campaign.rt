@@ -1,19 +1,19 @@
 //! The campaigns on which the calls are made.
-use crate::chronicles::{Messages, scenario_of};
+use crate::chronicles::{MessageKind, scenario_of};
 use crate::texts::COLLUDING;
 use anyhow::{Result, bail};
 use asm::assemble;
 use codec::encode;
-use fixtures::{campaign, counting, swaying};
 use insn::Program;
-use roster::Scenario;
+use round::Scenario;
 use std::alloc::{AllocError, Global};
 use trace::read_schedule;
 use world::{Event, Schedule};
+use world_tests::{campaign, counting, swaying};
 
 /// A campaign.
 #[derive(Clone, Copy)]
-pub enum Campaign {
+pub enum SampleCampaign {
     /// Four generals, of whom the last tells two others to retreat.
     Four,
     /// Seven generals, of whom the commander and another count on the board who comes first.
@@ -23,7 +23,11 @@ pub enum Campaign {
 }
 
 /// All of them.
-pub const CAMPAIGNS: &[Campaign] = &[Campaign::Four, Campaign::Seven, Campaign::Copying];
+pub const CAMPAIGNS: &[SampleCampaign] = &[
+    SampleCampaign::Four,
+    SampleCampaign::Seven,
+    SampleCampaign::Copying,
+];
 
 /// Tells 1 and 2 the order 0.
 const SWAYING: &str = swaying!(concat "exit\n");
@@ -135,18 +139,18 @@ const TURNS_OF_SEVEN: Turns = &[
     (Event::Close, 1),
 ];
 
-impl Campaign {
+impl SampleCampaign {
     /// Its name among the words.
     pub fn name(self) -> &'static str {
         match self {
-            Campaign::Four => "four",
-            Campaign::Seven => "seven",
-            Campaign::Copying => "copying",
+            SampleCampaign::Four => "four",
+            SampleCampaign::Seven => "seven",
+            SampleCampaign::Copying => "copying",
         }
     }
 
     /// The campaign of this name.
-    pub fn named(name: &str) -> Option<Campaign> {
+    pub fn named(name: &str) -> Option<SampleCampaign> {
         for campaign in CAMPAIGNS {
             if campaign.name() == name {
                 return Some(*campaign);
@@ -158,44 +162,44 @@ impl Campaign {
     /// The assembly of its traitors' program.
     pub fn assembly(self) -> &'static str {
         match self {
-            Campaign::Four => SWAYING,
-            Campaign::Seven => COUNTING,
-            Campaign::Copying => COPYING,
+            SampleCampaign::Four => SWAYING,
+            SampleCampaign::Seven => COUNTING,
+            SampleCampaign::Copying => COPYING,
         }
     }
 
     /// The text of a schedule for it.
     pub fn schedule_text(self) -> &'static str {
         match self {
-            Campaign::Four => "3*4096 3 12\n",
-            Campaign::Seven => "4*15 0*2\n\n4*15",
-            Campaign::Copying => "0 1 3*2\n3 2 3*17\n",
+            SampleCampaign::Four => "3*4096 3 12\n",
+            SampleCampaign::Seven => "4*15 0*2\n\n4*15",
+            SampleCampaign::Copying => "0 1 3*2\n3 2 3*17\n",
         }
     }
 
     /// The text of its scenario.
     pub fn text(self) -> &'static str {
         match self {
-            Campaign::Four => FOUR,
-            Campaign::Seven => COLLUDING,
-            Campaign::Copying => FOUR_WHO_COPY,
+            SampleCampaign::Four => FOUR,
+            SampleCampaign::Seven => COLLUDING,
+            SampleCampaign::Copying => FOUR_WHO_COPY,
         }
     }
 
     /// The text of the scenario in which the same generals sign their orders, and the same are traitors.
     fn signed_text(self) -> &'static str {
         match self {
-            Campaign::Four => FOUR_SIGNED,
-            Campaign::Seven => SEVEN_SIGNED,
-            Campaign::Copying => FOUR_SIGNED_WITH_PATIENCE,
+            SampleCampaign::Four => FOUR_SIGNED,
+            SampleCampaign::Seven => SEVEN_SIGNED,
+            SampleCampaign::Copying => FOUR_SIGNED_WITH_PATIENCE,
         }
     }
 
     /// Its scenario; of signed messages the one in which the same generals sign their orders.
-    pub fn scenario(self, alloc: Global, messages: Messages) -> Result<Scenario> {
+    pub fn scenario(self, alloc: Global, messages: MessageKind) -> Result<Scenario> {
         match messages {
-            Messages::Oral => scenario_of(alloc, messages, self.text()),
-            Messages::Signed => scenario_of(alloc, messages, self.signed_text()),
+            MessageKind::Oral => scenario_of(alloc, messages, self.text()),
+            MessageKind::Signed => scenario_of(alloc, messages, self.signed_text()),
         }
     }
 
@@ -223,8 +227,8 @@ impl Campaign {
     /// Its events without a schedule, and how many rounds of them there are.
     fn turns(self) -> (Turns, u32) {
         match self {
-            Campaign::Four | Campaign::Copying => (TURNS_OF_FOUR, 2),
-            Campaign::Seven => (TURNS_OF_SEVEN, 3),
+            SampleCampaign::Four | SampleCampaign::Copying => (TURNS_OF_FOUR, 2),
+            SampleCampaign::Seven => (TURNS_OF_SEVEN, 3),
         }
     }
 

@@ -1,8 +1,10 @@
 //! One call on what belongs to one campaign, and what is printed of it.
-use crate::hostile::call::Call;
-use crate::hostile::campaign::Campaign;
-use crate::hostile::outcome::Outcome;
-use crate::hostile::{auditing, coding, deciding, playing, reading, serving};
+use crate::hostile_calls::call::AllocatingCall;
+use crate::hostile_calls::campaign::SampleCampaign;
+use crate::hostile_calls::outcome::CallOutcome;
+use crate::hostile_calls::{
+    audit_calls, board_calls, decision_calls, program_calls, reader_calls, world_calls,
+};
 use anyhow::Result;
 use std::sync::Wait;
 use std::thread::Threads;
@@ -11,8 +13,8 @@ use std::thread::Threads;
 pub fn report<R: Print + Threads + Wait + Sync + AllocGlobal>(
     rt: &R,
     name: &str,
-    call: Call,
-    campaign: Campaign,
+    call: AllocatingCall,
+    campaign: SampleCampaign,
 ) -> Result<()> {
     let of = campaign.name();
     println!(rt; "{name} {of}")?;
@@ -23,23 +25,23 @@ pub fn report<R: Print + Threads + Wait + Sync + AllocGlobal>(
 
 fn made<R: Print + Threads + Wait + Sync + AllocGlobal>(
     rt: &R,
-    call: Call,
-    campaign: Campaign,
-) -> Result<Outcome> {
+    call: AllocatingCall,
+    campaign: SampleCampaign,
+) -> Result<CallOutcome> {
     match call {
-        Call::Decode => coding::decodes(rt, campaign),
-        Call::Encode => coding::encodes(rt, campaign),
-        Call::Assemble => coding::assembles(rt, campaign),
-        Call::Disassemble => coding::disassembles(rt, campaign),
-        Call::Verify => coding::verifies(rt, campaign),
-        Call::BoardApply => serving::applies(rt),
-        Call::Open(messages) => playing::opens(rt, messages, campaign),
-        Call::WorldApply(messages) => playing::happens(rt, messages, campaign),
-        Call::Play(messages) => playing::plays(rt, messages, campaign),
-        Call::ResolveAll => deciding::resolves(rt, campaign),
-        Call::Muster => playing::musters(rt, campaign),
-        Call::Read => reading::reads(rt, campaign),
-        Call::ReadSchedule => reading::reads_schedule(rt, campaign),
-        Call::Check(messages) => auditing::checks(rt, messages, campaign),
+        AllocatingCall::Decode => program_calls::decodes(rt, campaign),
+        AllocatingCall::Encode => program_calls::encodes(rt, campaign),
+        AllocatingCall::Assemble => program_calls::assembles(rt, campaign),
+        AllocatingCall::Disassemble => program_calls::disassembles(rt, campaign),
+        AllocatingCall::Verify => program_calls::verifies(rt, campaign),
+        AllocatingCall::BoardApply => board_calls::applies(rt),
+        AllocatingCall::Open(messages) => world_calls::opens(rt, messages, campaign),
+        AllocatingCall::WorldApply(messages) => world_calls::happens(rt, messages, campaign),
+        AllocatingCall::Play(messages) => world_calls::plays(rt, messages, campaign),
+        AllocatingCall::ResolveAll => decision_calls::resolves(rt, campaign),
+        AllocatingCall::Muster => world_calls::musters(rt, campaign),
+        AllocatingCall::Read => reader_calls::reads(rt, campaign),
+        AllocatingCall::ReadSchedule => reader_calls::reads_schedule(rt, campaign),
+        AllocatingCall::Check(messages) => audit_calls::checks(rt, messages, campaign),
     }
 }

@@ -1,7 +1,7 @@
 //! The call that decides for all lieutenants.
-use crate::hostile::campaign::Campaign;
-use crate::hostile::marks::{back, ready};
-use crate::hostile::outcome::{Outcome, Told, compared};
+use crate::hostile_calls::campaign::SampleCampaign;
+use crate::hostile_calls::marks::{back, ready};
+use crate::hostile_calls::outcome::{CallAnswer, CallOutcome, compared};
 use anyhow::Result;
 use combine::Rule;
 use label::unrank;
@@ -13,8 +13,8 @@ use tree::Tree;
 /// `resolve_all` of the lieutenants' trees.
 pub fn resolves<R: Print + Threads + Sync + AllocGlobal>(
     rt: &R,
-    campaign: Campaign,
-) -> Result<Outcome> {
+    campaign: SampleCampaign,
+) -> Result<CallOutcome> {
     let rule = rule_of(campaign);
     let trees = trees(rt.alloc(), campaign)?;
     ready(rt);
@@ -25,10 +25,10 @@ pub fn resolves<R: Print + Threads + Sync + AllocGlobal>(
 }
 
 /// The rule of the campaign.
-fn rule_of(campaign: Campaign) -> Rule {
+fn rule_of(campaign: SampleCampaign) -> Rule {
     match campaign {
-        Campaign::Four | Campaign::Seven => Rule::Majority,
-        Campaign::Copying => Rule::Median,
+        SampleCampaign::Four | SampleCampaign::Seven => Rule::Majority,
+        SampleCampaign::Copying => Rule::Median,
     }
 }
 
@@ -37,28 +37,28 @@ fn resolved(
     alloc: Global,
     first: Result<Vec<u32>, AllocError>,
     again: Result<Vec<u32>, AllocError>,
-) -> Result<Outcome> {
+) -> Result<CallOutcome> {
     let first = decided(alloc, first)?;
     compared(first, decided(alloc, again)?)
 }
 
 /// What `resolve_all` tells: the decisions, each in four bytes.
-fn decided(alloc: Global, answer: Result<Vec<u32>, AllocError>) -> Result<Told, AllocError> {
+fn decided(alloc: Global, answer: Result<Vec<u32>, AllocError>) -> Result<CallAnswer, AllocError> {
     let Ok(decisions) = answer else {
-        return Ok(Told::Memory);
+        return Ok(CallAnswer::Memory);
     };
     let mut bytes = Vec::new(alloc);
     for decision in &decisions {
         bytes.extend_from_slice(&decision.to_le_bytes())?;
     }
-    Ok(Told::Bytes(bytes))
+    Ok(CallAnswer::Bytes(bytes))
 }
 
 /// The trees of the lieutenants of four generals or of seven, under 0, each value one of three orders.
-fn trees(alloc: Global, campaign: Campaign) -> Result<Vec<Tree>, AllocError> {
+fn trees(alloc: Global, campaign: SampleCampaign) -> Result<Vec<Tree>, AllocError> {
     match campaign {
-        Campaign::Four => trees_of_four(alloc),
-        Campaign::Seven | Campaign::Copying => trees_of_seven(alloc),
+        SampleCampaign::Four => trees_of_four(alloc),
+        SampleCampaign::Seven | SampleCampaign::Copying => trees_of_seven(alloc),
     }
 }
 

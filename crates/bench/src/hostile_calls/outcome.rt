@@ -5,7 +5,7 @@ use thiserror::Error;
 
 /// What a call answered.
 #[derive(Drop)]
-pub enum Told {
+pub enum CallAnswer {
     /// Its answer, told byte by byte.
     Bytes(Vec<u8>),
     /// That memory was refused.
@@ -16,7 +16,7 @@ pub enum Told {
 
 /// What a call came to.
 #[derive(Clone, Copy)]
-pub enum Outcome {
+pub enum CallOutcome {
     /// It answered, and the same again when it was asked again.
     Answered,
     /// It was refused memory, and answered when it was asked again.
@@ -25,12 +25,12 @@ pub enum Outcome {
     NoThread,
 }
 
-impl fmt::Display for Outcome {
+impl fmt::Display for CallOutcome {
     fn fmt<W: fmt::Write>(&self, f: &mut fmt::Formatter<W>) -> fmt::Result {
         f.write_str(match self {
-            Outcome::Answered => "answered",
-            Outcome::Memory => "memory",
-            Outcome::NoThread => "no thread",
+            CallOutcome::Answered => "answered",
+            CallOutcome::Memory => "memory",
+            CallOutcome::NoThread => "no thread",
         })
     }
 }
@@ -51,23 +51,26 @@ pub enum Difference {
 /// # Errors
 ///
 /// That the second answer is none, or another than the first.
-pub fn compared(first: Told, again: Told) -> Result<Outcome> {
+pub fn compared(first: CallAnswer, again: CallAnswer) -> Result<CallOutcome> {
     Ok(asked_again(first, again)?)
 }
 
 /// The same, with what differs.
-fn asked_again(first: Told, again: Told) -> std::result::Result<Outcome, Difference> {
-    let Told::Bytes(again) = again else {
+fn asked_again(
+    first: CallAnswer,
+    again: CallAnswer,
+) -> std::result::Result<CallOutcome, Difference> {
+    let CallAnswer::Bytes(again) = again else {
         return Err(Difference::NoAnswer);
     };
     match first {
-        Told::Memory => Ok(Outcome::Memory),
-        Told::NoThread => Ok(Outcome::NoThread),
-        Told::Bytes(first) => {
+        CallAnswer::Memory => Ok(CallOutcome::Memory),
+        CallAnswer::NoThread => Ok(CallOutcome::NoThread),
+        CallAnswer::Bytes(first) => {
             if first.as_slice() != again.as_slice() {
                 return Err(Difference::OtherAnswer);
             }
-            Ok(Outcome::Answered)
+            Ok(CallOutcome::Answered)
         }
     }
 }
@@ -77,12 +80,12 @@ fn asked_again(first: Told, again: Told) -> std::result::Result<Outcome, Differe
 /// # Errors
 ///
 /// That they led to something else.
-pub fn led(is_refused: bool, first: &[u8], ample: &[u8]) -> Result<Outcome> {
+pub fn led(is_refused: bool, first: &[u8], ample: &[u8]) -> Result<CallOutcome> {
     same_end(first, ample)?;
     Ok(if is_refused {
-        Outcome::Memory
+        CallOutcome::Memory
     } else {
-        Outcome::Answered
+        CallOutcome::Answered
     })
 }
 

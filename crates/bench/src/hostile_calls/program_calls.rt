@@ -1,7 +1,7 @@
 //! The calls on programs: their bytes, their text, and the verifier.
-use crate::hostile::campaign::Campaign;
-use crate::hostile::marks::{back, ready};
-use crate::hostile::outcome::{Outcome, Told, compared};
+use crate::hostile_calls::campaign::SampleCampaign;
+use crate::hostile_calls::marks::{back, ready};
+use crate::hostile_calls::outcome::{CallAnswer, CallOutcome, compared};
 use anyhow::{Result, bail};
 use asm::{AsmError, assemble, disassemble};
 use codec::{CodecError, decode, encode};
@@ -10,7 +10,7 @@ use std::alloc::{AllocError, Global};
 use verify::{Refused, Verified, VerifyError, verify};
 
 /// `decode` of the bytecode.
-pub fn decodes<R: Print + AllocGlobal>(rt: &R, campaign: Campaign) -> Result<Outcome> {
+pub fn decodes<R: Print + AllocGlobal>(rt: &R, campaign: SampleCampaign) -> Result<CallOutcome> {
     let bytes = campaign.bytecode(rt.alloc())?;
     ready(rt);
     let first = decode(rt.alloc(), bytes.as_slice());
@@ -23,22 +23,22 @@ fn decodes_again(
     alloc: Global,
     first: Result<Program, CodecError>,
     bytes: &[u8],
-) -> Result<Outcome> {
+) -> Result<CallOutcome> {
     let first = decoded(alloc, first)?;
     compared(first, decoded(alloc, decode(alloc, bytes))?)
 }
 
 /// What `decode` tells.
-fn decoded(alloc: Global, answer: Result<Program, CodecError>) -> Result<Told> {
+fn decoded(alloc: Global, answer: Result<Program, CodecError>) -> Result<CallAnswer> {
     match answer {
         Ok(program) => told_program(alloc, &program),
-        Err(CodecError::Memory) => Ok(Told::Memory),
+        Err(CodecError::Memory) => Ok(CallAnswer::Memory),
         Err(_) => bail!("bytecode is refused"),
     }
 }
 
 /// `encode` of the program.
-pub fn encodes<R: Print + AllocGlobal>(rt: &R, campaign: Campaign) -> Result<Outcome> {
+pub fn encodes<R: Print + AllocGlobal>(rt: &R, campaign: SampleCampaign) -> Result<CallOutcome> {
     let program = campaign.program(rt.alloc())?;
     ready(rt);
     let first = encode(rt.alloc(), &program);
@@ -47,15 +47,15 @@ pub fn encodes<R: Print + AllocGlobal>(rt: &R, campaign: Campaign) -> Result<Out
 }
 
 /// What `encode` tells.
-fn encoded(answer: Result<Vec<u8>, AllocError>) -> Told {
+fn encoded(answer: Result<Vec<u8>, AllocError>) -> CallAnswer {
     match answer {
-        Ok(bytes) => Told::Bytes(bytes),
-        Err(_) => Told::Memory,
+        Ok(bytes) => CallAnswer::Bytes(bytes),
+        Err(_) => CallAnswer::Memory,
     }
 }
 
 /// `assemble` of the assembly.
-pub fn assembles<R: Print + AllocGlobal>(rt: &R, campaign: Campaign) -> Result<Outcome> {
+pub fn assembles<R: Print + AllocGlobal>(rt: &R, campaign: SampleCampaign) -> Result<CallOutcome> {
     ready(rt);
     let first = assemble(rt.alloc(), campaign.assembly());
     back(rt);
@@ -67,22 +67,25 @@ fn assembles_again(
     alloc: Global,
     first: Result<Program, AsmError>,
     assembly: &str,
-) -> Result<Outcome> {
+) -> Result<CallOutcome> {
     let first = assembled(alloc, first)?;
     compared(first, assembled(alloc, assemble(alloc, assembly))?)
 }
 
 /// What `assemble` tells.
-fn assembled(alloc: Global, answer: Result<Program, AsmError>) -> Result<Told> {
+fn assembled(alloc: Global, answer: Result<Program, AsmError>) -> Result<CallAnswer> {
     match answer {
         Ok(program) => told_program(alloc, &program),
-        Err(AsmError::Memory) => Ok(Told::Memory),
+        Err(AsmError::Memory) => Ok(CallAnswer::Memory),
         Err(_) => bail!("assembly is refused"),
     }
 }
 
 /// `disassemble` of the program.
-pub fn disassembles<R: Print + AllocGlobal>(rt: &R, campaign: Campaign) -> Result<Outcome> {
+pub fn disassembles<R: Print + AllocGlobal>(
+    rt: &R,
+    campaign: SampleCampaign,
+) -> Result<CallOutcome> {
     let program = campaign.program(rt.alloc())?;
     ready(rt);
     let first = disassemble(rt.alloc(), &program);
@@ -94,15 +97,15 @@ pub fn disassembles<R: Print + AllocGlobal>(rt: &R, campaign: Campaign) -> Resul
 }
 
 /// What `disassemble` tells.
-fn disassembled(answer: Result<String, AllocError>) -> Told {
+fn disassembled(answer: Result<String, AllocError>) -> CallAnswer {
     match answer {
-        Ok(text) => Told::Bytes(text.into_bytes()),
-        Err(_) => Told::Memory,
+        Ok(text) => CallAnswer::Bytes(text.into_bytes()),
+        Err(_) => CallAnswer::Memory,
     }
 }
 
 /// `verify` of the program. Where memory is refused, the program that it hands back is given to it again.
-pub fn verifies<R: Print + AllocGlobal>(rt: &R, campaign: Campaign) -> Result<Outcome> {
+pub fn verifies<R: Print + AllocGlobal>(rt: &R, campaign: SampleCampaign) -> Result<CallOutcome> {
     let program = campaign.program(rt.alloc())?;
     ready(rt);
     let first = verify(rt.alloc(), program);
@@ -114,16 +117,20 @@ pub fn verifies<R: Print + AllocGlobal>(rt: &R, campaign: Campaign) -> Result<Ou
 fn verifies_again(
     alloc: Global,
     first: Result<Verified, Refused>,
-    campaign: Campaign,
-) -> Result<Outcome> {
+    campaign: SampleCampaign,
+) -> Result<CallOutcome> {
     let is_refused = first.is_err();
     let first = judged(alloc, first)?;
     let outcome = compared(first, accepted(alloc, campaign.program(alloc)?)?)?;
-    Ok(if is_refused { Outcome::Memory } else { outcome })
+    Ok(if is_refused {
+        CallOutcome::Memory
+    } else {
+        outcome
+    })
 }
 
 /// What `verify` tells, at last: where memory was refused first, the program came back, and was given again.
-fn judged(alloc: Global, answer: Result<Verified, Refused>) -> Result<Told> {
+fn judged(alloc: Global, answer: Result<Verified, Refused>) -> Result<CallAnswer> {
     match answer {
         Ok(verified) => told_program(alloc, verified.program()),
         Err(Refused { program, fault }) => given_again(alloc, program, fault),
@@ -131,7 +138,7 @@ fn judged(alloc: Global, answer: Result<Verified, Refused>) -> Result<Told> {
 }
 
 /// What it tells when it is given the program again, which came back since memory was refused.
-fn given_again(alloc: Global, program: Program, fault: VerifyError) -> Result<Told> {
+fn given_again(alloc: Global, program: Program, fault: VerifyError) -> Result<CallAnswer> {
     match fault {
         VerifyError::Memory => accepted(alloc, program),
         _ => bail!("a program is refused that is to be accepted"),
@@ -139,7 +146,7 @@ fn given_again(alloc: Global, program: Program, fault: VerifyError) -> Result<To
 }
 
 /// What `verify` tells of a program that is accepted.
-fn accepted(alloc: Global, program: Program) -> Result<Told> {
+fn accepted(alloc: Global, program: Program) -> Result<CallAnswer> {
     match verify(alloc, program) {
         Ok(verified) => told_program(alloc, verified.program()),
         Err(_) => bail!("a program is refused"),
@@ -147,6 +154,6 @@ fn accepted(alloc: Global, program: Program) -> Result<Told> {
 }
 
 /// A program, told by its assembly.
-fn told_program(alloc: Global, program: &Program) -> Result<Told> {
-    Ok(Told::Bytes(disassemble(alloc, program)?.into_bytes()))
+fn told_program(alloc: Global, program: &Program) -> Result<CallAnswer> {
+    Ok(CallAnswer::Bytes(disassemble(alloc, program)?.into_bytes()))
 }

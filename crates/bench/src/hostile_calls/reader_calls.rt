@@ -1,18 +1,18 @@
 //! The calls that read scenarios and schedules, and schedules that chance has made.
-use crate::chronicles::{Messages, played, told, told_freely};
-use crate::hostile::campaign::Campaign;
-use crate::hostile::changes::next;
-use crate::hostile::marks::{back, ready};
-use crate::hostile::outcome::{Outcome, Told, compared};
+use crate::chronicles::{MessageKind, played, told, told_freely};
+use crate::hostile_calls::campaign::SampleCampaign;
+use crate::hostile_calls::changes::next;
+use crate::hostile_calls::marks::{back, ready};
+use crate::hostile_calls::outcome::{CallAnswer, CallOutcome, compared};
 use anyhow::{Result, bail};
-use roster::Scenario;
+use round::Scenario;
 use scenario::{ScenarioError, read};
 use std::alloc::{AllocError, Global};
-use trace::{Fault, TraceError, read_schedule};
+use trace::{TraceError, TraceFault, read_schedule};
 use world::Schedule;
 
 /// `read` of the scenario's text.
-pub fn reads<R: Print + AllocGlobal>(rt: &R, campaign: Campaign) -> Result<Outcome> {
+pub fn reads<R: Print + AllocGlobal>(rt: &R, campaign: SampleCampaign) -> Result<CallOutcome> {
     ready(rt);
     let first = read(rt.alloc(), campaign.text());
     back(rt);
@@ -22,16 +22,19 @@ pub fn reads<R: Print + AllocGlobal>(rt: &R, campaign: Campaign) -> Result<Outco
 }
 
 /// What `read` tells: the text of the scenario's chronicle without a schedule.
-fn read_as(alloc: Global, answer: Result<Scenario, ScenarioError>) -> Result<Told> {
+fn read_as(alloc: Global, answer: Result<Scenario, ScenarioError>) -> Result<CallAnswer> {
     match answer {
-        Ok(scenario) => Ok(Told::Bytes(told_freely(alloc, Messages::Oral, scenario)?)),
-        Err(ScenarioError::Memory) => Ok(Told::Memory),
+        Ok(scenario) => Ok(CallAnswer::Bytes(told_freely(alloc, MessageKind::Oral, scenario)?)),
+        Err(ScenarioError::Memory) => Ok(CallAnswer::Memory),
         Err(_) => bail!("a scenario is refused"),
     }
 }
 
 /// `read_schedule` of the schedule's text.
-pub fn reads_schedule<R: Print + AllocGlobal>(rt: &R, campaign: Campaign) -> Result<Outcome> {
+pub fn reads_schedule<R: Print + AllocGlobal>(
+    rt: &R,
+    campaign: SampleCampaign,
+) -> Result<CallOutcome> {
     ready(rt);
     let first = read_schedule(rt.alloc(), campaign.schedule_text());
     back(rt);
@@ -43,20 +46,20 @@ pub fn reads_schedule<R: Print + AllocGlobal>(rt: &R, campaign: Campaign) -> Res
 /// What `read_schedule` tells: the text of the campaign's chronicle by the schedule.
 fn told_by(
     alloc: Global,
-    campaign: Campaign,
+    campaign: SampleCampaign,
     answer: Result<Schedule, TraceError>,
-) -> Result<Told> {
+) -> Result<CallAnswer> {
     match answer {
         Ok(schedule) => scheduled(alloc, campaign, &schedule),
-        Err(TraceError::Memory) => Ok(Told::Memory),
+        Err(TraceError::Memory) => Ok(CallAnswer::Memory),
         Err(_) => bail!("a schedule is refused"),
     }
 }
 
 /// The text of the campaign's chronicle by a schedule.
-fn scheduled(alloc: Global, campaign: Campaign, schedule: &Schedule) -> Result<Told> {
-    let scenario = campaign.scenario(alloc, Messages::Oral)?;
-    Ok(Told::Bytes(told(alloc, Messages::Oral, scenario, schedule)?))
+fn scheduled(alloc: Global, campaign: SampleCampaign, schedule: &Schedule) -> Result<CallAnswer> {
+    let scenario = campaign.scenario(alloc, MessageKind::Oral)?;
+    Ok(CallAnswer::Bytes(told(alloc, MessageKind::Oral, scenario, schedule)?))
 }
 
 /// What a schedule is made of by chance.
@@ -70,7 +73,7 @@ const SCHEDULES: u32 = 10_000;
 /// Reads schedules that chance has made, and plays those that are told.
 pub fn report<R: Print + AllocGlobal>(rt: &R) -> Result<()> {
     let alloc = rt.alloc();
-    let scenario = Campaign::Seven.scenario(alloc, Messages::Oral)?;
+    let scenario = SampleCampaign::Seven.scenario(alloc, MessageKind::Oral)?;
     if !are_answered(alloc, &scenario)? {
         bail!("a schedule is not answered as it should be");
     }
@@ -97,7 +100,7 @@ fn is_answered(alloc: Global, scenario: &Scenario, text: &str) -> Result<bool, A
             let _chronicle = played(alloc, scenario, &schedule)?;
             Ok(true)
         }
-        Err(TraceError::At(Fault::Line, 1..=6)) => Ok(true),
+        Err(TraceError::At(TraceFault::Line, 1..=6)) => Ok(true),
         Err(_) => Ok(false),
     }
 }

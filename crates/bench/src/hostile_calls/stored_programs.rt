@@ -1,6 +1,6 @@
 //! Stored programs, cut off and changed.
-use crate::hostile::bytecode::is_answered;
-use crate::hostile::changes::with_byte;
+use crate::hostile_calls::bytecode::is_answered;
+use crate::hostile_calls::changes::with_byte;
 use anyhow::{Result, bail};
 use asm::assemble;
 use codec::encode;

@@ -1,11 +1,11 @@
 //! The calls on worlds: opened, led on event by event, played, and mustered.
-use crate::chronicles::{Messages, text, told_freely};
-use crate::hostile::campaign::Campaign;
-use crate::hostile::marks::{back, ready};
-use crate::hostile::outcome::{Outcome, Told, compared, led};
-use crate::hostile::worlds::{Led, Made};
+use crate::chronicles::{MessageKind, text, told_freely};
+use crate::hostile_calls::campaign::SampleCampaign;
+use crate::hostile_calls::marks::{back, ready};
+use crate::hostile_calls::outcome::{CallAnswer, CallOutcome, compared, led};
+use crate::hostile_calls::worlds::{Led, Made};
 use anyhow::{Result, bail};
-use roster::Scenario;
+use round::Scenario;
 use std::alloc::{AllocError, Global};
 use std::str;
 use std::sync::Wait;
@@ -17,9 +17,9 @@ use world::{Chronicle, Event, EventError, Schedule};
 /// `World::open`, or `SignedWorld::open`.
 pub fn opens<R: Print + AllocGlobal>(
     rt: &R,
-    messages: Messages,
-    campaign: Campaign,
-) -> Result<Outcome> {
+    messages: MessageKind,
+    campaign: SampleCampaign,
+) -> Result<CallOutcome> {
     let scenario = campaign.scenario(rt.alloc(), messages)?;
     ready(rt);
     let first = Led::open(rt.alloc(), messages, scenario);
@@ -30,25 +30,29 @@ pub fn opens<R: Print + AllocGlobal>(
 /// What comes of it, and of the same call again.
 fn opens_again(
     alloc: Global,
-    messages: Messages,
-    campaign: Campaign,
+    messages: MessageKind,
+    campaign: SampleCampaign,
     first: Result<Led, AllocError>,
-) -> Result<Outcome> {
+) -> Result<CallOutcome> {
     let first = opened(alloc, first, campaign)?;
     let again = Led::open(alloc, messages, campaign.scenario(alloc, messages)?);
     compared(first, opened(alloc, again, campaign)?)
 }
 
 /// What it tells: the text of the chronicle to which the campaign's events lead the world.
-fn opened(alloc: Global, answer: Result<Led, AllocError>, campaign: Campaign) -> Result<Told> {
+fn opened(
+    alloc: Global,
+    answer: Result<Led, AllocError>,
+    campaign: SampleCampaign,
+) -> Result<CallAnswer> {
     match answer {
-        Ok(world) => Ok(Told::Bytes(led_on(alloc, world, campaign)?)),
-        Err(_) => Ok(Told::Memory),
+        Ok(world) => Ok(CallAnswer::Bytes(led_on(alloc, world, campaign)?)),
+        Err(_) => Ok(CallAnswer::Memory),
     }
 }
 
 /// The text of the chronicle to which the campaign's events lead the world.
-fn led_on(alloc: Global, mut world: Led, campaign: Campaign) -> Result<Vec<u8>> {
+fn led_on(alloc: Global, mut world: Led, campaign: SampleCampaign) -> Result<Vec<u8>> {
     let events = campaign.events(alloc)?;
     let _is_refused = happen(&mut world, events.as_slice())?;
     world.text(alloc)
@@ -57,9 +61,9 @@ fn led_on(alloc: Global, mut world: Led, campaign: Campaign) -> Result<Vec<u8>> 
 /// `apply` of each of the campaign's events. In the end the world has the chronicle of ample memory.
 pub fn happens<R: Print + AllocGlobal>(
     rt: &R,
-    messages: Messages,
-    campaign: Campaign,
-) -> Result<Outcome> {
+    messages: MessageKind,
+    campaign: SampleCampaign,
+) -> Result<CallOutcome> {
     let events = campaign.events(rt.alloc())?;
     let mut world = Led::open(
         rt.alloc(),
@@ -77,9 +81,9 @@ fn ended(
     alloc: Global,
     is_refused: bool,
     world: Led,
-    messages: Messages,
-    campaign: Campaign,
-) -> Result<Outcome> {
+    messages: MessageKind,
+    campaign: SampleCampaign,
+) -> Result<CallOutcome> {
     let first = world.text(alloc)?;
     let ample = told_freely(alloc, messages, campaign.scenario(alloc, messages)?)?;
     led(is_refused, first.as_slice(), ample.as_slice())
@@ -121,9 +125,9 @@ fn happens_again(world: &mut Led, event: Event, before: &[u32]) -> Result<bool> 
 /// `play` by the campaign's schedule, or `play_signed`.
 pub fn plays<R: Print + AllocGlobal>(
     rt: &R,
-    messages: Messages,
-    campaign: Campaign,
-) -> Result<Outcome> {
+    messages: MessageKind,
+    campaign: SampleCampaign,
+) -> Result<CallOutcome> {
     let schedule = campaign.schedule(rt.alloc())?;
     let scenario = campaign.scenario(rt.alloc(), messages)?;
     ready(rt);
@@ -135,11 +139,11 @@ pub fn plays<R: Print + AllocGlobal>(
 /// What comes of it, and of the same call again.
 fn plays_again(
     alloc: Global,
-    messages: Messages,
-    campaign: Campaign,
+    messages: MessageKind,
+    campaign: SampleCampaign,
     schedule: &Schedule,
     first: Result<Made, AllocError>,
-) -> Result<Outcome> {
+) -> Result<CallOutcome> {
     let first = chronicled(alloc, first)?;
     let scenario = campaign.scenario(alloc, messages)?;
     let again = Made::play(alloc, messages, scenario, schedule);
@@ -147,19 +151,19 @@ fn plays_again(
 }
 
 /// What it tells: the text of its chronicle.
-fn chronicled(alloc: Global, answer: Result<Made, AllocError>) -> Result<Told> {
+fn chronicled(alloc: Global, answer: Result<Made, AllocError>) -> Result<CallAnswer> {
     match answer {
-        Ok(chronicle) => Ok(Told::Bytes(chronicle.text(alloc)?)),
-        Err(_) => Ok(Told::Memory),
+        Ok(chronicle) => Ok(CallAnswer::Bytes(chronicle.text(alloc)?)),
+        Err(_) => Ok(CallAnswer::Memory),
     }
 }
 
 /// `muster`. The order of the accesses is the threads', so chronicles are not compared, but audited.
 pub fn musters<R: Print + Threads + Wait + Sync + AllocGlobal>(
     rt: &R,
-    campaign: Campaign,
-) -> Result<Outcome> {
-    let scenario = campaign.scenario(rt.alloc(), Messages::Oral)?;
+    campaign: SampleCampaign,
+) -> Result<CallOutcome> {
+    let scenario = campaign.scenario(rt.alloc(), MessageKind::Oral)?;
     ready(rt);
     let first = muster(rt, rt.alloc(), scenario, &Open);
     back(rt);
@@ -169,10 +173,10 @@ pub fn musters<R: Print + Threads + Wait + Sync + AllocGlobal>(
 /// What comes of it, and of the same call again.
 fn musters_again<R: Threads + Wait + Sync + AllocGlobal>(
     rt: &R,
-    campaign: Campaign,
+    campaign: SampleCampaign,
     first: Result<Chronicle, MusterError>,
-) -> Result<Outcome> {
-    let scenario = campaign.scenario(rt.alloc(), Messages::Oral)?;
+) -> Result<CallOutcome> {
+    let scenario = campaign.scenario(rt.alloc(), MessageKind::Oral)?;
     let first = audited(rt.alloc(), first, &scenario)?;
     let again = muster(rt, rt.alloc(), scenario.copy(rt.alloc())?, &Open);
     compared(first, audited(rt.alloc(), again, &scenario)?)
@@ -183,21 +187,21 @@ fn audited(
     alloc: Global,
     answer: Result<Chronicle, MusterError>,
     scenario: &Scenario,
-) -> Result<Told> {
+) -> Result<CallAnswer> {
     match answer {
         Ok(chronicle) => audit(alloc, scenario, &chronicle),
-        Err(MusterError::Memory) => Ok(Told::Memory),
-        Err(MusterError::Spawn) => Ok(Told::NoThread),
+        Err(MusterError::Memory) => Ok(CallAnswer::Memory),
+        Err(MusterError::Spawn) => Ok(CallAnswer::NoThread),
         Err(_) => bail!("the muster is refused"),
     }
 }
 
 /// Audits the chronicle, which is to be sound.
-fn audit(alloc: Global, scenario: &Scenario, chronicle: &Chronicle) -> Result<Told> {
+fn audit(alloc: Global, scenario: &Scenario, chronicle: &Chronicle) -> Result<CallAnswer> {
     let text = text(alloc, chronicle)?;
     let told = str::from_utf8(text.as_slice())?;
     match check(alloc, scenario, told) {
-        Ok(_) => Ok(Told::Bytes(Vec::new(alloc))),
+        Ok(_) => Ok(CallAnswer::Bytes(Vec::new(alloc))),
         Err(_) => bail!("a chronicle is not sound"),
     }
 }

@@ -1,8 +1,8 @@
 //! Worlds and chronicles of oral or of signed messages.
-use crate::chronicles::{Messages, signed_text, text};
+use crate::chronicles::{MessageKind, signed_text, text};
 use anyhow::{Result, bail};
 use arrayvec::ArrayVec;
-use roster::Scenario;
+use round::Scenario;
 use signed::{SignedChronicle, SignedWorld, play_signed};
 use std::alloc::{AllocError, Global};
 use world::{Chronicle, Event, EventError, Schedule, World, play};
@@ -16,10 +16,14 @@ pub enum Led {
 
 impl Led {
     /// `World::open`, or `SignedWorld::open`.
-    pub fn open(alloc: Global, messages: Messages, scenario: Scenario) -> Result<Led, AllocError> {
+    pub fn open(
+        alloc: Global,
+        messages: MessageKind,
+        scenario: Scenario,
+    ) -> Result<Led, AllocError> {
         match messages {
-            Messages::Oral => Ok(Led::Oral(World::open(alloc, scenario)?)),
-            Messages::Signed => Ok(Led::Signed(SignedWorld::open(alloc, scenario)?)),
+            MessageKind::Oral => Ok(Led::Oral(World::open(alloc, scenario)?)),
+            MessageKind::Signed => Ok(Led::Signed(SignedWorld::open(alloc, scenario)?)),
         }
     }
 
@@ -83,13 +87,13 @@ impl Made {
     /// `play`, or `play_signed`.
     pub fn play(
         alloc: Global,
-        messages: Messages,
+        messages: MessageKind,
         scenario: Scenario,
         schedule: &Schedule,
     ) -> Result<Made, AllocError> {
         match messages {
-            Messages::Oral => Ok(Made::Oral(play(alloc, scenario, schedule)?)),
-            Messages::Signed => Ok(Made::Signed(play_signed(alloc, scenario, schedule)?)),
+            MessageKind::Oral => Ok(Made::Oral(play(alloc, scenario, schedule)?)),
+            MessageKind::Signed => Ok(Made::Signed(play_signed(alloc, scenario, schedule)?)),
         }
     }
 

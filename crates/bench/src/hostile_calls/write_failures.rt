@@ -1,7 +1,7 @@
 //! Writers that fail, and what they have taken then.
-use crate::chronicles::{Messages, freely, signed_text, text};
-use crate::hostile::campaign::Campaign;
-use crate::hostile::writer::Writer;
+use crate::chronicles::{MessageKind, freely, signed_text, text};
+use crate::hostile_calls::campaign::SampleCampaign;
+use crate::hostile_calls::writer::Writer;
 use anyhow::{Result, bail};
 use signed::{SignedChronicle, play_signed};
 use std::alloc::Global;
@@ -50,8 +50,8 @@ fn report_size<R: Print + AllocGlobal>(rt: &R, size: usize) -> Result<()> {
 
 /// Whether each failure is told of the chronicle of oral messages.
 fn are_told(alloc: Global, size: usize) -> Result<bool> {
-    let schedule = Campaign::Seven.schedule(alloc)?;
-    let scenario = Campaign::Seven.scenario(alloc, Messages::Oral)?;
+    let schedule = SampleCampaign::Seven.schedule(alloc)?;
+    let scenario = SampleCampaign::Seven.scenario(alloc, MessageKind::Oral)?;
     let chronicle = play(alloc, scenario, &schedule)?;
     let whole = text(alloc, &chronicle)?;
     Ok(fails_at_each_write(alloc, Told::Oral(&chronicle), whole.as_slice(), size))
@@ -59,7 +59,7 @@ fn are_told(alloc: Global, size: usize) -> Result<bool> {
 
 /// Whether each failure is told of that of signed messages.
 fn are_signed_told(alloc: Global, size: usize) -> Result<bool> {
-    let scenario = Campaign::Seven.scenario(alloc, Messages::Signed)?;
+    let scenario = SampleCampaign::Seven.scenario(alloc, MessageKind::Signed)?;
     let chronicle = play_signed(alloc, scenario, &freely(alloc))?;
     let whole = signed_text(alloc, &chronicle)?;
     Ok(fails_at_each_write(alloc, Told::Signed(&chronicle), whole.as_slice(), size))

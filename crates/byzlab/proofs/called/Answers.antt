@@ -1,5 +1,5 @@
 use Rattle.std.proofs.lemmas.Result.{IfOk-weaker}
-use Rattle.command_line.specs.Asked.{words_of}
+use Rattle.cli_words.specs.Asked.{words_of}
 use Rattle.byzlab.proofs.called.Goals as goal
 
 pub returns-clause-done : goal.returns-clause-done

@@ -5,11 +5,11 @@ ghost use Rattle.surveyor.specs.Asked.{IsSurvey};
 ghost use Rattle.surveyor.specs.Flags.{has};
 ghost use Rattle.surveyor.specs.Meant.{IsBreaking, break_shape};
 ghost use Rattle.surveyor.specs.Wrong.{IsNoBreak, IsRefused, IsSaid};
-ghost use Rattle.surveyor.specs.declared.asked.Survey.{Survey};
+ghost use Rattle.surveyor.specs.declared.task.Survey.{Survey};
 
 use super::plays::survey_of;
-use crate::asked::{AskedError, Shape, Survey};
-use crate::given::has;
+use crate::task::{AskedError, ReportKind, Survey};
+use crate::word_values::has;
 use clap::ArgMatches;
 use std::alloc::Global;
 
@@ -18,13 +18,13 @@ const BREAK: &str = "--break is printed, or with --table as a table alone";
 const KEEP: &str = "--break keeps nothing: what it prints can be sent to a file";
 
 /// Whether what breaks agreement is printed as a table alone, if it can be printed in this shape.
-fn is_table(shape: Shape) -> Option<bool>
+fn is_table(shape: ReportKind) -> Option<bool>
     ensures { MatchOption result ((is_table : Bool) → shape ≢ break_shape is_table) (λ is_table. shape ≡ break_shape is_table) }
 {
     match shape {
-        Shape::Sums => Some(false),
-        Shape::Table => Some(true),
-        Shape::Lines | Shape::Picture | Shape::Least => None,
+        ReportKind::Sums => Some(false),
+        ReportKind::Table => Some(true),
+        ReportKind::Lines | ReportKind::Picture | ReportKind::Least => None,
     }
 }
 

@@ -6,15 +6,15 @@ ghost use Rattle.surveyor.specs.Flags.{given, has};
 ghost use Rattle.surveyor.specs.Meant.{AreSeeds, IsPatience, IsSurveying, IsWithin, shape_by, shape_in, some_traitors};
 ghost use Rattle.surveyor.specs.Words.{manner_named, plain_manner};
 ghost use Rattle.surveyor.specs.Wrong.{AreNoSeeds, IsNoManner, IsNoPatience, IsOutside, IsRefused, IsSaid};
-ghost use Rattle.surveyor.specs.declared.asked.Survey.{Survey};
+ghost use Rattle.surveyor.specs.declared.task.Survey.{Survey};
 
-use crate::asked::{AskedError, Shape, Survey};
-use crate::given::{given, has, value};
 use crate::numbers::{patience, seeds, span};
+use crate::task::{AskedError, ReportKind, Survey};
+use crate::word_values::{given, has, value};
 use clap::ArgMatches;
 use combine::Rule;
 use std::alloc::{AllocError, Global};
-use survey::{Manner, Span};
+use survey_draw::{CountRange, Manner};
 
 const GENERALS: &str = "--generals takes 2 to 13, as 4 or 4..7";
 
@@ -32,7 +32,7 @@ const SIGNED: &str = "signed messages have no rule";
 const SHAPE: &str = "one of --lines, --table, --svg, --shrink and --break is printed";
 
 /// The span of numbers that a word tells, none below the least or above the most; else this is said.
-fn within(word: &str, least: u8, most: u8, why: &'static str) -> Result<Span, AskedError>
+fn within(word: &str, least: u8, most: u8, why: &'static str) -> Result<CountRange, AskedError>
     requires { most ≤ 13 }
     ensures told { IfOk result (IsWithin least most word.now) }
     ensures refused { IfErr result (IsSaid why.entry.now (IsOutside least most word.now)) }
@@ -98,21 +98,21 @@ fn manner(found: &ArgMatches) -> Result<Manner, AskedError>
 }
 
 /// What is to be printed, by the words of it that stand there: one at most.
-fn shape_by(lines: bool, table: bool, svg: bool, shrink: bool) -> Option<Shape>
+fn shape_by(lines: bool, table: bool, svg: bool, shrink: bool) -> Option<ReportKind>
     ensures { result ≡ shape_by lines table svg shrink }
 {
     match (lines, table, svg, shrink) {
-        (false, false, false, false) => Some(Shape::Sums),
-        (true, false, false, false) => Some(Shape::Lines),
-        (false, true, false, false) => Some(Shape::Table),
-        (false, false, true, false) => Some(Shape::Picture),
-        (false, false, false, true) => Some(Shape::Least),
+        (false, false, false, false) => Some(ReportKind::Sums),
+        (true, false, false, false) => Some(ReportKind::Lines),
+        (false, true, false, false) => Some(ReportKind::Table),
+        (false, false, true, false) => Some(ReportKind::Picture),
+        (false, false, false, true) => Some(ReportKind::Least),
         _ => None,
     }
 }
 
 /// What is to be printed of campaigns.
-pub(super) fn printed(found: &ArgMatches) -> Result<Shape, AskedError>
+pub(super) fn printed(found: &ArgMatches) -> Result<ReportKind, AskedError>
     ensures { let shape = shape_in (rows_of (found_of found.now)) in
         MatchResult result (λ s. shape ≡ Some s)
         (IsSaid (codes "one of --lines, --table, --svg, --shrink and --break is printed") (shape ≡ None)) }

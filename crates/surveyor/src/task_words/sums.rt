@@ -5,11 +5,11 @@ ghost use Rattle.clap.specs.Words.{found_of, rows_of};
 ghost use Rattle.surveyor.specs.Flags.{given, has};
 ghost use Rattle.surveyor.specs.Meant.{AreSaid, IsMerging, bars_sum, names_in};
 ghost use Rattle.surveyor.specs.Wrong.{AreNoSeeds, AreTwice, IsRefused, IsSaid};
-ghost use Rattle.surveyor.specs.declared.asked.Merge.{Merge};
+ghost use Rattle.surveyor.specs.declared.task.Merge.{Merge};
 
 use super::plays::{printed, told_seeds};
-use crate::asked::{AskedError, Merge};
-use crate::given::{given, has};
+use crate::task::{AskedError, Merge};
+use crate::word_values::{given, has};
 use clap::ArgMatches;
 use std::alloc::{AllocError, Global};
 

@@ -1,12 +1,12 @@
 //! How far the generals have come in a round.
 ghost use Rattle.std.specs.Prelude.{◌≡◌, ◌↔◌, ◌⊎◌, ◌+◌, ◌≤◌, min, None, Some, IsSome, IsTrue, IfOk, OnOk, IfErr};
 
-mod uncounted;
+mod uncounted_letter;
 
 use crate::camp::HandedOut;
+use crate::poster::Poster;
 use crate::resident::Failed;
-use post::Poster;
-pub(crate) use uncounted::{Uncounted, send};
+pub(crate) use uncounted_letter::{Uncounted, send};
 
 /// That all generals have posted their letters of a round, as `begin_again` alone tells.
 #[derive(Drop)]

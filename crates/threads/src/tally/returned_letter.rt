@@ -1,7 +1,7 @@
 //! A letter that came back.
 ghost use Rattle.std.specs.Prelude.{◌≡◌, Ok, IsErrAnd, MatchResult};
 
-use letter::Letter;
+use round::Letter;
 
 /// That a letter came back from the post, which had no room for it, as `posted` alone tells.
 #[derive(Clone, Copy)]

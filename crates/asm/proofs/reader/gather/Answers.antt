@@ -2,7 +2,7 @@ use Rattle.std.proofs.Common.{refl, arith, rules}
 use Rattle.std.proofs.lemmas.Grind.{common_steps}
 use Rattle.asm.specs.Program.{nothing}
 use Rattle.asm.proofs.KeepingLemmas.{units_are}
-use Rattle.asm.proofs.reading.gather.Goals as goal
+use Rattle.asm.proofs.reader.gather.Goals as goal
 
 pub loop-line-init : goal.loop-line-init
 loop-line-init c = record {

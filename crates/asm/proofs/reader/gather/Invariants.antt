@@ -1,7 +1,7 @@
 use Rattle.std.proofs.Common.{◌≡◌, ◌≤◌, ◌+◌, ◌*◌, length}
 use Rattle.asm.specs.Program.{Read, read_on, nothing, lines_of}
 use Rattle.asm.specs.Keeping.{Keeps}
-use Rattle.asm.proofs.reading.gather.Given as goal
+use Rattle.asm.proofs.reader.gather.Given as goal
 
 abbrev pub invariant-loop-line : goal.invariant-loop-line
 invariant-loop-line l = record {

@@ -1,7 +1,7 @@
 use Rattle.std.proofs.Common.{map, string_bytes}
 use Rattle.std.proofs.lemmas.Result.{IfOk-weaker}
 use Rattle.asm.proofs.PlaceLemmas.{places_read}
-use Rattle.asm.proofs.written.places.Goals as goal
+use Rattle.asm.proofs.unit_places.places.Goals as goal
 
 pub returns-in-Ok : goal.returns-in-Ok
 returns-in-Ok c =

@@ -1,5 +1,5 @@
 use Rattle.std.proofs.Common.{length}
-use Rattle.asm.proofs.wording.+put_more.Given as goal
+use Rattle.asm.proofs.unit_text.+put_more.Given as goal
 
 abbrev pub decreases-put_more : goal.decreases-put_more
 decreases-put_more l = length l.operands.now

@@ -1,7 +1,7 @@
 use Rattle.std.proofs.Common.{◌≡◌, List}
-use Rattle.letter.specs.Letters.{Letter}
-use Rattle.letter.specs.Origin.{AreLettersOf}
-use Rattle.delivery.specs.Told.{WasTold}
+use Rattle.round.specs.Letters.{Letter}
+use Rattle.round.specs.Origin.{AreLettersOf}
+use Rattle.round.specs.Told.{WasTold}
 use Rattle.std.specs.Prelude.{◌≤◌, suc}
 use Rattle.bench.proofs.rounds.delivery_time.Given as goal
 

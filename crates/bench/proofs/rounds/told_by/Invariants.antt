@@ -1,5 +1,5 @@
 use Rattle.std.proofs.Common.{take}
-use Rattle.delivery.specs.Told.{WasTold}
+use Rattle.round.specs.Told.{WasTold}
 use Rattle.bench.proofs.rounds.told_by.Given as goal
 
 abbrev pub invariant-loop-round : goal.invariant-loop-round

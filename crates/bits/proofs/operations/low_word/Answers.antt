@@ -1,7 +1,7 @@
 use Rattle.std.proofs.Common.{ℕ, sym, subst}
 use Rattle.bits.specs.Known.{HasBits}
 use Rattle.bits.proofs.Laws.{cut_holds, cut_apart}
-use Rattle.bits.proofs.operate.low_word.Goals as goal
+use Rattle.bits.proofs.operations.low_word.Goals as goal
 
 pub invariant_of-result : goal.invariant_of-result
 invariant_of-result c = cut_apart c.a.inside.mask c.a.inside.value c.a.invariant

@@ -1,6 +1,6 @@
 use Rattle.std.proofs.Common.{ℕ, subst, arith}
 use Rattle.bits.proofs.BitRows.{AreBits, table_has}
-use Rattle.bits.proofs.operate.operate.Goals as goal
+use Rattle.bits.proofs.operations.operate.Goals as goal
 
 pub returns-clause-holds : goal.returns-clause-holds
 returns-clause-holds c = λ x y h k fits.

@@ -1,6 +1,6 @@
 use Rattle.std.proofs.Common.{◌<◌, ◌^◌, ℕ, get_or, arith, subst}
 use Rattle.std.proofs.lemmas.List.{get_or_default}
-use Rattle.board.proofs.recalling.recall_board.Goals as goal
+use Rattle.board.proofs.kept_facts.recall_board.Goals as goal
 
 pub returns : goal.returns
 returns c = record {

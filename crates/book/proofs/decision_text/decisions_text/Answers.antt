@@ -5,10 +5,10 @@ use Rattle.label.specs.Labels.{on}
 use Rattle.book.proofs.Steps.{others-more_no}
 use Rattle.book.specs.Decisions.{decision_of}
 use Rattle.book.proofs.Gathering.{lines_yes}
-use Rattle.tables.specs.Lines.{decision_line}
-use Rattle.tables.proofs.LineLemmas.{lines_all, order_is, order_there, place_more, place_small}
-use Rattle.tables.proofs.deciding.decisions_text.Goals as goal
-use Rattle.tables.proofs.deciding.decisions_text.Goals.{then-general-commander+in_ok-push_decision, else-general-commander}
+use Rattle.book.specs.Lines.{decision_line}
+use Rattle.book.proofs.LineLemmas.{lines_all, order_is, order_there, place_more, place_small}
+use Rattle.book.proofs.decision_text.decisions_text.Goals as goal
+use Rattle.book.proofs.decision_text.decisions_text.Goals.{then-general-commander+in_ok-push_decision, else-general-commander}
 
 -- a lieutenant is new to the list of the commander alone
 apart : (general commander known : ℕ) → known ≡ commander → (general ≡ known → ⊥) → on (commander ∷ []) general ≡ false

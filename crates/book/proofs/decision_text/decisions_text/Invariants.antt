@@ -3,8 +3,8 @@ use Rattle.std.specs.List.{flat_map}
 use Rattle.std.specs.String.{string_bytes}
 use Rattle.label.specs.Labels.{others}
 use Rattle.book.specs.Decisions.{decision_of}
-use Rattle.tables.specs.Lines.{decision_line}
-use Rattle.tables.proofs.deciding.decisions_text.Given as goal
+use Rattle.book.specs.Lines.{decision_line}
+use Rattle.book.proofs.decision_text.decisions_text.Given as goal
 
 -- the lines of the lieutenants so far, and how many they are
 abbrev pub invariant-loop-general : goal.invariant-loop-general

@@ -3,8 +3,8 @@ use Rattle.std.specs.String.{string_bytes}
 use Rattle.book.specs.Explained.{lieutenant_lines}
 use Rattle.book.proofs.Gathering.{lines_yes, lines_no, off_first, on_first}
 use Rattle.book.proofs.TextLemmas.{explained_whole}
-use Rattle.book.proofs.explaining.explain.Goals as goal
-use Rattle.book.proofs.explaining.explain.Goals.{then-general-commander+in_ok-push_lieutenant, else-general-commander}
+use Rattle.book.proofs.explanation.explain.Goals as goal
+use Rattle.book.proofs.explanation.explain.Goals.{then-general-commander+in_ok-push_lieutenant, else-general-commander}
 
 pub loop-general-preserved : goal.loop-general-preserved
 loop-general-preserved g c =

@@ -4,7 +4,7 @@ use Rattle.std.specs.String.{string_bytes}
 use Rattle.std.proofs.Common.{append_assoc, ◌≡◌, ◌++◌}
 use Rattle.std.proofs.lemmas.Result.{IfOk-weaker}
 use Rattle.book.proofs.TextLemmas.{few_is}
-use Rattle.book.proofs.explaining.few_part.Goals as goal
+use Rattle.book.proofs.explanation.few_part.Goals as goal
 
 pub returns : goal.returns
 returns g c =

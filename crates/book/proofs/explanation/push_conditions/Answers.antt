@@ -3,7 +3,7 @@ use Rattle.std.specs.String.{string_bytes}
 use Rattle.std.proofs.lemmas.Result.{on_ok_weaker}
 use Rattle.book.specs.Explained.{bound_line, alike_line}
 use Rattle.book.proofs.TextLemmas.{conditions_whole, pushed}
-use Rattle.book.proofs.explaining.push_conditions.Goals as goal
+use Rattle.book.proofs.explanation.push_conditions.Goals as goal
 
 pub returns : goal.returns
 returns g c =

@@ -4,7 +4,7 @@ use Rattle.std.proofs.lemmas.Result.{on_ok_weaker}
 use Rattle.book.specs.Explained.{head_line}
 use Rattle.book.proofs.ListLemmas.{held_decides}
 use Rattle.book.proofs.TextLemmas.{lieutenant_whole}
-use Rattle.book.proofs.explaining.push_lieutenant.Goals as goal
+use Rattle.book.proofs.explanation.push_lieutenant.Goals as goal
 
 pub returns : goal.returns
 returns g c =

@@ -3,8 +3,8 @@ use Rattle.label.specs.Labels.{others}
 use Rattle.book.specs.Conditions.{loyal_decisions}
 use Rattle.book.specs.Decisions.{decision_of}
 use Rattle.book.proofs.Gathering.{map_yes, map_no, few_others, off_first, on_first, on_behind}
-use Rattle.book.proofs.judging.loyal_decisions.Goals as goal
-use Rattle.book.proofs.judging.loyal_decisions.Goals.{then-general-commander+then-not-is_named, else-general-commander, else-general-commander-via-then-general-commander+else-not-is_named, else-general-commander-via-else-general-commander}
+use Rattle.book.proofs.judgement.loyal_decisions.Goals as goal
+use Rattle.book.proofs.judgement.loyal_decisions.Goals.{then-general-commander+then-not-is_named, else-general-commander, else-general-commander-via-then-general-commander+else-not-is_named, else-general-commander-via-else-general-commander}
 
 pub push-requires : goal.push-requires
 push-requires g c =

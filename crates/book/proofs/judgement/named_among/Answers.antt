@@ -1,8 +1,8 @@
 use Rattle.std.proofs.Common.{◌∙◌, arith, sym}
 use Rattle.label.specs.Labels.{on}
 use Rattle.book.proofs.Gathering.{count_yes, count_no}
-use Rattle.book.proofs.judging.named_among.Goals as goal
-use Rattle.book.proofs.judging.named_among.Goals.{then-is_named, else-is_named}
+use Rattle.book.proofs.judgement.named_among.Goals as goal
+use Rattle.book.proofs.judgement.named_among.Goals.{then-is_named, else-is_named}
 
 pub loop-general-preserved : goal.loop-general-preserved
 loop-general-preserved c =

@@ -3,8 +3,8 @@ use Rattle.label.specs.Labels.{others}
 use Rattle.book.specs.Conditions.{sent}
 use Rattle.book.specs.Table.{told}
 use Rattle.book.proofs.Gathering.{map_yes, map_no, few_others, off_first, on_first}
-use Rattle.book.proofs.judging.sent.Goals as goal
-use Rattle.book.proofs.judging.sent.Goals.{then-general-commander, else-general-commander}
+use Rattle.book.proofs.judgement.sent.Goals as goal
+use Rattle.book.proofs.judgement.sent.Goals.{then-general-commander, else-general-commander}
 
 pub push-requires : goal.push-requires
 push-requires g c =

@@ -1,7 +1,7 @@
 use Rattle.std.proofs.Common.{◌<◌, length, arith}
 use Rattle.std.proofs.lemmas.Option.{slice_get_within}
-use Rattle.tables.proofs.Hearing.{orders_small}
-use Rattle.tables.proofs.recalling.recall_orders.Goals as goal
+use Rattle.book.proofs.Hearing.{orders_small}
+use Rattle.book.proofs.kept_facts.recall_orders.Goals as goal
 
 pub returns : goal.returns
 returns c =

@@ -1,8 +1,8 @@
 use Rattle.std.proofs.Common.{ℕ, ◌<◌, ◌≡◌, Some}
 use Rattle.std.specs.Prelude.{slice_get}
 use Rattle.tree.specs.LieutenantTree.{LieutenantTree}
-use Rattle.tables.proofs.Hearing.{AreLevelsSmall}
-use Rattle.tables.proofs.recalling.recall_orders.Given as goal
+use Rattle.book.proofs.Hearing.{AreLevelsSmall}
+use Rattle.book.proofs.kept_facts.recall_orders.Given as goal
 
 -- those of the trees so far
 abbrev pub invariant-loop-tree : goal.invariant-loop-tree

@@ -1,7 +1,7 @@
 use Rattle.std.proofs.Common.{◌+◌, arith}
 use Rattle.tree.specs.LieutenantTree.{level_of}
-use Rattle.tables.proofs.Hearing.{levels_small, one_more_small, small_level}
-use Rattle.tables.proofs.recalling.recall_tree.Goals as goal
+use Rattle.book.proofs.Hearing.{levels_small, one_more_small, small_level}
+use Rattle.book.proofs.kept_facts.recall_tree.Goals as goal
 
 pub loop-size-preserved : goal.loop-size-preserved
 loop-size-preserved c =

@@ -1,7 +1,7 @@
 use Rattle.std.proofs.Common.{ℕ, ◌<◌, ◌≤◌}
 use Rattle.tree.specs.LieutenantTree.{level_of}
-use Rattle.tables.proofs.Hearing.{AreSmall}
-use Rattle.tables.proofs.recalling.recall_tree.Given as goal
+use Rattle.book.proofs.Hearing.{AreSmall}
+use Rattle.book.proofs.kept_facts.recall_tree.Given as goal
 
 -- those of the levels so far
 abbrev pub invariant-loop-size : goal.invariant-loop-size

@@ -7,8 +7,8 @@ use Rattle.combine.specs.Outcome.{outcome_words}
 use Rattle.book.specs.Explained.{element, held, list_lines, part}
 use Rattle.book.proofs.Gathering.{few_others, text_yes, text_no, lines_yes, lines_no, map_no, on_first, on_behind, off_first}
 use Rattle.book.proofs.ListLemmas.{place_off, held_last, lines_last, own_more, other_more, held_all, lines_all}
-use Rattle.book.proofs.listing.+push_lists.Goals as goal
-use Rattle.book.proofs.listing.+push_lists.Goals.{then-other-general, else-other-general+then-not-has+in_ok-held+in_ok-push_part, else-other-general+else-not-has}
+use Rattle.book.proofs.lists.+push_lists.Goals as goal
+use Rattle.book.proofs.lists.+push_lists.Goals.{then-other-general, else-other-general+then-not-has+in_ok-held+in_ok-push_part, else-other-general+else-not-has}
 
 pub returns-then-relays-eq0-clause-held : goal.returns-then-relays-eq0-clause-held
 returns-then-relays-eq0-clause-held g t c = c.told-told.ensures ∙ held_last (g.H.Heard.seen c.args.table.now) c.args.relays c.args.label.now c.args.general c.if-relays-eq0.true

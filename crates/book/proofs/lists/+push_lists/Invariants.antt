@@ -3,7 +3,7 @@ use Rattle.std.specs.List.{flat_map}
 use Rattle.std.specs.String.{string_bytes}
 use Rattle.label.specs.Labels.{others}
 use Rattle.book.specs.Explained.{element, list_lines, part}
-use Rattle.book.proofs.listing.+push_lists.Given as goal
+use Rattle.book.proofs.lists.+push_lists.Given as goal
 
 abbrev pub decreases-push_lists : goal.decreases-push_lists
 decreases-push_lists g l = l.relays

@@ -1,8 +1,8 @@
 use Rattle.std.proofs.Common.{rules, ◌≡◌, string_bytes}
 use Rattle.std.specs.Prelude.{Some}
 use Rattle.text.specs.Number.{decimal_of}
-use Rattle.tables.proofs.FormLemmas.{formed_uncut, numbers_told}
-use Rattle.tables.proofs.forming.formed.Goals as goal
+use Rattle.book.proofs.NumberLemmas.{formed_uncut, numbers_told}
+use Rattle.book.proofs.table_form.formed.Goals as goal
 
 pub returns-clause-formed : goal.returns-clause-formed
 returns-clause-formed c =

@@ -1,6 +1,6 @@
 use Rattle.std.proofs.Common.{arith}
 use Rattle.resolve.proofs.Decisions.{first-place}
-use Rattle.tables.proofs.tree_table.place.Goals as goal
+use Rattle.book.proofs.tree_table.place.Goals as goal
 
 pub returns-then-commander-general : goal.returns-then-commander-general
 returns-then-commander-general c = first-place c.args.commander c.args.general c.from.result (λ l. c.from.ensures) (λ l. absurd (let h = c.if-commander-general.true in omega arith))

@@ -2,8 +2,8 @@ use Rattle.std.proofs.Common.{◌≡◌, ◌∙◌, Some, length, sym, refl, add
 use Rattle.std.specs.Prelude.{slice_get}
 use Rattle.std.proofs.lemmas.Bool.{ne_eqb}
 use Rattle.std.proofs.lemmas.Option.{slice_get_read}
-use Rattle.tables.proofs.Hearing.{heard_at, none_more}
-use Rattle.tables.proofs.trees.heard.Goals as goal
+use Rattle.book.proofs.Hearing.{heard_at, none_more}
+use Rattle.book.proofs.trees.heard.Goals as goal
 
 pub returns-then-space-receiver : goal.returns-then-space-receiver
 returns-then-space-receiver c =

@@ -1,6 +1,6 @@
 use Rattle.std.proofs.Common.{◌≡◌, take, None}
 use Rattle.std.specs.Prelude.{◌==◌, find}
-use Rattle.tables.proofs.trees.heard.Given as goal
+use Rattle.book.proofs.trees.heard.Given as goal
 
 -- none so far is the receiver's
 abbrev pub invariant-loop-tree : goal.invariant-loop-tree

@@ -1,9 +1,9 @@
 use Rattle.std.proofs.Common.{◌∙◌, ap}
 use Rattle.std.proofs.lemmas.Result.{IfOk-weaker}
 use Rattle.book.specs.Grammar.{table_told}
-use Rattle.tables.specs.Hearing.{heard}
-use Rattle.tables.proofs.Reread.{proved_tables_are_read, within}
-use Rattle.tables.proofs.trees.table_of.Goals as goal
+use Rattle.book.specs.Hearing.{heard}
+use Rattle.book.proofs.Reread.{proved_tables_are_read, within}
+use Rattle.book.proofs.trees.table_of.Goals as goal
 
 pub returns-clause-read : goal.returns-clause-read
 returns-clause-read c =

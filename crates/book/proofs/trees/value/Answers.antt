@@ -1,5 +1,5 @@
-use Rattle.tables.proofs.Hearing.{value_is}
-use Rattle.tables.proofs.trees.value.Goals as goal
+use Rattle.book.proofs.Hearing.{value_is}
+use Rattle.book.proofs.trees.value.Goals as goal
 
 pub returns : goal.returns
 returns c =

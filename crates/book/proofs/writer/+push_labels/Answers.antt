@@ -3,9 +3,9 @@ use Rattle.std.specs.List.{flat_map}
 use Rattle.std.specs.String.{string_bytes}
 use Rattle.label.specs.Labels.{others}
 use Rattle.book.proofs.Gathering.{text_yes, text_no}
-use Rattle.tables.specs.Written.{Marking, lines_from}
-use Rattle.tables.proofs.writing.+push_labels.Goals as goal
-use Rattle.tables.proofs.writing.+push_labels.Goals.{then-not-has+in_ok-longer+in_ok-push_labels, else-not-has}
+use Rattle.book.specs.Written.{Marking, lines_from}
+use Rattle.book.proofs.writer.+push_labels.Goals as goal
+use Rattle.book.proofs.writer.+push_labels.Goals.{then-not-has+in_ok-longer+in_ok-push_labels, else-not-has}
 
 pub loop-general-preserved : goal.loop-general-preserved
 loop-general-preserved g t c =

@@ -2,8 +2,8 @@ use Rattle.std.proofs.Common.{◌≡◌, ◌-◌, ◌++◌, ◌∷◌, []}
 use Rattle.std.specs.List.{flat_map}
 use Rattle.std.specs.String.{string_bytes}
 use Rattle.label.specs.Labels.{others}
-use Rattle.tables.specs.Written.{lines_from}
-use Rattle.tables.proofs.writing.+push_labels.Given as goal
+use Rattle.book.specs.Written.{lines_from}
+use Rattle.book.proofs.writer.+push_labels.Given as goal
 
 abbrev pub decreases-push_labels : goal.decreases-push_labels
 decreases-push_labels g l = l.more

@@ -3,7 +3,7 @@ use Rattle.std.specs.Fmt.{decimal}
 use Rattle.std.specs.String.{string_bytes}
 use Rattle.std.proofs.Common.{append_assoc, ◌≡◌, ◌++◌, ◌∙◌, ap}
 use Rattle.std.proofs.lemmas.Result.{IfOk-weaker}
-use Rattle.tables.proofs.writing.first_line.Goals as goal
+use Rattle.book.proofs.writer.first_line.Goals as goal
 
 pub returns : goal.returns
 returns c =

@@ -3,8 +3,8 @@ use Rattle.std.specs.Fmt.{decimal}
 use Rattle.std.specs.String.{string_bytes}
 use Rattle.std.proofs.Common.{append_assoc, arith, ◌≡◌, ◌++◌, ◌∙◌, ap, sym}
 use Rattle.std.proofs.lemmas.Result.{IfOk-weaker}
-use Rattle.tables.proofs.Naming.{dotted_more}
-use Rattle.tables.proofs.writing.prolonged.Goals as goal
+use Rattle.book.proofs.LabelNames.{dotted_more}
+use Rattle.book.proofs.writer.prolonged.Goals as goal
 
 pub returns : goal.returns
 returns c =

@@ -4,9 +4,9 @@ use Rattle.std.specs.String.{string_bytes}
 use Rattle.label.specs.Labels.{others}
 use Rattle.book.specs.Explained.{dotted}
 use Rattle.book.proofs.Gathering.{text_yes, text_no}
-use Rattle.tables.specs.Written.{line_of, lines_from}
-use Rattle.tables.proofs.writing.push_receivers.Goals as goal
-use Rattle.tables.proofs.writing.push_receivers.Goals.{then-not-has+in_ok-push_line, else-not-has}
+use Rattle.book.specs.Written.{line_of, lines_from}
+use Rattle.book.proofs.writer.push_receivers.Goals as goal
+use Rattle.book.proofs.writer.push_receivers.Goals.{then-not-has+in_ok-push_line, else-not-has}
 
 pub loop-receiver-preserved : goal.loop-receiver-preserved
 loop-receiver-preserved g c =

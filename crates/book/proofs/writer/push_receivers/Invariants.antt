@@ -3,8 +3,8 @@ use Rattle.std.specs.List.{flat_map}
 use Rattle.std.specs.String.{string_bytes}
 use Rattle.label.specs.Labels.{others}
 use Rattle.book.specs.Explained.{dotted}
-use Rattle.tables.specs.Written.{line_of}
-use Rattle.tables.proofs.writing.push_receivers.Given as goal
+use Rattle.book.specs.Written.{line_of}
+use Rattle.book.proofs.writer.push_receivers.Given as goal
 
 -- the lines of the receivers so far
 abbrev pub invariant-loop-receiver : goal.invariant-loop-receiver

@@ -1,8 +1,8 @@
 use Rattle.std.proofs.Common.{◌≡◌, ◌∙◌, ◌++◌, ◌∷◌, [], ◌+◌, arith, sym, ap, ℕ, append-nil}
 use Rattle.std.specs.List.{flat_map, range_with_len}
 use Rattle.book.proofs.Gathering.{range_text}
-use Rattle.tables.specs.Written.{first_line, lines_from, written}
-use Rattle.tables.proofs.writing.write.Goals as goal
+use Rattle.book.specs.Written.{first_line, lines_from, written}
+use Rattle.book.proofs.writer.write.Goals as goal
 
 pub loop-more-init : goal.loop-more-init
 loop-more-init g c = c.in_ok-text.ensures ∙ sym (append-nil (first_line c.args.generals c.args.bound c.args.commander c.args.rule))

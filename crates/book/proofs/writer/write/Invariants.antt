@@ -1,8 +1,8 @@
 use Rattle.std.proofs.Common.{◌≡◌, ◌++◌, ◌∷◌, []}
 use Rattle.std.specs.List.{flat_map, range_with_len}
 use Rattle.std.specs.String.{string_bytes}
-use Rattle.tables.specs.Written.{first_line, lines_from}
-use Rattle.tables.proofs.writing.write.Given as goal
+use Rattle.book.specs.Written.{first_line, lines_from}
+use Rattle.book.proofs.writer.write.Given as goal
 
 -- the first line, and the lines of the labels with fewer generals more than the commander
 abbrev pub invariant-loop-more : goal.invariant-loop-more

@@ -2,7 +2,7 @@
 use Rattle.std.proofs.Common.{◌∙◌, ◌+◌, arith, length}
 use Rattle.byzlab.specs.Kept.{IsKeptIn, Tells}
 use Rattle.byzlab.proofs.KeptLemmas.{handed_on, scenario_first, scenario_is_kept, schedule_is_kept}
-use Rattle.byzlab.proofs.keeping.keep.Goals as goal
+use Rattle.byzlab.proofs.kept_files.keep.Goals as goal
 
 pub returns-in_err-keep_file-clause-unkept : goal.returns-in_err-keep_file-clause-unkept
 returns-in_err-keep_file-clause-unkept c =

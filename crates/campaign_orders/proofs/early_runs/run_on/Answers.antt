@@ -1,7 +1,7 @@
 -- General by general.
 use Rattle.std.proofs.Common.{[], refl}
-use Rattle.explore.proofs.Steady.{run_more}
-use Rattle.explore.proofs.ahead.run_on.Goals as goal
+use Rattle.campaign_orders.proofs.Steady.{run_more}
+use Rattle.campaign_orders.proofs.early_runs.run_on.Goals as goal
 
 pub loop-general-init : goal.loop-general-init
 loop-general-init c = ([], refl)

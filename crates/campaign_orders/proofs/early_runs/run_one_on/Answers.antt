@@ -1,7 +1,7 @@
 -- His turns without an access.
 use Rattle.std.proofs.Common.{[], refl}
-use Rattle.explore.proofs.Steady.{ahead_runs_on}
-use Rattle.explore.proofs.ahead.run_one_on.Goals as goal
+use Rattle.campaign_orders.proofs.Steady.{ahead_runs_on}
+use Rattle.campaign_orders.proofs.early_runs.run_one_on.Goals as goal
 
 pub returns-in-Some : goal.returns-in-Some
 returns-in-Some c = ahead_runs_on c.args.general c.in-Some.most c.run_on.result c.args.world.now c.run_on.new.self c.run_on.ensures.far c.run_on.ensures.same

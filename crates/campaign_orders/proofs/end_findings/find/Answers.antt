@@ -1,14 +1,14 @@
 -- Counted where they were found, or behind all.
 use Rattle.std.proofs.Common.{◌≡◌, ◌∙◌, ◌+◌, ap, subst, refl, List, ℕ}
 use Rattle.world.specs.Playing.{lists_in}
-use Rattle.explore.specs.Exploring.{Finding}
-use Rattle.explore.specs.Gathering.{IsFound}
-use Rattle.explore.specs.Layers.{State, kept}
-use Rattle.explore.specs.Least.{lesser}
-use Rattle.explore.specs.Outcomes.{oral_outcome}
-use Rattle.explore.specs.Places.{IsPlaceOf, IsNowhere}
-use Rattle.explore.proofs.Collecting.{counts_on, finds_first, on_ok_so}
-use Rattle.explore.proofs.gathering.find.Goals as goal
+use Rattle.campaign_orders.specs.Exploring.{Finding}
+use Rattle.campaign_orders.specs.Gathering.{IsFound}
+use Rattle.campaign_orders.specs.Layers.{State, kept}
+use Rattle.campaign_orders.specs.Least.{lesser}
+use Rattle.campaign_orders.specs.Outcomes.{oral_outcome}
+use Rattle.campaign_orders.specs.Places.{IsPlaceOf, IsNowhere}
+use Rattle.campaign_orders.proofs.Collecting.{counts_on, finds_first, on_ok_so}
+use Rattle.campaign_orders.proofs.end_findings.find.Goals as goal
 
 pub returns-in-Some : goal.returns-in-Some
 returns-in-Some c =

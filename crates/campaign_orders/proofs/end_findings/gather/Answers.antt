@@ -1,7 +1,7 @@
 -- State by state.
 use Rattle.std.proofs.Common.{arith}
-use Rattle.explore.proofs.Collecting.{gather_begins, gather_goes_on, gather_ends}
-use Rattle.explore.proofs.gathering.gather.Goals as goal
+use Rattle.campaign_orders.proofs.Collecting.{gather_begins, gather_goes_on, gather_ends}
+use Rattle.campaign_orders.proofs.end_findings.gather.Goals as goal
 
 pub loop-place-init : goal.loop-place-init
 loop-place-init c = gather_begins c.args.states.now c.new-findings.result.items c.new-findings.ensures.items

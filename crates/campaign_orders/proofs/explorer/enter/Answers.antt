@@ -1,10 +1,10 @@
 -- Entered where they were found, or behind all.
 use Rattle.std.proofs.Common.{◌∷◌, [], ◌++◌, ◌∙◌, sym, ap, subst, List}
-use Rattle.explore.specs.Exploring.{Finding}
-use Rattle.explore.specs.Places.{IsPlaceOf, IsNowhere}
+use Rattle.campaign_orders.specs.Exploring.{Finding}
+use Rattle.campaign_orders.specs.Places.{IsPlaceOf, IsNowhere}
 use Rattle.world.specs.Playing.{lists_in}
-use Rattle.explore.proofs.Passing.{entered_there, entered_behind}
-use Rattle.explore.proofs.exploring.enter.Goals as goal
+use Rattle.campaign_orders.proofs.Passing.{entered_there, entered_behind}
+use Rattle.campaign_orders.proofs.explorer.enter.Goals as goal
 
 pub returns-in-Some : goal.returns-in-Some
 returns-in-Some c =

@@ -2,9 +2,9 @@
 use Rattle.std.proofs.Common.{ℕ, sym, subst}
 use Rattle.std.specs.Prelude.{IfOk}
 use Rattle.world.specs.World.{oral_kind}
-use Rattle.explore.specs.Exploring.{IsExploration}
-use Rattle.explore.specs.Outcomes.{oral_outcome}
-use Rattle.explore.proofs.exploring.explore.Goals as goal
+use Rattle.campaign_orders.specs.Exploring.{IsExploration}
+use Rattle.campaign_orders.specs.Outcomes.{oral_outcome}
+use Rattle.campaign_orders.proofs.explorer.explore.Goals as goal
 
 pub returns-then-is_full : goal.returns-then-is_full
 returns-then-is_full c =

@@ -1,10 +1,10 @@
 -- All orders are counted, or too many for that.
 use Rattle.std.proofs.Common.{◌≡◌, ◌∙◌, ◌-◌, ◌^◌, sym, ap, subst, List, arith}
-use Rattle.explore.specs.Exploring.{Finding, counted_in}
-use Rattle.explore.specs.Gathering.{AreGathered}
-use Rattle.explore.specs.Layers.{State, kept}
-use Rattle.explore.proofs.Concluding.{is_beyond, is_whole}
-use Rattle.explore.proofs.exploring.explore_all.Goals as goal
+use Rattle.campaign_orders.specs.Exploring.{Finding, counted_in}
+use Rattle.campaign_orders.specs.Gathering.{AreGathered}
+use Rattle.campaign_orders.specs.Layers.{State, kept}
+use Rattle.campaign_orders.proofs.Concluding.{is_beyond, is_whole}
+use Rattle.campaign_orders.proofs.explorer.explore_all.Goals as goal
 
 pub returns-then-is_full : goal.returns-then-is_full
 returns-then-is_full c =

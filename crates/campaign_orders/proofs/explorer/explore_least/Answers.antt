@@ -1,8 +1,8 @@
 -- From visit to visit, to the last order or to the limit.
 use Rattle.std.proofs.Common.{◌≡◌, arith}
-use Rattle.explore.specs.declared.exploration.Reach.TheVariants.{Whole, Beyond, InPart}
-use Rattle.explore.proofs.Replaying.{visits_begin, visits_go_on, visits_end, visits_few, visits_first, visits_cut, cut_first}
-use Rattle.explore.proofs.exploring.explore_least.Goals as goal
+use Rattle.campaign_orders.specs.declared.exploration.Reach.TheVariants.{Whole, Beyond, InPart}
+use Rattle.campaign_orders.proofs.Replaying.{visits_begin, visits_go_on, visits_end, visits_few, visits_first, visits_cut, cut_first}
+use Rattle.campaign_orders.proofs.explorer.explore_least.Goals as goal
 
 pub loop-visited-init : goal.loop-visited-init
 loop-visited-init c = visits_begin c.args.scenario.now c.recall.ensures c.new-names.result.items c.new-findings.result.items c.new-names.ensures.items c.new-findings.ensures.items

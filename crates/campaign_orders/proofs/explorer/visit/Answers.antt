@@ -3,11 +3,11 @@ use Rattle.std.proofs.Common.{◌+◌, ◌∙◌, suc, ap, arith, ◌≡◌}
 use Rattle.world.specs.Playing.{lists_in}
 use Rattle.world.specs.World.{oral_kind}
 use Rattle.world.specs.KindLists.{replayed}
-use Rattle.explore.specs.Entering.{entered}
-use Rattle.explore.specs.Orders.{order_of}
-use Rattle.explore.specs.Succession.{next_order}
-use Rattle.explore.proofs.Replaying.{on_ok, if_ok_along, accesses_few, decisions_are, order_is}
-use Rattle.explore.proofs.exploring.visit.Goals as goal
+use Rattle.campaign_orders.specs.Entering.{entered}
+use Rattle.campaign_orders.specs.Orders.{order_of}
+use Rattle.campaign_orders.specs.Succession.{next_order}
+use Rattle.campaign_orders.proofs.Replaying.{on_ok, if_ok_along, accesses_few, decisions_are, order_is}
+use Rattle.campaign_orders.proofs.explorer.visit.Goals as goal
 
 pub order_in-requires : goal.order_in-requires
 order_in-requires c =

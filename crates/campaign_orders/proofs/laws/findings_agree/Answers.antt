@@ -1,5 +1,5 @@
-use Rattle.explore.proofs.Agreeing.{proved_findings_agree}
-use Rattle.explore.proofs.laws.findings_agree.Goals as goal
+use Rattle.campaign_orders.proofs.Agreeing.{proved_findings_agree}
+use Rattle.campaign_orders.proofs.laws.findings_agree.Goals as goal
 
 pub returns : goal.returns
 returns c = proved_findings_agree

@@ -1,6 +1,6 @@
 -- Entered, or not.
 use Rattle.std.proofs.Common.{refl}
-use Rattle.explore.proofs.layers.ask.Goals as goal
+use Rattle.campaign_orders.proofs.layers.ask.Goals as goal
 
 pub returns-in_ok-enter-in-Some : goal.returns-in_ok-enter-in-Some
 returns-in_ok-enter-in-Some c = (c.in-Some.more, (rw c.in-Some.is at c.in_ok-more.ensures), c.in_ok-enter-in-Some.ensures)

@@ -3,9 +3,9 @@ use Rattle.std.proofs.Common.{◌≡◌, ◌+◌, ◌∙◌, ◌||◌, [], Bool,
 use Rattle.world.specs.Kind.{opening}
 use Rattle.world.specs.Playing.{lists_in}
 use Rattle.world.specs.World.{oral_kind}
-use Rattle.explore.specs.Layers.{State, reached}
-use Rattle.explore.proofs.Spreading.{IsSpread, expanded_if, expanded_else, shut_is, spread_begins, spread_last, spread_more}
-use Rattle.explore.proofs.layers.expand.Goals as goal
+use Rattle.campaign_orders.specs.Layers.{State, reached}
+use Rattle.campaign_orders.proofs.Spreading.{IsSpread, expanded_if, expanded_else, shut_is, spread_begins, spread_last, spread_more}
+use Rattle.campaign_orders.proofs.layers.expand.Goals as goal
 
 pub loop-general-init : goal.loop-general-init
 loop-general-init c = spread_begins c.args.scenario.now c.args.state c.args.next.now

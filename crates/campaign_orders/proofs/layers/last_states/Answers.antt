@@ -1,7 +1,7 @@
 -- Round by round.
 use Rattle.std.proofs.Common.{◌+◌, arith}
-use Rattle.explore.proofs.Spreading.{fresh_states, rounds_begin, rounds_go_on, rounds_end}
-use Rattle.explore.proofs.layers.last_states.Goals as goal
+use Rattle.campaign_orders.proofs.Spreading.{fresh_states, rounds_begin, rounds_go_on, rounds_end}
+use Rattle.campaign_orders.proofs.layers.last_states.Goals as goal
 
 pub whole_round-requires : goal.whole_round-requires
 whole_round-requires c = (c.loop-made.made, fresh_states c.args.scenario.now c.loop-made.made c.loop-made.states.items c.loop-made.invariant.fresh)

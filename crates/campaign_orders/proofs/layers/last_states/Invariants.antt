@@ -1,6 +1,6 @@
 use Rattle.std.proofs.Common.{◌+◌}
-use Rattle.explore.proofs.Spreading.{IsOnRounds}
-use Rattle.explore.proofs.layers.last_states.Given as goal
+use Rattle.campaign_orders.proofs.Spreading.{IsOnRounds}
+use Rattle.campaign_orders.proofs.layers.last_states.Given as goal
 
 abbrev pub invariant-loop-made : goal.invariant-loop-made
 invariant-loop-made l = IsOnRounds l.scenario (l.scenario.bound + 1) l.made l.states.items

@@ -3,8 +3,8 @@ use Rattle.std.proofs.Common.{◌≡◌, ◌∙◌, ◌*◌, None, ap, length, a
 use Rattle.std.specs.Prelude.{sum_by}
 use Rattle.std.proofs.lemmas.List.{take_all}
 use Rattle.std.proofs.lemmas.List.Sums.{sum_by_more}
-use Rattle.explore.specs.Listing.{instructions}
-use Rattle.explore.proofs.layers.most_in_round.Goals as goal
+use Rattle.campaign_orders.specs.Listing.{instructions}
+use Rattle.campaign_orders.proofs.layers.most_in_round.Goals as goal
 
 pub loop-general-preserved : goal.loop-general-preserved
 loop-general-preserved c =

@@ -1,7 +1,7 @@
 use Rattle.std.proofs.Common.{◌≡◌, ◌≤◌, ◌*◌, take}
 use Rattle.std.specs.Prelude.{sum_by}
-use Rattle.explore.specs.Listing.{instructions}
-use Rattle.explore.proofs.layers.most_in_round.Given as goal
+use Rattle.campaign_orders.specs.Listing.{instructions}
+use Rattle.campaign_orders.proofs.layers.most_in_round.Given as goal
 
 abbrev pub invariant-loop-general : goal.invariant-loop-general
 invariant-loop-general l = record {

@@ -1,8 +1,8 @@
 -- Nobody acts there.
 use Rattle.std.proofs.Common.{◌∙◌, sym, ap}
-use Rattle.explore.specs.Layers.{State}
-use Rattle.explore.proofs.Stating.{past_idle}
-use Rattle.explore.proofs.layers.past.Goals as goal
+use Rattle.campaign_orders.specs.Layers.{State}
+use Rattle.campaign_orders.proofs.Stating.{past_idle}
+use Rattle.campaign_orders.proofs.layers.past.Goals as goal
 
 pub returns-in-None : goal.returns-in-None
 returns-in-None c =

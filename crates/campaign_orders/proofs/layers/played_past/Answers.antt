@@ -3,9 +3,9 @@ use Rattle.std.proofs.Common.{◌∙◌, ap}
 use Rattle.world.specs.Kind.{opening}
 use Rattle.world.specs.Playing.{lists_in}
 use Rattle.world.specs.World.{oral_kind}
-use Rattle.explore.specs.Layers.{State, reached}
-use Rattle.explore.proofs.Stating.{again_is, past_stuck, past_made}
-use Rattle.explore.proofs.layers.played_past.Goals as goal
+use Rattle.campaign_orders.specs.Layers.{State, reached}
+use Rattle.campaign_orders.proofs.Stating.{again_is, past_stuck, past_made}
+use Rattle.campaign_orders.proofs.layers.played_past.Goals as goal
 
 pub returns-in_ok-next-in-Some : goal.returns-in_ok-next-in-Some
 returns-in_ok-next-in-Some c =

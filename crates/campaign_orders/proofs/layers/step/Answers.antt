@@ -1,8 +1,8 @@
 -- State by state.
 use Rattle.std.proofs.Common.{List, subst, sym, ◌∙◌}
-use Rattle.explore.specs.Layers.{State, IsStep}
-use Rattle.explore.proofs.Spreading.{left_is_state, none_left, stepping_begins, stepping_goes_on, stepping_ends, turned}
-use Rattle.explore.proofs.layers.step.Goals as goal
+use Rattle.campaign_orders.specs.Layers.{State, IsStep}
+use Rattle.campaign_orders.proofs.Spreading.{left_is_state, none_left, stepping_begins, stepping_goes_on, stepping_ends, turned}
+use Rattle.campaign_orders.proofs.layers.step.Goals as goal
 
 pub expand-requires : goal.expand-requires
 expand-requires c =

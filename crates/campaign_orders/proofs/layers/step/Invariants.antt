@@ -1,6 +1,6 @@
 use Rattle.std.proofs.Common.{vec_len}
-use Rattle.explore.proofs.Spreading.{IsSteppingOn}
-use Rattle.explore.proofs.layers.step.Given as goal
+use Rattle.campaign_orders.proofs.Spreading.{IsSteppingOn}
+use Rattle.campaign_orders.proofs.layers.step.Given as goal
 
 abbrev pub invariant-loop-state : goal.invariant-loop-state
 invariant-loop-state l = IsSteppingOn l.scenario l.fn.layer.items l.left.items l.next l.initial.done l.done

@@ -1,8 +1,8 @@
 -- Access by access.
 use Rattle.std.proofs.Common.{List, arith, subst, sym}
-use Rattle.explore.specs.Layers.{State, IsRoundOn}
-use Rattle.explore.proofs.Spreading.{way_begins, way_goes_on, way_ends}
-use Rattle.explore.proofs.layers.whole_round.Goals as goal
+use Rattle.campaign_orders.specs.Layers.{State, IsRoundOn}
+use Rattle.campaign_orders.proofs.Spreading.{way_begins, way_goes_on, way_ends}
+use Rattle.campaign_orders.proofs.layers.whole_round.Goals as goal
 
 pub step-requires : goal.step-requires
 step-requires c = (c.requires.0, c.loop-made.invariant.states c.requires.0 c.requires.1)

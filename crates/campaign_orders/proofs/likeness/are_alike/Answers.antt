@@ -1,8 +1,8 @@
 -- Words, activations, and what was told.
 use Rattle.std.proofs.Common.{List, ◌∙◌, sym, subst}
-use Rattle.letter.specs.Letters.{Letter}
-use Rattle.explore.specs.Merging.{RoundsAlike}
-use Rattle.explore.proofs.alike.are_alike.Goals as goal
+use Rattle.round.specs.Letters.{Letter}
+use Rattle.campaign_orders.specs.Merging.{RoundsAlike}
+use Rattle.campaign_orders.proofs.likeness.are_alike.Goals as goal
 
 pub returns : goal.returns
 returns c t same = record {

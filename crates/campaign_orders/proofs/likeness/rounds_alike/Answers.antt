@@ -1,9 +1,9 @@
 -- One round more, and all.
 use Rattle.std.proofs.Common.{List, subst, arith}
-use Rattle.letter.specs.Letters.{Letter}
-use Rattle.explore.specs.Merging.{TellAlike}
-use Rattle.explore.proofs.Comparing.{rounds_more, rounds_all}
-use Rattle.explore.proofs.alike.rounds_alike.Goals as goal
+use Rattle.round.specs.Letters.{Letter}
+use Rattle.campaign_orders.specs.Merging.{TellAlike}
+use Rattle.campaign_orders.proofs.Comparing.{rounds_more, rounds_all}
+use Rattle.campaign_orders.proofs.likeness.rounds_alike.Goals as goal
 
 pub returns : goal.returns
 returns c h = rounds_all c.loop-place.place c.args.rounds.now c.args.others.now (omega arith) (omega arith) c.loop-place.invariant

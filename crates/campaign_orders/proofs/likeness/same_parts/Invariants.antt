@@ -1,5 +1,5 @@
 use Rattle.std.proofs.Common.{◌≡◌, take}
-use Rattle.explore.proofs.alike.same_parts.Given as goal
+use Rattle.campaign_orders.proofs.likeness.same_parts.Given as goal
 
 abbrev pub invariant-loop-place : goal.invariant-loop-place
 invariant-loop-place l = take l.place l.parts ≡ take l.place l.others

@@ -1,7 +1,7 @@
 -- One letter more, and all.
 use Rattle.std.proofs.Common.{arith}
-use Rattle.explore.proofs.Comparing.{tell_more, tell_all}
-use Rattle.explore.proofs.alike.tell_alike.Goals as goal
+use Rattle.campaign_orders.proofs.Comparing.{tell_more, tell_all}
+use Rattle.campaign_orders.proofs.likeness.tell_alike.Goals as goal
 
 pub returns : goal.returns
 returns c h = tell_all c.loop-place.place c.args.letters.now c.args.others.now (omega arith) (omega arith) c.loop-place.invariant

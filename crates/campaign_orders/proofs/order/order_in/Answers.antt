@@ -1,7 +1,7 @@
 -- One round more.
 use Rattle.std.proofs.Common.{◌+◌, arith}
-use Rattle.explore.proofs.Passing.{order_more}
-use Rattle.explore.proofs.order.order_in.Goals as goal
+use Rattle.campaign_orders.proofs.Passing.{order_more}
+use Rattle.campaign_orders.proofs.order.order_in.Goals as goal
 
 pub loop-before-preserved : goal.loop-before-preserved
 loop-before-preserved c =

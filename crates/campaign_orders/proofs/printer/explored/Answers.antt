@@ -1,7 +1,7 @@
 -- What was explored can be printed.
 use Rattle.std.proofs.Common.{arith}
-use Rattle.explore.proofs.Replaying.{all_walk}
-use Rattle.explore.proofs.printing.explored.Goals as goal
+use Rattle.campaign_orders.proofs.Replaying.{all_walk}
+use Rattle.campaign_orders.proofs.printer.explored.Goals as goal
 
 pub exploration_text-requires-clause-few : goal.exploration_text-requires-clause-few
 exploration_text-requires-clause-few c n = (let h = c.in_ok-exploration.ensures.few n in omega arith)

@@ -2,13 +2,13 @@
 use Rattle.std.proofs.Common.{◌≤◌, ◌∙◌, ℕ, ap, arith, length, map, subst, sym, List, All}
 use Rattle.world.specs.Kind.{opening}
 use Rattle.world.specs.World.{oral_kind}
-use Rattle.explore.specs.Exploring.{Finding}
-use Rattle.explore.specs.Keeping.{example_text}
-use Rattle.explore.specs.Walks.{AreWalks}
-use Rattle.explore.proofs.Agreeing.{proved_findings_agree}
-use Rattle.explore.proofs.Conserving.{examples_short}
-use Rattle.explore.proofs.Replaying.{all_walk}
-use Rattle.explore.proofs.printing.explored_with_schedules.Goals as goal
+use Rattle.campaign_orders.specs.Exploring.{Finding}
+use Rattle.campaign_orders.specs.Keeping.{example_text}
+use Rattle.campaign_orders.specs.Walks.{AreWalks}
+use Rattle.campaign_orders.proofs.Agreeing.{proved_findings_agree}
+use Rattle.campaign_orders.proofs.Conserving.{examples_short}
+use Rattle.campaign_orders.proofs.Replaying.{all_walk}
+use Rattle.campaign_orders.proofs.printer.explored_with_schedules.Goals as goal
 
 pub exploration_text-requires-clause-few : goal.exploration_text-requires-clause-few
 exploration_text-requires-clause-few c n = (let h = c.in_ok-exploration.ensures.few n in omega arith)

@@ -1,7 +1,7 @@
 -- One name more.
 use Rattle.std.proofs.Common.{◌+◌, ◌<◌, subst, length, drop, get_or, List, ℕ, arith}
-use Rattle.explore.proofs.Planned.{IsOnLine, names_at, line_goes_on, line_stops}
-use Rattle.explore.proofs.scheduling.line_of.Goals as goal
+use Rattle.campaign_orders.proofs.Planned.{IsOnLine, names_at, line_goes_on, line_stops}
+use Rattle.campaign_orders.proofs.schedules.line_of.Goals as goal
 
 pub returns-in-None : goal.returns-in-None
 returns-in-None g c =

@@ -1,10 +1,10 @@
 -- One round more.
 use Rattle.std.proofs.Common.{◌+◌, ◌<◌, subst, length, drop, List, ℕ, arith}
 use Rattle.world.specs.Playing.{lists_in}
-use Rattle.explore.specs.Planning.{IsLineOf}
-use Rattle.explore.specs.Walks.{IsStuckAt}
-use Rattle.explore.proofs.Planned.{IsOnSchedule, lists_at, schedule_goes_on, schedule_stops}
-use Rattle.explore.proofs.scheduling.schedule_from.Goals as goal
+use Rattle.campaign_orders.specs.Planning.{IsLineOf}
+use Rattle.campaign_orders.specs.Walks.{IsStuckAt}
+use Rattle.campaign_orders.proofs.Planned.{IsOnSchedule, lists_at, schedule_goes_on, schedule_stops}
+use Rattle.campaign_orders.proofs.schedules.schedule_from.Goals as goal
 
 pub returns-in-Stuck : goal.returns-in-Stuck
 returns-in-Stuck g c =

@@ -1,7 +1,7 @@
 use Rattle.std.proofs.Common.{drop}
 use Rattle.world.specs.Playing.{lists_in}
-use Rattle.explore.proofs.Planned.{IsOnSchedule}
-use Rattle.explore.proofs.scheduling.schedule_from.Given as goal
+use Rattle.campaign_orders.proofs.Planned.{IsOnSchedule}
+use Rattle.campaign_orders.proofs.schedules.schedule_from.Given as goal
 
 abbrev pub invariant-loop-round : goal.invariant-loop-round
 invariant-loop-round g l = IsOnSchedule g.W.Plays.kind (g.W.Plays.seen l.initial.world) (lists_in l.names) (g.W.Plays.seen l.world) (lists_in (drop l.round l.names)) l.round l.lines.items

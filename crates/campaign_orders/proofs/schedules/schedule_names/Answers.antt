@@ -5,9 +5,9 @@ use Rattle.world.specs.Kind.{World, opening}
 use Rattle.world.specs.Playing.{lists_in}
 use Rattle.world.specs.World.{oral_kind}
 use Rattle.world.proofs.Campaigns.{oral_campaigns}
-use Rattle.explore.specs.Planning.{IsScheduleOf, IsPlan, BringsBack}
-use Rattle.explore.proofs.Planned.{if_ok_map, plan_of, brings_back}
-use Rattle.explore.proofs.scheduling.schedule_names.Goals as goal
+use Rattle.campaign_orders.specs.Planning.{IsScheduleOf, IsPlan, BringsBack}
+use Rattle.campaign_orders.proofs.Planned.{if_ok_map, plan_of, brings_back}
+use Rattle.campaign_orders.proofs.schedules.schedule_names.Goals as goal
 
 pub returns-clause-plan : goal.returns-clause-plan
 returns-clause-plan c =

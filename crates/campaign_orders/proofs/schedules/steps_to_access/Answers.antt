@@ -1,6 +1,6 @@
 -- Ahead to the next request, and one tick more.
-use Rattle.explore.proofs.Stepping.{step_taken, step_still}
-use Rattle.explore.proofs.scheduling.steps_to_access.Goals as goal
+use Rattle.campaign_orders.proofs.Stepping.{step_taken, step_still}
+use Rattle.campaign_orders.proofs.schedules.steps_to_access.Goals as goal
 
 pub returns-then-is_still : goal.returns-then-is_still
 returns-then-is_still g c =

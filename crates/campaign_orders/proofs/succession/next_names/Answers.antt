@@ -1,8 +1,8 @@
 -- The least name above, in place of one before it.
 use Rattle.std.proofs.Common.{◌∙◌, ap, arith}
-use Rattle.explore.specs.Succession.{next_names}
-use Rattle.explore.proofs.Passing.{turned_before}
-use Rattle.explore.proofs.succession.next_names.Goals as goal
+use Rattle.campaign_orders.specs.Succession.{next_names}
+use Rattle.campaign_orders.proofs.Passing.{turned_before}
+use Rattle.campaign_orders.proofs.succession.next_names.Goals as goal
 
 pub returns-in-Some : goal.returns-in-Some
 returns-in-Some c =

@@ -1,7 +1,7 @@
 -- A round taken from the end.
 use Rattle.std.proofs.Common.{◌∙◌}
-use Rattle.explore.proofs.Passing.{order_turned, order_passed}
-use Rattle.explore.proofs.succession.next_order.Goals as goal
+use Rattle.campaign_orders.proofs.Passing.{order_turned, order_passed}
+use Rattle.campaign_orders.proofs.succession.next_order.Goals as goal
 
 pub returns-in-Some-next_names : goal.returns-in-Some-next_names
 returns-in-Some-next_names c =

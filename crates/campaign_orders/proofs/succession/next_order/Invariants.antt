@@ -1,7 +1,7 @@
 use Rattle.std.proofs.Common.{◌≡◌, vec_len}
 use Rattle.world.specs.Playing.{lists_in}
-use Rattle.explore.specs.Succession.{next_order}
-use Rattle.explore.proofs.succession.next_order.Given as goal
+use Rattle.campaign_orders.specs.Succession.{next_order}
+use Rattle.campaign_orders.proofs.succession.next_order.Given as goal
 
 abbrev pub invariant-loop-names : goal.invariant-loop-names
 invariant-loop-names l = next_order (lists_in l.order.items) ≡ next_order (lists_in l.fn.order.items)

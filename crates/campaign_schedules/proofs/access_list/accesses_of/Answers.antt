@@ -2,8 +2,8 @@ use Rattle.std.proofs.Common.{ℕ, Vec, arith}
 use Rattle.std.specs.Global.{Global}
 use Rattle.std.proofs.lemmas.List.{length-map}
 use Rattle.world.specs.Playing.{lists_in}
-use Rattle.retracing.proofs.Listed.{listed}
-use Rattle.retracing.proofs.listing.accesses_of.Goals as goal
+use Rattle.campaign_schedules.proofs.Listed.{listed}
+use Rattle.campaign_schedules.proofs.access_list.accesses_of.Goals as goal
 
 pub returns-clause-few : goal.returns-clause-few
 returns-clause-few c =

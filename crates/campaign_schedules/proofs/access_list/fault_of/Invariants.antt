@@ -1,8 +1,8 @@
 use Rattle.std.proofs.Common.{◌≡◌, ◌≤◌}
 use Rattle.text.specs.Parts.{left, left_len, pieces}
-use Rattle.retracing.specs.Accesses.{slash}
-use Rattle.retracing.proofs.Listed.{fault_in}
-use Rattle.retracing.proofs.listing.fault_of.Given as goal
+use Rattle.campaign_schedules.specs.Accesses.{slash}
+use Rattle.campaign_schedules.proofs.Listed.{fault_in}
+use Rattle.campaign_schedules.proofs.access_list.fault_of.Given as goal
 
 abbrev pub invariant-loop-rest : goal.invariant-loop-rest
 invariant-loop-rest l = record {

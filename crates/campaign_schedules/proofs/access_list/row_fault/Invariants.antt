@@ -1,8 +1,8 @@
 use Rattle.std.proofs.Common.{◌≡◌, ◌+◌, ◌≤◌, length}
 use Rattle.text.specs.Parts.{left, left_len, pieces}
 use Rattle.text.specs.Stop.{space}
-use Rattle.retracing.specs.Accesses.{row_fault}
-use Rattle.retracing.proofs.listing.row_fault.Given as goal
+use Rattle.campaign_schedules.specs.Accesses.{row_fault}
+use Rattle.campaign_schedules.proofs.access_list.row_fault.Given as goal
 
 abbrev pub invariant-loop-rest : goal.invariant-loop-rest
 invariant-loop-rest l = record {

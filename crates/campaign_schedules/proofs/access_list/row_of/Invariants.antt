@@ -1,8 +1,8 @@
 use Rattle.std.proofs.Common.{◌≡◌, ℕ, List, [], Ok}
 use Rattle.text.specs.Parts.{left, left_len, pieces}
 use Rattle.text.specs.Stop.{space}
-use Rattle.retracing.specs.Accesses.{row_told}
-use Rattle.retracing.proofs.listing.row_of.Given as goal
+use Rattle.campaign_schedules.specs.Accesses.{row_told}
+use Rattle.campaign_schedules.proofs.access_list.row_of.Given as goal
 
 abbrev pub invariant-loop-rest : goal.invariant-loop-rest
 invariant-loop-rest l = (round : ℕ) (told : List ℕ) → row_told round [] (pieces space l.text) ≡ Ok told

@@ -1,8 +1,8 @@
 use Rattle.std.proofs.Common.{◌≡◌, List, ℕ, Ok, suc, length}
 use Rattle.text.specs.Parts.{left, left_len}
 use Rattle.world.specs.Playing.{lists_in}
-use Rattle.retracing.specs.Accesses.{accesses_told, rows_told, slash}
-use Rattle.retracing.proofs.listing.rows_of.Given as goal
+use Rattle.campaign_schedules.specs.Accesses.{accesses_told, rows_told, slash}
+use Rattle.campaign_schedules.proofs.access_list.rows_of.Given as goal
 
 abbrev pub invariant-loop-rest : goal.invariant-loop-rest
 invariant-loop-rest l = (told : List (List ℕ)) → accesses_told l.text ≡ Ok told

@@ -2,18 +2,18 @@
 use Rattle.std.proofs.Common.{rules, ◌≡◌, ◌≤◌, ◌∙◌, List, Vec, ℕ, length, ap, subst, sym, arith}
 use Rattle.std.specs.String.{string_bytes}
 use Rattle.std.proofs.lemmas.List.{length-map}
-use Rattle.explore.specs.declared.scheduled.Scheduled.TheVariants.{By}
-use Rattle.explore.specs.Planning.{IsPlan, IsScheduleOf}
-use Rattle.retracing.proofs.Retracing.{read_of}
+use Rattle.campaign_orders.specs.declared.schedule_outcome.Scheduled.TheVariants.{By}
+use Rattle.campaign_orders.specs.Planning.{IsPlan, IsScheduleOf}
+use Rattle.campaign_schedules.proofs.Retracing.{read_of}
 use Rattle.std.specs.Global.{Global}
-use Rattle.roster.specs.Scenario.{Scenario}
+use Rattle.round.specs.Scenario.{Scenario}
 use Rattle.world.specs.Kind.{opening}
 use Rattle.world.specs.Playing.{lists_in}
 use Rattle.world.specs.World.{oral_kind}
-use Rattle.explore.specs.Walks.{IsStuckIn}
-use Rattle.retracing.specs.Arranged.{IfFault, IsListedAt, IsNever, IsUnarranged}
-use Rattle.retracing.proofs.Stopping.{arranged_by, stuck_there, unarranged_by, unlisted}
-use Rattle.retracing.proofs.arranging.arranged.Goals as goal
+use Rattle.campaign_orders.specs.Walks.{IsStuckIn}
+use Rattle.campaign_schedules.specs.Arranged.{IfFault, IsListedAt, IsNever, IsUnarranged}
+use Rattle.campaign_schedules.proofs.Stopping.{arranged_by, stuck_there, unarranged_by, unlisted}
+use Rattle.campaign_schedules.proofs.arrangement.arranged.Goals as goal
 
 pub returns-in_err-rows-clause-unarranged : goal.returns-in_err-rows-clause-unarranged
 returns-in_err-rows-clause-unarranged c =

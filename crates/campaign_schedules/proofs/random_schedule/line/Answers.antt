@@ -1,8 +1,8 @@
 -- Word by word.
 use Rattle.std.proofs.Common.{◌∙◌, ◌++◌, ◌∷◌, [], ap, arith}
 use Rattle.world.specs.declared.schedule.Repeat.{Repeat}
-use Rattle.chance.proofs.Seeds.{line_begins_with, line_ends, line_goes_on}
-use Rattle.chance.proofs.seeding.line.Goals as goal
+use Rattle.campaign_schedules.proofs.Seeds.{line_begins_with, line_ends, line_goes_on}
+use Rattle.campaign_schedules.proofs.random_schedule.line.Goals as goal
 
 pub loop-made-init : goal.loop-made-init
 loop-made-init c = line_begins_with c.args.generator.now c.new-repeats.result.items c.new-repeats.ensures.items

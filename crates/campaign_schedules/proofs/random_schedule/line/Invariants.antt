@@ -1,5 +1,5 @@
-use Rattle.chance.proofs.Seeds.{IsOnLine}
-use Rattle.chance.proofs.seeding.line.Given as goal
+use Rattle.campaign_schedules.proofs.Seeds.{IsOnLine}
+use Rattle.campaign_schedules.proofs.random_schedule.line.Given as goal
 
 abbrev pub invariant-loop-made : goal.invariant-loop-made
 invariant-loop-made l = IsOnLine l.initial.generator l.generator l.made l.repeats.items

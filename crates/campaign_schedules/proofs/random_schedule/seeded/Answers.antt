@@ -1,8 +1,8 @@
 use Rattle.std.proofs.Common.{◌∙◌, ap, string_bytes}
 use Rattle.std.proofs.lemmas.Result.{IfOk-weaker}
-use Rattle.explore.specs.Text.{schedule_text}
-use Rattle.chance.proofs.Seeds.{seeds_are_read}
-use Rattle.chance.proofs.seeding.seeded.Goals as goal
+use Rattle.campaign_orders.specs.Text.{schedule_text}
+use Rattle.campaign_schedules.proofs.Seeds.{seeds_are_read}
+use Rattle.campaign_schedules.proofs.random_schedule.seeded.Goals as goal
 
 pub returns-clause-read : goal.returns-clause-read
 returns-clause-read c =

@@ -2,8 +2,8 @@
 use Rattle.std.proofs.Common.{refl, arith}
 use Rattle.rand_chacha.specs.ChaCha.{of_seed}
 use Rattle.rand_core.specs.Pcg32Seed.{pcg32_seed}
-use Rattle.chance.proofs.Seeds.{lines_begin_with, lines_end, lines_go_on, seeded_by}
-use Rattle.chance.proofs.seeding.seeded_schedule.Goals as goal
+use Rattle.campaign_schedules.proofs.Seeds.{lines_begin_with, lines_end, lines_go_on, seeded_by}
+use Rattle.campaign_schedules.proofs.random_schedule.seeded_schedule.Goals as goal
 
 pub loop-made-init : goal.loop-made-init
 loop-made-init c = lines_begin_with (of_seed (pcg32_seed 32 c.args.seed)) c.seed_from_u64-generator.result c.new-lines.result.items c.seed_from_u64-generator.ensures c.new-lines.ensures.items

@@ -1,7 +1,7 @@
 use Rattle.std.proofs.Common.{ap, ◌∙◌}
-use Rattle.retracing.proofs.Retracing.{ledger_at, retraced_by}
+use Rattle.campaign_schedules.proofs.Retracing.{ledger_at, retraced_by}
 use Rattle.trace.specs.Names.{chronicle_told}
-use Rattle.retracing.proofs.schedules.retraced.Goals as goal
+use Rattle.campaign_schedules.proofs.schedules.retraced.Goals as goal
 
 pub schedule_of-requires : goal.schedule_of-requires
 schedule_of-requires c =

@@ -1,12 +1,12 @@
 use Rattle.std.proofs.Common.{◌≡◌, ◌≤◌, ◌+◌, ◌∙◌, length, ap, subst, arith}
-use Rattle.roster.specs.Scenario.{Scenario}
+use Rattle.round.specs.Scenario.{Scenario}
 use Rattle.world.specs.Kind.{opening}
 use Rattle.world.specs.Playing.{lists_in}
 use Rattle.world.specs.World.{oral_kind}
-use Rattle.explore.specs.declared.scheduled.Scheduled.TheVariants.{By}
-use Rattle.explore.specs.Planning.{IsScheduleOf}
-use Rattle.retracing.proofs.Retracing.{few, names_count, read_of}
-use Rattle.retracing.proofs.schedules.schedule_of.Goals as goal
+use Rattle.campaign_orders.specs.declared.schedule_outcome.Scheduled.TheVariants.{By}
+use Rattle.campaign_orders.specs.Planning.{IsScheduleOf}
+use Rattle.campaign_schedules.proofs.Retracing.{few, names_count, read_of}
+use Rattle.campaign_schedules.proofs.schedules.schedule_of.Goals as goal
 
 pub order_in-requires : goal.order_in-requires
 order_in-requires c = few c.args.scenario.now c.args.accesses.now c.recall.ensures c.requires

@@ -2,7 +2,7 @@
 use Rattle.std.proofs.Common.{ℕ, List, subst}
 use Rattle.std.proofs.lemmas.Result.{IfOk-weaker}
 use Rattle.capi.specs.Runs.{Exits}
-use Rattle.capi.proofs.hosting.run_afresh.Goals as goal
+use Rattle.capi.proofs.host.run_afresh.Goals as goal
 
 pub returns : goal.returns
 returns c =

@@ -2,7 +2,7 @@ use Rattle.std.proofs.Common.{◌≡◌, ℕ, ◌<◌, List, length}
 use Rattle.std.specs.Prelude.{IfSome, slice_get}
 use Rattle.codec.specs.Program.{SpellsProgram}
 use Rattle.capi.specs.Many.{IsOutcome, AreBegun, context_at}
-use Rattle.capi.proofs.hosting.run_each.Given as goal
+use Rattle.capi.proofs.host.run_each.Given as goal
 
 abbrev pub invariant-loop-index : goal.invariant-loop-index
 invariant-loop-index l =

@@ -1,5 +1,5 @@
-use Rattle.json_lines.proofs.CleanLemmas.{refusal_clean}
-use Rattle.json_lines.proofs.named.refusal_of.Goals as goal
+use Rattle.cli_answers.proofs.CleanLemmas.{refusal_clean}
+use Rattle.cli_answers.proofs.file_line.refusal_of.Goals as goal
 
 pub named-requires : goal.named-requires
 named-requires c = rw c.in_ok-object.ensures (refusal_clean c.args.text.now)

@@ -1,7 +1,7 @@
 use Rattle.std.proofs.Common.{◌≡◌, ◌++◌, length}
 use Rattle.text.specs.Parts.{lines_of}
-use Rattle.json_lines.specs.Lines.{json_text, object_lines, objects}
-use Rattle.json_lines.proofs.lines.answer.Given as goal
+use Rattle.cli_answers.specs.Lines.{json_text, object_lines, objects}
+use Rattle.cli_answers.proofs.json_lines.answer.Given as goal
 
 abbrev pub invariant-loop-first : goal.invariant-loop-first
 invariant-loop-first l = l.out.items ++ object_lines (objects l.held (lines_of l.rest)) ≡ json_text l.fn.place l.text

@@ -1,7 +1,7 @@
 use Rattle.std.proofs.Common.{refl}
 use Rattle.serde_json.specs.View.{items_view}
-use Rattle.json_lines.proofs.ItemLemmas.{numbers_done, numbers_further}
-use Rattle.json_lines.proofs.labels.numbers.Goals as goal
+use Rattle.cli_answers.proofs.ItemLemmas.{numbers_done, numbers_further}
+use Rattle.cli_answers.proofs.labels.numbers.Goals as goal
 
 pub loop-index-preserved : goal.loop-index-preserved
 loop-index-preserved c =

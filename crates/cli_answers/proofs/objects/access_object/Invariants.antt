@@ -1,10 +1,10 @@
 use Rattle.std.proofs.Common.{◌≡◌, drop, map}
 use Rattle.text.specs.Parts.{pieces}
 use Rattle.text.specs.Stop.{space}
-use Rattle.asking.specs.Wording as asking
-use Rattle.json_lines.specs.Objects.{first_shaped}
-use Rattle.json_lines.specs.Shapes.{access_row}
-use Rattle.json_lines.proofs.objects.access_object.Given as goal
+use Rattle.board.specs.Wording as asking
+use Rattle.cli_answers.specs.Objects.{first_shaped}
+use Rattle.cli_answers.specs.Shapes.{access_row}
+use Rattle.cli_answers.proofs.objects.access_object.Given as goal
 
 abbrev pub invariant-loop-wording : goal.invariant-loop-wording
 invariant-loop-wording l =

@@ -1,8 +1,8 @@
 use Rattle.std.proofs.Common.{◌≡◌, length}
 use Rattle.std.specs.Prelude.{find}
 use Rattle.text.specs.Parts.{lines_of}
-use Rattle.desk.specs.Printing.{is_verdict}
-use Rattle.desk.proofs.outcome.verdict.Given as goal
+use Rattle.cli_answers.specs.Printing.{is_verdict}
+use Rattle.cli_answers.proofs.outcome.verdict.Given as goal
 
 abbrev pub invariant-loop-first : goal.invariant-loop-first
 invariant-loop-first l = find is_verdict (lines_of l.rest) ≡ find is_verdict (lines_of l.text)

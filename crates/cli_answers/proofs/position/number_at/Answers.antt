@@ -1,7 +1,7 @@
 use Rattle.std.proofs.Common.{ap, option_map, ◌∙◌}
 use Rattle.serde_json.proofs.Views.{view-lookup, view_of_ref}
 use Rattle.serde_json.specs.View.{view}
-use Rattle.json_lines.proofs.held.number_at.Goals as goal
+use Rattle.cli_answers.proofs.position.number_at.Goals as goal
 
 pub returns-in-Some : goal.returns-in-Some
 returns-in-Some c =

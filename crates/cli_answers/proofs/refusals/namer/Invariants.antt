@@ -1,8 +1,8 @@
 use Rattle.std.proofs.Common.{◌≡◌, length}
 use Rattle.std.specs.Prelude.{option_map}
 use Rattle.std.specs.Option.{option_or}
-use Rattle.json_lines.specs.Refusals.{namer}
-use Rattle.json_lines.proofs.refusals.namer.Given as goal
+use Rattle.cli_answers.specs.Refusals.{namer}
+use Rattle.cli_answers.proofs.refusals.namer.Given as goal
 
 abbrev pub invariant-loop-rest : goal.invariant-loop-rest
 invariant-loop-rest l = option_or (namer l.rest) (option_map (λ o. o.now) l.last) ≡ namer l.line

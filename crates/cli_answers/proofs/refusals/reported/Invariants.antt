@@ -1,7 +1,7 @@
 use Rattle.std.proofs.Common.{◌≡◌, length}
 use Rattle.text.specs.Parts.{lines_of}
-use Rattle.json_lines.specs.Refusals.{reported}
-use Rattle.json_lines.proofs.refusals.reported.Given as goal
+use Rattle.cli_answers.specs.Refusals.{reported}
+use Rattle.cli_answers.proofs.refusals.reported.Given as goal
 
 abbrev pub invariant-loop-first : goal.invariant-loop-first
 invariant-loop-first l = reported (lines_of l.rest) ≡ reported (lines_of l.lines)

@@ -1,8 +1,8 @@
 use Rattle.std.proofs.Common.{◌∙◌, sym}
 use Rattle.std.specs.Prelude.{option_map}
 use Rattle.text.specs.Parts.{lines_of}
-use Rattle.json_lines.proofs.WhyLemmas.{line_passed, line_taken}
-use Rattle.json_lines.proofs.refusals.why.Goals as goal
+use Rattle.cli_answers.proofs.WhyLemmas.{line_passed, line_taken}
+use Rattle.cli_answers.proofs.refusals.why.Goals as goal
 
 pub loop-first-preserved-then-is_why : goal.loop-first-preserved-then-is_why
 loop-first-preserved-then-is_why c =

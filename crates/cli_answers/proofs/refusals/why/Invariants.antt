@@ -2,8 +2,8 @@ use Rattle.std.proofs.Common.{◌≡◌, length}
 use Rattle.std.specs.Prelude.{option_map}
 use Rattle.std.specs.Option.{option_or}
 use Rattle.text.specs.Parts.{lines_of}
-use Rattle.json_lines.specs.Refusals.{why}
-use Rattle.json_lines.proofs.refusals.why.Given as goal
+use Rattle.cli_answers.specs.Refusals.{why}
+use Rattle.cli_answers.proofs.refusals.why.Given as goal
 
 abbrev pub invariant-loop-first : goal.invariant-loop-first
 invariant-loop-first l = option_or (why (lines_of l.rest)) (option_map (λ o. o.now) l.last) ≡ why (lines_of l.lines)

@@ -1,8 +1,8 @@
 use Rattle.std.proofs.Common.{◌≡◌, false}
-use Rattle.lab.specs.Serving.{files}
-use Rattle.desk.specs.Printing.{is_shaped}
-use Rattle.desk.proofs.ShownLemmas.{shown_plainly}
-use Rattle.desk.proofs.serving.serve.Goals as goal
+use Rattle.cli_tasks.specs.Serving.{files}
+use Rattle.cli_answers.specs.Printing.{is_shaped}
+use Rattle.cli_answers.proofs.ShownLemmas.{shown_plainly}
+use Rattle.cli_answers.proofs.service.serve.Goals as goal
 
 pub returns-then-not-is_shaped-clause-done : goal.returns-then-not-is_shaped-clause-done
 returns-then-not-is_shaped-clause-done g c done =

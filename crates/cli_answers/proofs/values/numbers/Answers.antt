@@ -1,7 +1,7 @@
 use Rattle.text.specs.Stop.{dot}
-use Rattle.json_lines.specs.Values.{number_of}
-use Rattle.json_lines.proofs.ItemLemmas.{all_told, more_told}
-use Rattle.json_lines.proofs.values.numbers.Goals as goal
+use Rattle.cli_answers.specs.Values.{number_of}
+use Rattle.cli_answers.proofs.ItemLemmas.{all_told, more_told}
+use Rattle.cli_answers.proofs.values.numbers.Goals as goal
 
 pub loop-rest-preserved : goal.loop-rest-preserved
 loop-rest-preserved c =

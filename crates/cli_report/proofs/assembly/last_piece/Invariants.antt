@@ -1,8 +1,8 @@
 use Rattle.std.proofs.Common.{◌≡◌, ◌∷◌}
 use Rattle.text.specs.Stop.{comma}
 use Rattle.text.specs.Parts.{left, left_len, pieces}
-use Rattle.why.specs.Assembly.{last_of}
-use Rattle.why.proofs.assembly.last_piece.Given as goal
+use Rattle.cli_report.specs.Assembly.{last_of}
+use Rattle.cli_report.proofs.assembly.last_piece.Given as goal
 
 abbrev pub invariant-loop-rest : goal.invariant-loop-rest
 invariant-loop-rest l = last_of (l.last ∷ left comma l.rest) ≡ last_of (pieces comma l.fn.operands)

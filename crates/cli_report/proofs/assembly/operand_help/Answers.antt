@@ -1,6 +1,6 @@
 use Rattle.std.proofs.Common.{◌≡◌, ◌∙◌, false, sym, true}
-use Rattle.why.specs.Assembly.{is_call}
-use Rattle.why.proofs.assembly.operand_help.Goals as goal
+use Rattle.cli_report.specs.Assembly.{is_call}
+use Rattle.cli_report.proofs.assembly.operand_help.Goals as goal
 
 pub returns-then-is_call : goal.returns-then-is_call
 returns-then-is_call c =

@@ -1,9 +1,9 @@
 use Rattle.std.proofs.Common.{◌≡◌, ap, arith, length}
 use Rattle.text.specs.Stop.{semicolon}
 use Rattle.text.specs.Parts.{before}
-use Rattle.why.specs.Lines.{trimmed}
-use Rattle.why.proofs.TrimLemmas.{length-before, length-trimmed}
-use Rattle.why.proofs.assembly.statement_place.Goals as goal
+use Rattle.cli_report.specs.Lines.{trimmed}
+use Rattle.cli_report.proofs.TrimLemmas.{length-before, length-trimmed}
+use Rattle.cli_report.proofs.assembly.statement_place.Goals as goal
 
 pub returns-clause-inside : goal.returns-clause-inside
 returns-clause-inside c =

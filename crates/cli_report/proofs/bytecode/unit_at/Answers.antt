@@ -1,6 +1,6 @@
 use Rattle.std.proofs.Common.{◌*◌, ◌≤◌, arith, length, length-take, refl, take}
 use Rattle.std.proofs.lemmas.List.{drop_all}
-use Rattle.why.proofs.bytecode.unit_at.Goals as goal
+use Rattle.cli_report.proofs.bytecode.unit_at.Goals as goal
 
 pub returns-then-unit-ge4096 : goal.returns-then-unit-ge4096
 returns-then-unit-ge4096 c =

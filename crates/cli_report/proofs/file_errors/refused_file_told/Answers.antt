@@ -1,8 +1,8 @@
 use Rattle.std.specs.Prelude.{IfOk, option_map, string_bytes}
 use Rattle.std.proofs.Common.{subst}
 use Rattle.scenario.specs.Seen.{source_of}
-use Rattle.why.specs.Made.{IsRefusedFile}
-use Rattle.why.proofs.made.refused_file_told.Goals as goal
+use Rattle.cli_report.specs.Made.{IsRefusedFile}
+use Rattle.cli_report.proofs.file_errors.refused_file_told.Goals as goal
 
 pub returns-in_ok-file-in-Some : goal.returns-in_ok-file-in-Some
 returns-in_ok-file-in-Some c =

@@ -1,7 +1,7 @@
 use Rattle.std.proofs.Common.{◌≡◌, ◌≤◌, ◌+◌, length}
 use Rattle.text.specs.Parts.{lines_of}
-use Rattle.why.specs.Keys.{found_on}
-use Rattle.why.proofs.keys.find_line.Given as goal
+use Rattle.cli_report.specs.Keys.{found_on}
+use Rattle.cli_report.proofs.keys.find_line.Given as goal
 
 abbrev pub invariant-loop-line : goal.invariant-loop-line
 invariant-loop-line l = record {

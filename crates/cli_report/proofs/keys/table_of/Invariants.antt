@@ -1,8 +1,8 @@
 use Rattle.std.proofs.Common.{◌≡◌, ◌≤◌, ◌+◌, length}
 use Rattle.std.specs.Fmt.{decimal}
 use Rattle.text.specs.Parts.{lines_of}
-use Rattle.why.specs.Keys.{table_of_on}
-use Rattle.why.proofs.keys.table_of.Given as goal
+use Rattle.cli_report.specs.Keys.{table_of_on}
+use Rattle.cli_report.proofs.keys.table_of.Given as goal
 
 abbrev pub invariant-loop-line : goal.invariant-loop-line
 invariant-loop-line l = record {

@@ -1,6 +1,6 @@
 use Rattle.std.proofs.Common.{◌≡◌, ◌-◌, ◌∙◌, arith, suc, sym}
-use Rattle.why.proofs.TrimLemmas.{ends-solid, ends-white}
-use Rattle.why.proofs.lines.trimmed.Goals as goal
+use Rattle.cli_report.proofs.TrimLemmas.{ends-solid, ends-white}
+use Rattle.cli_report.proofs.lines.trimmed.Goals as goal
 
 pub returns-then-not-is_white : goal.returns-then-not-is_white
 returns-then-not-is_white c =

@@ -1,6 +1,6 @@
 use Rattle.std.proofs.Common.{◌≡◌, ◌≤◌, length, take}
-use Rattle.why.specs.Lines.{trimmed}
-use Rattle.why.proofs.lines.trimmed.Given as goal
+use Rattle.cli_report.specs.Lines.{trimmed}
+use Rattle.cli_report.proofs.lines.trimmed.Given as goal
 
 abbrev pub invariant-ends : goal.invariant-ends
 invariant-ends l = (l.size ≤ length l.line) × (trimmed (take l.size l.line) ≡ trimmed l.line)

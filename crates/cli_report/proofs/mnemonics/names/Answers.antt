@@ -1,6 +1,6 @@
 use Rattle.asm.specs.Table.{mnemonics}
-use Rattle.why.specs.Mnemonics.{mnemonic_names}
-use Rattle.why.proofs.mnemonics.names.Goals as goal
+use Rattle.cli_report.specs.Mnemonics.{mnemonic_names}
+use Rattle.cli_report.proofs.mnemonics.names.Goals as goal
 
 pub returns : goal.returns
 unfolding mnemonic_names mnemonics

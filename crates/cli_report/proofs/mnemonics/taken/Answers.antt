@@ -1,8 +1,8 @@
 use Rattle.std.proofs.Common.{◌∙◌}
 use Rattle.asm.specs.Table.{mnemonic_of, mnemonics}
-use Rattle.why.specs.Mnemonics.{taken}
-use Rattle.why.proofs.TakenLemmas.{taken_by}
-use Rattle.why.proofs.mnemonics.taken.Goals as goal
+use Rattle.cli_report.specs.Mnemonics.{taken}
+use Rattle.cli_report.proofs.TakenLemmas.{taken_by}
+use Rattle.cli_report.proofs.mnemonics.taken.Goals as goal
 
 pub returns : goal.returns
 unfolding taken mnemonic_of mnemonics

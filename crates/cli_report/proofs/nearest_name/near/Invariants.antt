@@ -1,8 +1,8 @@
 use Rattle.std.proofs.Common.{◌≡◌, [], drop, map}
 use denote.Shadow.{shadow}
 use denote.Text.{Utf8}
-use Rattle.why.specs.Nearest.{distance, nearest}
-use Rattle.why.proofs.nearest.near.Given as goal
+use Rattle.cli_report.specs.Nearest.{distance, nearest}
+use Rattle.cli_report.proofs.nearest_name.near.Given as goal
 
 abbrev pub invariant-loop-name : goal.invariant-loop-name
 invariant-loop-name l = record {

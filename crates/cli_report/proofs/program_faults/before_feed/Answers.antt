@@ -1,6 +1,6 @@
 use Rattle.std.proofs.Common.{◌∙◌, sym}
-use Rattle.why.proofs.FeedLemmas.{before_more}
-use Rattle.why.proofs.seated.before_feed.Goals as goal
+use Rattle.cli_report.proofs.FeedLemmas.{before_more}
+use Rattle.cli_report.proofs.program_faults.before_feed.Goals as goal
 
 pub loop-i-preserved : goal.loop-i-preserved
 loop-i-preserved c =

@@ -1,6 +1,6 @@
 use Rattle.std.proofs.Common.{◌∙◌, sym}
-use Rattle.why.proofs.FeedLemmas.{behind_more}
-use Rattle.why.proofs.seated.behind_feed.Goals as goal
+use Rattle.cli_report.proofs.FeedLemmas.{behind_more}
+use Rattle.cli_report.proofs.program_faults.behind_feed.Goals as goal
 
 pub loop-i-preserved : goal.loop-i-preserved
 loop-i-preserved c =

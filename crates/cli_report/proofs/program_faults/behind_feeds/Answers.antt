@@ -1,5 +1,5 @@
 use Rattle.std.proofs.Common.{◌≡◌, ◌+◌, ◌-◌, arith, suc}
-use Rattle.why.proofs.seated.behind_feeds.Goals as goal
+use Rattle.cli_report.proofs.program_faults.behind_feeds.Goals as goal
 
 pub loop-fed-preserved : goal.loop-fed-preserved
 loop-fed-preserved c =

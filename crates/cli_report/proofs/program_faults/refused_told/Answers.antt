@@ -2,8 +2,8 @@ use Rattle.std.proofs.Common.{◌≡◌, ◌∙◌, Bor, ap, refl, subst}
 use Rattle.std.specs.Prelude.{Option, None, Some, option_copied, option_map, string_bytes}
 use Rattle.std.proofs.lemmas.Result.{IfOk-weaker}
 use Rattle.toml.specs.View.{table_view}
-use Rattle.why.specs.Scenarios.{IsRefusedBy}
-use Rattle.why.proofs.seated.refused_told.Goals as goal
+use Rattle.cli_report.specs.Scenarios.{IsRefusedBy}
+use Rattle.cli_report.proofs.program_faults.refused_told.Goals as goal
 
 -- seen through a borrow, or not
 seen : {T V : Type 0} (view : T → V) (o : Option (Bor T)) → option_map (λ t. view t.now) o ≡ option_map view (option_copied o)

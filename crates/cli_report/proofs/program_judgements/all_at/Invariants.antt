@@ -1,7 +1,7 @@
 use Rattle.std.proofs.Common.{◌≡◌, map, replicate}
 use Rattle.std.specs.String.{string_bytes}
 use Rattle.asm.specs.Places.{line_text}
-use Rattle.why.proofs.judged.all_at.Given as goal
+use Rattle.cli_report.proofs.program_judgements.all_at.Given as goal
 
 -- those of the units so far
 abbrev pub invariant-loop-unit : goal.invariant-loop-unit

@@ -1,6 +1,6 @@
 use Rattle.std.proofs.Common.{◌≡◌, replicate}
 use Rattle.std.specs.String.{string_bytes}
-use Rattle.why.proofs.judged.pushed_down.Given as goal
+use Rattle.cli_report.proofs.program_judgements.pushed_down.Given as goal
 
 -- the empty lines so far
 abbrev pub invariant-loop-line : goal.invariant-loop-line

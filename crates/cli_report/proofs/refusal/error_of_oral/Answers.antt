@@ -1,9 +1,9 @@
 use Rattle.toml.specs.Parse.{parse_document}
 use Rattle.scenario.specs.Reading.{Reads}
-use Rattle.own_lines.specs.Refused.{IsErrorOf}
-use Rattle.own_lines.specs.declared.refusing.Taken.TheVariants.{Oral}
-use Rattle.own_lines.proofs.Errors.{error_told}
-use Rattle.own_lines.proofs.refusing.error_of_oral.Goals as goal
+use Rattle.cli_report.specs.Refused.{IsErrorOf}
+use Rattle.cli_report.specs.declared.refusal.Taken.TheVariants.{Oral}
+use Rattle.cli_report.proofs.ErrorLemmas.{error_told}
+use Rattle.cli_report.proofs.refusal.error_of_oral.Goals as goal
 
 pub returns : goal.returns
 returns c =

@@ -1,8 +1,8 @@
 use Rattle.std.proofs.Common.{◌≡◌, ◌++◌, take}
 use Rattle.std.specs.List.{flat_map}
 use Rattle.std.specs.String.{string_bytes}
-use Rattle.why.specs.Report.{caret_below}
-use Rattle.why.proofs.report.put_carets.Given as goal
+use Rattle.cli_report.specs.Report.{caret_below}
+use Rattle.cli_report.proofs.report.put_carets.Given as goal
 
 abbrev pub invariant-loop-byte : goal.invariant-loop-byte
 invariant-loop-byte l = string_bytes l.out ≡ string_bytes l.fn.out ++ flat_map caret_below (take l.byte-index l.bytes)

@@ -1,5 +1,5 @@
-use Rattle.why.specs.Scenarios.{top_key_told}
-use Rattle.why.proofs.scenarios.unknown_at_top.Goals as goal
+use Rattle.cli_report.specs.Scenarios.{top_key_told}
+use Rattle.cli_report.proofs.scenarios.unknown_at_top.Goals as goal
 
 pub returns : goal.returns
 unfolding top_key_told

@@ -1,5 +1,5 @@
-use Rattle.why.specs.Scenarios.{entry_key_told}
-use Rattle.why.proofs.scenarios.unknown_in_table.Goals as goal
+use Rattle.cli_report.specs.Scenarios.{entry_key_told}
+use Rattle.cli_report.proofs.scenarios.unknown_in_table.Goals as goal
 
 pub returns : goal.returns
 unfolding entry_key_told

@@ -1,5 +1,5 @@
-use Rattle.why.specs.Settings.{setting_unknown_told}
-use Rattle.why.proofs.settings.unknown_told.Goals as goal
+use Rattle.cli_report.specs.Settings.{setting_unknown_told}
+use Rattle.cli_report.proofs.settings.unknown_told.Goals as goal
 
 pub returns : goal.returns
 unfolding setting_unknown_told

@@ -1,8 +1,8 @@
 use Rattle.std.proofs.Common.{◌≡◌, ◌≤◌, ◌+◌, ◌∷◌, length}
 use Rattle.text.specs.Stop.{feed}
 use Rattle.text.specs.Parts.{left, left_len, pieces}
-use Rattle.why.specs.Assembly.{last_of}
-use Rattle.why.proofs.unread.last_line.Given as goal
+use Rattle.cli_report.specs.Assembly.{last_of}
+use Rattle.cli_report.proofs.toml_errors.last_line.Given as goal
 
 abbrev pub invariant-loop-rest : goal.invariant-loop-rest
 invariant-loop-rest l = record {

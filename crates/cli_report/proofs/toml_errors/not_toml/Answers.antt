@@ -1,6 +1,6 @@
 use Rattle.std.proofs.Common.{◌≡◌, ◌≤◌, ◌∙◌, arith, length}
 use Rattle.std.proofs.lemmas.Result.{IfOk-weaker}
-use Rattle.why.proofs.unread.not_toml.Goals as goal
+use Rattle.cli_report.proofs.toml_errors.not_toml.Goals as goal
 
 pub returns : goal.returns
 returns c =

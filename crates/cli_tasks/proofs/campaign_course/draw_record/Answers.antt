@@ -1,9 +1,9 @@
 use Rattle.std.specs.Prelude.{option_map}
-use Rattle.lab.specs.Serving.{IsRefusedLater}
-use Rattle.lab.specs.declared.first_answer.FirstAnswer.TheVariants.{DrawRecorded}
-use Rattle.faults.specs.Whys.{Nothing}
-use Rattle.lab.proofs.WhyLemmas.{stops_later}
-use Rattle.lab.proofs.behind.draw_record.Goals as goal
+use Rattle.cli_tasks.specs.Serving.{IsRefusedLater}
+use Rattle.cli_tasks.specs.declared.first_answer.FirstAnswer.TheVariants.{DrawRecorded}
+use Rattle.cli_tasks.specs.Whys.{Nothing}
+use Rattle.cli_tasks.proofs.WhyLemmas.{stops_later}
+use Rattle.cli_tasks.proofs.campaign_course.draw_record.Goals as goal
 
 pub returns-clause-fault : goal.returns-clause-fault
 returns-clause-fault g c =

@@ -1,6 +1,6 @@
 use Rattle.std.proofs.Common.{refl}
-use Rattle.inputs.proofs.ScheduleLemmas.{none_begun, too_many}
-use Rattle.inputs.proofs.campaigns.too_long.Goals as goal
+use Rattle.cli_tasks.proofs.ScheduleLimits.{none_begun, too_many}
+use Rattle.cli_tasks.proofs.campaigns.too_long.Goals as goal
 
 pub returns-then-not-may_begin_text-clause-refused : goal.returns-then-not-may_begin_text-clause-refused
 returns-then-not-may_begin_text-clause-refused c all begins =

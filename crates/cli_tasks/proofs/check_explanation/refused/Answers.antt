@@ -1,9 +1,9 @@
 -- Each way out.
 use Rattle.std.proofs.Common.{Bool, true, false, ◌≡◌, ◌∙◌, refl, subst, sym}
-use Rattle.faults.specs.Faults.{IsUnjudged}
-use Rattle.lab.proofs.FilesLemmas.{first_named}
-use Rattle.lab.proofs.FirstLemmas.{asked_reports, explained_first, quiet_first, unasked_first, unread_first}
-use Rattle.lab.proofs.explaining.refused.Goals as goal
+use Rattle.cli_tasks.specs.Faults.{IsUnjudged}
+use Rattle.cli_tasks.proofs.FilesLemmas.{first_named}
+use Rattle.cli_tasks.proofs.FirstLemmas.{asked_reports, explained_first, quiet_first, unasked_first, unread_first}
+use Rattle.cli_tasks.proofs.check_explanation.refused.Goals as goal
 
 pub returns-in_default-clause-stops : goal.returns-in_default-clause-stops
 returns-in_default-clause-stops c known are =

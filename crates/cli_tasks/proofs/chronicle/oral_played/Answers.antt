@@ -1,6 +1,6 @@
 use Rattle.std.proofs.lemmas.Result.{IfOk-weaker}
-use Rattle.campaign_tasks.proofs.CampaignLemmas.{is_played}
-use Rattle.campaign_tasks.proofs.chronicle.oral_played.Goals as goal
+use Rattle.cli_tasks.proofs.CampaignLemmas.{is_played}
+use Rattle.cli_tasks.proofs.chronicle.oral_played.Goals as goal
 
 pub returns : goal.returns
 returns c =

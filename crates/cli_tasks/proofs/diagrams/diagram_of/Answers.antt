@@ -1,6 +1,6 @@
 use Rattle.std.proofs.Common.{ap, ◌∙◌}
-use Rattle.picture_tasks.proofs.DiagramLemmas.{is_diagram}
-use Rattle.picture_tasks.proofs.diagramming.diagram_of.Goals as goal
+use Rattle.cli_tasks.proofs.DiagramLemmas.{is_diagram}
+use Rattle.cli_tasks.proofs.diagrams.diagram_of.Goals as goal
 
 pub returns : goal.returns
 returns c =

@@ -1,5 +1,5 @@
-use Rattle.picture_tasks.proofs.DiagramLemmas.{signed_played_drawn}
-use Rattle.picture_tasks.proofs.diagramming.signed_diagrammed.Goals as goal
+use Rattle.cli_tasks.proofs.DiagramLemmas.{signed_played_drawn}
+use Rattle.cli_tasks.proofs.diagrams.signed_diagrammed.Goals as goal
 
 pub returns : goal.returns
 returns c =

@@ -1,6 +1,6 @@
 use Rattle.std.proofs.Common.{refl}
-use Rattle.picture_tasks.proofs.DiagramLemmas.{signed_told_drawn}
-use Rattle.picture_tasks.proofs.diagramming.signed_record_diagrammed.Goals as goal
+use Rattle.cli_tasks.proofs.DiagramLemmas.{signed_told_drawn}
+use Rattle.cli_tasks.proofs.diagrams.signed_record_diagrammed.Goals as goal
 
 pub returns-clause-drawn : goal.returns-clause-drawn
 returns-clause-drawn c =

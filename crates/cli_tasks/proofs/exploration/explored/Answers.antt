@@ -1,8 +1,8 @@
 use Rattle.std.proofs.Common.{ℕ, string_bytes, subst}
 use Rattle.std.proofs.lemmas.Result.{IfOk-weaker}
-use Rattle.campaign_tasks.specs.Exploring.{IsExplored}
-use Rattle.campaign_tasks.proofs.ExploringLemmas.{is_explored}
-use Rattle.campaign_tasks.proofs.exploring.explored.Goals as goal
+use Rattle.cli_tasks.specs.Exploring.{IsExplored}
+use Rattle.cli_tasks.proofs.ExploringLemmas.{is_explored}
+use Rattle.cli_tasks.proofs.exploration.explored.Goals as goal
 
 pub returns : goal.returns
 returns c =

@@ -1,7 +1,7 @@
 use Rattle.std.proofs.Common.{◌≡◌, arith, length, min, refl}
 use Rattle.std.proofs.lemmas.List.{take_min}
-use Rattle.faults.specs.Seeming.{seems_at_first}
-use Rattle.faults.proofs.seeming.seems.Goals as goal
+use Rattle.cli_tasks.specs.Seeming.{seems_at_first}
+use Rattle.cli_tasks.proofs.likeness.seems.Goals as goal
 
 pub returns : goal.returns
 unfolding seems_at_first

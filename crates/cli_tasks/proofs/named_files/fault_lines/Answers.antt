@@ -1,7 +1,7 @@
 use Rattle.std.proofs.Common.{◌≡◌, ◌∙◌, ◌++◌, ℕ, List, ap, append_assoc, string_bytes}
 use Rattle.std.specs.Prelude.{codes, decimal}
 use Rattle.std.proofs.lemmas.Result.{IfOk-weaker}
-use Rattle.neighbours.proofs.naming.fault_lines.Goals as goal
+use Rattle.cli_tasks.proofs.named_files.fault_lines.Goals as goal
 
 pub returns : goal.returns
 returns c =

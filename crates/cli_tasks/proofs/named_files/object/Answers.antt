@@ -1,11 +1,11 @@
 use Rattle.std.proofs.Common.{◌≡◌, ◌∙◌, List, ℕ, ap, sym, refl, inr, string_bytes, option_map}
 use Rattle.std.specs.Prelude.{Option}
 use Rattle.hex.specs.Hex.{encode_lower}
-use Rattle.elf.specs.Entry.{entry_of}
-use Rattle.references.specs.declared.key.Key.TheVariants.{Object}
-use Rattle.references.specs.Asking.{Asked}
-use Rattle.neighbours.proofs.Files.{beside_so}
-use Rattle.neighbours.proofs.naming.object.Goals as goal
+use Rattle.object.specs.Entry.{entry_of}
+use Rattle.scenario.specs.declared.reference_key.ReferenceKey.TheVariants.{Object}
+use Rattle.scenario.specs.Asking.{Asked}
+use Rattle.cli_tasks.proofs.Files.{beside_so}
+use Rattle.cli_tasks.proofs.named_files.object.Goals as goal
 
 pub returns-in_ok-object-in-Ok-clause-file : goal.returns-in_ok-object-in-Ok-clause-file
 returns-in_ok-object-in-Ok-clause-file c =

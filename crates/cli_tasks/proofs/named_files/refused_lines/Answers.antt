@@ -1,9 +1,9 @@
 use Rattle.std.proofs.Common.{◌≡◌, ◌∙◌, ◌++◌, ℕ, List, ap, append_assoc, string_bytes}
 use Rattle.std.specs.Prelude.{codes, decimal}
 use Rattle.std.proofs.lemmas.Result.{IfOk-weaker}
-use Rattle.elf.specs.ErrorText.{told}
-use Rattle.references.specs.Names.{reference_of}
-use Rattle.neighbours.proofs.naming.refused_lines.Goals as goal
+use Rattle.object.specs.ErrorText.{told}
+use Rattle.scenario.specs.ReferenceNames.{reference_of}
+use Rattle.cli_tasks.proofs.named_files.refused_lines.Goals as goal
 
 pub returns : goal.returns
 returns c =

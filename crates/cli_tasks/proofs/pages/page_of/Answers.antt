@@ -1,7 +1,7 @@
 use Rattle.std.proofs.Common.{ap, ◌∙◌}
 use Rattle.std.specs.Prelude.{option_map}
-use Rattle.picture_tasks.proofs.PageLemmas.{is_page}
-use Rattle.picture_tasks.proofs.paging.page_of.Goals as goal
+use Rattle.cli_tasks.proofs.PageLemmas.{is_page}
+use Rattle.cli_tasks.proofs.pages.page_of.Goals as goal
 
 pub returns : goal.returns
 returns c =

@@ -1,5 +1,5 @@
-use Rattle.picture_tasks.proofs.PageLemmas.{signed_played_paged}
-use Rattle.picture_tasks.proofs.paging.signed_paged.Goals as goal
+use Rattle.cli_tasks.proofs.PageLemmas.{signed_played_paged}
+use Rattle.cli_tasks.proofs.pages.signed_paged.Goals as goal
 
 pub returns : goal.returns
 returns c =

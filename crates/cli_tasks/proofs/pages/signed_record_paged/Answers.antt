@@ -1,6 +1,6 @@
 use Rattle.std.proofs.Common.{refl}
-use Rattle.picture_tasks.proofs.PageLemmas.{signed_told_paged}
-use Rattle.picture_tasks.proofs.paging.signed_record_paged.Goals as goal
+use Rattle.cli_tasks.proofs.PageLemmas.{signed_told_paged}
+use Rattle.cli_tasks.proofs.pages.signed_record_paged.Goals as goal
 
 pub returns-clause-told : goal.returns-clause-told
 returns-clause-told c =

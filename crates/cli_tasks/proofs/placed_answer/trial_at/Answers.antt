@@ -1,9 +1,9 @@
 use Rattle.std.specs.Prelude.{option_map}
-use Rattle.lab.specs.Serving.{IsRefusedLater}
-use Rattle.faults.specs.Whys.{is_explained, Nothing}
-use Rattle.lab.specs.declared.first_answer.FirstAnswer.TheVariants.{Trial}
-use Rattle.lab.proofs.WhyLemmas.{stops_later}
-use Rattle.lab.proofs.placing.trial_at.Goals as goal
+use Rattle.cli_tasks.specs.Serving.{IsRefusedLater}
+use Rattle.cli_tasks.specs.Whys.{is_explained, Nothing}
+use Rattle.cli_tasks.specs.declared.first_answer.FirstAnswer.TheVariants.{Trial}
+use Rattle.cli_tasks.proofs.WhyLemmas.{stops_later}
+use Rattle.cli_tasks.proofs.placed_answer.trial_at.Goals as goal
 
 pub returns-clause-fault : goal.returns-clause-fault
 returns-clause-fault g c =

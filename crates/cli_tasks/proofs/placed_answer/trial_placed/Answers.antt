@@ -1,13 +1,13 @@
 use Rattle.std.proofs.Common.{List, ℕ, refl, subst}
 use Rattle.std.proofs.lemmas.Result.{IfErr-weaker, IfOk-weaker}
-use Rattle.lab.specs.Hints.{explained_in}
-use Rattle.lab.specs.Serving.{Files, IsTrialAt, files}
-use Rattle.faults.specs.Whys.{is_explained}
-use Rattle.lab.specs.declared.first_answer.FirstAnswer.TheVariants.{Trial}
-use Rattle.lab.proofs.FilesLemmas.{prevented_later, second_named}
-use Rattle.lab.proofs.FirstLemmas.{prevented_first}
-use Rattle.lab.proofs.PlaceLemmas.{goes_on, placed_trial, refuses_trial}
-use Rattle.lab.proofs.placing.trial_placed.Goals as goal
+use Rattle.cli_tasks.specs.TaskHints.{explained_in}
+use Rattle.cli_tasks.specs.Serving.{Files, IsTrialAt, files}
+use Rattle.cli_tasks.specs.Whys.{is_explained}
+use Rattle.cli_tasks.specs.declared.first_answer.FirstAnswer.TheVariants.{Trial}
+use Rattle.cli_tasks.proofs.FilesLemmas.{prevented_later, second_named}
+use Rattle.cli_tasks.proofs.FirstLemmas.{prevented_first}
+use Rattle.cli_tasks.proofs.PlaceLemmas.{goes_on, placed_trial, refuses_trial}
+use Rattle.cli_tasks.proofs.placed_answer.trial_placed.Goals as goal
 
 pub refused-requires : goal.refused-requires
 refused-requires g c = refuses_trial c.args.task.now _ c.in-Err.refusal c.args.notation.now c.args.traced c.requires (rw (c.as_slice.ensures.value, ← c.as_slice-in-Err.ensures.value) at c.in-Err.ensures.refused)

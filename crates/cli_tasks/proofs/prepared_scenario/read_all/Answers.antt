@@ -1,6 +1,6 @@
 use Rattle.std.proofs.lemmas.Result.{err_from_is_err_and}
-use Rattle.neighbours.proofs.Files.{files_on, untaken_of}
-use Rattle.neighbours.proofs.preparing.read_all.Goals as goal
+use Rattle.cli_tasks.proofs.Files.{files_on, untaken_of}
+use Rattle.cli_tasks.proofs.prepared_scenario.read_all.Goals as goal
 
 pub loop-file-preserved : goal.loop-file-preserved
 loop-file-preserved g c =

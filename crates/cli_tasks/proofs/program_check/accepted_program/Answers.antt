@@ -1,9 +1,9 @@
 use Rattle.std.proofs.lemmas.Result.{IfErr-weaker}
 use Rattle.verify.specs.declared.error.Refused.{Refused}
-use Rattle.inputs.specs.Refusals.{verifier_refusal}
+use Rattle.cli_tasks.specs.Refusals.{verifier_refusal}
 use Rattle.std.proofs.Common.{refl}
-use Rattle.program_tasks.proofs.RefusalLemmas.{refused_program, told_err, told_ok}
-use Rattle.program_tasks.proofs.checking.accepted_program.Goals as goal
+use Rattle.cli_tasks.proofs.RefusalLemmas.{refused_program, told_err, told_ok}
+use Rattle.cli_tasks.proofs.program_check.accepted_program.Goals as goal
 
 pub returns-clause-same : goal.returns-clause-same
 returns-clause-same c = told_ok (λ (r : Refused). verifier_refusal r.fault) _ c.verify.result c.accepted_by.result c.accepted_by.ensures c.verify.ensures.same

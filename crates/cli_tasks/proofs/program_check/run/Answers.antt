@@ -4,7 +4,7 @@ use Rattle.insn.specs.declared.insn.Insn.{Insn}
 use Rattle.insn.specs.Program.{slots_of}
 use Rattle.trial.specs.Setting.{Setting}
 use Rattle.trial.specs.Trial.{trial_in}
-use Rattle.program_tasks.proofs.checking.run.Goals as goal
+use Rattle.cli_tasks.proofs.program_check.run.Goals as goal
 
 pub returns : goal.returns
 returns c =

@@ -1,7 +1,7 @@
 use Rattle.streams.specs.Reading.{IsWithin}
-use Rattle.streams.specs.declared.within.Within.TheVariants.{Longer}
-use Rattle.lab.proofs.ReadLemmas.{long_first}
-use Rattle.lab.proofs.reading.read_program.Goals as goal
+use Rattle.streams.specs.declared.bounded_read.Within.TheVariants.{Longer}
+use Rattle.cli_tasks.proofs.ReadLemmas.{long_first}
+use Rattle.cli_tasks.proofs.reader.read_program.Goals as goal
 
 pub returns-in-Ok-Longer-clause-fault : goal.returns-in-Ok-Longer-clause-fault
 returns-in-Ok-Longer-clause-fault g c =

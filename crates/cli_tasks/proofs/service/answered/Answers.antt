@@ -1,19 +1,19 @@
 use Rattle.std.proofs.Common.{ℕ, ◌≡◌, [], List, ap, refl, subst, sym}
 use Rattle.std.proofs.lemmas.Result.{IfErr-weaker, IfOk-weaker}
-use Rattle.lab.specs.Answers.{ComesTo, Prints}
-use Rattle.lab.specs.Hints.{explained_in}
-use Rattle.faults.specs.Whys.{Nothing, TellsWhyOf, is_explained}
-use Rattle.lab.specs.Serving.{Files, IsTrialOf, files}
-use Rattle.lab.specs.declared.first_answer.FirstAnswer.TheVariants.{Text, Bytes, Trial, Play, Muster, Audit, Draw, DrawRecorded, Page, PageRecorded, Retrace}
-use Rattle.lab.proofs.FilesLemmas.{answered_alone, answered_audited, answered_drawn, answered_mustered, answered_page_recorded, answered_paged, answered_played, answered_recorded, answered_retraced, answered_tried, prevented_later, second_named}
-use Rattle.faults.specs.Faults.{IsToldIf}
-use Rattle.faults.specs.declared.failure.Failure.{Failure}
-use Rattle.inputs.specs.declared.refusal.Refusal.{Refusal}
-use Rattle.campaign_tasks.specs.Refusals.{RefusesMuster}
-use Rattle.lab.proofs.FirstLemmas.{prevented_first}
-use Rattle.lab.proofs.MusterLemmas.{either_err, either_ok}
-use Rattle.lab.proofs.WhyLemmas.{unmustered}
-use Rattle.lab.proofs.serving.answered.Goals as goal
+use Rattle.cli_tasks.specs.TaskAnswers.{ComesTo, Prints}
+use Rattle.cli_tasks.specs.TaskHints.{explained_in}
+use Rattle.cli_tasks.specs.Whys.{Nothing, TellsWhyOf, is_explained}
+use Rattle.cli_tasks.specs.Serving.{Files, IsTrialOf, files}
+use Rattle.cli_tasks.specs.declared.first_answer.FirstAnswer.TheVariants.{Text, Bytes, Trial, Play, Muster, Audit, Draw, DrawRecorded, Page, PageRecorded, Retrace}
+use Rattle.cli_tasks.proofs.FilesLemmas.{answered_alone, answered_audited, answered_drawn, answered_mustered, answered_page_recorded, answered_paged, answered_played, answered_recorded, answered_retraced, answered_tried, prevented_later, second_named}
+use Rattle.cli_tasks.specs.Faults.{IsToldIf}
+use Rattle.cli_tasks.specs.declared.failure.TaskFailure.{TaskFailure}
+use Rattle.cli_tasks.specs.declared.refusal.InputRefusal.{InputRefusal}
+use Rattle.cli_tasks.specs.CampaignRefusals.{RefusesMuster}
+use Rattle.cli_tasks.proofs.FirstLemmas.{prevented_first}
+use Rattle.cli_tasks.proofs.MusterLemmas.{either_err, either_ok}
+use Rattle.cli_tasks.proofs.WhyLemmas.{unmustered}
+use Rattle.cli_tasks.proofs.service.answered.Goals as goal
 
 pub returns-in-Ok-Text-clause-answer : goal.returns-in-Ok-Text-clause-answer
 returns-in-Ok-Text-clause-answer g c =
@@ -77,7 +77,7 @@ returns-in-Ok-Muster-clause-answer g c =
     let both : Files = files g.R.Source.bytes c.args.first c.args.second in
     let is : c.in-Ok-Muster.field-0 ≡ Muster c.in-Ok-Muster.scenario c.in-Ok-Muster.explained = c.in-Ok-Muster.field-0-is in
     let comes : ComesTo c.args.task.now c.in_ok-bytes.bytes.items (Muster c.in-Ok-Muster.scenario c.in-Ok-Muster.explained) = rw (c.as_slice.ensures.value, is) at c.in-Ok-Muster.ensures.answered in
-    either_ok (λ (cause : Refusal). λ (fault : Failure). IsToldIf c.is_explained-reported.result cause c.unwrap_or-file.result (TellsWhyOf cause Nothing c.unwrap_or-file.result.now []) fault) _ c.mustered-text.result c.mustered_text.result c.mustered_text.ensures
+    either_ok (λ (cause : InputRefusal). λ (fault : TaskFailure). IsToldIf c.is_explained-reported.result cause c.unwrap_or-file.result (TellsWhyOf cause Nothing c.unwrap_or-file.result.now []) fault) _ c.mustered-text.result c.mustered_text.result c.mustered_text.ensures
     (IfOk-weaker c.mustered-text.result _ _
     (λ text is. answered_mustered c.args.task.now both c.in_ok-bytes.bytes.items text.items c.in-Ok-Muster.scenario c.in-Ok-Muster.explained c.in_ok-bytes.ensures.whole comes is)
     c.mustered-text.ensures.mustered)
@@ -88,7 +88,7 @@ returns-in-Ok-Muster-clause-fault g c =
     let task = c.args.task.now in
     let is : c.in-Ok-Muster.field-0 ≡ Muster c.in-Ok-Muster.scenario c.in-Ok-Muster.explained = c.in-Ok-Muster.field-0-is in
     let comes : ComesTo task c.in_ok-bytes.bytes.items (Muster c.in-Ok-Muster.scenario c.in-Ok-Muster.explained) = rw (c.as_slice.ensures.value, is) at c.in-Ok-Muster.ensures.answered in
-    either_err (λ (cause : Refusal). λ (fault : Failure). IsToldIf c.is_explained-reported.result cause c.unwrap_or-file.result (TellsWhyOf cause Nothing c.unwrap_or-file.result.now []) fault) RefusesMuster _ c.mustered-text.result c.mustered_text.result c.mustered_text.ensures
+    either_err (λ (cause : InputRefusal). λ (fault : TaskFailure). IsToldIf c.is_explained-reported.result cause c.unwrap_or-file.result (TellsWhyOf cause Nothing c.unwrap_or-file.result.now []) fault) RefusesMuster _ c.mustered-text.result c.mustered_text.result c.mustered_text.ensures
     (λ refusal fault refuses told.
     prevented_later task both _ _ c.in_ok-bytes.bytes.items c.unwrap_or-file.result.now (Muster c.in-Ok-Muster.scenario c.in-Ok-Muster.explained) c.is_explained-reported.result fault
     c.in_ok-bytes.ensures.whole comes (second_named task c.second.result c.unwrap_or-file.result _ c.second.ensures c.unwrap_or-file.ensures refl) c.is_explained-reported.ensures

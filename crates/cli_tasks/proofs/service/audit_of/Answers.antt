@@ -1,9 +1,9 @@
 use Rattle.std.specs.Prelude.{option_map}
-use Rattle.lab.specs.Serving.{IsRefusedLater}
-use Rattle.lab.specs.declared.first_answer.FirstAnswer.TheVariants.{Audit}
-use Rattle.faults.specs.Whys.{Chronicle}
-use Rattle.lab.proofs.WhyLemmas.{stops_later}
-use Rattle.lab.proofs.serving.audit_of.Goals as goal
+use Rattle.cli_tasks.specs.Serving.{IsRefusedLater}
+use Rattle.cli_tasks.specs.declared.first_answer.FirstAnswer.TheVariants.{Audit}
+use Rattle.cli_tasks.specs.Whys.{Chronicle}
+use Rattle.cli_tasks.proofs.WhyLemmas.{stops_later}
+use Rattle.cli_tasks.proofs.service.audit_of.Goals as goal
 
 pub returns-clause-fault : goal.returns-clause-fault
 returns-clause-fault g c =

@@ -1,5 +1,5 @@
-use Rattle.lab.proofs.ScheduleLemmas.{front_refused, front_told}
-use Rattle.lab.proofs.serving.scheduled.Goals as goal
+use Rattle.cli_tasks.proofs.ScheduleLemmas.{front_refused, front_told}
+use Rattle.cli_tasks.proofs.service.scheduled.Goals as goal
 
 pub returns-in-Ok-clause-told : goal.returns-in-Ok-clause-told
 returns-in-Ok-clause-told g c =

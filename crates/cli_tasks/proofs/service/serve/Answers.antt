@@ -1,5 +1,5 @@
-use Rattle.lab.proofs.FaultLemmas.{fault_ends}
-use Rattle.lab.proofs.serving.serve.Goals as goal
+use Rattle.cli_tasks.proofs.FaultLemmas.{fault_ends}
+use Rattle.cli_tasks.proofs.service.serve.Goals as goal
 
 pub returns-in-Err-clause-at_fault : goal.returns-in-Err-clause-at_fault
 returns-in-Err-clause-at_fault g c one =

@@ -1,8 +1,8 @@
 use Rattle.std.proofs.Common.{◌∙◌, sym, add-one}
 use Rattle.std.specs.Prelude.{nat_le, slice_index}
 use Rattle.std.proofs.lemmas.Option.{slice_get-get_or}
-use Rattle.table_tasks.proofs.StrangerLemmas.{found_here, none_more}
-use Rattle.table_tasks.proofs.strangers.stranger_among.Goals as goal
+use Rattle.cli_tasks.proofs.StrangerLemmas.{found_here, none_more}
+use Rattle.cli_tasks.proofs.strangers.stranger_among.Goals as goal
 
 pub returns-then-is_stranger : goal.returns-then-is_stranger
 returns-then-is_stranger c =

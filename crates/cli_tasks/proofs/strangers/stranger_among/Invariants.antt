@@ -1,6 +1,6 @@
 use Rattle.std.proofs.Common.{◌≡◌, take, None}
 use Rattle.std.specs.Prelude.{nat_le, find}
-use Rattle.table_tasks.proofs.strangers.stranger_among.Given as goal
+use Rattle.cli_tasks.proofs.strangers.stranger_among.Given as goal
 
 -- none so far is a stranger
 abbrev pub invariant-loop-general : goal.invariant-loop-general

@@ -1,9 +1,9 @@
 use Rattle.std.proofs.Common.{List, ℕ}
 use Rattle.std.specs.String.{string_bytes}
 use Rattle.streams.specs.Names.{shown}
-use Rattle.faults.specs.Whys.{TellsWhy, TellsWhyOf, role_view}
-use Rattle.faults.proofs.WhyLemmas.{by_text, told_named}
-use Rattle.faults.proofs.whys.told.Goals as goal
+use Rattle.cli_tasks.specs.Whys.{TellsWhy, TellsWhyOf, role_view}
+use Rattle.cli_tasks.proofs.HintLemmas.{by_text, told_named}
+use Rattle.cli_tasks.proofs.whys.told.Goals as goal
 
 pub returns-in-Ok-told_by : goal.returns-in-Ok-told_by
 returns-in-Ok-told_by c =

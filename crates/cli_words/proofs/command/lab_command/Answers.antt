@@ -1,8 +1,8 @@
 use Rattle.std.proofs.lemmas.Result.{IfOk-weaker}
 use Rattle.clap.specs.Words.{app_of}
-use Rattle.command_line.specs.Asked.{words_of}
-use Rattle.command_line.proofs.CommandLemmas.{lab_is}
-use Rattle.command_line.proofs.command.lab_command.Goals as goal
+use Rattle.cli_words.specs.Asked.{words_of}
+use Rattle.cli_words.proofs.CommandLemmas.{lab_is}
+use Rattle.cli_words.proofs.command.lab_command.Goals as goal
 
 pub returns-clause-shape : goal.returns-clause-shape
 returns-clause-shape c = IfOk-weaker c.described.result _ _

@@ -1,8 +1,8 @@
 use Rattle.std.proofs.Common.{◌≡◌, drop, false, map}
-use Rattle.command_line.specs.Asked.{words_of}
-use Rattle.command_line.specs.Several.{onto, parted, parted_of}
-use Rattle.command_line.specs.Subcommand.{flag_of}
-use Rattle.command_line.proofs.several.parted.Given as goal
+use Rattle.cli_words.specs.Asked.{words_of}
+use Rattle.cli_words.specs.Several.{onto, parted, parted_of}
+use Rattle.cli_words.specs.Subcommand.{flag_of}
+use Rattle.cli_words.proofs.file_words.parted.Given as goal
 
 abbrev pub invariant-loop-index : goal.invariant-loop-index
 invariant-loop-index l =

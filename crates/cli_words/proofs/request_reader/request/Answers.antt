@@ -1,10 +1,10 @@
 use Rattle.std.proofs.Common.{◌≡◌, ◌∙◌, Some, subst, sym, true}
 use Rattle.clap.specs.Words.{subcommand_rows_of}
-use Rattle.command_line.specs.Asked.{words_of}
-use Rattle.command_line.specs.Met.{has_places, told_by}
-use Rattle.command_line.specs.Tasks.{Told}
-use Rattle.command_line.proofs.CallLemmas.{error_is_refused, misuse_is_told, some_met, task_found, told_among, told_no_misuse, told_not_memory, told_unasked, request_is_asked}
-use Rattle.command_line.proofs.reading.request.Goals as goal
+use Rattle.cli_words.specs.Asked.{words_of}
+use Rattle.cli_words.specs.Met.{has_places, told_by}
+use Rattle.cli_words.specs.Tasks.{Told}
+use Rattle.cli_words.proofs.CallLemmas.{error_is_refused, misuse_is_told, some_met, task_found, told_among, told_no_misuse, told_not_memory, told_unasked, request_is_asked}
+use Rattle.cli_words.proofs.request_reader.request.Goals as goal
 
 pub of-requires : goal.of-requires
 of-requires c =

@@ -1,7 +1,7 @@
 use Rattle.std.proofs.Common.{◌∙◌, ◌≤◌, ap, length, sym, arith}
 use Rattle.std.proofs.lemmas.List.{drop_all}
-use Rattle.command_line.proofs.CommandLemmas.{alone_named, none_named, row_found, row_named, row_passed}
-use Rattle.command_line.proofs.subcommands.named_among.Goals as goal
+use Rattle.cli_words.proofs.CommandLemmas.{alone_named, none_named, row_found, row_named, row_passed}
+use Rattle.cli_words.proofs.subcommands.named_among.Goals as goal
 
 pub loop-subcommand-preserved : goal.loop-subcommand-preserved
 loop-subcommand-preserved c =

@@ -1,5 +1,5 @@
 use Rattle.std.proofs.Common.{◌∷◌, []}
-use Rattle.codec.specs.declared.fault.Fault.TheVariants as faults
+use Rattle.codec.specs.declared.fault.CodecFault.TheVariants as faults
 use Rattle.codec.specs.declared.form.Form.TheVariants as forms
 use Rattle.codec.specs.Reading.{checks_of, is_set}
 use Rattle.codec.proofs.DecodingLemmas.{handed_on}

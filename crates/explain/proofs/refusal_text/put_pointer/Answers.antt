@@ -1,7 +1,7 @@
 use Rattle.std.proofs.Common.{string_bytes}
 use Rattle.explain.proofs.AboutLemmas.{on_ok}
 use Rattle.explain.proofs.SayingLemmas.{pointer_so}
-use Rattle.explain.proofs.saying.put_pointer.Goals as goal
+use Rattle.explain.proofs.refusal_text.put_pointer.Goals as goal
 
 pub returns : goal.returns
 returns c =

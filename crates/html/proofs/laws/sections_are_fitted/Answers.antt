@@ -1,5 +1,5 @@
-use Rattle.page.proofs.SectionLaws.{proved_sections_are_fitted}
-use Rattle.page.proofs.laws.sections_are_fitted.Goals as goal
+use Rattle.html.proofs.SectionLaws.{proved_sections_are_fitted}
+use Rattle.html.proofs.laws.sections_are_fitted.Goals as goal
 
 pub returns : goal.returns
 returns c = proved_sections_are_fitted

@@ -1,5 +1,5 @@
-use Rattle.page.proofs.EncodedLaws.{shown_text}
-use Rattle.page.proofs.laws.texts_are_text.Goals as goal
+use Rattle.html.proofs.EncodedLaws.{shown_text}
+use Rattle.html.proofs.laws.texts_are_text.Goals as goal
 
 pub returns : goal.returns
 returns c = shown_text

@@ -1,5 +1,5 @@
-use Rattle.page.proofs.VisibleLaws.{proved_texts_are_visible}
-use Rattle.page.proofs.laws.texts_are_visible.Goals as goal
+use Rattle.html.proofs.VisibleLaws.{proved_texts_are_visible}
+use Rattle.html.proofs.laws.texts_are_visible.Goals as goal
 
 pub returns : goal.returns
 returns c = proved_texts_are_visible

@@ -1,7 +1,7 @@
 use Rattle.std.proofs.Common.{◌≡◌, ◌++◌, drop}
 use Rattle.std.specs.String.{string_bytes}
-use Rattle.page.specs.Sections.{fitted_sections}
-use Rattle.page.proofs.sections.put_fitted.Given as goal
+use Rattle.html.specs.Sections.{fitted_sections}
+use Rattle.html.proofs.sections.put_fitted.Given as goal
 
 abbrev pub invariant-loop-section : goal.invariant-loop-section
 invariant-loop-section l =

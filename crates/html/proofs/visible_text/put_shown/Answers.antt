@@ -6,9 +6,9 @@ use Rattle.std.proofs.lemmas.List.Concat.{flat_map-append}
 use Rattle.std.proofs.lemmas.Str.{encodes-append}
 use Rattle.std.proofs.lemmas.Iterator.{YieldsList-from_chars}
 use Rattle.std.proofs.lemmas.Iterator.Consumers.{YieldsList-end}
-use Rattle.markup.specs.Escaped.{escaped, written}
-use Rattle.page.specs.Visible.{made_visible, visible}
-use Rattle.page.proofs.visible.put_shown.Goals as goal
+use Rattle.html.specs.Escaped.{escaped, written}
+use Rattle.html.specs.Visible.{made_visible, visible}
+use Rattle.html.proofs.visible_text.put_shown.Goals as goal
 
 -- one character more
 more : (cs : List ℕ) (c : ℕ) (old : List ℕ)

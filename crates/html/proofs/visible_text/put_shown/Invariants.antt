@@ -1,9 +1,9 @@
 use Rattle.std.proofs.Common.{◌≡◌, ◌++◌}
 use Rattle.std.specs.Str.{encode_utf8_all}
 use Rattle.std.specs.String.{string_bytes}
-use Rattle.markup.specs.Escaped.{escaped}
-use Rattle.page.specs.Visible.{visible}
-use Rattle.page.proofs.visible.put_shown.Given as goal
+use Rattle.html.specs.Escaped.{escaped}
+use Rattle.html.specs.Visible.{visible}
+use Rattle.html.proofs.visible_text.put_shown.Given as goal
 
 -- the characters so far
 abbrev pub invariant-loop-character : goal.invariant-loop-character

@@ -3,7 +3,7 @@ use Rattle.std.proofs.Common.{◌∙◌, ◌-◌, drop}
 use borrow.Rule.Slice.PartMut.{mid_of}
 use Rattle.word.specs.Bytes.{little_bytes}
 use Rattle.mem.proofs.LittleWrites.{written_at, byte_written, half_bytes, word_bytes}
-use Rattle.mem.proofs.little.put.Goals as goal
+use Rattle.mem.proofs.byte_order.put.Goals as goal
 
 pub returns-in-Byte : goal.returns-in-Byte
 returns-in-Byte c =

@@ -1,8 +1,8 @@
 -- The header, the numbers, and zeros.
 use Rattle.std.proofs.Common.{refl, arith}
 use Rattle.std.specs.Vec.{vec_len}
-use Rattle.contexts.proofs.Spelling.{context_done}
-use Rattle.contexts.proofs.writing.context_telling.Goals as goal
+use Rattle.mem.proofs.Spelling.{context_done}
+use Rattle.mem.proofs.context_writer.context_telling.Goals as goal
 
 pub returns : goal.returns
 returns c =

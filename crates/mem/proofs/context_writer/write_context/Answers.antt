@@ -1,7 +1,7 @@
 use Rattle.std.proofs.Common.{◌≡◌, ◌-◌, [], ◌∷◌, length, refl, arith}
 use Rattle.std.specs.Vec.{vec_len}
-use Rattle.contexts.proofs.Spelling.{header_numbers, context_done}
-use Rattle.contexts.proofs.writing.write_context.Goals as goal
+use Rattle.mem.proofs.Spelling.{header_numbers, context_done}
+use Rattle.mem.proofs.context_writer.write_context.Goals as goal
 
 pub returns-clause-bytes : goal.returns-clause-bytes
 returns-clause-bytes c =

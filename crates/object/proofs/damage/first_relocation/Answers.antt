@@ -1,7 +1,7 @@
 use Rattle.std.proofs.Common.{length, ◌/◌, arith}
-use Rattle.elf.proofs.FirstLemmas.{nothing_yet, nothing_more, found_first, nothing_left}
-use Rattle.elf.specs.Damage.{relocation_damage}
-use Rattle.elf.proofs.damage.first_relocation.Goals as goal
+use Rattle.object.proofs.FirstLemmas.{nothing_yet, nothing_more, found_first, nothing_left}
+use Rattle.object.specs.Damage.{relocation_damage}
+use Rattle.object.proofs.damage.first_relocation.Goals as goal
 
 pub loop-index-init : goal.loop-index-init
 loop-index-init c = nothing_yet (relocation_damage c.args.section c.args.symbols c.args.size c.args.relocations.now)

@@ -1,7 +1,7 @@
 use Rattle.std.proofs.Common.{arith}
-use Rattle.elf.proofs.FirstLemmas.{nothing_yet, nothing_more, found_first, nothing_left}
-use Rattle.elf.specs.Damage.{section_damage}
-use Rattle.elf.proofs.damage.first_section.Goals as goal
+use Rattle.object.proofs.FirstLemmas.{nothing_yet, nothing_more, found_first, nothing_left}
+use Rattle.object.specs.Damage.{section_damage}
+use Rattle.object.proofs.damage.first_section.Goals as goal
 
 pub loop-index-init : goal.loop-index-init
 loop-index-init c = nothing_yet (section_damage c.args.object.now c.args.table.now)

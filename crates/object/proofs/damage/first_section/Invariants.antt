@@ -1,9 +1,9 @@
 -- Nothing was found so far.
 use Rattle.std.proofs.Common.{◌≡◌}
 use Rattle.std.specs.Prelude.{None}
-use Rattle.elf.specs.First.{first_some}
-use Rattle.elf.specs.Damage.{section_damage}
-use Rattle.elf.proofs.damage.first_section.Given as goal
+use Rattle.object.specs.First.{first_some}
+use Rattle.object.specs.Damage.{section_damage}
+use Rattle.object.proofs.damage.first_section.Given as goal
 
 abbrev pub invariant-loop-index : goal.invariant-loop-index
 invariant-loop-index l = first_some (section_damage l.object l.table) l.index ≡ None

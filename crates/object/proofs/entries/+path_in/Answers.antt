@@ -1,6 +1,6 @@
 use Rattle.std.proofs.Common.{arith}
-use Rattle.debug_lines.proofs.EntryLemmas.{path_on}
-use Rattle.debug_lines.proofs.entries.+path_in.Goals as goal
+use Rattle.object.proofs.EntryLemmas.{path_on}
+use Rattle.object.proofs.entries.+path_in.Goals as goal
 
 pub returns-in-Some-behind_value : goal.returns-in-Some-behind_value
 returns-in-Some-behind_value t c =

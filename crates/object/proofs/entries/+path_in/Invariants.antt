@@ -1,4 +1,4 @@
-use Rattle.debug_lines.proofs.entries.+path_in.Given as goal
+use Rattle.object.proofs.entries.+path_in.Given as goal
 
 abbrev pub decreases-path_in : goal.decreases-path_in
 decreases-path_in l = l.count

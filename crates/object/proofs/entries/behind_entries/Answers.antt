@@ -1,7 +1,7 @@
 use Rattle.std.proofs.Common.{◌≡◌, ℕ, ◌-◌, ◌+◌, arith, sym, ◌∙◌, ap}
-use Rattle.debug_lines.specs.Entries.{behind_entries}
-use Rattle.debug_lines.proofs.EntryLemmas.{entries_on, entries_break}
-use Rattle.debug_lines.proofs.entries.behind_entries.Goals as goal
+use Rattle.object.specs.Entries.{behind_entries}
+use Rattle.object.proofs.EntryLemmas.{entries_on, entries_break}
+use Rattle.object.proofs.entries.behind_entries.Goals as goal
 
 pub returns-in-None-clause-read : goal.returns-in-None-clause-read
 returns-in-None-clause-read c =

@@ -1,7 +1,7 @@
 -- The entries that are left stand behind the place.
 use Rattle.std.proofs.Common.{length, ◌≡◌, ◌-◌, ◌≤◌}
-use Rattle.debug_lines.specs.Entries.{behind_entries}
-use Rattle.debug_lines.proofs.entries.behind_entries.Given as goal
+use Rattle.object.specs.Entries.{behind_entries}
+use Rattle.object.proofs.entries.behind_entries.Given as goal
 
 abbrev pub invariant-loop-done : goal.invariant-loop-done
 invariant-loop-done l = record {

@@ -1,7 +1,7 @@
 use Rattle.std.proofs.Common.{length, ◌/◌, arith}
-use Rattle.elf.proofs.FirstLemmas.{nothing_yet, nothing_more, found_first, nothing_left}
-use Rattle.elf.specs.Symbol.{asked, entry_here}
-use Rattle.elf.proofs.finding.first_entry.Goals as goal
+use Rattle.object.proofs.FirstLemmas.{nothing_yet, nothing_more, found_first, nothing_left}
+use Rattle.object.specs.Symbol.{asked, entry_here}
+use Rattle.object.proofs.entry_search.first_entry.Goals as goal
 
 pub loop-index-init : goal.loop-index-init
 loop-index-init c = nothing_yet (entry_here c.args.table.now c.args.symbols.now c.args.strings.now (asked c.args.name) c.args.least)

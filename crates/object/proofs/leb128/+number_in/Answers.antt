@@ -1,6 +1,6 @@
 use Rattle.std.proofs.Common.{arith}
-use Rattle.debug_lines.proofs.NumberLemmas.{number_last}
-use Rattle.debug_lines.proofs.number.+number_in.Goals as goal
+use Rattle.object.proofs.NumberLemmas.{number_last}
+use Rattle.object.proofs.leb128.+number_in.Goals as goal
 
 pub returns-then-byte-lt128-clause-read : goal.returns-then-byte-lt128-clause-read
 returns-then-byte-lt128-clause-read t c =

@@ -1,7 +1,7 @@
 use Rattle.std.proofs.Common.{length, ◌-◌, arith}
-use Rattle.elf.proofs.FirstLemmas.{nothing_yet, nothing_more, found_first, nothing_left}
-use Rattle.debug_lines.specs.Names.{empty_here}
-use Rattle.debug_lines.proofs.names.directories_end.Goals as goal
+use Rattle.object.proofs.FirstLemmas.{nothing_yet, nothing_more, found_first, nothing_left}
+use Rattle.object.specs.Names.{empty_here}
+use Rattle.object.proofs.names.directories_end.Goals as goal
 
 pub loop-n-init : goal.loop-n-init
 loop-n-init c = nothing_yet (empty_here c.args.tables c.args.bytes.now)

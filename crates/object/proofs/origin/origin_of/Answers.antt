@@ -1,7 +1,7 @@
 use Rattle.std.proofs.Common.{length, ◌/◌, arith}
-use Rattle.elf.proofs.FirstLemmas.{nothing_yet, nothing_more, found_first, nothing_left}
-use Rattle.debug_lines.specs.Origin.{origin_here}
-use Rattle.debug_lines.proofs.origin.origin_of.Goals as goal
+use Rattle.object.proofs.FirstLemmas.{nothing_yet, nothing_more, found_first, nothing_left}
+use Rattle.object.specs.Origin.{origin_here}
+use Rattle.object.proofs.origin.origin_of.Goals as goal
 
 pub loop-index-init : goal.loop-index-init
 loop-index-init c = nothing_yet (origin_here c.args.bytes.now c.args.symbols.now c.args.section c.args.size c.args.relocations.now c.args.place)

@@ -1,7 +1,7 @@
 use Rattle.std.proofs.Common.{length, ◌/◌, arith}
-use Rattle.elf.proofs.FirstLemmas.{nothing_yet, nothing_more, found_first, nothing_left}
-use Rattle.elf.specs.Relocation.{call_fault}
-use Rattle.elf.proofs.relocation.first_call.Goals as goal
+use Rattle.object.proofs.FirstLemmas.{nothing_yet, nothing_more, found_first, nothing_left}
+use Rattle.object.specs.Relocation.{call_fault}
+use Rattle.object.proofs.relocation.first_call.Goals as goal
 
 pub loop-unit-init : goal.loop-unit-init
 loop-unit-init c = nothing_yet (call_fault c.args.code.now)

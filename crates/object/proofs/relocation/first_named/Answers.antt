@@ -1,7 +1,7 @@
 use Rattle.std.proofs.Common.{arith}
-use Rattle.elf.proofs.FirstLemmas.{nothing_yet, nothing_more, found_first, nothing_left}
-use Rattle.elf.specs.Relocation.{relocations_fault}
-use Rattle.elf.proofs.relocation.first_named.Goals as goal
+use Rattle.object.proofs.FirstLemmas.{nothing_yet, nothing_more, found_first, nothing_left}
+use Rattle.object.specs.Relocation.{relocations_fault}
+use Rattle.object.proofs.relocation.first_named.Goals as goal
 
 pub loop-index-init : goal.loop-index-init
 loop-index-init c = nothing_yet (relocations_fault c.args.object.now c.args.table.now c.args.symbols.now c.args.function)

@@ -1,7 +1,7 @@
 use Rattle.std.proofs.Common.{arith, sym, refl}
-use Rattle.debug_lines.specs.Sources.{origins_of}
-use Rattle.debug_lines.proofs.RowLemmas.{comes_first, comes_as, machine_at}
-use Rattle.debug_lines.proofs.rows.read_rows.Goals as goal
+use Rattle.object.specs.Sources.{origins_of}
+use Rattle.object.proofs.RowLemmas.{comes_first, comes_as, machine_at}
+use Rattle.object.proofs.rows.read_rows.Goals as goal
 
 pub loop-place-init : goal.loop-place-init
 loop-place-init c = record {

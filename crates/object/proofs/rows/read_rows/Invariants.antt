@@ -1,9 +1,9 @@
 -- The machine has come so far.
 use Rattle.std.proofs.Common.{length, ◌-◌, ◌≤◌}
-use Rattle.debug_lines.specs.Rows.{Comes}
-use Rattle.debug_lines.specs.Sources.{origins_of}
-use Rattle.debug_lines.proofs.RowLemmas.{machine_at}
-use Rattle.debug_lines.proofs.rows.read_rows.Given as goal
+use Rattle.object.specs.Rows.{Comes}
+use Rattle.object.specs.Sources.{origins_of}
+use Rattle.object.proofs.RowLemmas.{machine_at}
+use Rattle.object.proofs.rows.read_rows.Given as goal
 
 abbrev pub invariant-loop-place : goal.invariant-loop-place
 invariant-loop-place l = record {

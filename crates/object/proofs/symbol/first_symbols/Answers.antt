@@ -1,7 +1,7 @@
 use Rattle.std.proofs.Common.{arith}
-use Rattle.elf.proofs.FirstLemmas.{nothing_yet, nothing_more, found_first, nothing_left}
-use Rattle.elf.specs.Symbol.{symbols_here}
-use Rattle.elf.proofs.symbol.first_symbols.Goals as goal
+use Rattle.object.proofs.FirstLemmas.{nothing_yet, nothing_more, found_first, nothing_left}
+use Rattle.object.specs.Symbol.{symbols_here}
+use Rattle.object.proofs.symbol.first_symbols.Goals as goal
 
 pub loop-index-init : goal.loop-index-init
 loop-index-init c = nothing_yet (symbols_here c.args.table.now)

@@ -1,7 +1,7 @@
 use Rattle.std.proofs.Common.{arith}
-use Rattle.elf.proofs.FirstLemmas.{nothing_yet, nothing_more, found_first, nothing_left}
-use Rattle.debug_lines.specs.Tables.{relocates_here}
-use Rattle.debug_lines.proofs.tables.first_relocating.Goals as goal
+use Rattle.object.proofs.FirstLemmas.{nothing_yet, nothing_more, found_first, nothing_left}
+use Rattle.object.specs.Tables.{relocates_here}
+use Rattle.object.proofs.tables.first_relocating.Goals as goal
 
 pub loop-index-init : goal.loop-index-init
 loop-index-init c = nothing_yet (relocates_here c.args.table.now c.args.home)

@@ -1,7 +1,7 @@
 use Rattle.std.proofs.Common.{length, ◌-◌, arith}
-use Rattle.elf.proofs.FirstLemmas.{nothing_yet, nothing_more, found_first, nothing_left}
-use Rattle.debug_lines.specs.Places.{row_here}
-use Rattle.debug_lines.proofs.placing.row_of.Goals as goal
+use Rattle.object.proofs.FirstLemmas.{nothing_yet, nothing_more, found_first, nothing_left}
+use Rattle.object.specs.Places.{row_here}
+use Rattle.object.proofs.unit_places.row_of.Goals as goal
 
 pub loop-index-init : goal.loop-index-init
 loop-index-init c = nothing_yet (row_here c.args.rows.now c.args.address)

@@ -1,6 +1,6 @@
-use Rattle.debug_lines.proofs.TextLemmas.{are_rows, no_rows}
-use Rattle.debug_lines.specs.Sources.{origins_of}
-use Rattle.debug_lines.proofs.placing.rows_of.Goals as goal
+use Rattle.object.proofs.TextLemmas.{are_rows, no_rows}
+use Rattle.object.specs.Sources.{origins_of}
+use Rattle.object.proofs.unit_places.rows_of.Goals as goal
 
 pub returns-in-Some-2 : goal.returns-in-Some-2
 returns-in-Some-2 c =

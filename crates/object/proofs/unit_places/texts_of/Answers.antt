@@ -1,7 +1,7 @@
 use Rattle.std.proofs.Common.{◌∙◌, ap}
-use Rattle.debug_lines.specs.Places.{name_in, told_of}
-use Rattle.debug_lines.proofs.TextLemmas.{texts_none, texts_pushed}
-use Rattle.debug_lines.proofs.placing.texts_of.Goals as goal
+use Rattle.object.specs.Places.{name_in, told_of}
+use Rattle.object.proofs.TextLemmas.{texts_none, texts_pushed}
+use Rattle.object.proofs.unit_places.texts_of.Goals as goal
 
 pub loop-unit-init : goal.loop-unit-init
 loop-unit-init c =

@@ -1,5 +1,5 @@
-use Rattle.debug_lines.proofs.TextLemmas.{told_plain}
-use Rattle.debug_lines.proofs.placing.told.Goals as goal
+use Rattle.object.proofs.TextLemmas.{told_plain}
+use Rattle.object.proofs.unit_places.told.Goals as goal
 
 pub returns-in-Some : goal.returns-in-Some
 returns-in-Some c =

@@ -1,5 +1,5 @@
 use Rattle.std.proofs.Common.{◌≡◌, take}
-use Rattle.outbox.proofs.signing.copied_entries.Given as goal
+use Rattle.outbox.proofs.signed_entries.copied_entries.Given as goal
 
 abbrev pub invariant-loop-entry : goal.invariant-loop-entry
 invariant-loop-entry l = l.copy.items ≡ take l.entry-index l.entries

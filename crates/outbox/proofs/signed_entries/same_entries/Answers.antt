@@ -2,7 +2,7 @@
 use Rattle.std.proofs.Common.{arith, refl}
 use Rattle.semantics.specs.declared.entry.Entry.TheVariants.{Sign}
 use Rattle.outbox.proofs.Sameness.{same_lists}
-use Rattle.outbox.proofs.signing.same_entries.Goals as goal
+use Rattle.outbox.proofs.signed_entries.same_entries.Goals as goal
 
 pub returns : goal.returns
 returns c = (

@@ -1,6 +1,6 @@
 use Rattle.std.proofs.Common.{◌∙◌, sym}
 use Rattle.std.proofs.lemmas.Slice.Eq.{bytes_eq-Decides}
-use Rattle.outbox.proofs.signing.same_signers.Goals as goal
+use Rattle.outbox.proofs.signed_entries.same_signers.Goals as goal
 
 pub returns : goal.returns
 returns c = (

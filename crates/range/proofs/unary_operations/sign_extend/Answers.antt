@@ -1,7 +1,7 @@
 use Rattle.std.proofs.Common.{rules}
 use Rattle.range.specs.Table.{extended_used}
 use Rattle.range.proofs.RangeUnary.{used_extended}
-use Rattle.range.proofs.unary.sign_extend.Goals as goal
+use Rattle.range.proofs.unary_operations.sign_extend.Goals as goal
 
 pub returns-then-is_single-clause-exact : goal.returns-then-is_single-clause-exact
 unfolding extended_used

@@ -1,8 +1,8 @@
 use Rattle.std.proofs.Common.{◌≡◌, ℕ, length, Some}
 use Rattle.std.specs.Prelude.{slice_get}
-use Rattle.causes.specs.declared.changes.Column.{Column}
-use Rattle.causes.specs.Columns.{IsColumn}
-use Rattle.causes.proofs.changes.columns.Given as goal
+use Rattle.reaching.specs.declared.changes.Column.{Column}
+use Rattle.reaching.specs.Columns.{IsColumn}
+use Rattle.reaching.proofs.changes.columns.Given as goal
 
 abbrev pub invariant-loop-cell : goal.invariant-loop-cell
 invariant-loop-cell l = record {

@@ -1,6 +1,6 @@
 use Rattle.std.specs.Prelude.{slice_get}
-use Rattle.causes.proofs.ColumnLemmas.{sets_so}
-use Rattle.causes.proofs.changes.sets_cell.Goals as goal
+use Rattle.reaching.proofs.ColumnLemmas.{sets_so}
+use Rattle.reaching.proofs.changes.sets_cell.Goals as goal
 
 pub returns : goal.returns
 returns c =

@@ -1,8 +1,8 @@
 use Rattle.std.proofs.Common.{◌≤◌, ◌<◌, ◌+◌, arith, length}
 use Rattle.insn.specs.Program.{slots_of}
 use Rattle.insn.proofs.SlotLemmas.{slots_so_far, units_bound, length-le-slots_of}
-use Rattle.causes.proofs.MendLemmas.{edited_few, few_more, mended_so_far, starts_inside}
-use Rattle.causes.proofs.mends.mended.Goals as goal
+use Rattle.reaching.proofs.MendLemmas.{edited_few, few_more, mended_so_far, starts_inside}
+use Rattle.reaching.proofs.edits.mended.Goals as goal
 
 pub push_edited-requires-clause-unit : goal.push_edited-requires-clause-unit
 push_edited-requires-clause-unit c =

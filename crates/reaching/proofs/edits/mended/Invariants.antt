@@ -1,7 +1,7 @@
 use Rattle.std.proofs.Common.{◌≡◌, ◌*◌, ◌≤◌, length, take}
 use Rattle.insn.specs.Program.{slots_of}
-use Rattle.causes.specs.Mends.{mended}
-use Rattle.causes.proofs.mends.mended.Given as goal
+use Rattle.reaching.specs.Mends.{mended}
+use Rattle.reaching.proofs.edits.mended.Given as goal
 
 abbrev pub invariant-loop-insn : goal.invariant-loop-insn
 invariant-loop-insn l = record {

@@ -2,8 +2,8 @@ use Rattle.std.proofs.Common.{List, subst, sym}
 use Rattle.std.specs.List.{AllByRecursion}
 use Rattle.insn.specs.declared.insn.Insn.{Insn}
 use Rattle.insn.specs.Insn.{IsWell}
-use Rattle.causes.proofs.MendLemmas.{mended_well}
-use Rattle.causes.proofs.mends.tried.Goals as goal
+use Rattle.reaching.proofs.MendLemmas.{mended_well}
+use Rattle.reaching.proofs.edits.tried.Goals as goal
 
 pub new-requires-clause-well : goal.new-requires-clause-well
 new-requires-clause-well c =

@@ -1,6 +1,6 @@
 use Rattle.std.proofs.Common.{◌<◌, arith, length}
 use Rattle.insn.proofs.SlotLemmas.{slots_so_far}
-use Rattle.causes.proofs.mends.units_of.Goals as goal
+use Rattle.reaching.proofs.edits.units_of.Goals as goal
 
 pub loop-insn-preserved : goal.loop-insn-preserved
 loop-insn-preserved c =

@@ -1,6 +1,6 @@
 use Rattle.std.proofs.Common.{◌≡◌, ◌*◌, ◌≤◌, length, take}
 use Rattle.insn.specs.Program.{slots_of}
-use Rattle.causes.proofs.mends.units_of.Given as goal
+use Rattle.reaching.proofs.edits.units_of.Given as goal
 
 abbrev pub invariant-loop-insn : goal.invariant-loop-insn
 invariant-loop-insn l = record {

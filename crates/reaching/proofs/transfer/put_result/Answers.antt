@@ -3,7 +3,7 @@ use Rattle.absval.specs.declared.value.AbsVal.{AbsVal}
 use Rattle.absval.specs.NumberSets.{within}
 use Rattle.verify.proofs.Zips.{at_set}
 use Rattle.verify.proofs.TableLemmas.{behind_whole}
-use Rattle.causes.proofs.left.put_result.Goals as goal
+use Rattle.reaching.proofs.transfer.put_result.Goals as goal
 use Rattle.absval.specs.declared.value.AbsVal.TheVariants.{Unset, Number}
 
 pub loop-r-init : goal.loop-r-init

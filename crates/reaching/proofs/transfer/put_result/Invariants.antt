@@ -1,6 +1,6 @@
 use Rattle.std.proofs.Common.{ℕ, ◌<◌, ◌≤◌, ◌≡◌, length}
 use Rattle.absval.specs.NumberSets.{within}
-use Rattle.causes.proofs.left.put_result.Given as goal
+use Rattle.reaching.proofs.transfer.put_result.Given as goal
 use Rattle.absval.specs.declared.value.AbsVal.TheVariants.{Unset, Number}
 use Rattle.verify.specs.Registers.{known_at}
 

@@ -1,8 +1,8 @@
 use Rattle.std.proofs.Common.{◌<◌, ◌+◌, ◌-◌, arith, length}
 use Rattle.std.specs.Prelude.{slice_get}
 use Rattle.insn.specs.Program.{slots_of}
-use Rattle.causes.proofs.ColumnLemmas.{flag_so}
-use Rattle.causes.proofs.marking.cell_marks.Goals as goal
+use Rattle.reaching.proofs.ColumnLemmas.{flag_so}
+use Rattle.reaching.proofs.unit_marks.cell_marks.Goals as goal
 
 pub cell_mark_of-mark-requires : goal.cell_mark_of-mark-requires
 cell_mark_of-mark-requires c =

@@ -1,9 +1,9 @@
 use Rattle.std.proofs.Common.{◌≡◌, length}
 use Rattle.std.specs.Prelude.{slice_get}
 use Rattle.insn.specs.Program.{slots_of}
-use Rattle.causes.specs.declared.subject.Subject.TheVariants.{Cell}
-use Rattle.causes.specs.Marks.{marked}
-use Rattle.causes.proofs.marking.cell_marks.Given as goal
+use Rattle.reaching.specs.declared.subject.Subject.TheVariants.{Cell}
+use Rattle.reaching.specs.Marks.{marked}
+use Rattle.reaching.proofs.unit_marks.cell_marks.Given as goal
 
 abbrev pub invariant-loop-below : goal.invariant-loop-below
 invariant-loop-below l = record {

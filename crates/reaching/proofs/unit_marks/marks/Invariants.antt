@@ -1,8 +1,8 @@
 use Rattle.std.proofs.Common.{◌≡◌, length}
 use Rattle.std.specs.Prelude.{slice_get}
 use Rattle.insn.specs.Program.{slots_of}
-use Rattle.causes.specs.Marks.{marked}
-use Rattle.causes.proofs.marking.marks.Given as goal
+use Rattle.reaching.specs.Marks.{marked}
+use Rattle.reaching.proofs.unit_marks.marks.Given as goal
 
 abbrev pub invariant-loop-below : goal.invariant-loop-below
 invariant-loop-below l = record {

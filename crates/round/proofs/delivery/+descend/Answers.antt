@@ -2,12 +2,12 @@
 use Rattle.std.proofs.Common.{◌≡◌, ◌+◌, ◌∙◌, ◌∷◌, ◌++◌, [], ℕ, false, true, sym, ap, refl, arith}
 use Rattle.std.specs.Prelude.{slice_index_or}
 use Rattle.outbox.proofs.RowLemmas.{others-few}
-use Rattle.delivery.specs.Fronts.{IsFront}
-use Rattle.delivery.proofs.Walking.{child_long}
-use Rattle.delivery.proofs.Together.{up_from, up_on, up_off, up_all, child_route, below_more, below_same, ends_at}
-use Rattle.delivery.proofs.TreeTables.{table_up}
-use Rattle.delivery.proofs.delivery.+descend.Goals as goal
-use Rattle.delivery.proofs.delivery.+descend.Goals.{then-not-front-from, else-not-front-from}
+use Rattle.round.specs.Fronts.{IsFront}
+use Rattle.round.proofs.Walking.{child_long}
+use Rattle.round.proofs.Together.{up_from, up_on, up_off, up_all, child_route, below_more, below_same, ends_at}
+use Rattle.round.proofs.TreeTables.{table_up}
+use Rattle.round.proofs.delivery.+descend.Goals as goal
+use Rattle.round.proofs.delivery.+descend.Goals.{then-not-front-from, else-not-front-from}
 
 pub loop-general-init : goal.loop-general-init
 loop-general-init t c = record {

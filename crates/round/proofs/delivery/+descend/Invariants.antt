@@ -1,9 +1,9 @@
 use Rattle.std.proofs.Common.{◌≡◌, ◌-◌, ℕ, List, length}
 use Rattle.label.specs.Labels.{others}
-use Rattle.delivery.specs.Fronts.{IsFront}
-use Rattle.delivery.specs.Delivery.{AreEach}
-use Rattle.delivery.proofs.Together.{IsToldUpTo}
-use Rattle.delivery.proofs.delivery.+descend.Given as goal
+use Rattle.round.specs.Fronts.{IsFront}
+use Rattle.round.specs.Delivery.{AreEach}
+use Rattle.round.proofs.Together.{IsToldUpTo}
+use Rattle.round.proofs.delivery.+descend.Given as goal
 
 abbrev pub invariant-loop-general : goal.invariant-loop-general
 invariant-loop-general l = record {

@@ -2,8 +2,8 @@
 use Rattle.std.proofs.Common.{◌<◌, length, ap, arith}
 use Rattle.std.specs.Prelude.{slice_get}
 use Rattle.std.proofs.lemmas.Option.{slice_get-get_or}
-use Rattle.delivery.proofs.TreeTables.{alone_apart}
-use Rattle.delivery.proofs.delivery.deliver.Goals as goal
+use Rattle.round.proofs.TreeTables.{alone_apart}
+use Rattle.round.proofs.delivery.deliver.Goals as goal
 
 pub deliver_to_all-requires-clause-apart : goal.deliver_to_all-requires-clause-apart
 deliver_to_all-requires-clause-apart c = rw c.from_mut.ensures.value (alone_apart c.args.tree.now)

@@ -1,8 +1,8 @@
 -- All labels of the round.
 use Rattle.std.proofs.Common.{◌≡◌, ◌<◌, ◌∷◌, [], length, arith, rules}
-use Rattle.delivery.specs.Told.{round_of}
-use Rattle.delivery.proofs.Together.{all_told, none_told, round_told}
-use Rattle.delivery.proofs.delivery.deliver_to_all.Goals as goal
+use Rattle.round.specs.Told.{round_of}
+use Rattle.round.proofs.Together.{all_told, none_told, round_told}
+use Rattle.round.proofs.delivery.deliver_to_all.Goals as goal
 use Rattle.std.proofs.lemmas.List.{nil_from_length}
 
 pub returns-then-is_empty : goal.returns-then-is_empty

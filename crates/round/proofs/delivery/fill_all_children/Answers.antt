@@ -1,10 +1,10 @@
 -- One of those off the label after another.
 use Rattle.std.proofs.Common.{◌≡◌, ℕ, refl, subst, take, arith}
 use Rattle.std.specs.Prelude.{slice_index, slice_index_or}
-use Rattle.delivery.proofs.Together.{stays_read}
-use Rattle.delivery.proofs.TreeTables.{AreNamedTold, is_next, name_within, named_all, named_next, named_none, named_skip}
-use Rattle.delivery.proofs.delivery.fill_all_children.Goals as goal
-use Rattle.delivery.proofs.delivery.fill_all_children.Goals.{then-index-trees, else-index-trees}
+use Rattle.round.proofs.Together.{stays_read}
+use Rattle.round.proofs.TreeTables.{AreNamedTold, is_next, name_within, named_all, named_next, named_none, named_skip}
+use Rattle.round.proofs.delivery.fill_all_children.Goals as goal
+use Rattle.round.proofs.delivery.fill_all_children.Goals.{then-index-trees, else-index-trees}
 
 pub loop-number-init : goal.loop-number-init
 loop-number-init c = named_none c.args.letters.now c.args.size c.args.front.now c.args.trees.now

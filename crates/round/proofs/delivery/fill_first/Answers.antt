@@ -4,10 +4,10 @@ use Rattle.std.specs.Prelude.{slice_index_or}
 use Rattle.label.specs.Labels.{labels}
 use Rattle.label.proofs.Places.{first_label}
 use Rattle.outbox.specs.Orders.{order_of_row}
-use Rattle.delivery.specs.Delivery.{IsTold}
-use Rattle.delivery.proofs.EachTree.{done_next, done_all, not_done}
-use Rattle.delivery.proofs.Together.{first_done, stays_read}
-use Rattle.delivery.proofs.delivery.fill_first.Goals as goal
+use Rattle.round.specs.Delivery.{IsTold}
+use Rattle.round.proofs.EachTree.{done_next, done_all, not_done}
+use Rattle.round.proofs.Together.{first_done, stays_read}
+use Rattle.round.proofs.delivery.fill_first.Goals as goal
 
 pub set-requires-clause-within : goal.set-requires-clause-within
 set-requires-clause-within c =

@@ -1,7 +1,7 @@
 -- Tree by tree.
 use Rattle.std.proofs.Common.{◌<◌, ◌∙◌, length, refl, arith}
-use Rattle.delivery.proofs.TreeTables.{table_all, table_from, table_next}
-use Rattle.delivery.proofs.delivery.find_trees.Goals as goal
+use Rattle.round.proofs.TreeTables.{table_all, table_from, table_next}
+use Rattle.round.proofs.delivery.find_trees.Goals as goal
 
 pub loop-index-init : goal.loop-index-init
 loop-index-init c = table_from c.args.trees.now _ refl

@@ -1,9 +1,9 @@
 -- The first letter of the general, or none.
 use Rattle.std.proofs.Common.{◌∙◌, length, sym, ap, refl}
 use Rattle.std.proofs.lemmas.Option.{slice_get_read}
-use Rattle.letter.specs.Letters.{Letter}
-use Rattle.letter.proofs.Senders.{first_letter, none_more, none_left}
-use Rattle.delivery.proofs.delivery.letter_index.Goals as goal
+use Rattle.round.specs.Letters.{Letter}
+use Rattle.round.proofs.Senders.{first_letter, none_more, none_left}
+use Rattle.round.proofs.delivery.letter_index.Goals as goal
 
 pub returns-then-letter-general : goal.returns-then-letter-general
 returns-then-letter-general c =

@@ -1,7 +1,7 @@
 use Rattle.std.proofs.Common.{◌≡◌, ◌<◌, ℕ, length, get_or}
 use Rattle.std.specs.Prelude.{slice_get}
-use Rattle.letter.specs.Letters.{letter_of}
-use Rattle.delivery.proofs.delivery.letter_indices.Given as goal
+use Rattle.round.specs.Letters.{letter_of}
+use Rattle.round.proofs.delivery.letter_indices.Given as goal
 
 abbrev pub invariant-loop-general : goal.invariant-loop-general
 invariant-loop-general l = record {

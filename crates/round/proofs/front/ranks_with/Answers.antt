@@ -1,7 +1,7 @@
 use Rattle.std.proofs.Common.{◌≡◌, ◌<◌, ◌+◌, ◌*◌, ◌^◌, ◌∙◌, ℕ, get_or, cond, sym, ap, subst, arith, length-set}
 use Rattle.std.specs.Prelude.{nat_lt}
-use Rattle.delivery.proofs.Prolonging.{set_more}
-use Rattle.delivery.proofs.front.ranks_with.Goals as goal
+use Rattle.round.proofs.Prolonging.{set_more}
+use Rattle.round.proofs.front.ranks_with.Goals as goal
 
 pub loop-x-preserved : goal.loop-x-preserved
 loop-x-preserved c = record {

@@ -1,6 +1,6 @@
 use Rattle.std.proofs.Common.{◌≡◌, ◌<◌, ◌+◌, ◌*◌, ◌^◌, ℕ, length, get_or, cond}
 use Rattle.std.specs.Prelude.{nat_lt}
-use Rattle.delivery.proofs.front.ranks_with.Given as goal
+use Rattle.round.proofs.front.ranks_with.Given as goal
 
 abbrev pub invariant-loop-x : goal.invariant-loop-x
 invariant-loop-x l = record {

@@ -1,5 +1,5 @@
-use Rattle.letter.proofs.Loyal.{proved_loyal_letters_follow}
-use Rattle.letter.proofs.laws.loyal_letters_follow.Goals as goal
+use Rattle.round.proofs.Loyal.{proved_loyal_letters_follow}
+use Rattle.round.proofs.laws.loyal_letters_follow.Goals as goal
 
 pub returns : goal.returns
 returns c = proved_loyal_letters_follow

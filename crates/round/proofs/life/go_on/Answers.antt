@@ -5,7 +5,7 @@ use Rattle.semantics.specs.Call.{fits}
 use Rattle.board.specs.Board.{Access}
 use Rattle.round.proofs.Onwards.{silently_later}
 use Rattle.round.proofs.Served.{served_silently, served_more, given_up_behind, any_error}
-use Rattle.round.proofs.living.go_on.Goals as goal
+use Rattle.round.proofs.life.go_on.Goals as goal
 
 pub returns-in_default-clause-way : goal.returns-in_default-clause-way
 returns-in_default-clause-way g c start before way =

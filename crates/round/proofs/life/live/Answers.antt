@@ -2,14 +2,14 @@
 use Rattle.std.proofs.Common.{◌≡◌, ◌∙◌, ℕ, List, [], ◌++◌, ap, sym, subst, arith, refl}
 use Rattle.std.specs.Arc.{arc_value}
 use Rattle.semantics.specs.Relay.{Relay}
-use Rattle.letter.specs.Activation.{Activation, started}
-use Rattle.letter.specs.Letters.{Letter}
-use Rattle.letter.specs.Contexts.{IsToldTo, relay_told, shape_told}
+use Rattle.round.specs.Activation.{Activation, started}
+use Rattle.round.specs.Letters.{Letter}
+use Rattle.round.specs.Contexts.{IsToldTo, relay_told, shape_told}
 use Rattle.semantics.specs.Relay.{oral}
 use Rattle.round.specs.Running.{IsWayServed}
 use Rattle.round.proofs.Onwards.{letter_of_run, own_run, lived}
 use Rattle.round.proofs.Served.{served_first, any_error}
-use Rattle.round.proofs.living.live.Goals as goal
+use Rattle.round.proofs.life.live.Goals as goal
 
 pub loop-running-init : goal.loop-running-init
 loop-running-init g c =

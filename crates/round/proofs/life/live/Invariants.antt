@@ -1,9 +1,9 @@
 use Rattle.std.proofs.Common.{◌-◌}
 use Rattle.std.specs.Arc.{arc_value}
-use Rattle.letter.specs.Activation.{started}
-use Rattle.letter.specs.Contexts.{relay_told}
+use Rattle.round.specs.Activation.{started}
+use Rattle.round.specs.Contexts.{relay_told}
 use Rattle.round.specs.Running.{IsWayServed}
-use Rattle.round.proofs.living.live.Given as goal
+use Rattle.round.proofs.life.live.Given as goal
 
 abbrev pub invariant-loop-running : goal.invariant-loop-running
 invariant-loop-running g l =

@@ -2,7 +2,7 @@
 use Rattle.std.proofs.Common.{◌∙◌, ap, map, Some}
 use Rattle.semantics.specs.Relay.{Relay}
 use Rattle.semantics.specs.Outbox.{places, taken_value}
-use Rattle.letter.proofs.loyalty.faithful.Goals as goal
+use Rattle.round.proofs.loyalty.faithful.Goals as goal
 
 pub returns : goal.returns
 returns c =

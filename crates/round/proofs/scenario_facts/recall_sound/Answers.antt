@@ -4,7 +4,7 @@ use Rattle.std.specs.Prelude.{slice_get, IfSome}
 use Rattle.std.proofs.lemmas.Option.{slice_get_read, slice_get_within}
 use Rattle.insn.specs.declared.insn.Insn.{Insn}
 use Rattle.semantics.specs.Run.{IsSound}
-use Rattle.roster.proofs.recalling.recall_sound.Goals as goal
+use Rattle.round.proofs.scenario_facts.recall_sound.Goals as goal
 
 pub loop-seat-preserved : goal.loop-seat-preserved
 loop-seat-preserved c =

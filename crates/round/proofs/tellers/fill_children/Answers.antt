@@ -5,11 +5,11 @@ use Rattle.std.proofs.lemmas.Option.{slice_get_within}
 use Rattle.outbox.specs.Orders.{orders_seen}
 use Rattle.outbox.specs.Rows.{order_in}
 use Rattle.outbox.specs.declared.orders.Orders.{Orders}
-use Rattle.delivery.specs.Told.{lieutenant_at}
-use Rattle.delivery.proofs.Delivering.{told_each}
-use Rattle.delivery.proofs.Naming.{tells_past}
-use Rattle.delivery.proofs.Walking.{children_fit, row_fits, told_ends, under_one, suc_times}
-use Rattle.delivery.proofs.tellers.fill_children.Goals as goal
+use Rattle.round.specs.Told.{lieutenant_at}
+use Rattle.round.proofs.Delivering.{told_each}
+use Rattle.round.proofs.Naming.{tells_past}
+use Rattle.round.proofs.Walking.{children_fit, row_fits, told_ends, under_one, suc_times}
+use Rattle.round.proofs.tellers.fill_children.Goals as goal
 
 pub overflow_mul-first : goal.overflow_mul-first
 overflow_mul-first c =

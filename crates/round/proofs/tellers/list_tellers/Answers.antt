@@ -5,10 +5,10 @@ use Rattle.std.specs.Prelude.{slice_index, slice_index_or}
 use Rattle.outbox.specs.Orders.{orders_seen}
 use Rattle.outbox.specs.Rows.{order_in}
 use Rattle.outbox.specs.declared.orders.Orders.{Orders}
-use Rattle.letter.specs.Letters.{letter_of}
-use Rattle.delivery.specs.Delivery.{order_in_letter}
-use Rattle.delivery.proofs.Gathering.{counted, next_gathered, one_at_most, or_nobody}
-use Rattle.delivery.proofs.tellers.list_tellers.Goals as goal
+use Rattle.round.specs.Letters.{letter_of}
+use Rattle.round.specs.Delivery.{order_in_letter}
+use Rattle.round.proofs.Gathering.{counted, next_gathered, one_at_most, or_nobody}
+use Rattle.round.proofs.tellers.list_tellers.Goals as goal
 
 pub loop-general-preserved : goal.loop-general-preserved
 loop-general-preserved c =

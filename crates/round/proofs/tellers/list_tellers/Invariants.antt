@@ -1,6 +1,6 @@
 use Rattle.std.proofs.Common.{◌≡◌, ◌≤◌, length}
-use Rattle.delivery.specs.Delivery.{AreLetterIndices, AreTellers}
-use Rattle.delivery.proofs.tellers.list_tellers.Given as goal
+use Rattle.round.specs.Delivery.{AreLetterIndices, AreTellers}
+use Rattle.round.proofs.tellers.list_tellers.Given as goal
 
 abbrev pub invariant-loop-general : goal.invariant-loop-general
 invariant-loop-general l = record {

@@ -1,6 +1,6 @@
 -- The steps are turns.
 use Rattle.std.proofs.Common.{refl, ◌∙◌}
-use Rattle.machine.specs.declared.stop.Stop.TheVariants.{Asked, Exited, Limit}
+use Rattle.machine.specs.declared.stop.StopReason.TheVariants.{Asked, Exited, Limit}
 use Rattle.round.proofs.Turning.{ahead_with, within_with}
 use Rattle.round.proofs.turns.many.Goals as goal
 

@@ -1,6 +1,6 @@
 use Rattle.std.proofs.Common.{◌≡◌, ◌+◌, ◌≤◌, drop}
 use Rattle.rows.specs.Comparing.{parting}
-use Rattle.rows.proofs.comparing.differing_line.Given as goal
+use Rattle.rows.proofs.comparison.differing_line.Given as goal
 
 abbrev pub invariant-loop-byte : goal.invariant-loop-byte
 invariant-loop-byte l = record {

@@ -1,7 +1,7 @@
 use Rattle.std.proofs.Common.{ℕ}
 use denote.Text.{Utf8}
 use denote.Shadow.{shadow}
-use Rattle.rows.proofs.respelling.put_line.Given as goal
+use Rattle.rows.proofs.rebuilt_lines.put_line.Given as goal
 
 -- what stands before the next word is text
 abbrev pub invariant-loop-word : goal.invariant-loop-word

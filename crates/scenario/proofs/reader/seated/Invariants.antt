@@ -1,6 +1,6 @@
 use Rattle.std.proofs.Common.{◌≡◌, length, drop, Result}
 use Rattle.toml.specs.View.{items_view}
-use Rattle.roster.specs.Scenario.{Scenario}
+use Rattle.round.specs.Scenario.{Scenario}
 use Rattle.scenario.specs.declared.fault.ScenarioError.{ScenarioError}
 use Rattle.scenario.specs.Reading.{Answers, scenario_of, unseated}
 use Rattle.scenario.proofs.reader.seated.Given as goal

@@ -2,8 +2,8 @@ use Rattle.std.proofs.Common.{ap, ◌∙◌}
 use Rattle.toml.proofs.Views.{view-Table}
 use Rattle.toml.specs.Data.{table}
 use Rattle.toml.specs.View.{items_view, table_view}
-use Rattle.references.proofs.ListLemmas.{each_done, each_further}
-use Rattle.references.proofs.resolving.push_each.Goals as goal
+use Rattle.scenario.proofs.ListLemmas.{each_done, each_further}
+use Rattle.scenario.proofs.resolution.push_each.Goals as goal
 
 pub loop-index-preserved : goal.loop-index-preserved
 loop-index-preserved c =

@@ -1,8 +1,8 @@
 use Rattle.std.proofs.Common.{◌≡◌, drop}
 use Rattle.toml.specs.View.{items_view, table_view}
-use Rattle.references.specs.Members.{join}
-use Rattle.references.specs.Resolved.{one_each}
-use Rattle.references.proofs.resolving.push_each.Given as goal
+use Rattle.scenario.specs.Members.{join}
+use Rattle.scenario.specs.Resolved.{one_each}
+use Rattle.scenario.proofs.resolution.push_each.Given as goal
 
 abbrev pub invariant-loop-index : goal.invariant-loop-index
 invariant-loop-index l =

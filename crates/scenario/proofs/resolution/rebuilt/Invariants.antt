@@ -1,7 +1,7 @@
 use Rattle.std.proofs.Common.{◌≡◌, option_map}
 use Rattle.toml.specs.View.{members_view, table_view, view}
-use Rattle.references.specs.Resolved.{entries, rebuilt}
-use Rattle.references.proofs.resolving.rebuilt.Given as goal
+use Rattle.scenario.specs.Resolved.{entries, rebuilt}
+use Rattle.scenario.proofs.resolution.rebuilt.Given as goal
 
 abbrev pub invariant-loop-key : goal.invariant-loop-key
 invariant-loop-key l =

@@ -1,8 +1,8 @@
 use Rattle.std.proofs.Common.{sym, ◌∙◌}
 use Rattle.std.proofs.lemmas.Result.{IfOk-weaker}
 use Rattle.toml.specs.View.{items_view, table_view}
-use Rattle.references.proofs.Documents.{printed_so}
-use Rattle.references.proofs.resolving.resolved_document.Goals as goal
+use Rattle.scenario.proofs.Documents.{printed_so}
+use Rattle.scenario.proofs.resolution.resolved_document.Goals as goal
 
 pub returns : goal.returns
 returns c =

@@ -1,6 +1,6 @@
 use Rattle.toml.specs.View.{items_view}
-use Rattle.references.proofs.ListLemmas.{resolved_done, resolved_further}
-use Rattle.references.proofs.resolving.resolved_list.Goals as goal
+use Rattle.scenario.proofs.ListLemmas.{resolved_done, resolved_further}
+use Rattle.scenario.proofs.resolution.resolved_list.Goals as goal
 
 pub loop-index-preserved : goal.loop-index-preserved
 loop-index-preserved c =

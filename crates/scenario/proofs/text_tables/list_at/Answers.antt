@@ -1,5 +1,5 @@
 use Rattle.toml.proofs.Views.{table_get}
-use Rattle.references.proofs.tables.list_at.Goals as goal
+use Rattle.scenario.proofs.text_tables.list_at.Goals as goal
 
 pub returns-in-Some-as_array : goal.returns-in-Some-as_array
 returns-in-Some-as_array c =

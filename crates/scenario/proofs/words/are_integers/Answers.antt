@@ -2,7 +2,7 @@ use Rattle.std.proofs.Common.{refl}
 use Rattle.std.proofs.lemmas.Result.{err_from_is_err_and}
 use Rattle.toml.specs.View.{view}
 use Rattle.scenario.specs.Checks.{is_integer, whole}
-use Rattle.scenario.specs.declared.place.Place.TheVariants.{Word}
+use Rattle.scenario.specs.declared.place.ScenarioPlace.TheVariants.{Word}
 use Rattle.scenario.proofs.Items.{over_next, over_fails, over_done, fails_on}
 use Rattle.scenario.proofs.words.are_integers.Goals as goal
 

@@ -1,9 +1,9 @@
 use Rattle.std.proofs.Common.{ℕ, List, ◌≡◌, ◌+◌, ◌++◌, ◌∙◌, ap, append_assoc}
 use Rattle.std.specs.String.{string_bytes}
-use Rattle.diagram.specs.Layout.{height, top_of}
-use Rattle.diagram.specs.Shapes.{group_end, group_start}
-use Rattle.signed_diagram.specs.Bands.{inside}
-use Rattle.signed_diagram.proofs.bands.put_band.Goals as goal
+use Rattle.show_diagram.specs.Layout.{height, top_of}
+use Rattle.show_diagram.specs.Shapes.{group_end, group_start}
+use Rattle.show_chains.specs.Bands.{inside}
+use Rattle.show_chains.proofs.bands.put_band.Goals as goal
 
 -- three texts behind what was there
 grouped : (old first second third a b d : List ℕ) → a ≡ old ++ first → b ≡ a ++ second → d ≡ b ++ third → d ≡ old ++ (first ++ second ++ third)

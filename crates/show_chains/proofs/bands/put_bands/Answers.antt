@@ -1,8 +1,8 @@
 use Rattle.std.proofs.Common.{◌++◌, ◌∙◌, ap}
 use Rattle.std.specs.String.{string_bytes}
 use Rattle.book.proofs.Gathering.{range_text}
-use Rattle.signed_diagram.specs.Bands.{band}
-use Rattle.signed_diagram.proofs.bands.put_bands.Goals as goal
+use Rattle.show_chains.specs.Bands.{band}
+use Rattle.show_chains.proofs.bands.put_bands.Goals as goal
 
 pub loop-before-preserved : goal.loop-before-preserved
 loop-before-preserved c =

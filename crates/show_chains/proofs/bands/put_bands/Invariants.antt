@@ -1,8 +1,8 @@
 use Rattle.std.proofs.Common.{◌≡◌, ◌++◌}
 use Rattle.std.specs.List.{flat_map, range_with_len}
 use Rattle.std.specs.String.{string_bytes}
-use Rattle.signed_diagram.specs.Bands.{band}
-use Rattle.signed_diagram.proofs.bands.put_bands.Given as goal
+use Rattle.show_chains.specs.Bands.{band}
+use Rattle.show_chains.proofs.bands.put_bands.Given as goal
 
 -- those so far
 abbrev pub invariant-loop-before : goal.invariant-loop-before

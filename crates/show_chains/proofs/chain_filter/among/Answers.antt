@@ -1,7 +1,7 @@
 use Rattle.std.proofs.Common.{arith}
-use Rattle.signed_diagram.specs.Owed.{is_among}
-use Rattle.signed_diagram.proofs.StrokeLemmas.{kept_more}
-use Rattle.signed_diagram.proofs.kept.among.Goals as goal
+use Rattle.show_chains.specs.Owed.{is_among}
+use Rattle.show_chains.proofs.StrokeLemmas.{kept_more}
+use Rattle.show_chains.proofs.chain_filter.among.Goals as goal
 
 pub loop-chain-preserved : goal.loop-chain-preserved
 loop-chain-preserved c =

@@ -1,7 +1,7 @@
 use Rattle.std.proofs.Common.{◌≡◌, take}
 use Rattle.std.specs.Prelude.{filter}
-use Rattle.signed_diagram.specs.Owed.{is_among}
-use Rattle.signed_diagram.proofs.kept.among.Given as goal
+use Rattle.show_chains.specs.Owed.{is_among}
+use Rattle.show_chains.proofs.chain_filter.among.Given as goal
 
 -- those of the chains so far
 abbrev pub invariant-loop-chain : goal.invariant-loop-chain

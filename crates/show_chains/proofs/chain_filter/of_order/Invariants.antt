@@ -1,6 +1,6 @@
 use Rattle.std.proofs.Common.{◌≡◌, take}
 use Rattle.std.specs.Prelude.{◌==◌, filter}
-use Rattle.signed_diagram.proofs.kept.of_order.Given as goal
+use Rattle.show_chains.proofs.chain_filter.of_order.Given as goal
 
 -- those of the chains so far
 abbrev pub invariant-loop-chain : goal.invariant-loop-chain

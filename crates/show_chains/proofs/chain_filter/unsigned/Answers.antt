@@ -1,7 +1,7 @@
 use Rattle.std.proofs.Common.{ap, arith, not}
 use Rattle.label.specs.Labels.{on}
-use Rattle.signed_diagram.proofs.StrokeLemmas.{kept_more}
-use Rattle.signed_diagram.proofs.kept.unsigned.Goals as goal
+use Rattle.show_chains.proofs.StrokeLemmas.{kept_more}
+use Rattle.show_chains.proofs.chain_filter.unsigned.Goals as goal
 
 pub loop-chain-preserved : goal.loop-chain-preserved
 loop-chain-preserved c =

@@ -1,7 +1,7 @@
 use Rattle.std.proofs.Common.{◌≡◌, not, take}
 use Rattle.std.specs.Prelude.{filter}
 use Rattle.label.specs.Labels.{on}
-use Rattle.signed_diagram.proofs.kept.unsigned.Given as goal
+use Rattle.show_chains.proofs.chain_filter.unsigned.Given as goal
 
 -- those of the chains so far
 abbrev pub invariant-loop-chain : goal.invariant-loop-chain

@@ -1,5 +1,5 @@
-use Rattle.signed_diagram.proofs.LoyalLaws.{proved_only_traitors_differ}
-use Rattle.signed_diagram.proofs.laws.only_traitors_differ.Goals as goal
+use Rattle.show_chains.proofs.LoyalLaws.{proved_only_traitors_differ}
+use Rattle.show_chains.proofs.laws.only_traitors_differ.Goals as goal
 
 pub returns : goal.returns
 returns c = proved_only_traitors_differ

@@ -1,9 +1,9 @@
 use Rattle.std.proofs.Common.{◌∙◌, sym, map-id}
 use Rattle.std.proofs.lemmas.Iterator.Adapters.{YieldsList-from_vec}
 use Rattle.std.proofs.lemmas.Iterator.Consumers.{YieldsList-end}
-use Rattle.diagram.proofs.OrderLemmas.{parted_push, parted_whole}
-use Rattle.signed_diagram.specs.Strokes.{is_lie, sender}
-use Rattle.signed_diagram.proofs.order.lies_first.Goals as goal
+use Rattle.show_diagram.proofs.OrderLemmas.{parted_push, parted_whole}
+use Rattle.show_chains.specs.Strokes.{is_lie, sender}
+use Rattle.show_chains.proofs.order.lies_first.Goals as goal
 
 pub loop-stroke-preserved : goal.loop-stroke-preserved
 loop-stroke-preserved c =

@@ -1,8 +1,8 @@
 use Rattle.std.proofs.Common.{◌≡◌, [], not}
 use Rattle.std.specs.Prelude.{filter}
-use Rattle.diagram.specs.Order.{firsts, is_by_one, repeats}
-use Rattle.signed_diagram.specs.Strokes.{is_lie, sender}
-use Rattle.signed_diagram.proofs.order.lies_first.Given as goal
+use Rattle.show_diagram.specs.Order.{firsts, is_by_one, repeats}
+use Rattle.show_chains.specs.Strokes.{is_lie, sender}
+use Rattle.show_chains.proofs.order.lies_first.Given as goal
 
 -- those of the strokes so far
 abbrev pub invariant-loop-stroke : goal.invariant-loop-stroke

@@ -1,9 +1,9 @@
 use Rattle.std.proofs.Common.{List, ◌∙◌, ap, length, sym, map-id}
 use Rattle.std.proofs.lemmas.Iterator.Adapters.{YieldsList-from_vec}
 use Rattle.std.proofs.lemmas.Iterator.Consumers.{YieldsList-end}
-use Rattle.signed_diagram.specs.Strokes.{Drawn, numbered}
-use Rattle.signed_diagram.proofs.StrokeLemmas.{numbered_more}
-use Rattle.signed_diagram.proofs.order.numbered.Goals as goal
+use Rattle.show_chains.specs.Strokes.{Drawn, numbered}
+use Rattle.show_chains.proofs.StrokeLemmas.{numbered_more}
+use Rattle.show_chains.proofs.order.numbered.Goals as goal
 
 pub loop-stroke-preserved : goal.loop-stroke-preserved
 loop-stroke-preserved c =

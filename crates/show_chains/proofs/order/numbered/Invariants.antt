@@ -1,6 +1,6 @@
 use Rattle.std.proofs.Common.{◌≡◌}
-use Rattle.signed_diagram.specs.Strokes.{numbered}
-use Rattle.signed_diagram.proofs.order.numbered.Given as goal
+use Rattle.show_chains.specs.Strokes.{numbered}
+use Rattle.show_chains.proofs.order.numbered.Given as goal
 
 -- those so far
 abbrev pub invariant-loop-stroke : goal.invariant-loop-stroke

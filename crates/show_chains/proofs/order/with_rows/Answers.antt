@@ -2,9 +2,9 @@ use Rattle.std.proofs.Common.{[], ◌∷◌, ◌++◌, ◌∙◌, ap, cond, sym,
 use Rattle.std.proofs.lemmas.Iterator.Adapters.{YieldsList-from_vec}
 use Rattle.std.proofs.lemmas.Iterator.Consumers.{YieldsList-end}
 use Rattle.std.proofs.lemmas.List.Elements.{filter-append}
-use Rattle.diagram.specs.Lists.{has_row}
-use Rattle.signed_diagram.specs.Strokes.{Drawn, with_rows}
-use Rattle.signed_diagram.proofs.order.with_rows.Goals as goal
+use Rattle.show_diagram.specs.Lists.{has_row}
+use Rattle.show_chains.specs.Strokes.{Drawn, with_rows}
+use Rattle.show_chains.proofs.order.with_rows.Goals as goal
 
 pub loop-stroke-preserved : goal.loop-stroke-preserved
 loop-stroke-preserved c =

@@ -1,6 +1,6 @@
 use Rattle.std.proofs.Common.{◌≡◌}
-use Rattle.signed_diagram.specs.Strokes.{with_rows}
-use Rattle.signed_diagram.proofs.order.with_rows.Given as goal
+use Rattle.show_chains.specs.Strokes.{with_rows}
+use Rattle.show_chains.proofs.order.with_rows.Given as goal
 
 -- those of the strokes so far
 abbrev pub invariant-loop-stroke : goal.invariant-loop-stroke

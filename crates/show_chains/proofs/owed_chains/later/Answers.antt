@@ -1,11 +1,11 @@
 use Rattle.std.proofs.Common.{◌≡◌, ◌<◌, ◌∙◌, ap, map, arith, sym}
 use Rattle.std.proofs.lemmas.Result.{IfOk-weaker}
-use Rattle.roster.specs.Scenario.{Scenario}
+use Rattle.round.specs.Scenario.{Scenario}
 use Rattle.signed.specs.Accepted.{added}
 use Rattle.signed.specs.Chains.{signed_also}
 use Rattle.signed.specs.Sent.{delivered, sent_in}
-use Rattle.signed_diagram.proofs.OwedLemmas.{later_some}
-use Rattle.signed_diagram.proofs.owed.later.Goals as goal
+use Rattle.show_chains.proofs.OwedLemmas.{later_some}
+use Rattle.show_chains.proofs.owed_chains.later.Goals as goal
 
 pub returns : goal.returns
 returns c =

@@ -1,8 +1,8 @@
 use Rattle.std.proofs.Common.{◌≡◌, ◌-◌, ◌∙◌, suc, arith}
 use Rattle.std.proofs.lemmas.Result.{IfOk-weaker}
 use Rattle.signed.specs.Sent.{delivered, sent_in}
-use Rattle.signed_diagram.proofs.OwedLemmas.{owed_first, owed_later}
-use Rattle.signed_diagram.proofs.owed.owed.Goals as goal
+use Rattle.show_chains.proofs.OwedLemmas.{owed_first, owed_later}
+use Rattle.show_chains.proofs.owed_chains.owed.Goals as goal
 
 pub returns-then-round-eq1 : goal.returns-then-round-eq1
 returns-then-round-eq1 c =

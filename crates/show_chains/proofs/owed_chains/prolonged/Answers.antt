@@ -5,8 +5,8 @@ use Rattle.signed.specs.Accepted.{added}
 use Rattle.signed.specs.Chains.{Chain, signed_also}
 use Rattle.signed.specs.Sending.{lent}
 use Rattle.signed.specs.Sent.{delivered, sent_in}
-use Rattle.signed_diagram.proofs.OwedLemmas.{added_behind, fewer_before}
-use Rattle.signed_diagram.proofs.owed.prolonged.Goals as goal
+use Rattle.show_chains.proofs.OwedLemmas.{added_behind, fewer_before}
+use Rattle.show_chains.proofs.owed_chains.prolonged.Goals as goal
 
 pub split_at-requires : goal.split_at-requires
 split_at-requires c =

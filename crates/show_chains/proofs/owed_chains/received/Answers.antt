@@ -1,6 +1,6 @@
 use Rattle.std.proofs.Common.{ap, arith, cond, [], ◌∷◌, ◌++◌, ◌∙◌}
 use Rattle.signed.proofs.Lending.{one_came}
-use Rattle.signed_diagram.proofs.owed.received.Goals as goal
+use Rattle.show_chains.proofs.owed_chains.received.Goals as goal
 
 pub loop-chain-preserved : goal.loop-chain-preserved
 loop-chain-preserved c =

@@ -1,7 +1,7 @@
 use Rattle.std.proofs.Common.{◌≡◌, map, take}
 use Rattle.signed.specs.Entries.{received}
 use Rattle.signed.specs.Sending.{dispatch_of}
-use Rattle.signed_diagram.proofs.owed.received.Given as goal
+use Rattle.show_chains.proofs.owed_chains.received.Given as goal
 
 -- those of the chains so far
 abbrev pub invariant-loop-chain : goal.invariant-loop-chain

@@ -1,7 +1,7 @@
 use Rattle.std.proofs.Common.{[], ◌∷◌, ◌++◌, ◌∙◌, ap, arith}
 use Rattle.signed.specs.Chains.{Chain}
-use Rattle.signed_diagram.proofs.OwedLemmas.{also_more}
-use Rattle.signed_diagram.proofs.owed.signed_also.Goals as goal
+use Rattle.show_chains.proofs.OwedLemmas.{also_more}
+use Rattle.show_chains.proofs.owed_chains.signed_also.Goals as goal
 
 pub loop-chain-preserved : goal.loop-chain-preserved
 loop-chain-preserved c =

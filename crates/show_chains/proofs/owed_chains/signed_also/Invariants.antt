@@ -1,7 +1,7 @@
 use Rattle.std.proofs.Common.{◌≡◌, map, take}
 use Rattle.signed.specs.Chains.{signed_also}
 use Rattle.signed.specs.Sending.{lent}
-use Rattle.signed_diagram.proofs.owed.signed_also.Given as goal
+use Rattle.show_chains.proofs.owed_chains.signed_also.Given as goal
 
 -- those of the chains so far
 abbrev pub invariant-loop-chain : goal.invariant-loop-chain

@@ -1,8 +1,8 @@
 use Rattle.std.proofs.Common.{[], ◌∷◌, ◌++◌, ◌∙◌, ap, arith}
-use Rattle.diagram.specs.declared.stroke.Stroke.{Stroke}
-use Rattle.signed_diagram.specs.Strokes.{Drawn}
-use Rattle.signed_diagram.proofs.StrokeLemmas.{mapped}
-use Rattle.signed_diagram.proofs.strokes.bare.Goals as goal
+use Rattle.show_diagram.specs.declared.stroke.Stroke.{Stroke}
+use Rattle.show_chains.specs.Strokes.{Drawn}
+use Rattle.show_chains.proofs.StrokeLemmas.{mapped}
+use Rattle.show_chains.proofs.strokes.bare.Goals as goal
 
 pub loop-stroke-preserved : goal.loop-stroke-preserved
 loop-stroke-preserved c =

@@ -1,6 +1,6 @@
 use Rattle.std.proofs.Common.{◌≡◌, take}
-use Rattle.signed_diagram.specs.Strokes.{bare}
-use Rattle.signed_diagram.proofs.strokes.bare.Given as goal
+use Rattle.show_chains.specs.Strokes.{bare}
+use Rattle.show_chains.proofs.strokes.bare.Given as goal
 
 -- those so far
 abbrev pub invariant-loop-stroke : goal.invariant-loop-stroke

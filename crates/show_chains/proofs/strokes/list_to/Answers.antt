@@ -1,8 +1,8 @@
 use Rattle.std.proofs.Common.{List, ◌≡◌, ◌∙◌, ap}
 use Rattle.std.proofs.lemmas.Result.{IfOk-weaker}
-use Rattle.diagram.specs.Order.{arranged}
-use Rattle.signed_diagram.specs.Strokes.{Drawn, is_lie, numbered, sender, told_to}
-use Rattle.signed_diagram.proofs.strokes.list_to.Goals as goal
+use Rattle.show_diagram.specs.Order.{arranged}
+use Rattle.show_chains.specs.Strokes.{Drawn, is_lie, numbered, sender, told_to}
+use Rattle.show_chains.proofs.strokes.list_to.Goals as goal
 
 pub returns : goal.returns
 returns c =

@@ -1,7 +1,7 @@
 use Rattle.std.proofs.Common.{◌∙◌, ap, arith}
 use Rattle.signed.specs.Sending.{added_also}
-use Rattle.signed_diagram.proofs.StrokeLemmas.{order_more, orders_all}
-use Rattle.signed_diagram.proofs.strokes.orders_of.Goals as goal
+use Rattle.show_chains.proofs.StrokeLemmas.{order_more, orders_all}
+use Rattle.show_chains.proofs.strokes.orders_of.Goals as goal
 
 pub loop-chain-preserved : goal.loop-chain-preserved
 loop-chain-preserved c =

@@ -1,7 +1,7 @@
 use Rattle.std.proofs.Common.{◌≡◌, ◌++◌, [], drop}
 use Rattle.signed.specs.Chains.{orders}
 use Rattle.signed.specs.Accepted.{firsts}
-use Rattle.signed_diagram.proofs.strokes.orders_of.Given as goal
+use Rattle.show_chains.proofs.strokes.orders_of.Given as goal
 
 -- with those of the chains left
 abbrev pub invariant-loop-chain : goal.invariant-loop-chain

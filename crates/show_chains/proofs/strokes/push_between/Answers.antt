@@ -1,8 +1,8 @@
 use Rattle.std.proofs.Common.{List, ◌≡◌, ◌++◌, ◌∙◌, ap}
 use Rattle.signed.specs.Chains.{Chain}
-use Rattle.signed_diagram.specs.Owed.{owed_to, sent_to}
-use Rattle.signed_diagram.specs.Strokes.{told_between}
-use Rattle.signed_diagram.proofs.strokes.push_between.Goals as goal
+use Rattle.show_chains.specs.Owed.{owed_to, sent_to}
+use Rattle.show_chains.specs.Strokes.{told_between}
+use Rattle.show_chains.proofs.strokes.push_between.Goals as goal
 
 pub returns : goal.returns
 returns c =

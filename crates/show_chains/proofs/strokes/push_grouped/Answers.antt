@@ -1,7 +1,7 @@
 use Rattle.std.proofs.Common.{ℕ, List, [], ◌∷◌, ◌++◌, ◌∙◌, ap, arith, get_or, map, refl}
-use Rattle.signed_diagram.specs.Strokes.{Drawn, made}
-use Rattle.signed_diagram.proofs.StrokeLemmas.{grouped_more, grouped_all}
-use Rattle.signed_diagram.proofs.strokes.push_grouped.Goals as goal
+use Rattle.show_chains.specs.Strokes.{Drawn, made}
+use Rattle.show_chains.proofs.StrokeLemmas.{grouped_more, grouped_all}
+use Rattle.show_chains.proofs.strokes.push_grouped.Goals as goal
 
 pub loop-order-preserved : goal.loop-order-preserved
 loop-order-preserved c =

@@ -1,6 +1,6 @@
 use Rattle.std.proofs.Common.{◌≡◌, ◌++◌, map, take}
-use Rattle.signed_diagram.specs.Strokes.{made}
-use Rattle.signed_diagram.proofs.strokes.push_grouped.Given as goal
+use Rattle.show_chains.specs.Strokes.{made}
+use Rattle.show_chains.proofs.strokes.push_grouped.Given as goal
 
 -- with those of the orders so far
 abbrev pub invariant-loop-order : goal.invariant-loop-order

@@ -1,6 +1,6 @@
-use Rattle.signed_diagram.specs.Strokes.{list_to}
-use Rattle.signed_diagram.proofs.StrokeLemmas.{round_more}
-use Rattle.signed_diagram.proofs.strokes.push_round.Goals as goal
+use Rattle.show_chains.specs.Strokes.{list_to}
+use Rattle.show_chains.proofs.StrokeLemmas.{round_more}
+use Rattle.show_chains.proofs.strokes.push_round.Goals as goal
 
 pub loop-receiver-preserved : goal.loop-receiver-preserved
 loop-receiver-preserved c =

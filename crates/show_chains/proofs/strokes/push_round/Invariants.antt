@@ -1,7 +1,7 @@
 use Rattle.std.proofs.Common.{◌≡◌, ◌++◌}
 use Rattle.std.specs.List.{flat_map, range_with_len}
-use Rattle.signed_diagram.specs.Strokes.{list_to}
-use Rattle.signed_diagram.proofs.strokes.push_round.Given as goal
+use Rattle.show_chains.specs.Strokes.{list_to}
+use Rattle.show_chains.proofs.strokes.push_round.Given as goal
 
 -- with those to the receivers so far
 abbrev pub invariant-loop-receiver : goal.invariant-loop-receiver

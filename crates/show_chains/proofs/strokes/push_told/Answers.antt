@@ -1,6 +1,6 @@
 use Rattle.std.proofs.Common.{◌∙◌}
-use Rattle.signed_diagram.proofs.StrokeLemmas.{told_three}
-use Rattle.signed_diagram.proofs.strokes.push_told.Goals as goal
+use Rattle.show_chains.proofs.StrokeLemmas.{told_three}
+use Rattle.show_chains.proofs.strokes.push_told.Goals as goal
 
 pub returns : goal.returns
 returns c =

@@ -1,7 +1,7 @@
 use Rattle.std.proofs.Common.{[], ap, ◌+◌, ℕ}
-use Rattle.signed_diagram.specs.Strokes.{behind, in_round}
-use Rattle.signed_diagram.proofs.StrokeLemmas.{round_more}
-use Rattle.signed_diagram.proofs.strokes.strokes.Goals as goal
+use Rattle.show_chains.specs.Strokes.{behind, in_round}
+use Rattle.show_chains.proofs.StrokeLemmas.{round_more}
+use Rattle.show_chains.proofs.strokes.strokes.Goals as goal
 
 pub loop-before-preserved : goal.loop-before-preserved
 loop-before-preserved c =

@@ -1,7 +1,7 @@
 use Rattle.std.proofs.Common.{◌≡◌}
 use Rattle.std.specs.List.{flat_map, range_with_len}
-use Rattle.signed_diagram.specs.Strokes.{behind}
-use Rattle.signed_diagram.proofs.strokes.strokes.Given as goal
+use Rattle.show_chains.specs.Strokes.{behind}
+use Rattle.show_chains.proofs.strokes.strokes.Given as goal
 
 -- those of the rounds so far
 abbrev pub invariant-loop-before : goal.invariant-loop-before

@@ -1,7 +1,7 @@
 use Rattle.std.proofs.Common.{[], refl}
-use Rattle.signed_diagram.specs.Strokes.{between}
-use Rattle.signed_diagram.proofs.StrokeLemmas.{round_more}
-use Rattle.signed_diagram.proofs.strokes.told_to.Goals as goal
+use Rattle.show_chains.specs.Strokes.{between}
+use Rattle.show_chains.proofs.StrokeLemmas.{round_more}
+use Rattle.show_chains.proofs.strokes.told_to.Goals as goal
 
 pub loop-general-preserved : goal.loop-general-preserved
 loop-general-preserved c =

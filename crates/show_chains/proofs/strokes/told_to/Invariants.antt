@@ -1,7 +1,7 @@
 use Rattle.std.proofs.Common.{◌≡◌}
 use Rattle.std.specs.List.{flat_map, range_with_len}
-use Rattle.signed_diagram.specs.Strokes.{between}
-use Rattle.signed_diagram.proofs.strokes.told_to.Given as goal
+use Rattle.show_chains.specs.Strokes.{between}
+use Rattle.show_chains.proofs.strokes.told_to.Given as goal
 
 -- those of the senders so far
 abbrev pub invariant-loop-general : goal.invariant-loop-general

@@ -1,10 +1,10 @@
 use Rattle.std.proofs.Common.{◌++◌, ◌∙◌, ap}
 use Rattle.std.specs.String.{string_bytes}
-use Rattle.diagram.specs.Shapes.{title}
-use Rattle.diagram.specs.Svg.{look}
-use Rattle.diagram.proofs.HeadLemmas.{four_parts}
-use Rattle.signed_diagram.specs.Svg.{description, headline, signed_words}
-use Rattle.signed_diagram.proofs.svg.put_head.Goals as goal
+use Rattle.show_diagram.specs.Shapes.{title}
+use Rattle.show_diagram.specs.Svg.{look}
+use Rattle.show_diagram.proofs.HeadLemmas.{four_parts}
+use Rattle.show_chains.specs.Svg.{description, headline, signed_words}
+use Rattle.show_chains.proofs.svg.put_head.Goals as goal
 
 pub returns : goal.returns
 returns c =

@@ -1,7 +1,7 @@
 use Rattle.std.proofs.Common.{◌∙◌}
 use Rattle.std.specs.String.{string_bytes}
-use Rattle.signed_diagram.proofs.PictureLemmas.{picture_whole}
-use Rattle.signed_diagram.proofs.svg.signed_campaign_svg.Goals as goal
+use Rattle.show_chains.proofs.PictureLemmas.{picture_whole}
+use Rattle.show_chains.proofs.svg.signed_campaign_svg.Goals as goal
 
 pub returns : goal.returns
 returns c =

@@ -3,7 +3,7 @@ use Rattle.std.specs.Prelude.{codes}
 use Rattle.std.specs.Fmt.{decimal}
 use Rattle.std.specs.List.{flat_map}
 use Rattle.std.specs.String.{string_bytes}
-use Rattle.signed_diagram.proofs.words.put_further_signers.Given as goal
+use Rattle.show_chains.proofs.words.put_further_signers.Given as goal
 
 -- those so far
 abbrev pub invariant-loop-general : goal.invariant-loop-general

@@ -1,8 +1,8 @@
 use Rattle.std.proofs.Common.{◌≡◌, ◌++◌, take}
 use Rattle.std.specs.List.{flat_map}
 use Rattle.std.specs.String.{string_bytes}
-use Rattle.signed_diagram.specs.Words.{several_words}
-use Rattle.signed_diagram.proofs.words.put_several.Given as goal
+use Rattle.show_chains.specs.Words.{several_words}
+use Rattle.show_chains.proofs.words.put_several.Given as goal
 
 -- those so far
 abbrev pub invariant-loop-stroke : goal.invariant-loop-stroke

@@ -1,7 +1,7 @@
 use Rattle.std.proofs.Common.{arith}
 use Rattle.std.specs.String.{string_bytes}
-use Rattle.diagram.proofs.FoldLemmas.{access_more, accesses_all}
-use Rattle.diagram.proofs.bands.put_accesses.Goals as goal
+use Rattle.show_diagram.proofs.FoldLemmas.{access_more, accesses_all}
+use Rattle.show_diagram.proofs.bands.put_accesses.Goals as goal
 
 pub loop-place-preserved : goal.loop-place-preserved
 loop-place-preserved c =

@@ -1,8 +1,8 @@
 use Rattle.std.proofs.Common.{◌≡◌, ◌++◌}
 use Rattle.std.specs.List.{flat_map, range_with_len}
 use Rattle.std.specs.String.{string_bytes}
-use Rattle.diagram.specs.Bands.{band}
-use Rattle.diagram.proofs.bands.put_bands.Given as goal
+use Rattle.show_diagram.specs.Bands.{band}
+use Rattle.show_diagram.proofs.bands.put_bands.Given as goal
 
 abbrev pub invariant-loop-before : goal.invariant-loop-before
 invariant-loop-before l = string_bytes l.out ≡ string_bytes l.fn.out ++ flat_map (band l.generals l.strokes l.accesses l.wide) (range_with_len 0 l.before)

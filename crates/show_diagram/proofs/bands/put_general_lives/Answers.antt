@@ -1,8 +1,8 @@
 use Rattle.std.proofs.Common.{◌++◌, ◌∙◌, ap}
 use Rattle.std.specs.String.{string_bytes}
 use Rattle.book.proofs.Gathering.{range_text}
-use Rattle.diagram.specs.Bands.{general_life}
-use Rattle.diagram.proofs.bands.put_general_lives.Goals as goal
+use Rattle.show_diagram.specs.Bands.{general_life}
+use Rattle.show_diagram.proofs.bands.put_general_lives.Goals as goal
 
 pub loop-general-preserved : goal.loop-general-preserved
 loop-general-preserved c =

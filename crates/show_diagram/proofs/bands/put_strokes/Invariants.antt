@@ -1,8 +1,8 @@
 use Rattle.std.proofs.Common.{◌≡◌, ◌++◌, take}
 use Rattle.std.specs.List.{flat_map}
 use Rattle.std.specs.String.{string_bytes}
-use Rattle.diagram.specs.Bands.{drawn}
-use Rattle.diagram.proofs.bands.put_strokes.Given as goal
+use Rattle.show_diagram.specs.Bands.{drawn}
+use Rattle.show_diagram.proofs.bands.put_strokes.Given as goal
 
 abbrev pub invariant-loop-stroke : goal.invariant-loop-stroke
 invariant-loop-stroke l = string_bytes l.out ≡ string_bytes l.fn.out ++ flat_map (drawn l.generals l.accesses l.round) (take l.stroke-index l.strokes)

@@ -1,8 +1,8 @@
 use Rattle.std.proofs.Common.{[], ◌+◌}
-use Rattle.diagram.specs.Facts.{tellings_of}
-use Rattle.diagram.specs.Lists.{lists_to}
-use Rattle.diagram.proofs.RowLemmas.{lists_more}
-use Rattle.diagram.proofs.facts.strokes.Goals as goal
+use Rattle.show_diagram.specs.Facts.{tellings_of}
+use Rattle.show_diagram.specs.Lists.{lists_to}
+use Rattle.show_diagram.proofs.RowLemmas.{lists_more}
+use Rattle.show_diagram.proofs.facts.strokes.Goals as goal
 
 pub loop-receiver-preserved : goal.loop-receiver-preserved
 loop-receiver-preserved g c =

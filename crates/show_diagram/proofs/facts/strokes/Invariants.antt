@@ -1,8 +1,8 @@
 use Rattle.std.proofs.Common.{◌≡◌, ◌+◌}
 use Rattle.std.specs.List.{flat_map, range_with_len}
-use Rattle.diagram.specs.Facts.{tellings_of}
-use Rattle.diagram.specs.Lists.{lists_to}
-use Rattle.diagram.proofs.facts.strokes.Given as goal
+use Rattle.show_diagram.specs.Facts.{tellings_of}
+use Rattle.show_diagram.specs.Lists.{lists_to}
+use Rattle.show_diagram.proofs.facts.strokes.Given as goal
 
 -- those to the receivers so far
 abbrev pub invariant-loop-receiver : goal.invariant-loop-receiver

@@ -1,8 +1,8 @@
 use Rattle.std.proofs.Common.{◌++◌, ◌∙◌, ap}
 use Rattle.std.specs.String.{string_bytes}
 use Rattle.book.proofs.Gathering.{range_text}
-use Rattle.diagram.specs.Foot.{decided}
-use Rattle.diagram.proofs.foot.put_decisions.Goals as goal
+use Rattle.show_diagram.specs.Foot.{decided}
+use Rattle.show_diagram.proofs.foot.put_decisions.Goals as goal
 
 pub loop-general-preserved : goal.loop-general-preserved
 loop-general-preserved c =

@@ -1,5 +1,5 @@
-use Rattle.diagram.proofs.SvgLaws.{proved_diagrams_are_elements}
-use Rattle.diagram.proofs.laws.diagrams_are_elements.Goals as goal
+use Rattle.show_diagram.proofs.SvgLaws.{proved_diagrams_are_elements}
+use Rattle.show_diagram.proofs.laws.diagrams_are_elements.Goals as goal
 
 pub returns : goal.returns
 returns c = proved_diagrams_are_elements

@@ -1,5 +1,5 @@
-use Rattle.diagram.proofs.ExactLaws.{proved_strokes_are_exact}
-use Rattle.diagram.proofs.laws.strokes_are_exact.Goals as goal
+use Rattle.show_diagram.proofs.ExactLaws.{proved_strokes_are_exact}
+use Rattle.show_diagram.proofs.laws.strokes_are_exact.Goals as goal
 
 pub returns : goal.returns
 returns c = proved_strokes_are_exact

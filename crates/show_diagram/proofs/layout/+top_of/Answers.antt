@@ -1,6 +1,6 @@
 use Rattle.std.proofs.Common.{◌≡◌, ◌-◌, suc, sym, arith}
-use Rattle.diagram.proofs.LayoutLemmas.{one_above}
-use Rattle.diagram.proofs.layout.+top_of.Goals as goal
+use Rattle.show_diagram.proofs.LayoutLemmas.{one_above}
+use Rattle.show_diagram.proofs.layout.+top_of.Goals as goal
 
 pub returns-clause-value : goal.returns-clause-value
 returns-clause-value t c =

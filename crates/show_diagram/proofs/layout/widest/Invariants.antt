@@ -1,6 +1,6 @@
 use Rattle.std.proofs.Common.{◌≡◌, ◌<◌, ◌^◌, drop, max}
-use Rattle.diagram.specs.Layout.{widest}
-use Rattle.diagram.proofs.layout.widest.Given as goal
+use Rattle.show_diagram.specs.Layout.{widest}
+use Rattle.show_diagram.proofs.layout.widest.Given as goal
 
 -- the widest so far and of those left, and no width is large
 abbrev pub invariant-loop-access : goal.invariant-loop-access

@@ -1,6 +1,6 @@
 use Rattle.std.specs.String.{string_bytes}
-use Rattle.diagram.proofs.LegendLemmas.{whole_legend}
-use Rattle.diagram.proofs.legend.put_legend_of.Goals as goal
+use Rattle.show_diagram.proofs.LegendLemmas.{whole_legend}
+use Rattle.show_diagram.proofs.legend.put_legend_of.Goals as goal
 
 pub returns : goal.returns
 returns c =

@@ -1,6 +1,6 @@
 use Rattle.std.specs.String.{string_bytes}
-use Rattle.diagram.proofs.LegendLemmas.{three_strokes}
-use Rattle.diagram.proofs.legend.put_stroke_meanings.Goals as goal
+use Rattle.show_diagram.proofs.LegendLemmas.{three_strokes}
+use Rattle.show_diagram.proofs.legend.put_stroke_meanings.Goals as goal
 
 pub returns : goal.returns
 returns c =

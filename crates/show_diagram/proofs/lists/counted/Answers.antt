@@ -1,10 +1,10 @@
 use Rattle.std.proofs.Common.{ap, arith, get_or, sym}
 use Rattle.std.proofs.lemmas.Grind.{common_steps}
-use Rattle.diagram.specs.declared.telling.Telling.{Telling}
-use Rattle.diagram.specs.Lists.{count_of}
-use Rattle.diagram.proofs.Sameness.{same_is}
-use Rattle.diagram.proofs.TallyLemmas.{count_more, count_small, nothing_told}
-use Rattle.diagram.proofs.lists.counted.Goals as goal
+use Rattle.show_diagram.specs.declared.told_order.Telling.{Telling}
+use Rattle.show_diagram.specs.Lists.{count_of}
+use Rattle.show_diagram.proofs.Sameness.{same_is}
+use Rattle.show_diagram.proofs.TallyLemmas.{count_more, count_small, nothing_told}
+use Rattle.show_diagram.proofs.lists.counted.Goals as goal
 
 pub loop-telling-preserved : goal.loop-telling-preserved
 loop-telling-preserved c = λ q.

@@ -1,8 +1,8 @@
 use Rattle.std.proofs.Common.{◌+◌, ◌∙◌, ap}
-use Rattle.diagram.specs.Lists.{count_of, list_behind}
-use Rattle.diagram.proofs.ListLemmas.{list_is}
-use Rattle.diagram.proofs.RowLemmas.{lists_more}
-use Rattle.diagram.proofs.lists.push_lists.Goals as goal
+use Rattle.show_diagram.specs.Lists.{count_of, list_behind}
+use Rattle.show_diagram.proofs.ListLemmas.{list_is}
+use Rattle.show_diagram.proofs.RowLemmas.{lists_more}
+use Rattle.show_diagram.proofs.lists.push_lists.Goals as goal
 
 pub loop-before-preserved : goal.loop-before-preserved
 loop-before-preserved c =

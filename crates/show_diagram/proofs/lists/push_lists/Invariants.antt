@@ -1,6 +1,6 @@
 use Rattle.std.proofs.Common.{◌≡◌, ◌++◌}
-use Rattle.diagram.specs.Lists.{lists_of}
-use Rattle.diagram.proofs.lists.push_lists.Given as goal
+use Rattle.show_diagram.specs.Lists.{lists_of}
+use Rattle.show_diagram.proofs.lists.push_lists.Given as goal
 
 -- with those of the rounds so far
 abbrev pub invariant-loop-before : goal.invariant-loop-before

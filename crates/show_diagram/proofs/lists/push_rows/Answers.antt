@@ -1,11 +1,11 @@
 use Rattle.std.proofs.Common.{ℕ, [], ◌∷◌, ◌++◌, ◌≡◌, ◌∙◌, ap, arith, get_or, refl}
 use Rattle.std.specs.Prelude.{unwrap_or}
-use Rattle.diagram.specs.declared.stroke.Stroke.{Stroke}
-use Rattle.diagram.specs.declared.telling.Telling.{Telling}
-use Rattle.diagram.specs.Lists.{count_of, stroke_of}
-use Rattle.diagram.proofs.ListLemmas.{rows_all, rows_more}
-use Rattle.diagram.proofs.TallyLemmas.{nothing_told}
-use Rattle.diagram.proofs.lists.push_rows.Goals as goal
+use Rattle.show_diagram.specs.declared.stroke.Stroke.{Stroke}
+use Rattle.show_diagram.specs.declared.told_order.Telling.{Telling}
+use Rattle.show_diagram.specs.Lists.{count_of, stroke_of}
+use Rattle.show_diagram.proofs.ListLemmas.{rows_all, rows_more}
+use Rattle.show_diagram.proofs.TallyLemmas.{nothing_told}
+use Rattle.show_diagram.proofs.lists.push_rows.Goals as goal
 
 pub loop-row-preserved : goal.loop-row-preserved
 loop-row-preserved c =

@@ -1,6 +1,6 @@
 use Rattle.std.proofs.Common.{◌≡◌, ◌++◌, take}
-use Rattle.diagram.specs.Lists.{count_of, strokes_from}
-use Rattle.diagram.proofs.lists.push_rows.Given as goal
+use Rattle.show_diagram.specs.Lists.{count_of, strokes_from}
+use Rattle.show_diagram.proofs.lists.push_rows.Given as goal
 
 -- with those of the first so many
 abbrev pub invariant-loop-row : goal.invariant-loop-row

@@ -1,12 +1,12 @@
 use Rattle.std.proofs.Common.{◌≡◌, ◌∙◌, ◌∷◌, ◌++◌, [], List, ap, sym, arith, get_or, cond, refl, append-nil}
 use Rattle.std.proofs.lemmas.List.{take_all}
-use Rattle.diagram.specs.declared.telling.Telling.{Telling}
-use Rattle.diagram.specs.Lists.{is_same}
-use Rattle.diagram.specs.Order.{firsts}
-use Rattle.diagram.proofs.OrderLemmas.{firsts_more}
-use Rattle.diagram.proofs.TallyLemmas.{nothing_told, seen_more, was_new, was_seen}
-use Rattle.diagram.proofs.lists.told_once.Goals as goal
-use Rattle.diagram.proofs.lists.told_once.Goals.{then-branch+in_ok-push, else-branch}
+use Rattle.show_diagram.specs.declared.told_order.Telling.{Telling}
+use Rattle.show_diagram.specs.Lists.{is_same}
+use Rattle.show_diagram.specs.Order.{firsts}
+use Rattle.show_diagram.proofs.OrderLemmas.{firsts_more}
+use Rattle.show_diagram.proofs.TallyLemmas.{nothing_told, seen_more, was_new, was_seen}
+use Rattle.show_diagram.proofs.lists.told_once.Goals as goal
+use Rattle.show_diagram.proofs.lists.told_once.Goals.{then-branch+in_ok-push, else-branch}
 
 pub loop-telling-preserved : goal.loop-telling-preserved
 loop-telling-preserved c =

@@ -1,10 +1,10 @@
 use Rattle.std.proofs.Common.{◌≡◌, [], take}
 use Rattle.std.specs.HashSet.{contains}
 use Rattle.std.specs.List.{list_any}
-use Rattle.diagram.specs.declared.telling.Telling.{Telling}
-use Rattle.diagram.specs.Lists.{is_same}
-use Rattle.diagram.specs.Order.{firsts}
-use Rattle.diagram.proofs.lists.told_once.Given as goal
+use Rattle.show_diagram.specs.declared.told_order.Telling.{Telling}
+use Rattle.show_diagram.specs.Lists.{is_same}
+use Rattle.show_diagram.specs.Order.{firsts}
+use Rattle.show_diagram.proofs.lists.told_once.Given as goal
 
 -- what was seen, and each thing of it once
 abbrev pub invariant-loop-telling : goal.invariant-loop-telling

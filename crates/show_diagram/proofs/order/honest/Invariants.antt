@@ -1,7 +1,7 @@
 use Rattle.std.proofs.Common.{◌≡◌, not, take}
 use Rattle.std.specs.Prelude.{filter}
-use Rattle.diagram.specs.Lists.{is_lie}
-use Rattle.diagram.proofs.order.honest.Given as goal
+use Rattle.show_diagram.specs.Lists.{is_lie}
+use Rattle.show_diagram.proofs.order.honest.Given as goal
 
 -- those so far
 abbrev pub invariant-loop-telling : goal.invariant-loop-telling

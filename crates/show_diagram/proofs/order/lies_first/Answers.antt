@@ -1,10 +1,10 @@
 use Rattle.std.proofs.Common.{◌∙◌, arith, get_or, refl}
-use Rattle.diagram.specs.declared.telling.Telling.{Telling}
-use Rattle.diagram.specs.Lists.{teller}
-use Rattle.diagram.proofs.ListLemmas.{parted_all}
-use Rattle.diagram.proofs.OrderLemmas.{parted_more}
-use Rattle.diagram.proofs.TallyLemmas.{nothing_told}
-use Rattle.diagram.proofs.order.lies_first.Goals as goal
+use Rattle.show_diagram.specs.declared.told_order.Telling.{Telling}
+use Rattle.show_diagram.specs.Lists.{teller}
+use Rattle.show_diagram.proofs.ListLemmas.{parted_all}
+use Rattle.show_diagram.proofs.OrderLemmas.{parted_more}
+use Rattle.show_diagram.proofs.TallyLemmas.{nothing_told}
+use Rattle.show_diagram.proofs.order.lies_first.Goals as goal
 
 pub loop-lie-preserved : goal.loop-lie-preserved
 loop-lie-preserved c =

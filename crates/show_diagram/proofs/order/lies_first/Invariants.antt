@@ -1,7 +1,7 @@
 use Rattle.std.proofs.Common.{◌≡◌, [], take}
-use Rattle.diagram.specs.Lists.{teller}
-use Rattle.diagram.specs.Order.{firsts, is_by_one, repeats}
-use Rattle.diagram.proofs.order.lies_first.Given as goal
+use Rattle.show_diagram.specs.Lists.{teller}
+use Rattle.show_diagram.specs.Order.{firsts, is_by_one, repeats}
+use Rattle.show_diagram.proofs.order.lies_first.Given as goal
 
 -- those of the first so many lies
 abbrev pub invariant-loop-lie : goal.invariant-loop-lie

@@ -1,7 +1,7 @@
 use Rattle.std.proofs.Common.{◌≡◌, take}
 use Rattle.std.specs.Prelude.{filter}
-use Rattle.diagram.specs.Lists.{is_in}
-use Rattle.diagram.proofs.order.told_in.Given as goal
+use Rattle.show_diagram.specs.Lists.{is_in}
+use Rattle.show_diagram.proofs.order.told_in.Given as goal
 
 -- those so far
 abbrev pub invariant-loop-telling : goal.invariant-loop-telling

@@ -1,8 +1,8 @@
 use Rattle.std.proofs.Common.{◌++◌, ◌∙◌, ap}
 use Rattle.std.specs.String.{string_bytes}
 use Rattle.book.proofs.Gathering.{range_text}
-use Rattle.diagram.specs.Left.{mores_in}
-use Rattle.diagram.proofs.left.put_mores.Goals as goal
+use Rattle.show_diagram.specs.Left.{mores_in}
+use Rattle.show_diagram.proofs.overflow.put_mores.Goals as goal
 
 pub loop-before-preserved : goal.loop-before-preserved
 loop-before-preserved c =

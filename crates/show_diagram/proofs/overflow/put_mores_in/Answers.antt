@@ -1,7 +1,7 @@
 use Rattle.std.proofs.Common.{ℕ, List, ◌+◌, ◌++◌, ◌∙◌, ap}
 use Rattle.std.specs.String.{string_bytes}
-use Rattle.diagram.specs.Left.{more_top, mores_of}
-use Rattle.diagram.proofs.left.put_mores_in.Goals as goal
+use Rattle.show_diagram.specs.Left.{more_top, mores_of}
+use Rattle.show_diagram.proofs.overflow.put_mores_in.Goals as goal
 
 pub returns : goal.returns
 returns c =

@@ -1,8 +1,8 @@
 use Rattle.std.proofs.Common.{◌++◌, ◌∙◌, ap}
 use Rattle.std.specs.String.{string_bytes}
 use Rattle.book.proofs.Gathering.{range_text}
-use Rattle.diagram.specs.Left.{more_of}
-use Rattle.diagram.proofs.left.put_mores_of.Goals as goal
+use Rattle.show_diagram.specs.Left.{more_of}
+use Rattle.show_diagram.proofs.overflow.put_mores_of.Goals as goal
 
 pub loop-general-preserved : goal.loop-general-preserved
 loop-general-preserved c =

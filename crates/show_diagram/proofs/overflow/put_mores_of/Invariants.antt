@@ -1,8 +1,8 @@
 use Rattle.std.proofs.Common.{◌≡◌, ◌++◌}
 use Rattle.std.specs.List.{flat_map, range_with_len}
 use Rattle.std.specs.String.{string_bytes}
-use Rattle.diagram.specs.Left.{more_of}
-use Rattle.diagram.proofs.left.put_mores_of.Given as goal
+use Rattle.show_diagram.specs.Left.{more_of}
+use Rattle.show_diagram.proofs.overflow.put_mores_of.Given as goal
 
 abbrev pub invariant-loop-general : goal.invariant-loop-general
 invariant-loop-general l = string_bytes l.out ≡ string_bytes l.fn.out ++ flat_map (more_of l.strokes l.top l.round) (range_with_len 0 l.general)

@@ -1,7 +1,7 @@
 use Rattle.std.proofs.Common.{◌≡◌, take}
 use Rattle.std.specs.Prelude.{filter}
-use Rattle.diagram.specs.Lists.{has_row}
-use Rattle.diagram.proofs.left.with_rows.Given as goal
+use Rattle.show_diagram.specs.Lists.{has_row}
+use Rattle.show_diagram.proofs.overflow.with_rows.Given as goal
 
 -- those of the strokes so far
 abbrev pub invariant-loop-stroke : goal.invariant-loop-stroke

@@ -1,8 +1,8 @@
 use Rattle.std.proofs.Common.{◌∙◌, ap}
 use Rattle.std.specs.String.{string_bytes}
-use Rattle.diagram.proofs.PictureLemmas.{picture_whole}
-use Rattle.diagram.specs.Lists.{with_rows}
-use Rattle.diagram.proofs.svg.campaign_svg.Goals as goal
+use Rattle.show_diagram.proofs.PictureLemmas.{picture_whole}
+use Rattle.show_diagram.specs.Lists.{with_rows}
+use Rattle.show_diagram.proofs.svg.campaign_svg.Goals as goal
 
 pub returns : goal.returns
 returns g c =

@@ -1,9 +1,9 @@
 use Rattle.std.proofs.Common.{List, ℕ, codes, ◌++◌, ◌∙◌, ap}
 use Rattle.std.specs.String.{string_bytes}
-use Rattle.diagram.specs.Shapes.{text_at, title}
-use Rattle.diagram.specs.Svg.{campaign_words, description, look}
-use Rattle.diagram.proofs.HeadLemmas.{four_parts}
-use Rattle.diagram.proofs.svg.put_head.Goals as goal
+use Rattle.show_diagram.specs.Shapes.{text_at, title}
+use Rattle.show_diagram.specs.Svg.{campaign_words, description, look}
+use Rattle.show_diagram.proofs.HeadLemmas.{four_parts}
+use Rattle.show_diagram.proofs.svg.put_head.Goals as goal
 
 pub returns : goal.returns
 returns c =

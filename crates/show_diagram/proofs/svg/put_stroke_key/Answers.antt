@@ -1,8 +1,8 @@
 use Rattle.std.proofs.Common.{codes}
 use Rattle.std.specs.String.{string_bytes}
-use Rattle.diagram.specs.Shapes.{said_if}
-use Rattle.diagram.proofs.LegendLemmas.{three_parts}
-use Rattle.diagram.proofs.svg.put_stroke_key.Goals as goal
+use Rattle.show_diagram.specs.Shapes.{said_if}
+use Rattle.show_diagram.proofs.LegendLemmas.{three_parts}
+use Rattle.show_diagram.proofs.svg.put_stroke_key.Goals as goal
 
 pub returns : goal.returns
 returns c =

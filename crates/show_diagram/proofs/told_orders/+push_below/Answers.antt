@@ -2,12 +2,12 @@ use Rattle.std.proofs.Common.{ℕ, List, ◌≡◌, ◌-◌, ◌∙◌, ◌++◌
 use Rattle.std.specs.List.{flat_map}
 use Rattle.label.specs.Labels.{others}
 use Rattle.book.proofs.Gathering.{off_first, on_first, on_behind}
-use Rattle.drawing.proofs.Gathered.{gathered_yes, gathered_no}
-use Rattle.diagram.specs.declared.telling.Telling.{Telling}
-use Rattle.diagram.specs.Facts.{tellings_by}
-use Rattle.diagram.proofs.TellingLemmas.{below_last, below_more, by_same}
-use Rattle.diagram.proofs.tellings.+push_below.Goals as goal
-use Rattle.diagram.proofs.tellings.+push_below.Goals.{then-other-general+then-not-has+in_ok-push+in_ok-push_below, else-other-general, else-other-general-via-then-other-general+else-not-has, else-other-general-via-else-other-general}
+use Rattle.show_tree.proofs.Gathered.{gathered_yes, gathered_no}
+use Rattle.show_diagram.specs.declared.told_order.Telling.{Telling}
+use Rattle.show_diagram.specs.Facts.{tellings_by}
+use Rattle.show_diagram.proofs.TellingLemmas.{below_last, below_more, by_same}
+use Rattle.show_diagram.proofs.told_orders.+push_below.Goals as goal
+use Rattle.show_diagram.proofs.told_orders.+push_below.Goals.{then-other-general+then-not-has+in_ok-push+in_ok-push_below, else-other-general, else-other-general-via-then-other-general+else-not-has, else-other-general-via-else-other-general}
 
 pub returns-then-relays-eq0 : goal.returns-then-relays-eq0
 returns-then-relays-eq0 g t c =

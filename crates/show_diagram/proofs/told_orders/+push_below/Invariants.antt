@@ -1,8 +1,8 @@
 use Rattle.std.proofs.Common.{◌≡◌, ◌-◌, ◌++◌, ◌∷◌}
 use Rattle.std.specs.List.{flat_map}
 use Rattle.label.specs.Labels.{others}
-use Rattle.diagram.specs.Facts.{tellings_by}
-use Rattle.diagram.proofs.tellings.+push_below.Given as goal
+use Rattle.show_diagram.specs.Facts.{tellings_by}
+use Rattle.show_diagram.proofs.told_orders.+push_below.Given as goal
 
 abbrev pub decreases-push_below : goal.decreases-push_below
 decreases-push_below g l = l.relays

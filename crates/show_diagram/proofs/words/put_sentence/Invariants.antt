@@ -1,8 +1,8 @@
 use Rattle.std.proofs.Common.{◌≡◌, ◌++◌, drop, map}
 use Rattle.std.specs.List.{flat_map}
 use Rattle.std.specs.String.{string_bytes}
-use Rattle.diagram.specs.Words.{piece_words}
-use Rattle.diagram.proofs.words.put_sentence.Given as goal
+use Rattle.show_diagram.specs.Words.{piece_words}
+use Rattle.show_diagram.proofs.words.put_sentence.Given as goal
 
 abbrev pub invariant-loop-piece : goal.invariant-loop-piece
 invariant-loop-piece l =

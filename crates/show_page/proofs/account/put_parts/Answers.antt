@@ -1,11 +1,11 @@
 use Rattle.std.proofs.Common.{◌∙◌, ◌++◌, ap}
 use Rattle.std.specs.Prelude.{option_map}
 use Rattle.std.specs.String.{string_bytes}
-use Rattle.page.specs.Sections.{sections_in}
-use Rattle.campaign_page.specs.Account.{parts, sections, verdict_part}
-use Rattle.campaign_page.specs.Room.{room_for_sections}
-use Rattle.campaign_page.proofs.ChainLemmas.{chained, same_sections}
-use Rattle.campaign_page.proofs.account.put_parts.Goals as goal
+use Rattle.html.specs.Sections.{sections_in}
+use Rattle.show_page.specs.Account.{parts, sections, verdict_part}
+use Rattle.show_page.specs.Room.{room_for_sections}
+use Rattle.show_page.proofs.ChainLemmas.{chained, same_sections}
+use Rattle.show_page.proofs.account.put_parts.Goals as goal
 
 pub returns : goal.returns
 unfolding parts

@@ -1,5 +1,5 @@
-use Rattle.campaign_page.proofs.CallLemmas.{AreNamed}
-use Rattle.campaign_page.proofs.calls.statements.Given as goal
+use Rattle.show_page.proofs.CallLemmas.{AreNamed}
+use Rattle.show_page.proofs.calls.statements.Given as goal
 
 -- the units so far
 abbrev pub invariant-loop-unit : goal.invariant-loop-unit

@@ -1,5 +1,5 @@
-use Rattle.campaign_page.proofs.FoldLaws.{proved_folds_hide_nothing}
-use Rattle.campaign_page.proofs.laws.folds_hide_nothing.Goals as goal
+use Rattle.show_page.proofs.FoldLaws.{proved_folds_hide_nothing}
+use Rattle.show_page.proofs.laws.folds_hide_nothing.Goals as goal
 
 pub returns : goal.returns
 returns c = proved_folds_hide_nothing

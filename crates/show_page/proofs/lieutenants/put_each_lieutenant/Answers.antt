@@ -1,8 +1,8 @@
 use Rattle.std.proofs.Common.{◌++◌, ◌∙◌, ap}
 use Rattle.std.specs.String.{string_bytes}
 use Rattle.book.proofs.Gathering.{range_text}
-use Rattle.signed_page.specs.Account.{lieutenant_part}
-use Rattle.signed_page.proofs.lieutenants.put_each_lieutenant.Goals as goal
+use Rattle.show_page.specs.SignedAccount.{lieutenant_part}
+use Rattle.show_page.proofs.lieutenants.put_each_lieutenant.Goals as goal
 
 pub loop-general-preserved : goal.loop-general-preserved
 loop-general-preserved c =

@@ -3,11 +3,11 @@ use Rattle.std.specs.List.{flat_map}
 use Rattle.std.specs.String.{string_bytes}
 use Rattle.label.specs.Labels.{others}
 use Rattle.book.proofs.Gathering.{off_first, on_first, on_behind}
-use Rattle.drawing.proofs.Gathered.{gathered_yes, gathered_no}
-use Rattle.campaign_page.specs.Trees.{item_by}
-use Rattle.campaign_page.proofs.TreeLemmas.{item_same, items_last, items_more, opened}
-use Rattle.campaign_page.proofs.listing.+items.Goals as goal
-use Rattle.campaign_page.proofs.listing.+items.Goals.{put_items-then-other-general+then-not-has+in_ok-put_item, put_items-else-other-general, put_items-else-other-general-via-then-other-general+else-not-has, put_items-else-other-general-via-else-other-general}
+use Rattle.show_tree.proofs.Gathered.{gathered_yes, gathered_no}
+use Rattle.show_page.specs.Trees.{item_by}
+use Rattle.show_page.proofs.TreeLemmas.{item_same, items_last, items_more, opened}
+use Rattle.show_page.proofs.nested_lists.+items.Goals as goal
+use Rattle.show_page.proofs.nested_lists.+items.Goals.{put_items-then-other-general+then-not-has+in_ok-put_item, put_items-else-other-general, put_items-else-other-general-via-then-other-general+else-not-has, put_items-else-other-general-via-else-other-general}
 
 pub put_item-returns : goal.put_item-returns
 put_item-returns g t c =

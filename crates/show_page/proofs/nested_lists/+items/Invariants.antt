@@ -2,8 +2,8 @@ use Rattle.std.proofs.Common.{◌≡◌, ◌+◌, ◌-◌, ◌*◌, ◌++◌, �
 use Rattle.std.specs.List.{flat_map}
 use Rattle.std.specs.String.{string_bytes}
 use Rattle.label.specs.Labels.{others}
-use Rattle.campaign_page.specs.Trees.{item_by}
-use Rattle.campaign_page.proofs.listing.+items.Given as goal
+use Rattle.show_page.specs.Trees.{item_by}
+use Rattle.show_page.proofs.nested_lists.+items.Given as goal
 
 abbrev pub decreases-put_item : goal.decreases-put_item
 decreases-put_item g l = 2 * l.relays + 1

@@ -1,8 +1,8 @@
 use Rattle.std.proofs.Common.{◌++◌, ◌∙◌, ap}
 use Rattle.std.specs.String.{string_bytes}
 use Rattle.book.proofs.Gathering.{range_text}
-use Rattle.campaign_page.specs.Account.{lieutenant_part}
-use Rattle.campaign_page.proofs.sections.put_each_lieutenant.Goals as goal
+use Rattle.show_page.specs.Account.{lieutenant_part}
+use Rattle.show_page.proofs.sections.put_each_lieutenant.Goals as goal
 
 pub loop-general-preserved : goal.loop-general-preserved
 loop-general-preserved g c =

@@ -1,8 +1,8 @@
 use Rattle.std.proofs.Common.{◌≡◌, ◌++◌}
 use Rattle.std.specs.List.{flat_map, range_with_len}
 use Rattle.std.specs.String.{string_bytes}
-use Rattle.campaign_page.specs.Account.{program_part}
-use Rattle.campaign_page.proofs.sections.put_each_program.Given as goal
+use Rattle.show_page.specs.Account.{program_part}
+use Rattle.show_page.proofs.sections.put_each_program.Given as goal
 
 abbrev pub invariant-loop-general : goal.invariant-loop-general
 invariant-loop-general l = string_bytes l.out ≡ string_bytes l.fn.out ++ flat_map (program_part l.room l.scenario) (range_with_len 0 l.general)

@@ -1,8 +1,8 @@
 use Rattle.std.proofs.Common.{◌≡◌, ◌∙◌, ap, subst, sym}
 use Rattle.std.specs.Str.{IsCharBoundary}
-use Rattle.campaign_page.specs.Story.{story_bytes}
-use Rattle.campaign_page.proofs.StoryLemmas.{edge}
-use Rattle.campaign_page.proofs.story.parted.Goals as goal
+use Rattle.show_page.specs.Story.{story_bytes}
+use Rattle.show_page.proofs.StoryLemmas.{edge}
+use Rattle.show_page.proofs.story.parted.Goals as goal
 
 pub range-requires-clause-end_boundary : goal.range-requires-clause-end_boundary
 range-requires-clause-end_boundary c =

@@ -1,5 +1,5 @@
-use Rattle.retold.proofs.Trees.{explains_or_error}
-use Rattle.retold.proofs.explaining.explained.Goals as goal
+use Rattle.show_table.proofs.Trees.{explains_or_error}
+use Rattle.show_table.proofs.explanation.explained.Goals as goal
 
 pub returns : goal.returns
 returns c =

@@ -1,8 +1,8 @@
 use Rattle.std.proofs.Common.{◌∙◌, sym}
-use Rattle.roster.specs.Scenario.{is_traitor}
-use Rattle.retold.proofs.Named.{named_more, named_same}
-use Rattle.retold.proofs.explaining.traitors.Goals as goal
-use Rattle.retold.proofs.explaining.traitors.Goals.{then-is_traitor+in_ok-push, else-is_traitor}
+use Rattle.round.specs.Scenario.{is_traitor}
+use Rattle.show_table.proofs.Named.{named_more, named_same}
+use Rattle.show_table.proofs.explanation.traitors.Goals as goal
+use Rattle.show_table.proofs.explanation.traitors.Goals.{then-is_traitor+in_ok-push, else-is_traitor}
 
 pub loop-general-preserved : goal.loop-general-preserved
 loop-general-preserved c =

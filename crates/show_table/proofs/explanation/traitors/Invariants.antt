@@ -1,7 +1,7 @@
 use Rattle.std.proofs.Common.{◌≡◌, filter}
 use Rattle.label.specs.Labels.{generals}
-use Rattle.roster.specs.Scenario.{is_traitor}
-use Rattle.retold.proofs.explaining.traitors.Given as goal
+use Rattle.round.specs.Scenario.{is_traitor}
+use Rattle.show_table.proofs.explanation.traitors.Given as goal
 
 -- those among the generals so far
 abbrev pub invariant-loop-general : goal.invariant-loop-general

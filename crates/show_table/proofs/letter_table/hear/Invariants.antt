@@ -1,6 +1,6 @@
 use Rattle.std.proofs.Common.{take}
-use Rattle.delivery.specs.Told.{WasTold}
-use Rattle.retold.proofs.retelling.hear.Given as goal
+use Rattle.round.specs.Told.{WasTold}
+use Rattle.show_table.proofs.letter_table.hear.Given as goal
 
 -- the rounds so far
 abbrev pub invariant-loop-round : goal.invariant-loop-round

@@ -1,5 +1,5 @@
-use Rattle.retold.proofs.Tables.{retold_or_error}
-use Rattle.retold.proofs.retelling.table.Goals as goal
+use Rattle.show_table.proofs.Tables.{retold_or_error}
+use Rattle.show_table.proofs.letter_table.table.Goals as goal
 
 pub returns : goal.returns
 returns c =

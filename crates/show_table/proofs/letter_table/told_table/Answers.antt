@@ -1,8 +1,8 @@
 use Rattle.std.proofs.Common.{subst, sym}
-use Rattle.roster.specs.Scenario.{Scenario}
-use Rattle.delivery.specs.Told.{WasTold}
-use Rattle.retold.proofs.Trees.{filled_from, told_from, within_from}
-use Rattle.retold.proofs.retelling.told_table.Goals as goal
+use Rattle.round.specs.Scenario.{Scenario}
+use Rattle.round.specs.Told.{WasTold}
+use Rattle.show_table.proofs.Trees.{filled_from, told_from, within_from}
+use Rattle.show_table.proofs.letter_table.told_table.Goals as goal
 
 pub of-requires : goal.of-requires
 of-requires c = record {

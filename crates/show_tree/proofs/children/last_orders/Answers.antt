@@ -5,9 +5,9 @@ use Rattle.book.specs.Explained.{element}
 use Rattle.book.specs.Table.{told}
 use Rattle.book.proofs.Gathering.{few_others, map_no, off_first, on_behind, on_first}
 use Rattle.book.proofs.ListLemmas.{held_last, other_more, own_more, place_off}
-use Rattle.drawing.proofs.ChildLemmas.{child_read, child_within, no_more, one_more, order_is}
-use Rattle.drawing.proofs.children.last_orders.Goals as goal
-use Rattle.drawing.proofs.children.last_orders.Goals.{then-other-general, else-other-general+then-not-has, else-other-general+else-not-has}
+use Rattle.show_tree.proofs.ChildLemmas.{child_read, child_within, no_more, one_more, order_is}
+use Rattle.show_tree.proofs.children.last_orders.Goals as goal
+use Rattle.show_tree.proofs.children.last_orders.Goals.{then-other-general, else-other-general+then-not-has, else-other-general+else-not-has}
 
 pub push-requires : goal.push-requires
 push-requires g c =

@@ -1,7 +1,7 @@
 use Rattle.std.proofs.Common.{◌≡◌, ◌∷◌, length, map}
 use Rattle.label.specs.Labels.{others}
 use Rattle.book.specs.Explained.{element}
-use Rattle.drawing.proofs.children.last_orders.Given as goal
+use Rattle.show_tree.proofs.children.last_orders.Given as goal
 
 -- the orders of the generals so far, and how many of them tell the lieutenant
 abbrev pub invariant-loop-other : goal.invariant-loop-other

@@ -1,6 +1,6 @@
 use Rattle.std.proofs.Common.{ap, length, ◌-◌, ◌∙◌}
-use Rattle.drawing.proofs.ChildLemmas.{children_told, children_within, has_rank, limits, place_some, rank_in}
-use Rattle.drawing.proofs.children.told_children.Goals as goal
+use Rattle.show_tree.proofs.ChildLemmas.{children_told, children_within, has_rank, limits, place_some, rank_in}
+use Rattle.show_tree.proofs.children.told_children.Goals as goal
 
 pub part-requires : goal.part-requires
 part-requires g c =

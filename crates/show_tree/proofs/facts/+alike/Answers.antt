@@ -2,11 +2,11 @@ use Rattle.std.proofs.Common.{ℕ, ◌≡◌, ◌∙◌, ◌-◌, ◌∷◌, Boo
 use Rattle.std.specs.List.{list_all}
 use Rattle.label.specs.Labels.{others}
 use Rattle.book.proofs.Gathering.{off_first, on_first, on_behind}
-use Rattle.drawing.specs.Facts.{is_alike_by}
-use Rattle.drawing.proofs.FactLemmas.{alike_last, alike_more}
-use Rattle.drawing.proofs.Gathered.{all_passed, all_failed, all_passed_over}
-use Rattle.drawing.proofs.facts.+alike.Goals as goal
-use Rattle.drawing.proofs.facts.+alike.Goals.{is_alike-then-other-general+then-not-has+then-is_so, is_alike-then-other-general+then-not-has+else-is_so, is_alike-else-other-general, is_alike-else-other-general-via-then-other-general+else-not-has, is_alike-else-other-general-via-else-other-general}
+use Rattle.show_tree.specs.Facts.{is_alike_by}
+use Rattle.show_tree.proofs.FactLemmas.{alike_last, alike_more}
+use Rattle.show_tree.proofs.Gathered.{all_passed, all_failed, all_passed_over}
+use Rattle.show_tree.proofs.facts.+alike.Goals as goal
+use Rattle.show_tree.proofs.facts.+alike.Goals.{is_alike-then-other-general+then-not-has+then-is_so, is_alike-then-other-general+then-not-has+else-is_so, is_alike-else-other-general, is_alike-else-other-general-via-then-other-general+else-not-has, is_alike-else-other-general-via-else-other-general}
 
 pub is_alike-returns-then-relays-eq0 : goal.is_alike-returns-then-relays-eq0
 is_alike-returns-then-relays-eq0 g t c = alike_last (g.H.Heard.seen c.args.table.now) c.args.traitors.now c.args.relays c.args.label.now c.args.general c.if-relays-eq0.true

@@ -1,8 +1,8 @@
 use Rattle.std.proofs.Common.{◌≡◌, ◌+◌, ◌*◌, ◌-◌, ◌∷◌}
 use Rattle.std.specs.List.{list_all}
 use Rattle.label.specs.Labels.{others}
-use Rattle.drawing.specs.Facts.{is_alike_by}
-use Rattle.drawing.proofs.facts.+alike.Given as goal
+use Rattle.show_tree.specs.Facts.{is_alike_by}
+use Rattle.show_tree.proofs.facts.+alike.Given as goal
 
 abbrev pub decreases-is_alike : goal.decreases-is_alike
 decreases-is_alike g l = 2 * l.relays

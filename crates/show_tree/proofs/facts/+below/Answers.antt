@@ -1,6 +1,6 @@
 use Rattle.std.proofs.Common.{◌-◌, ◌≡◌, arith, ap, sym, ◌∙◌}
-use Rattle.drawing.proofs.FactLemmas.{few_powers, none_below, more_below, product_small}
-use Rattle.drawing.proofs.facts.+below.Goals as goal
+use Rattle.show_tree.proofs.FactLemmas.{few_powers, none_below, more_below, product_small}
+use Rattle.show_tree.proofs.facts.+below.Goals as goal
 
 pub returns-then-relays-eq0-clause-value : goal.returns-then-relays-eq0-clause-value
 returns-then-relays-eq0-clause-value t c = none_below c.args.generals c.args.size c.args.relays c.if-relays-eq0.true

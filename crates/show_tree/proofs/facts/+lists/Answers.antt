@@ -3,10 +3,10 @@ use Rattle.book.specs.Explained.{element, held}
 use Rattle.book.proofs.Gathering.{few_others, map_no}
 use Rattle.book.proofs.ListLemmas.{place_off, held_last, own_more, other_more}
 use Rattle.label.specs.Labels.{others}
-use Rattle.drawing.proofs.FactLemmas.{held_more}
-use Rattle.drawing.proofs.NextPlaces.{next_fits}
-use Rattle.drawing.proofs.facts.+lists.Goals as goal
-use Rattle.drawing.proofs.facts.+lists.Goals.{orders-then-other-general, orders-else-other-general+then-not-has, orders-else-other-general+else-not-has}
+use Rattle.show_tree.proofs.FactLemmas.{held_more}
+use Rattle.show_tree.proofs.NextPlaces.{next_fits}
+use Rattle.show_tree.proofs.facts.+lists.Goals as goal
+use Rattle.show_tree.proofs.facts.+lists.Goals.{orders-then-other-general, orders-else-other-general+then-not-has, orders-else-other-general+else-not-has}
 
 pub held-returns-then-relays-eq0 : goal.held-returns-then-relays-eq0
 held-returns-then-relays-eq0 g t c = c.told.ensures ∙ held_last (g.H.Heard.seen c.args.table.now) c.args.relays c.args.label.now c.args.general c.if-relays-eq0.true

@@ -1,7 +1,7 @@
 use Rattle.std.proofs.Common.{◌≡◌, ◌+◌, ◌*◌, map}
 use Rattle.label.specs.Labels.{others}
 use Rattle.book.specs.Explained.{element}
-use Rattle.drawing.proofs.facts.+lists.Given as goal
+use Rattle.show_tree.proofs.facts.+lists.Given as goal
 
 abbrev pub decreases-held : goal.decreases-held
 decreases-held g l = 2 * l.relays

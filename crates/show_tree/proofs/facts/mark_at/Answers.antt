@@ -1,7 +1,7 @@
 use Rattle.std.proofs.Common.{◌≡◌, ◌++◌, ◌∷◌, [], true, ap, arith, sym, ◌∙◌}
 use Rattle.book.specs.Grammar.{is_place}
-use Rattle.drawing.proofs.PlaceLemmas.{teller_told}
-use Rattle.drawing.proofs.facts.mark_at.Goals as goal
+use Rattle.show_tree.proofs.PlaceLemmas.{teller_told}
+use Rattle.show_tree.proofs.facts.mark_at.Goals as goal
 
 pub told-requires : goal.told-requires
 told-requires g c =

@@ -1,7 +1,7 @@
 use Rattle.std.proofs.Common.{◌≡◌, ◌++◌, ◌∷◌, [], true, ap, arith, sym, ◌∙◌}
 use Rattle.book.specs.Grammar.{is_place}
-use Rattle.drawing.proofs.PlaceLemmas.{place_above}
-use Rattle.drawing.proofs.facts.tells.Goals as goal
+use Rattle.show_tree.proofs.PlaceLemmas.{place_above}
+use Rattle.show_tree.proofs.facts.tells.Goals as goal
 
 pub told-requires-2 : goal.told-requires-2
 told-requires-2 g c =

@@ -1,5 +1,5 @@
-use Rattle.drawing.proofs.FoldLaws.{explained}
-use Rattle.drawing.proofs.laws.outcomes_are_explained.Goals as goal
+use Rattle.show_tree.proofs.FoldLaws.{explained}
+use Rattle.show_tree.proofs.laws.outcomes_are_explained.Goals as goal
 
 pub returns : goal.returns
 returns c = explained

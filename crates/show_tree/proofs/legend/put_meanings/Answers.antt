@@ -1,6 +1,6 @@
 use Rattle.std.specs.String.{string_bytes}
-use Rattle.drawing.proofs.LegendLemmas.{four_meanings}
-use Rattle.drawing.proofs.legend.put_meanings.Goals as goal
+use Rattle.show_tree.proofs.LegendLemmas.{four_meanings}
+use Rattle.show_tree.proofs.legend.put_meanings.Goals as goal
 
 pub returns : goal.returns
 returns c =

@@ -1,9 +1,9 @@
 use Rattle.std.proofs.Common.{ℕ, List, ◌≡◌, ◌++◌, ◌∙◌, ap}
 use Rattle.std.specs.String.{string_bytes}
 use Rattle.book.proofs.Gathering.{range_text}
-use Rattle.drawing.specs.Lines.{branch_text}
-use Rattle.drawing.specs.Places.{branch_at}
-use Rattle.drawing.proofs.lines.put_branches.Goals as goal
+use Rattle.show_tree.specs.Lines.{branch_text}
+use Rattle.show_tree.specs.Places.{branch_at}
+use Rattle.show_tree.proofs.lines.put_branches.Goals as goal
 
 pub loop-place-preserved : goal.loop-place-preserved
 loop-place-preserved c =

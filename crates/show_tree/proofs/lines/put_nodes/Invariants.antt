@@ -1,8 +1,8 @@
 use Rattle.std.proofs.Common.{◌≡◌, ◌++◌, take}
 use Rattle.std.specs.List.{flat_map}
 use Rattle.std.specs.String.{string_bytes}
-use Rattle.drawing.specs.Lines.{node_line}
-use Rattle.drawing.proofs.lines.put_nodes.Given as goal
+use Rattle.show_tree.specs.Lines.{node_line}
+use Rattle.show_tree.proofs.lines.put_nodes.Given as goal
 
 abbrev pub invariant-loop-node : goal.invariant-loop-node
 invariant-loop-node l = string_bytes l.out ≡ string_bytes l.fn.out ++ flat_map (node_line l.style l.generals l.general) (take l.node-index l.nodes)

@@ -1,9 +1,9 @@
 use Rattle.std.proofs.Common.{ℕ, ◌∙◌, ◌∷◌, Bool, sym}
 use Rattle.std.specs.Prelude.{nat_le}
 use Rattle.book.proofs.Gathering.{off_first, on_first, on_behind}
-use Rattle.drawing.proofs.Gathered.{all_passed, all_failed, all_passed_over}
-use Rattle.drawing.proofs.places.is_last.Goals as goal
-use Rattle.drawing.proofs.places.is_last.Goals.{then-other-general+then-not-has+then-is_last, then-other-general+then-not-has+else-is_last, else-other-general, else-other-general-via-then-other-general+else-not-has, else-other-general-via-else-other-general}
+use Rattle.show_tree.proofs.Gathered.{all_passed, all_failed, all_passed_over}
+use Rattle.show_tree.proofs.places.is_last.Goals as goal
+use Rattle.show_tree.proofs.places.is_last.Goals.{then-other-general+then-not-has+then-is_last, then-other-general+then-not-has+else-is_last, else-other-general, else-other-general-via-then-other-general+else-not-has, else-other-general-via-else-other-general}
 
 pub loop-other-preserved : goal.loop-other-preserved
 loop-other-preserved c =

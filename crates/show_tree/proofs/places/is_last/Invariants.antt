@@ -2,7 +2,7 @@ use Rattle.std.proofs.Common.{◌≡◌, ◌∷◌}
 use Rattle.std.specs.Prelude.{nat_le}
 use Rattle.std.specs.List.{list_all}
 use Rattle.label.specs.Labels.{others}
-use Rattle.drawing.proofs.places.is_last.Given as goal
+use Rattle.show_tree.proofs.places.is_last.Given as goal
 
 -- whether none so far comes behind
 abbrev pub invariant-loop-other : goal.invariant-loop-other

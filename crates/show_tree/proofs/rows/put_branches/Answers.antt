@@ -1,9 +1,9 @@
 use Rattle.std.proofs.Common.{ℕ, List, ◌*◌, ◌++◌, ◌∙◌, ap, arith}
 use Rattle.std.specs.String.{string_bytes}
 use Rattle.book.proofs.Gathering.{range_text}
-use Rattle.drawing.specs.Places.{branch_at}
-use Rattle.drawing.specs.Rows.{branch_way}
-use Rattle.drawing.proofs.rows.put_branches.Goals as goal
+use Rattle.show_tree.specs.Places.{branch_at}
+use Rattle.show_tree.specs.Rows.{branch_way}
+use Rattle.show_tree.proofs.rows.put_branches.Goals as goal
 
 pub overflow_mul-place : goal.overflow_mul-place
 overflow_mul-place c =

@@ -1,7 +1,7 @@
 use Rattle.std.proofs.Common.{arith}
 use Rattle.std.specs.String.{string_bytes}
-use Rattle.drawing.proofs.RowLemmas.{row_more, rows_all}
-use Rattle.drawing.proofs.rows.put_rows.Goals as goal
+use Rattle.show_tree.proofs.RowLemmas.{row_more, rows_all}
+use Rattle.show_tree.proofs.rows.put_rows.Goals as goal
 
 pub loop-place-preserved : goal.loop-place-preserved
 loop-place-preserved c =

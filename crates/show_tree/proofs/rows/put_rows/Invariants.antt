@@ -1,7 +1,7 @@
 use Rattle.std.proofs.Common.{◌≡◌, ◌++◌, drop}
 use Rattle.std.specs.String.{string_bytes}
-use Rattle.drawing.specs.Rows.{rows_from}
-use Rattle.drawing.proofs.rows.put_rows.Given as goal
+use Rattle.show_tree.specs.Rows.{rows_from}
+use Rattle.show_tree.proofs.rows.put_rows.Given as goal
 
 -- the rows so far and those left
 abbrev pub invariant-loop-place : goal.invariant-loop-place

@@ -1,5 +1,5 @@
-use Rattle.drawing.specs.Rows.{shape}
-use Rattle.drawing.proofs.rows.put_shape.Goals as goal
+use Rattle.show_tree.specs.Rows.{shape}
+use Rattle.show_tree.proofs.rows.put_shape.Goals as goal
 
 pub returns : goal.returns
 unfolding shape

@@ -1,6 +1,6 @@
 use Rattle.std.proofs.Common.{◌≡◌, ◌<◌, ◌^◌, drop, max}
-use Rattle.drawing.specs.Rows.{widest}
-use Rattle.drawing.proofs.rows.widest.Given as goal
+use Rattle.show_tree.specs.Rows.{widest}
+use Rattle.show_tree.proofs.rows.widest.Given as goal
 
 -- the widest so far and of those left, and no width is large
 abbrev pub invariant-loop-node : goal.invariant-loop-node

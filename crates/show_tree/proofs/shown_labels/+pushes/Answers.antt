@@ -2,13 +2,13 @@ use Rattle.std.proofs.Common.{ℕ, List, ◌≡◌, ◌<◌, ◌-◌, ◌∙◌,
 use Rattle.std.specs.List.{flat_map}
 use Rattle.label.specs.Labels.{others}
 use Rattle.book.proofs.Gathering.{off_first, on_first, on_behind}
-use Rattle.drawing.specs.declared.node.Node.{Node}
-use Rattle.drawing.specs.Shown.{nodes_by}
-use Rattle.drawing.proofs.Gathered.{gathered_yes, gathered_no}
-use Rattle.drawing.proofs.NextPlaces.{next_fits}
-use Rattle.drawing.proofs.ShownLemmas.{below_last, below_more, with_same}
-use Rattle.drawing.proofs.shown.+pushes.Goals as goal
-use Rattle.drawing.proofs.shown.+pushes.Goals.{push_below-then-other-general+then-not-has+in_ok-push_with, push_below-else-other-general, push_below-else-other-general-via-then-other-general+else-not-has, push_below-else-other-general-via-else-other-general}
+use Rattle.show_tree.specs.declared.node.Node.{Node}
+use Rattle.show_tree.specs.Shown.{nodes_by}
+use Rattle.show_tree.proofs.Gathered.{gathered_yes, gathered_no}
+use Rattle.show_tree.proofs.NextPlaces.{next_fits}
+use Rattle.show_tree.proofs.ShownLemmas.{below_last, below_more, with_same}
+use Rattle.show_tree.proofs.shown_labels.+pushes.Goals as goal
+use Rattle.show_tree.proofs.shown_labels.+pushes.Goals.{push_below-then-other-general+then-not-has+in_ok-push_with, push_below-else-other-general, push_below-else-other-general-via-then-other-general+else-not-has, push_below-else-other-general-via-else-other-general}
 
 pub push_below-returns-then-relays-eq0 : goal.push_below-returns-then-relays-eq0
 push_below-returns-then-relays-eq0 g t c =

@@ -1,8 +1,8 @@
 use Rattle.std.proofs.Common.{◌≡◌, ◌+◌, ◌-◌, ◌*◌, ◌++◌, ◌∷◌}
 use Rattle.std.specs.List.{flat_map}
 use Rattle.label.specs.Labels.{others}
-use Rattle.drawing.specs.Shown.{nodes_by}
-use Rattle.drawing.proofs.shown.+pushes.Given as goal
+use Rattle.show_tree.specs.Shown.{nodes_by}
+use Rattle.show_tree.proofs.shown_labels.+pushes.Given as goal
 
 abbrev pub decreases-push_with : goal.decreases-push_with
 decreases-push_with g l = 2 * l.relays + 1

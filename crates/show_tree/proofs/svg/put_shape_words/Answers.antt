@@ -1,8 +1,8 @@
 use Rattle.std.proofs.Common.{codes}
 use Rattle.std.specs.String.{string_bytes}
-use Rattle.drawing.specs.Svg.{said_if}
-use Rattle.drawing.proofs.LegendLemmas.{four_parts}
-use Rattle.drawing.proofs.svg.put_shape_words.Goals as goal
+use Rattle.show_tree.specs.Svg.{said_if}
+use Rattle.show_tree.proofs.LegendLemmas.{four_parts}
+use Rattle.show_tree.proofs.svg.put_shape_words.Goals as goal
 
 pub returns : goal.returns
 returns c =

@@ -1,6 +1,6 @@
 use Rattle.std.proofs.Common.{◌≡◌, ◌∙◌, ◌+◌, ℕ, suc, ap, arith}
 use Rattle.std.proofs.lemmas.Result.{IfOk-weaker}
-use Rattle.roster.specs.Scenario.{Scenario}
+use Rattle.round.specs.Scenario.{Scenario}
 use Rattle.signed.specs.Explained.{bringing}
 use Rattle.signed.specs.Sent.{delivered, sent_in}
 use Rattle.signed.proofs.accepted_chains.bringing.Goals as goal

@@ -1,7 +1,7 @@
 -- The campaign's numbers, and those of the chains held.
 use Rattle.std.proofs.Common.{◌≡◌, ◌+◌, ◌-◌, ℕ, [], ◌∷◌, length, flat_map, Vec, Global, ap, ◌∙◌, arith}
 use Rattle.std.proofs.lemmas.Result.{IfOk-weaker}
-use Rattle.letter.specs.Contexts.{context_bytes}
+use Rattle.round.specs.Contexts.{context_bytes}
 use Rattle.signed.specs.Chains.{Chain}
 use Rattle.signed.specs.Contexts.{signer_bits}
 use Rattle.signed.specs.Sending.{context_behind, HeldChains}

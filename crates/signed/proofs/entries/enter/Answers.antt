@@ -6,7 +6,7 @@ use Rattle.signed.specs.Loyal.{bits_but}
 use Rattle.signed.specs.Sending.{relay_behind, HeldChains}
 use Rattle.signed.proofs.Receipts.{sent_rows}
 use Rattle.signed.proofs.Duties.{held_small, passed_is, signed_is, none_first, none_later}
-use Rattle.signed.proofs.entering.enter.Goals as goal
+use Rattle.signed.proofs.entries.enter.Goals as goal
 
 pub pass_on-requires-clause-few : goal.pass_on-requires-clause-few
 pass_on-requires-clause-few c =

@@ -2,8 +2,8 @@
 use Rattle.std.proofs.Common.{arith, refl, ◌∙◌}
 use Rattle.std.specs.Prelude.{slice_get}
 use Rattle.signed.proofs.Onward.{passing_first, passing_last, chain_at, uncounted, known_already, passed_on_also, some_there}
-use Rattle.signed.proofs.entering.pass_on.Goals as goal
-use Rattle.signed.proofs.entering.pass_on.Goals.{in-Some+then-counts+then-not-is_among, in-Some+else-counts, else-counts-via-then-counts+else-not-is_among, else-counts-via-else-counts, in_default}
+use Rattle.signed.proofs.entries.pass_on.Goals as goal
+use Rattle.signed.proofs.entries.pass_on.Goals.{in-Some+then-counts+then-not-is_among, in-Some+else-counts, else-counts-via-then-counts+else-not-is_among, else-counts-via-else-counts, in_default}
 
 pub loop-place-init : goal.loop-place-init
 loop-place-init c = record {

@@ -1,7 +1,7 @@
 use Rattle.std.proofs.Common.{◌≡◌, ◌≤◌, ℕ, List, length, drop}
 use Rattle.signed.specs.Sending.{added_by, AreFirst}
 use Rattle.signed.proofs.Onward.{IsPassing}
-use Rattle.signed.proofs.entering.pass_on.Given as goal
+use Rattle.signed.proofs.entries.pass_on.Given as goal
 
 abbrev pub invariant-loop-place : goal.invariant-loop-place
 invariant-loop-place l = record {

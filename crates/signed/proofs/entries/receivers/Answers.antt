@@ -2,7 +2,7 @@
 use Rattle.std.proofs.Common.{◌++◌, ◌∷◌, []}
 use Rattle.signed.proofs.Marks.{marks_more}
 use Rattle.signed.proofs.Masks.{but_are}
-use Rattle.signed.proofs.entering.receivers.Goals as goal
+use Rattle.signed.proofs.entries.receivers.Goals as goal
 
 pub returns : goal.returns
 returns c =

@@ -1,9 +1,9 @@
 use Rattle.std.proofs.Common.{◌≡◌, ◌∙◌, ◌∷◌, [], ap, refl, sym}
-use Rattle.roster.specs.Scenario.{Scenario}
+use Rattle.round.specs.Scenario.{Scenario}
 use Rattle.book.proofs.Gathering.{lines_no, lines_yes, off_first, on_first}
 use Rattle.signed.specs.Explained.{acceptance_lines}
-use Rattle.signed.proofs.explaining.all_lieutenants.Goals as goal
-use Rattle.signed.proofs.explaining.all_lieutenants.Goals.{then-general-commander+in_ok-push_lieutenant, else-general-commander}
+use Rattle.signed.proofs.explanation.all_lieutenants.Goals as goal
+use Rattle.signed.proofs.explanation.all_lieutenants.Goals.{then-general-commander+in_ok-push_lieutenant, else-general-commander}
 
 pub loop-general-preserved : goal.loop-general-preserved
 loop-general-preserved c =

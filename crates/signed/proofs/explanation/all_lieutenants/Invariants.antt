@@ -3,7 +3,7 @@ use Rattle.std.specs.List.{flat_map}
 use Rattle.std.specs.String.{string_bytes}
 use Rattle.label.specs.Labels.{others}
 use Rattle.signed.specs.Explained.{acceptance_lines}
-use Rattle.signed.proofs.explaining.all_lieutenants.Given as goal
+use Rattle.signed.proofs.explanation.all_lieutenants.Given as goal
 
 -- those of the lieutenants so far
 abbrev pub invariant-loop-general : goal.invariant-loop-general

@@ -3,7 +3,7 @@ use Rattle.std.specs.List.{flat_map}
 use Rattle.std.specs.String.{string_bytes}
 use Rattle.signed.specs.Explained.{accepted_line}
 use Rattle.signed.specs.Sending.{lent}
-use Rattle.signed.proofs.explaining.push_all_accepted.Given as goal
+use Rattle.signed.proofs.explanation.push_all_accepted.Given as goal
 
 -- those so far
 abbrev pub invariant-loop-chain : goal.invariant-loop-chain

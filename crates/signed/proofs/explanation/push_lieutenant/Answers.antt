@@ -3,11 +3,11 @@ use Rattle.std.specs.Borrow.{Bor}
 use Rattle.std.specs.String.{string_bytes}
 use Rattle.std.proofs.lemmas.Result.{on_ok_weaker}
 use Rattle.book.specs.Explained.{head_line}
-use Rattle.roster.specs.Scenario.{Scenario, is_traitor}
+use Rattle.round.specs.Scenario.{Scenario, is_traitor}
 use Rattle.signed.specs.Chains.{Chain}
 use Rattle.signed.specs.Sending.{lent}
 use Rattle.signed.proofs.VerdictLines.{acceptance_whole}
-use Rattle.signed.proofs.explaining.push_lieutenant.Goals as goal
+use Rattle.signed.proofs.explanation.push_lieutenant.Goals as goal
 
 pub returns : goal.returns
 returns c =

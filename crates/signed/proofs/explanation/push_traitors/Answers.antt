@@ -4,7 +4,7 @@ use Rattle.std.specs.Fmt.{decimal}
 use Rattle.std.specs.String.{string_bytes}
 use Rattle.std.proofs.lemmas.Result.{on_ok_weaker}
 use Rattle.signed.proofs.VerdictLines.{traitors_whole}
-use Rattle.signed.proofs.explaining.push_traitors.Goals as goal
+use Rattle.signed.proofs.explanation.push_traitors.Goals as goal
 
 pub returns : goal.returns
 returns c =

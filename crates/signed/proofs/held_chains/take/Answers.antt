@@ -4,8 +4,8 @@ use Rattle.std.proofs.lemmas.List.{map_push}
 use Rattle.signed.specs.Chains.{Chain}
 use Rattle.signed.specs.Sending.{lent}
 use Rattle.signed.proofs.Lending.{one_came, came_then, came_else}
-use Rattle.signed.proofs.held.take.Goals as goal
-use Rattle.signed.proofs.held.take.Goals.{then-has+in_ok-push, else-has}
+use Rattle.signed.proofs.held_chains.take.Goals as goal
+use Rattle.signed.proofs.held_chains.take.Goals.{then-has+in_ok-push, else-has}
 
 pub loop-chain-preserved : goal.loop-chain-preserved
 loop-chain-preserved c =

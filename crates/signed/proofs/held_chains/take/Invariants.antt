@@ -1,7 +1,7 @@
 use Rattle.std.proofs.Common.{◌≡◌, ◌≤◌, ◌+◌, ◌++◌, map, take, vec_len}
 use Rattle.signed.specs.Entries.{received}
 use Rattle.signed.specs.Sending.{dispatch_of, lent}
-use Rattle.signed.proofs.held.take.Given as goal
+use Rattle.signed.proofs.held_chains.take.Given as goal
 
 abbrev pub invariant-loop-chain : goal.invariant-loop-chain
 invariant-loop-chain l = record {

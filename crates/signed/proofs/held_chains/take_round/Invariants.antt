@@ -1,6 +1,6 @@
 use Rattle.std.proofs.Common.{◌≡◌, ◌≤◌, ◌+◌, ◌*◌, ◌++◌, take, vec_len}
 use Rattle.signed.specs.Sending.{lent, received_in}
-use Rattle.signed.proofs.held.take_round.Given as goal
+use Rattle.signed.proofs.held_chains.take_round.Given as goal
 
 abbrev pub invariant-loop-sending : goal.invariant-loop-sending
 invariant-loop-sending l = record {

@@ -1,10 +1,10 @@
 -- His context, his relay, and what he enters.
 use Rattle.std.proofs.Common.{◌+◌, length, sym, subst, ◌∙◌, arith}
-use Rattle.letter.specs.Letters.{Letter}
-use Rattle.letter.specs.Runs.{IsLetter}
+use Rattle.round.specs.Letters.{Letter}
+use Rattle.round.specs.Runs.{IsLetter}
 use Rattle.signed.proofs.Receipts.{sent_rows}
 use Rattle.signed.proofs.Written.{letter_is, written_is}
-use Rattle.signed.proofs.loyal.loyal_letter.Goals as goal
+use Rattle.signed.proofs.loyal_letters.loyal_letter.Goals as goal
 
 pub context-requires-clause-rows : goal.context-requires-clause-rows
 context-requires-clause-rows c = sent_rows c.args.scenario.now c.args.sent.now c.requires.sent

@@ -1,5 +1,5 @@
 use Rattle.std.proofs.Common.{◌≡◌, ◌∷◌, []}
-use Rattle.roster.specs.Scenario.{program_of}
+use Rattle.round.specs.Scenario.{program_of}
 use Rattle.world.specs.Kind.{each}
 use Rattle.signed.specs.Sending.{begins_behind}
 use Rattle.signed.proofs.opening.beginnings.Given as goal

@@ -7,7 +7,7 @@ use Rattle.signed.specs.Sending.{entries_drafted, draft_in, part_in}
 use Rattle.signed.specs.Sent.{held_behind}
 use Rattle.signed.proofs.Reading.{draft_at, part_at}
 use Rattle.signed.proofs.Receipts.{sent_rows, dispatched_is}
-use Rattle.signed.proofs.drafting.sending.Goals as goal
+use Rattle.signed.proofs.round_drafts.sending.Goals as goal
 
 pub returns : goal.returns
 returns c =

@@ -7,7 +7,7 @@ use Rattle.signed.specs.Sent.{held_behind}
 use Rattle.signed.proofs.Places.{row_length}
 use Rattle.signed.proofs.Reading.{signers_count, signer_at}
 use Rattle.signed.proofs.Receipts.{row_more}
-use Rattle.signed.proofs.drafting.sendings.Goals as goal
+use Rattle.signed.proofs.round_drafts.sendings.Goals as goal
 
 pub bounds-signers-from : goal.bounds-signers-from
 bounds-signers-from c =

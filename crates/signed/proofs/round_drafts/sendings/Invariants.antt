@@ -4,7 +4,7 @@ use Rattle.label.specs.Labels.{generals}
 use Rattle.signed.specs.Entries.{dispatched}
 use Rattle.signed.specs.Sending.{entries_drafted}
 use Rattle.signed.specs.Sent.{held_behind}
-use Rattle.signed.proofs.drafting.sendings.Given as goal
+use Rattle.signed.proofs.round_drafts.sendings.Given as goal
 
 abbrev pub invariant-loop-general : goal.invariant-loop-general
 invariant-loop-general l =

@@ -1,8 +1,8 @@
 -- A write that took nothing, and one more write.
 use Rattle.std.proofs.Common.{◌+◌, arith, rules}
 use Rattle.streams.proofs.WriteLemmas.{appends_front, appends_kept, appends_on}
-use Rattle.streams.proofs.writing.write_whole.Goals as goal
-use Rattle.streams.proofs.writing.write_whole.Goals.{in-Ok, in-Err}
+use Rattle.streams.proofs.writer.write_whole.Goals as goal
+use Rattle.streams.proofs.writer.write_whole.Goals.{in-Ok, in-Err}
 
 pub returns-in-Ok-eq0-clause-begun : goal.returns-in-Ok-eq0-clause-begun
 returns-in-Ok-eq0-clause-begun g c =

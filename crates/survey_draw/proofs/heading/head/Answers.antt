@@ -1,8 +1,8 @@
 use Rattle.std.proofs.Common.{◌∙◌, ap}
 use Rattle.std.specs.String.{string_bytes}
-use Rattle.survey.specs.Heads.{adversary_word, manner_word, patience_word}
-use Rattle.survey.proofs.LineLemmas.{whole_head}
-use Rattle.survey.proofs.heading.head.Goals as goal
+use Rattle.survey_draw.specs.Heads.{adversary_word, manner_word, patience_word}
+use Rattle.survey_draw.proofs.LineLemmas.{whole_head}
+use Rattle.survey_draw.proofs.heading.head.Goals as goal
 
 pub returns : goal.returns
 returns c =

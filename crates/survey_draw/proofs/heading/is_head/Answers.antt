@@ -1,7 +1,7 @@
 use Rattle.std.proofs.Common.{ℕ, ◌∙◌, List, ap, take}
 use Rattle.std.specs.Prelude.{bytes_eq}
-use Rattle.survey.proofs.PartLemmas.{take_min}
-use Rattle.survey.proofs.heading.is_head.Goals as goal
+use Rattle.survey_draw.proofs.PartLemmas.{take_min}
+use Rattle.survey_draw.proofs.heading.is_head.Goals as goal
 
 pub returns : goal.returns
 returns c =

@@ -1,8 +1,8 @@
 use Rattle.std.proofs.Common.{◌++◌, codes}
 use Rattle.std.specs.Prelude.{decimal}
 use Rattle.std.specs.String.{string_bytes}
-use Rattle.survey.proofs.LineLemmas.{named, three_pieces}
-use Rattle.survey.proofs.heading.put_end.Goals as goal
+use Rattle.survey_draw.proofs.LineLemmas.{named, three_pieces}
+use Rattle.survey_draw.proofs.heading.put_end.Goals as goal
 
 pub returns : goal.returns
 returns c =

@@ -1,7 +1,7 @@
 use Rattle.std.proofs.Common.{◌++◌, codes}
 use Rattle.std.specs.String.{string_bytes}
-use Rattle.survey.proofs.LineLemmas.{named, two_pieces}
-use Rattle.survey.proofs.heading.put_middle.Goals as goal
+use Rattle.survey_draw.proofs.LineLemmas.{named, two_pieces}
+use Rattle.survey_draw.proofs.heading.put_middle.Goals as goal
 
 pub returns : goal.returns
 returns c =

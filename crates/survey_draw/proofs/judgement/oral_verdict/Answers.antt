@@ -4,7 +4,7 @@ use Rattle.world.specs.Lists.{listed}
 use Rattle.world.specs.Schedules.{lines_by}
 use Rattle.world.specs.World.{opening, run}
 use Rattle.world.specs.declared.schedule.Repeat.{Repeat}
-use Rattle.survey.proofs.judging.oral_verdict.Goals as goal
+use Rattle.survey_draw.proofs.judgement.oral_verdict.Goals as goal
 
 pub returns-clause-same : goal.returns-clause-same
 returns-clause-same c =

@@ -5,7 +5,7 @@ use Rattle.world.specs.Chronicle.{Chronicle}
 use Rattle.world.specs.Lists.{listed}
 use Rattle.world.specs.Schedules.{lines_by}
 use Rattle.world.specs.declared.schedule.Repeat.{Repeat}
-use Rattle.survey.proofs.judging.signed_verdict.Goals as goal
+use Rattle.survey_draw.proofs.judgement.signed_verdict.Goals as goal
 
 pub returns-clause-same : goal.returns-clause-same
 returns-clause-same c =

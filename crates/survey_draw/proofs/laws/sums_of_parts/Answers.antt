@@ -1,5 +1,5 @@
-use Rattle.survey.proofs.SumLemmas.{sums_law}
-use Rattle.survey.proofs.laws.sums_of_parts.Goals as goal
+use Rattle.survey_draw.proofs.SumLemmas.{sums_law}
+use Rattle.survey_draw.proofs.laws.sums_of_parts.Goals as goal
 
 pub returns : goal.returns
 returns c = sums_law

@@ -1,6 +1,6 @@
 use Rattle.std.proofs.Common.{◌^◌, ◌∙◌, arith}
-use Rattle.survey.proofs.Rereading.{found_is, number_is_said, number_says}
-use Rattle.survey.proofs.reading.found_by.Goals as goal
+use Rattle.survey_draw.proofs.Rereading.{found_is, number_is_said, number_says}
+use Rattle.survey_draw.proofs.line_reader.found_by.Goals as goal
 
 pub returns-in_err-bound : goal.returns-in_err-bound
 returns-in_err-bound c = λ f h w. (let small = h.bound in number_is_said 256 f.bound c.args.bound.now c.in_err-bound.ensures small (omega arith) w.bound)

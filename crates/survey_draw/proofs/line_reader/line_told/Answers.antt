@@ -1,5 +1,5 @@
-use Rattle.survey.proofs.Rereading.{words_of}
-use Rattle.survey.proofs.reading.line_told.Goals as goal
+use Rattle.survey_draw.proofs.Rereading.{words_of}
+use Rattle.survey_draw.proofs.line_reader.line_told.Goals as goal
 
 pub returns : goal.returns
 returns c = λ f h is. c.found_by.ensures f h (

@@ -1,6 +1,6 @@
 use Rattle.std.proofs.Common.{rules, ◌∙◌}
-use Rattle.survey.proofs.Rereading.{member_rest, member_word}
-use Rattle.survey.proofs.reading.member.Goals as goal
+use Rattle.survey_draw.proofs.Rereading.{member_rest, member_word}
+use Rattle.survey_draw.proofs.line_reader.member.Goals as goal
 
 pub returns-in-Some-clause-word : goal.returns-in-Some-clause-word
 returns-in-Some-clause-word c = λ w b h. search rules ∙ member_word c.args.end c.args.bytes.now w b h

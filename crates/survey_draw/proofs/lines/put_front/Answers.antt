@@ -1,9 +1,9 @@
 use Rattle.std.proofs.Common.{◌++◌, codes}
 use Rattle.std.specs.Prelude.{decimal}
 use Rattle.std.specs.String.{string_bytes}
-use Rattle.survey.specs.Lines.{flag_text}
-use Rattle.survey.proofs.LineLemmas.{four_pieces, named}
-use Rattle.survey.proofs.lines.put_front.Goals as goal
+use Rattle.survey_draw.specs.Lines.{flag_text}
+use Rattle.survey_draw.proofs.LineLemmas.{four_pieces, named}
+use Rattle.survey_draw.proofs.lines.put_front.Goals as goal
 
 pub returns : goal.returns
 returns c =

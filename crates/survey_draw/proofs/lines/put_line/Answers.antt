@@ -1,8 +1,8 @@
 use Rattle.std.proofs.Common.{ℕ, List, ◌∙◌, ◌++◌, ap}
 use Rattle.std.specs.String.{string_bytes}
-use Rattle.survey.specs.Lines.{back_text}
-use Rattle.survey.proofs.LineLemmas.{joined_halves}
-use Rattle.survey.proofs.lines.put_line.Goals as goal
+use Rattle.survey_draw.specs.Lines.{back_text}
+use Rattle.survey_draw.proofs.LineLemmas.{joined_halves}
+use Rattle.survey_draw.proofs.lines.put_line.Goals as goal
 
 pub returns : goal.returns
 returns c =

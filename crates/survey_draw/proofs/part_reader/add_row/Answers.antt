@@ -1,11 +1,11 @@
 use Rattle.std.proofs.Common.{rules, ◌≡◌, ◌∙◌, ◌++◌, [], sym, subst, append-nil, Option}
 use Rattle.std.specs.Prelude.{IfSome}
-use Rattle.survey.specs.declared.finding.Finding.{Finding as Found}
-use Rattle.survey.specs.Lines.{line_text}
-use Rattle.survey.specs.Parts.{foreign}
-use Rattle.survey.proofs.PartLemmas.{head_some}
-use Rattle.survey.proofs.Walks.{untaken_wrong}
-use Rattle.survey.proofs.parting.add_row.Goals as goal
+use Rattle.survey_draw.specs.declared.finding.Finding.{Finding as Found}
+use Rattle.survey_draw.specs.Lines.{line_text}
+use Rattle.survey_draw.specs.Parts.{foreign}
+use Rattle.survey_draw.proofs.PartLemmas.{head_some}
+use Rattle.survey_draw.proofs.Walks.{untaken_wrong}
+use Rattle.survey_draw.proofs.part_reader.add_row.Goals as goal
 
 pub returns-then-is_head-clause-wrong : goal.returns-then-is_head-clause-wrong
 returns-then-is_head-clause-wrong c = λ other.

@@ -1,8 +1,8 @@
 use Rattle.std.proofs.Common.{ℕ, ◌+◌, refl, sym, subst, List}
 use Rattle.std.proofs.lemmas.Result.{err_from_is_err_and}
-use Rattle.survey.specs.Parts.{IsWrong, cut_off}
-use Rattle.survey.proofs.PartLemmas.{not_empty, on_goes, stops_at, wrong_more}
-use Rattle.survey.proofs.parting.add_rows.Goals as goal
+use Rattle.survey_draw.specs.Parts.{IsWrong, cut_off}
+use Rattle.survey_draw.proofs.PartLemmas.{not_empty, on_goes, stops_at, wrong_more}
+use Rattle.survey_draw.proofs.part_reader.add_rows.Goals as goal
 
 pub returns-in_default-clause-wrong : goal.returns-in_default-clause-wrong
 returns-in_default-clause-wrong c = λ other.

@@ -1,6 +1,6 @@
 use Rattle.std.proofs.Common.{length}
-use Rattle.survey.proofs.PartLemmas.{IsOn}
-use Rattle.survey.proofs.parting.add_rows.Given as goal
+use Rattle.survey_draw.proofs.PartLemmas.{IsOn}
+use Rattle.survey_draw.proofs.part_reader.add_rows.Given as goal
 
 abbrev pub invariant-loop-rest : goal.invariant-loop-rest
 invariant-loop-rest l = IsOn l.head l.lines l.rest l.seeds.0 l.seeds.1 l.number l.initial.findings.items l.findings.items

@@ -1,8 +1,8 @@
 use Rattle.std.proofs.Common.{ℕ, ◌+◌, ◌<◌, ◌≤◌, ◌∙◌, ap, subst, length, take, arith}
 use Rattle.text.specs.Parts.{until}
 use Rattle.text.specs.Stop.{feed}
-use Rattle.survey.proofs.PartLemmas.{unfed_all, whole_line}
-use Rattle.survey.proofs.parting.first_line.Goals as goal
+use Rattle.survey_draw.proofs.PartLemmas.{unfed_all, whole_line}
+use Rattle.survey_draw.proofs.part_reader.first_line.Goals as goal
 
 pub returns-then-end-bytes-clause-line : goal.returns-then-end-bytes-clause-line
 returns-then-end-bytes-clause-line c =

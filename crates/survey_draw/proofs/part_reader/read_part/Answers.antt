@@ -1,12 +1,12 @@
 use Rattle.std.proofs.Common.{rules, ◌≡◌, true, sym, ◌∙◌, subst, List, ℕ, arith}
 use Rattle.std.proofs.lemmas.Result.{err_from_is_err_and, on_ok_weaker}
-use Rattle.survey.specs.declared.parts.PartError.{PartError}
-use Rattle.survey.specs.declared.parts.PartError.TheVariants.{Line, Family, Memory}
-use Rattle.survey.specs.Heads.{is_head}
-use Rattle.survey.specs.Parts.{AddsAll, IsFaulty, cut_off, unknown, foreign}
-use Rattle.survey.proofs.PartLemmas.{first_wrong, not_empty, read_on}
-use Rattle.survey.proofs.Walks.{never_faulty, taken_by, told_by, wrong_by}
-use Rattle.survey.proofs.parting.read_part.Goals as goal
+use Rattle.survey_draw.specs.declared.parts.PartError.{PartError}
+use Rattle.survey_draw.specs.declared.parts.PartError.TheVariants.{Line, Family, Memory}
+use Rattle.survey_draw.specs.Heads.{is_head}
+use Rattle.survey_draw.specs.Parts.{AddsAll, IsFaulty, cut_off, unknown, foreign}
+use Rattle.survey_draw.proofs.PartLemmas.{first_wrong, not_empty, read_on}
+use Rattle.survey_draw.proofs.Walks.{never_faulty, taken_by, told_by, wrong_by}
+use Rattle.survey_draw.proofs.part_reader.read_part.Goals as goal
 
 pub returns-in_default-clause-wrong : goal.returns-in_default-clause-wrong
 returns-in_default-clause-wrong c = λ other. first_wrong c.args.parts.now.head.items c.args.bytes.now c.args.seeds.0 c.args.seeds.1 c.args.parts.now.findings.items _ (cut_off (not_empty c.args.bytes.now c.if-is_empty.ensures) c.in_default.ensures.none)

@@ -1,8 +1,8 @@
 use Rattle.std.proofs.Common.{◌≡◌, ◌<◌, ◌^◌, Option, None, Some, false, true, refl, sym, subst, arith, ⊎_elim}
-use Rattle.survey.specs.declared.finding.Finding.{Finding as Found}
-use Rattle.survey.specs.declared.parts.PartError.TheVariants.{Line, Seed}
-use Rattle.survey.specs.Parts.{IsCampaign, IsUntaken, untold, unsized, too_early, too_late}
-use Rattle.survey.proofs.parting.taken.Goals as goal
+use Rattle.survey_draw.specs.declared.finding.Finding.{Finding as Found}
+use Rattle.survey_draw.specs.declared.parts.PartError.TheVariants.{Line, Seed}
+use Rattle.survey_draw.specs.Parts.{IsCampaign, IsUntaken, untold, unsized, too_early, too_late}
+use Rattle.survey_draw.proofs.part_reader.taken.Goals as goal
 
 pub returns-in_default-clause-taken : goal.returns-in_default-clause-taken
 returns-in_default-clause-taken c =

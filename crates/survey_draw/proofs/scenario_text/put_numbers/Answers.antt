@@ -1,10 +1,10 @@
 use Rattle.std.proofs.Common.{◌∙◌, ◌++◌, ap, codes}
 use Rattle.std.specs.Prelude.{decimal}
 use Rattle.std.specs.String.{string_bytes}
-use Rattle.survey.specs.Plot.{Plot}
-use Rattle.survey.specs.Wording.{numbers_text}
-use Rattle.survey.proofs.LineLemmas.{four_pieces, named}
-use Rattle.survey.proofs.wording.put_numbers.Goals as goal
+use Rattle.survey_draw.specs.Plot.{Plot}
+use Rattle.survey_draw.specs.Wording.{numbers_text}
+use Rattle.survey_draw.proofs.LineLemmas.{four_pieces, named}
+use Rattle.survey_draw.proofs.scenario_text.put_numbers.Goals as goal
 
 pub returns : goal.returns
 returns c =

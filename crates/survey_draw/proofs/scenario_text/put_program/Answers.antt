@@ -1,9 +1,9 @@
 use Rattle.std.proofs.Common.{◌∙◌, ◌++◌, ap}
 use Rattle.std.specs.String.{string_bytes}
-use Rattle.survey.specs.Plot.{Traitor}
-use Rattle.survey.specs.Wording.{program_text}
-use Rattle.survey.proofs.LineLemmas.{three_pieces}
-use Rattle.survey.proofs.wording.put_program.Goals as goal
+use Rattle.survey_draw.specs.Plot.{Traitor}
+use Rattle.survey_draw.specs.Wording.{program_text}
+use Rattle.survey_draw.proofs.LineLemmas.{three_pieces}
+use Rattle.survey_draw.proofs.scenario_text.put_program.Goals as goal
 
 pub returns : goal.returns
 unfolding program_text

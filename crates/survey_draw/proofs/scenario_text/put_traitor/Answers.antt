@@ -1,10 +1,10 @@
 use Rattle.std.proofs.Common.{◌≡◌, ◌∙◌, ◌++◌, ap, codes}
 use Rattle.std.specs.Prelude.{decimal, option_map}
 use Rattle.std.specs.String.{string_bytes}
-use Rattle.survey.specs.Plot.{Traitor}
-use Rattle.survey.specs.Wording.{source_text, traitor_text}
-use Rattle.survey.proofs.LineLemmas.{named, two_pieces}
-use Rattle.survey.proofs.wording.put_traitor.Goals as goal
+use Rattle.survey_draw.specs.Plot.{Traitor}
+use Rattle.survey_draw.specs.Wording.{source_text, traitor_text}
+use Rattle.survey_draw.proofs.LineLemmas.{named, two_pieces}
+use Rattle.survey_draw.proofs.scenario_text.put_traitor.Goals as goal
 
 pub returns : goal.returns
 unfolding traitor_text

@@ -1,7 +1,7 @@
 use Rattle.std.proofs.Common.{ℕ}
-use Rattle.survey.specs.Plotting.{drawn_for, oral_lies}
-use Rattle.survey.proofs.Ranges.{range_pieces}
-use Rattle.survey.proofs.plotting.oral_of.Goals as goal
+use Rattle.survey_draw.specs.Plotting.{drawn_for, oral_lies}
+use Rattle.survey_draw.proofs.Ranges.{range_pieces}
+use Rattle.survey_draw.proofs.seeded_plots.oral_of.Goals as goal
 
 pub loop-receiver-preserved : goal.loop-receiver-preserved
 loop-receiver-preserved c =

@@ -1,7 +1,7 @@
 use Rattle.std.proofs.Common.{ℕ}
-use Rattle.survey.specs.Plotting.{drawn_for, signed_lies}
-use Rattle.survey.proofs.Ranges.{range_pieces}
-use Rattle.survey.proofs.plotting.signed_of.Goals as goal
+use Rattle.survey_draw.specs.Plotting.{drawn_for, signed_lies}
+use Rattle.survey_draw.proofs.Ranges.{range_pieces}
+use Rattle.survey_draw.proofs.seeded_plots.signed_of.Goals as goal
 
 pub loop-place-preserved : goal.loop-place-preserved
 loop-place-preserved c =

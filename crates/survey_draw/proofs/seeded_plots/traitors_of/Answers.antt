@@ -1,8 +1,8 @@
 use Rattle.std.proofs.Common.{◌∙◌, arith}
-use Rattle.survey.specs.Plotting.{traitor_of}
-use Rattle.survey.proofs.Choosing.{chosen_on, passed_on}
-use Rattle.survey.proofs.plotting.traitors_of.Goals as goal
-use Rattle.survey.proofs.plotting.traitors_of.Goals.{then-is_chosen+in_ok-traitor_of+in_ok-push, else-is_chosen}
+use Rattle.survey_draw.specs.Plotting.{traitor_of}
+use Rattle.survey_draw.proofs.Choosing.{chosen_on, passed_on}
+use Rattle.survey_draw.proofs.seeded_plots.traitors_of.Goals as goal
+use Rattle.survey_draw.proofs.seeded_plots.traitors_of.Goals.{then-is_chosen+in_ok-traitor_of+in_ok-push, else-is_chosen}
 
 pub loop-general-preserved : goal.loop-general-preserved
 loop-general-preserved c =

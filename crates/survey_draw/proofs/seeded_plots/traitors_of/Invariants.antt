@@ -1,6 +1,6 @@
 use Rattle.std.proofs.Common.{◌≡◌, ◌++◌, ◌-◌, map}
-use Rattle.survey.specs.Plotting.{chosen, traitor_of}
-use Rattle.survey.proofs.plotting.traitors_of.Given as goal
+use Rattle.survey_draw.specs.Plotting.{chosen, traitor_of}
+use Rattle.survey_draw.proofs.seeded_plots.traitors_of.Given as goal
 
 abbrev pub invariant-loop-general : goal.invariant-loop-general
 invariant-loop-general l =

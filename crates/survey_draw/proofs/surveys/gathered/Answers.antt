@@ -2,9 +2,9 @@ use Rattle.std.proofs.Common.{ℕ, List, ◌∙◌, subst}
 use Rattle.std.specs.List.{AllZip}
 use Rattle.rayon.specs.Numbers.{nat_range}
 use Rattle.rayon.proofs.ListFacts.{IfOk-then}
-use Rattle.survey.specs.Judging.{IsFindingOf, IsRefusedBy}
-use Rattle.survey.proofs.Gathered.{Both, all_found, all_refused, goods}
-use Rattle.survey.proofs.surveying.gathered.Goals as goal
+use Rattle.survey_draw.specs.Judging.{IsFindingOf, IsRefusedBy}
+use Rattle.survey_draw.proofs.Gathered.{Both, all_found, all_refused, goods}
+use Rattle.survey_draw.proofs.surveys.gathered.Goals as goal
 
 pub returns-clause-found : goal.returns-clause-found
 returns-clause-found g c =

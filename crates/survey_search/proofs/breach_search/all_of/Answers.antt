@@ -4,9 +4,9 @@ use Rattle.std.proofs.lemmas.Iterator.Adapters.{YieldsList-from_vec}
 use Rattle.std.proofs.lemmas.Iterator.Consumers.{YieldsList-so_far, YieldsList-turn}
 use Rattle.std.proofs.lemmas.Result.{err_from_is_err_and}
 use Rattle.scenario.specs.declared.fault.ScenarioError.{ScenarioError}
-use Rattle.shrink.specs.declared.breach.Breach.{Breach}
-use Rattle.shrink.proofs.Found.{first_error}
-use Rattle.shrink.proofs.searching.all_of.Goals as goal
+use Rattle.survey_search.specs.declared.breach.Breach.{Breach}
+use Rattle.survey_search.proofs.Found.{first_error}
+use Rattle.survey_search.proofs.breach_search.all_of.Goals as goal
 
 pub returns-in_err-answer-clause-refused : goal.returns-in_err-answer-clause-refused
 returns-in_err-answer-clause-refused c =

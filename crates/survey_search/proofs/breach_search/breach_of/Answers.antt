@@ -1,8 +1,8 @@
 use Rattle.std.proofs.Common.{subst}
 use Rattle.std.proofs.lemmas.Result.{err_from_is_err_and}
-use Rattle.survey.specs.Plot.{Plot}
-use Rattle.shrink.specs.Shrinking.{IsRefusedOf}
-use Rattle.shrink.proofs.searching.breach_of.Goals as goal
+use Rattle.survey_draw.specs.Plot.{Plot}
+use Rattle.survey_search.specs.Shrinking.{IsRefusedOf}
+use Rattle.survey_search.proofs.breach_search.breach_of.Goals as goal
 
 pub returns-in_err-plot-2-clause-refused : goal.returns-in_err-plot-2-clause-refused
 returns-in_err-plot-2-clause-refused c =

@@ -2,10 +2,10 @@ use Rattle.std.proofs.Common.{◌≢◌}
 use Rattle.std.proofs.lemmas.Result.{IfErr-weaker, IfOk-weaker}
 use Rattle.rayon.specs.Numbers.{nat_range}
 use Rattle.scenario.specs.declared.fault.ScenarioError.TheVariants.{Memory}
-use Rattle.survey.specs.Plotting.{plot_of}
-use Rattle.shrink.specs.Breaches.{IsFirstError, IsRefusedIn}
-use Rattle.shrink.proofs.Found.{all_found, first_refused}
-use Rattle.shrink.proofs.searching.breaches.Goals as goal
+use Rattle.survey_draw.specs.Plotting.{plot_of}
+use Rattle.survey_search.specs.Breaches.{IsFirstError, IsRefusedIn}
+use Rattle.survey_search.proofs.Found.{all_found, first_refused}
+use Rattle.survey_search.proofs.breach_search.breaches.Goals as goal
 
 pub returns-clause-shrunk : goal.returns-clause-shrunk
 returns-clause-shrunk g c =

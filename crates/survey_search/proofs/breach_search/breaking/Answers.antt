@@ -1,10 +1,10 @@
 use Rattle.std.proofs.Common.{ℕ, None, Some, subst, arith}
-use Rattle.survey.specs.Plot.{Plot}
-use Rattle.survey.specs.Plotting.{plot_of}
-use Rattle.shrink.specs.Breaches.{AreAllSound, IsLeastBreach, narrowed, IsRefusedIn}
-use Rattle.shrink.proofs.Found.{none_broken, upto_this}
+use Rattle.survey_draw.specs.Plot.{Plot}
+use Rattle.survey_draw.specs.Plotting.{plot_of}
+use Rattle.survey_search.specs.Breaches.{AreAllSound, IsLeastBreach, narrowed, IsRefusedIn}
+use Rattle.survey_search.proofs.Found.{none_broken, upto_this}
 use Rattle.std.proofs.lemmas.Result.{err_from_is_err_and}
-use Rattle.shrink.proofs.searching.breaking.Goals as goal
+use Rattle.survey_search.proofs.breach_search.breaking.Goals as goal
 
 pub loop-count-init : goal.loop-count-init
 loop-count-init g c = λ t low high. absurd (omega (arith, low, high))

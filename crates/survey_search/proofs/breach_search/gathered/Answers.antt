@@ -2,9 +2,9 @@ use Rattle.std.proofs.Common.{ℕ, List, ◌∙◌, subst}
 use Rattle.std.specs.List.{AllZip}
 use Rattle.rayon.specs.Numbers.{nat_range}
 use Rattle.rayon.proofs.ListFacts.{IfOk-then}
-use Rattle.survey.specs.Plotting.{plot_of}
-use Rattle.shrink.specs.Breaches.{IsAnswerTo}
-use Rattle.shrink.proofs.searching.gathered.Goals as goal
+use Rattle.survey_draw.specs.Plotting.{plot_of}
+use Rattle.survey_search.specs.Breaches.{IsAnswerTo}
+use Rattle.survey_search.proofs.breach_search.gathered.Goals as goal
 
 pub returns : goal.returns
 returns g c =

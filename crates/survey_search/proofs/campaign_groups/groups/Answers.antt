@@ -1,7 +1,7 @@
 use Rattle.std.proofs.Common.{ℕ, []}
-use Rattle.survey_tables.specs.Groups.{groups_by_bound, of_generals}
-use Rattle.survey_tables.proofs.Pieces.{pieces_on}
-use Rattle.survey_tables.proofs.grouping.groups.Goals as goal
+use Rattle.survey_search.specs.Groups.{groups_by_bound, of_generals}
+use Rattle.survey_search.proofs.Pieces.{pieces_on}
+use Rattle.survey_search.proofs.campaign_groups.groups.Goals as goal
 
 pub loop-generals-preserved : goal.loop-generals-preserved
 loop-generals-preserved c =

@@ -1,7 +1,7 @@
 use Rattle.std.proofs.Common.{ℕ}
-use Rattle.survey_tables.specs.Groups.{groups_in, of_bound}
-use Rattle.survey_tables.proofs.Pieces.{pieces_on}
-use Rattle.survey_tables.proofs.grouping.push_bounds.Goals as goal
+use Rattle.survey_search.specs.Groups.{groups_in, of_bound}
+use Rattle.survey_search.proofs.Pieces.{pieces_on}
+use Rattle.survey_search.proofs.campaign_groups.push_bounds.Goals as goal
 
 pub loop-bound-preserved : goal.loop-bound-preserved
 loop-bound-preserved c =

@@ -1,6 +1,6 @@
-use Rattle.survey_tables.specs.Groups.{group_of}
-use Rattle.survey_tables.proofs.Pieces.{pieces_on}
-use Rattle.survey_tables.proofs.grouping.push_groups.Goals as goal
+use Rattle.survey_search.specs.Groups.{group_of}
+use Rattle.survey_search.proofs.Pieces.{pieces_on}
+use Rattle.survey_search.proofs.campaign_groups.push_groups.Goals as goal
 
 pub loop-traitors-preserved : goal.loop-traitors-preserved
 loop-traitors-preserved c =

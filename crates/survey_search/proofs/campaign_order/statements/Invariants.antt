@@ -1,7 +1,7 @@
 use Rattle.std.proofs.Common.{◌≡◌, ◌≤◌, ◌*◌, ◌^◌, length, take}
 use Rattle.std.specs.Prelude.{sum_by}
-use Rattle.survey.specs.Plot.{Traitor}
-use Rattle.shrink.proofs.ranking.statements.Given as goal
+use Rattle.survey_draw.specs.Plot.{Traitor}
+use Rattle.survey_search.proofs.campaign_order.statements.Given as goal
 
 abbrev pub invariant-loop-traitor : goal.invariant-loop-traitor
 invariant-loop-traitor l =

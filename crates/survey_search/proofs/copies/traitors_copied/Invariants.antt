@@ -1,5 +1,5 @@
 use Rattle.std.proofs.Common.{◌≡◌, take}
-use Rattle.shrink.proofs.copying.traitors_copied.Given as goal
+use Rattle.survey_search.proofs.copies.traitors_copied.Given as goal
 
 abbrev pub invariant-loop-traitor : goal.invariant-loop-traitor
 invariant-loop-traitor l = l.copies.items ≡ take l.traitor-index l.traitors

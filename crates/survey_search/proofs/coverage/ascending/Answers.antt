@@ -1,6 +1,6 @@
 use Rattle.std.proofs.Common.{ℕ}
 use Rattle.std.proofs.lemmas.List.Sorted.{IsNonDecreasingBy-from_sort}
-use Rattle.survey_tables.proofs.covering.ascending.Goals as goal
+use Rattle.survey_search.proofs.coverage.ascending.Goals as goal
 
 pub returns : goal.returns
 returns c = record {

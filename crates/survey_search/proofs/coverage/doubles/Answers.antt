@@ -1,9 +1,9 @@
 use Rattle.std.proofs.Common.{ℕ, List, ◌≡◌, ◌∙◌, ap, subst, sym}
 use Rattle.std.proofs.lemmas.Result.{IfOk-weaker}
-use Rattle.survey_tables.specs.Covering.{AreApart, AreDoubles, repeated, seeds_in, stretches}
-use Rattle.survey_tables.proofs.Apart.{all_apart}
-use Rattle.survey_tables.proofs.Exactness.{doubles_exact}
-use Rattle.survey_tables.proofs.covering.doubles.Goals as goal
+use Rattle.survey_search.specs.Covering.{AreApart, AreDoubles, repeated, seeds_in, stretches}
+use Rattle.survey_search.proofs.Apart.{all_apart}
+use Rattle.survey_search.proofs.Exactness.{doubles_exact}
+use Rattle.survey_search.proofs.coverage.doubles.Goals as goal
 
 pub returns-clause-doubles : goal.returns-clause-doubles
 returns-clause-doubles c =

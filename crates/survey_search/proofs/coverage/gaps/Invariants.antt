@@ -1,6 +1,6 @@
 use Rattle.std.proofs.Common.{◌≡◌, ◌++◌, drop}
-use Rattle.survey_tables.specs.Covering.{gaps}
-use Rattle.survey_tables.proofs.covering.gaps.Given as goal
+use Rattle.survey_search.specs.Covering.{gaps}
+use Rattle.survey_search.proofs.coverage.gaps.Given as goal
 
 abbrev pub invariant-loop-seed : goal.invariant-loop-seed
 invariant-loop-seed l = l.found.items ++ gaps l.next (drop l.seed-index l.seeds) l.last ≡ gaps l.fn.next l.seeds l.last

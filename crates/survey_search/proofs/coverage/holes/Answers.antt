@@ -1,9 +1,9 @@
 use Rattle.std.proofs.Common.{ℕ, List, ◌≡◌, ◌∙◌, ap, subst, sym}
 use Rattle.std.proofs.lemmas.Result.{IfOk-weaker}
-use Rattle.survey_tables.specs.Covering.{AreApart, AreHoles, gaps, seeds_in}
-use Rattle.survey_tables.proofs.Apart.{all_gaps_apart}
-use Rattle.survey_tables.proofs.Exactness.{holes_exact}
-use Rattle.survey_tables.proofs.covering.holes.Goals as goal
+use Rattle.survey_search.specs.Covering.{AreApart, AreHoles, gaps, seeds_in}
+use Rattle.survey_search.proofs.Apart.{all_gaps_apart}
+use Rattle.survey_search.proofs.Exactness.{holes_exact}
+use Rattle.survey_search.proofs.coverage.holes.Goals as goal
 
 pub returns-clause-holes : goal.returns-clause-holes
 returns-clause-holes c =

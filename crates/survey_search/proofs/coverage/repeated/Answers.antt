@@ -1,8 +1,8 @@
 use Rattle.std.proofs.Common.{◌≡◌, ◌-◌, ◌++◌, [], drop, sym, ap, ◌∙◌, arith}
 use Rattle.std.proofs.lemmas.List.{append-nil}
-use Rattle.survey_tables.specs.Covering.{repeated}
-use Rattle.survey_tables.proofs.Rising.{last_none}
-use Rattle.survey_tables.proofs.covering.repeated.Goals as goal
+use Rattle.survey_search.specs.Covering.{repeated}
+use Rattle.survey_search.proofs.Rising.{last_none}
+use Rattle.survey_search.proofs.coverage.repeated.Goals as goal
 
 pub returns : goal.returns
 returns c =

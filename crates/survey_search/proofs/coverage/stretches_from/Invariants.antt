@@ -1,6 +1,6 @@
 use Rattle.std.proofs.Common.{◌≡◌, ◌<◌, ◌^◌, ◌++◌, drop}
-use Rattle.survey_tables.specs.Covering.{stretches_from}
-use Rattle.survey_tables.proofs.covering.stretches_from.Given as goal
+use Rattle.survey_search.specs.Covering.{stretches_from}
+use Rattle.survey_search.proofs.coverage.stretches_from.Given as goal
 
 abbrev pub invariant-loop-seed : goal.invariant-loop-seed
 invariant-loop-seed l =

@@ -1,9 +1,9 @@
 use Rattle.std.proofs.Common.{Bool, subst}
-use Rattle.shrink.specs.Shrinking.{Comes, IsStillBroken, IsWithoutFirst, nothing_more, whole}
-use Rattle.shrink.proofs.Parts.{less_then, out_on, part_on, some_of, refused_here, refused_on}
-use Rattle.shrink.proofs.Walks.{walked_on}
+use Rattle.survey_search.specs.Shrinking.{Comes, IsStillBroken, IsWithoutFirst, nothing_more, whole}
+use Rattle.survey_search.proofs.Parts.{less_then, out_on, part_on, some_of, refused_here, refused_on}
+use Rattle.survey_search.proofs.Walks.{walked_on}
 use Rattle.std.proofs.lemmas.Result.{err_from_is_err_and}
-use Rattle.shrink.proofs.shrinking.shrunk.Goals as goal
+use Rattle.survey_search.proofs.minimal_campaign.shrunk.Goals as goal
 
 pub loop-left-init : goal.loop-left-init
 loop-left-init c = record {

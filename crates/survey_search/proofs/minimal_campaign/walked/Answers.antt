@@ -1,9 +1,9 @@
 use Rattle.std.proofs.lemmas.Result.{IfOk-weaker, IfErr-weaker}
-use Rattle.shrink.specs.Shrinking.{IsPartOf, IsRefusedOf, IsWalked, LieWalks}
-use Rattle.shrink.proofs.Parts.{part_on, refused_on}
+use Rattle.survey_search.specs.Shrinking.{IsPartOf, IsRefusedOf, IsWalked, LieWalks}
+use Rattle.survey_search.proofs.Parts.{part_on, refused_on}
 use Rattle.std.proofs.Common.{◌≢◌}
 use Rattle.scenario.specs.declared.fault.ScenarioError.TheVariants.{Memory}
-use Rattle.shrink.proofs.shrinking.walked.Goals as goal
+use Rattle.survey_search.proofs.minimal_campaign.walked.Goals as goal
 
 pub returns-clause-part : goal.returns-clause-part
 returns-clause-part c =

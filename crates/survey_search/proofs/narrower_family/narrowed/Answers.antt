@@ -1,5 +1,5 @@
-use Rattle.shrink.proofs.Keeping.{same_plots}
-use Rattle.shrink.proofs.narrowing.narrowed.Goals as goal
+use Rattle.survey_search.proofs.Keeping.{same_plots}
+use Rattle.survey_search.proofs.narrower_family.narrowed.Goals as goal
 
 pub returns : goal.returns
 returns c =

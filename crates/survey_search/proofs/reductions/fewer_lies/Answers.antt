@@ -1,8 +1,8 @@
 use Rattle.std.proofs.Common.{ℕ, arith}
 use Rattle.std.proofs.lemmas.Grind.{common_steps}
-use Rattle.shrink.specs.Shrinking.{IsWithoutFirstLieOf, LiesAreNeeded}
-use Rattle.shrink.proofs.Parts.{none_of, some_of, upto_more}
-use Rattle.shrink.proofs.lessening.fewer_lies.Goals as goal
+use Rattle.survey_search.specs.Shrinking.{IsWithoutFirstLieOf, LiesAreNeeded}
+use Rattle.survey_search.proofs.Parts.{none_of, some_of, upto_more}
+use Rattle.survey_search.proofs.reductions.fewer_lies.Goals as goal
 
 pub loop-place-preserved : goal.loop-place-preserved
 loop-place-preserved c = upto_more (λ (place : ℕ). LiesAreNeeded c.args.plot.now place) c.loop-place.place c.loop-place.invariant (none_of _ _ c.in-None.is c.in_ok-less.ensures.none)

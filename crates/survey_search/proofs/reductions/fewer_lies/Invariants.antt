@@ -1,6 +1,6 @@
 use Rattle.std.proofs.Common.{ℕ, ◌<◌}
-use Rattle.shrink.specs.Shrinking.{LiesAreNeeded}
-use Rattle.shrink.proofs.lessening.fewer_lies.Given as goal
+use Rattle.survey_search.specs.Shrinking.{LiesAreNeeded}
+use Rattle.survey_search.proofs.reductions.fewer_lies.Given as goal
 
 abbrev pub invariant-loop-place : goal.invariant-loop-place
 invariant-loop-place l = (place : ℕ) → place < l.place → LiesAreNeeded l.plot place

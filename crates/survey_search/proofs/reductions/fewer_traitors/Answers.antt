@@ -1,8 +1,8 @@
 use Rattle.std.proofs.Common.{ℕ, ◌≡◌, arith}
 use Rattle.std.proofs.lemmas.Grind.{common_steps}
-use Rattle.shrink.specs.Shrinking.{ComesWell, without_traitor}
-use Rattle.shrink.proofs.Parts.{none_of, some_of, upto_more}
-use Rattle.shrink.proofs.lessening.fewer_traitors.Goals as goal
+use Rattle.survey_search.specs.Shrinking.{ComesWell, without_traitor}
+use Rattle.survey_search.proofs.Parts.{none_of, some_of, upto_more}
+use Rattle.survey_search.proofs.reductions.fewer_traitors.Goals as goal
 
 pub loop-place-preserved : goal.loop-place-preserved
 loop-place-preserved c = upto_more (λ (place : ℕ). ComesWell (without_traitor c.args.plot.now place)) c.loop-place.place c.loop-place.invariant (none_of _ _ c.in-None.is c.in_ok-less.ensures.none)

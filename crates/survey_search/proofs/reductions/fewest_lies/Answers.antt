@@ -1,10 +1,10 @@
 use Rattle.std.proofs.Common.{◌∙◌, arith, refl}
-use Rattle.shrink.specs.Shrinking.{all_end, whole}
-use Rattle.shrink.proofs.Parts.{part_on, refused_on}
-use Rattle.shrink.proofs.Walks.{one_more, walk_keeps}
+use Rattle.survey_search.specs.Shrinking.{all_end, whole}
+use Rattle.survey_search.proofs.Parts.{part_on, refused_on}
+use Rattle.survey_search.proofs.Walks.{one_more, walk_keeps}
 use Rattle.std.proofs.lemmas.Grind.{common_steps}
 use Rattle.std.proofs.lemmas.Result.{err_from_is_err_and}
-use Rattle.shrink.proofs.lessening.fewest_lies.Goals as goal
+use Rattle.survey_search.proofs.reductions.fewest_lies.Goals as goal
 
 pub loop-place-init : goal.loop-place-init
 loop-place-init c = record { broken = c.requires; part = whole; same = refl; far = λ q walk. walk }

@@ -1,7 +1,7 @@
 use Rattle.std.proofs.Common.{◌≡◌, length}
-use Rattle.shrink.specs.Shrinking.{IsBroken, IsPartOf}
-use Rattle.shrink.proofs.Walks.{AllSoFar}
-use Rattle.shrink.proofs.lessening.fewest_lies.Given as goal
+use Rattle.survey_search.specs.Shrinking.{IsBroken, IsPartOf}
+use Rattle.survey_search.proofs.Walks.{AllSoFar}
+use Rattle.survey_search.proofs.reductions.fewest_lies.Given as goal
 
 abbrev pub invariant-loop-place : goal.invariant-loop-place
 invariant-loop-place l = record {

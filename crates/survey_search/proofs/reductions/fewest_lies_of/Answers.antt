@@ -1,10 +1,10 @@
-use Rattle.shrink.specs.Shrinking.{IsStillBroken, lies_end, whole, without_lie}
+use Rattle.survey_search.specs.Shrinking.{IsStillBroken, lies_end, whole, without_lie}
 use Rattle.std.proofs.Common.{◌≡◌, arith}
-use Rattle.shrink.proofs.Parts.{none_of, out_on, some_of, refused_on}
-use Rattle.shrink.proofs.Walks.{fewer_lies_left, still_there, with_lie_of, without_lie_of}
+use Rattle.survey_search.proofs.Parts.{none_of, out_on, some_of, refused_on}
+use Rattle.survey_search.proofs.Walks.{fewer_lies_left, still_there, with_lie_of, without_lie_of}
 use Rattle.std.proofs.lemmas.Grind.{common_steps}
 use Rattle.std.proofs.lemmas.Result.{err_from_is_err_and}
-use Rattle.shrink.proofs.lessening.fewest_lies_of.Goals as goal
+use Rattle.survey_search.proofs.reductions.fewest_lies_of.Goals as goal
 
 pub loop-index-init : goal.loop-index-init
 loop-index-init c = record { broken = c.requires.broken; part = whole; there = c.requires.place; far = λ q walk. walk }

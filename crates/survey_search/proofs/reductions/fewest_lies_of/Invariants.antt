@@ -1,7 +1,7 @@
 use Rattle.std.proofs.Common.{◌-◌, ◌<◌, length}
-use Rattle.shrink.specs.Shrinking.{IsBroken, IsPartOf, traitor_at}
-use Rattle.shrink.proofs.Walks.{LiesSoFar}
-use Rattle.shrink.proofs.lessening.fewest_lies_of.Given as goal
+use Rattle.survey_search.specs.Shrinking.{IsBroken, IsPartOf, traitor_at}
+use Rattle.survey_search.proofs.Walks.{LiesSoFar}
+use Rattle.survey_search.proofs.reductions.fewest_lies_of.Given as goal
 
 abbrev pub invariant-loop-index : goal.invariant-loop-index
 invariant-loop-index l = record {

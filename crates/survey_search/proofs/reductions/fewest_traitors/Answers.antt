@@ -1,10 +1,10 @@
-use Rattle.shrink.specs.Shrinking.{IsStillBroken, traitors_end, whole, without_traitor}
+use Rattle.survey_search.specs.Shrinking.{IsStillBroken, traitors_end, whole, without_traitor}
 use Rattle.std.proofs.Common.{◌≡◌, arith}
-use Rattle.shrink.proofs.Parts.{none_of, out_on, some_of, refused_on}
-use Rattle.shrink.proofs.Walks.{fewer_left, with_one, without_one}
+use Rattle.survey_search.proofs.Parts.{none_of, out_on, some_of, refused_on}
+use Rattle.survey_search.proofs.Walks.{fewer_left, with_one, without_one}
 use Rattle.std.proofs.lemmas.Grind.{common_steps}
 use Rattle.std.proofs.lemmas.Result.{err_from_is_err_and}
-use Rattle.shrink.proofs.lessening.fewest_traitors.Goals as goal
+use Rattle.survey_search.proofs.reductions.fewest_traitors.Goals as goal
 
 pub loop-place-init : goal.loop-place-init
 loop-place-init c = record { broken = c.requires; part = whole; far = λ q walk. walk }

@@ -1,7 +1,7 @@
 use Rattle.std.proofs.Common.{◌-◌, length}
-use Rattle.shrink.specs.Shrinking.{IsBroken, IsPartOf}
-use Rattle.shrink.proofs.Walks.{TraitorsSoFar}
-use Rattle.shrink.proofs.lessening.fewest_traitors.Given as goal
+use Rattle.survey_search.specs.Shrinking.{IsBroken, IsPartOf}
+use Rattle.survey_search.proofs.Walks.{TraitorsSoFar}
+use Rattle.survey_search.proofs.reductions.fewest_traitors.Given as goal
 
 abbrev pub invariant-loop-place : goal.invariant-loop-place
 invariant-loop-place l = record { broken : IsBroken l.left; part : IsPartOf l.fn.plot l.left; far : TraitorsSoFar l.fn.plot l.place l.left }

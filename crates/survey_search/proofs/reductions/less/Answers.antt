@@ -1,7 +1,7 @@
 use Rattle.std.proofs.Common.{sym, ◌∙◌}
 use Rattle.std.proofs.lemmas.Result.{IfOk-weaker}
-use Rattle.shrink.proofs.Walks.{first_lie, first_traitor}
-use Rattle.shrink.proofs.lessening.less.Goals as goal
+use Rattle.survey_search.proofs.Walks.{first_lie, first_traitor}
+use Rattle.survey_search.proofs.reductions.less.Goals as goal
 
 pub returns-then-is_some-clause-first : goal.returns-then-is_some-clause-first
 returns-then-is_some-clause-first c = first_traitor c.args.plot.now c.in_ok-fewer.fewer c.in_ok-fewer.ensures.first

@@ -1,6 +1,6 @@
-use Rattle.shrink.proofs.Parts.{still_traitor, refused_traitor}
+use Rattle.survey_search.proofs.Parts.{still_traitor, refused_traitor}
 use Rattle.std.proofs.lemmas.Result.{err_from_is_err_and}
-use Rattle.shrink.proofs.lessening.less_traitor.Goals as goal
+use Rattle.survey_search.proofs.reductions.less_traitor.Goals as goal
 
 pub returns-clause-some : goal.returns-clause-some
 returns-clause-some c =

@@ -1,7 +1,7 @@
 use Rattle.std.specs.String.{string_bytes}
-use Rattle.survey_tables.specs.Pictures.{column}
-use Rattle.survey_tables.proofs.Pieces.{pieces_on}
-use Rattle.survey_tables.proofs.picturing.put_columns.Goals as goal
+use Rattle.survey_search.specs.Pictures.{column}
+use Rattle.survey_search.proofs.Pieces.{pieces_on}
+use Rattle.survey_search.proofs.sums_picture.put_columns.Goals as goal
 
 pub loop-traitors-preserved : goal.loop-traitors-preserved
 loop-traitors-preserved c =

@@ -1,7 +1,7 @@
 use Rattle.std.proofs.Common.{◌≡◌, ◌≤◌, ◌++◌, drop, None}
 use Rattle.std.specs.String.{string_bytes}
-use Rattle.survey_tables.specs.Pictures.{grounds}
-use Rattle.survey_tables.proofs.picturing.put_grounds.Given as goal
+use Rattle.survey_search.specs.Pictures.{grounds}
+use Rattle.survey_search.proofs.sums_picture.put_grounds.Given as goal
 
 abbrev pub invariant-loop-group : goal.invariant-loop-group
 invariant-loop-group l =

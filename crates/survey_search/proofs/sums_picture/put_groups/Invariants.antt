@@ -1,7 +1,7 @@
 use Rattle.std.proofs.Common.{◌≡◌, ◌≤◌, ◌++◌, drop, None}
 use Rattle.std.specs.String.{string_bytes}
-use Rattle.survey_tables.specs.Pictures.{cells}
-use Rattle.survey_tables.proofs.picturing.put_groups.Given as goal
+use Rattle.survey_search.specs.Pictures.{cells}
+use Rattle.survey_search.proofs.sums_picture.put_groups.Given as goal
 
 abbrev pub invariant-loop-group : goal.invariant-loop-group
 invariant-loop-group l =

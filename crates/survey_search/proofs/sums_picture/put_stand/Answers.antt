@@ -1,5 +1,5 @@
-use Rattle.survey_tables.specs.Pictures.{stand}
-use Rattle.survey_tables.proofs.picturing.put_stand.Goals as goal
+use Rattle.survey_search.specs.Pictures.{stand}
+use Rattle.survey_search.proofs.sums_picture.put_stand.Goals as goal
 
 pub returns : goal.returns
 unfolding stand

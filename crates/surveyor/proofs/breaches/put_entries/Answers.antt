@@ -2,7 +2,7 @@ use Rattle.std.proofs.Common.{ℕ, ◌+◌, ◌-◌, ◌≡◌, ◌++◌, List, 
 use Rattle.std.specs.Prelude.{min}
 use Rattle.std.specs.Io.KnownBytes.{Appends}
 use Rattle.surveyor.proofs.BrokenLemmas.{bounds_more, bounds_upto, sizes_more, sizes_upto, so_begins, so_ends, so_more, so_same}
-use Rattle.surveyor.proofs.breaking.put_entries.Goals as goal
+use Rattle.surveyor.proofs.breaches.put_entries.Goals as goal
 
 pub loop-generals-init : goal.loop-generals-init
 loop-generals-init g c =

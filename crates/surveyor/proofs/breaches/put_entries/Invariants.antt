@@ -1,7 +1,7 @@
 use Rattle.std.proofs.Common.{◌-◌, ◌++◌}
 use Rattle.std.specs.Prelude.{min}
 use Rattle.surveyor.proofs.BrokenLemmas.{IsPrintedSoFar, bounds_upto, sizes_upto}
-use Rattle.surveyor.proofs.breaking.put_entries.Given as goal
+use Rattle.surveyor.proofs.breaches.put_entries.Given as goal
 
 abbrev pub invariant-loop-generals : goal.invariant-loop-generals
 invariant-loop-generals g l =

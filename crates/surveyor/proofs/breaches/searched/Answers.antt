@@ -1,6 +1,6 @@
 use Rattle.std.proofs.Common.{◌+◌, refl}
 use Rattle.surveyor.proofs.BrokenLemmas.{searched_is}
-use Rattle.surveyor.proofs.breaking.searched.Goals as goal
+use Rattle.surveyor.proofs.breaches.searched.Goals as goal
 
 pub returns-in-Ok-clause-searched : goal.returns-in-Ok-clause-searched
 returns-in-Ok-clause-searched g c =

@@ -1,7 +1,7 @@
 use Rattle.std.proofs.Common.{List, ◌∙◌, ap, length, sym}
-use Rattle.survey_tables.specs.declared.stretch.Stretch.{Stretch}
+use Rattle.survey_search.specs.declared.stretch.Stretch.{Stretch}
 use Rattle.surveyor.proofs.CoverLemmas.{status_by}
-use Rattle.surveyor.proofs.summing.covered.Goals as goal
+use Rattle.surveyor.proofs.file_sums.covered.Goals as goal
 
 pub returns-clause-covered : goal.returns-clause-covered
 returns-clause-covered c =

@@ -1,8 +1,8 @@
 use Rattle.std.proofs.Common.{ℕ, ◌+◌, refl, subst}
-use Rattle.survey.specs.Parts.{IsReadOn}
+use Rattle.survey_draw.specs.Parts.{IsReadOn}
 use Rattle.surveyor.specs.Summed.{span_of}
 use Rattle.surveyor.proofs.SumLemmas.{none_told, one_told}
-use Rattle.surveyor.proofs.summing.told.Goals as goal
+use Rattle.surveyor.proofs.file_sums.told.Goals as goal
 
 pub loop-name-init : goal.loop-name-init
 loop-name-init c = none_told c.new.result.items (span_of c.args.asked.now.seeds).0 (span_of c.args.asked.now.seeds).1 0 c.new-2.result.items refl c.new-2.ensures.items

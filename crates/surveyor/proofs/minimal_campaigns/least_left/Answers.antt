@@ -1,8 +1,8 @@
 use Rattle.std.proofs.Common.{◌+◌, ◌≤◌, List, Option, arith, subst}
-use Rattle.shrink.specs.declared.breach.Breach.{Breach}
+use Rattle.survey_search.specs.declared.breach.Breach.{Breach}
 use Rattle.surveyor.specs.Kept.{Gains, breach_files}
 use Rattle.surveyor.proofs.LeastLemmas.{and_more}
-use Rattle.surveyor.proofs.shrinking.least_left.Goals as goal
+use Rattle.surveyor.proofs.minimal_campaigns.least_left.Goals as goal
 
 pub loop-next-preserved : goal.loop-next-preserved
 loop-next-preserved g c =

@@ -1,7 +1,7 @@
 use Rattle.clap.specs.Words.{app_of, found_of, rows_of}
 use Rattle.surveyor.specs.Flags.{words_of}
 use Rattle.surveyor.proofs.MeantLemmas.{meant_found, meant_refused, meant_taken, untaken}
-use Rattle.surveyor.proofs.asked.request.Goals as goal
+use Rattle.surveyor.proofs.task.request.Goals as goal
 
 pub returns-in-Ok-clause-found : goal.returns-in-Ok-clause-found
 returns-in-Ok-clause-found c = meant_found (app_of c.in_ok-command.command) (words_of c.args.words.now) (rows_of (found_of c.in-Ok.found)) c.meant.result c.in_ok-command.ensures (λ e. (c.in-Ok.ensures.matches e).0) c.meant.ensures.told

@@ -2,7 +2,7 @@ use Rattle.std.proofs.Common.{◌∙◌, sym}
 use Rattle.clap.specs.Words.{found_of, rows_of}
 use Rattle.surveyor.specs.Wrong.{AsksNothing, IsRefused}
 use Rattle.surveyor.proofs.MeantLemmas.{handed_on, no_break_asked}
-use Rattle.surveyor.proofs.meant.meant.Goals as goal
+use Rattle.surveyor.proofs.task_words.meant.Goals as goal
 
 pub returns-in_err-survey-clause-refused : goal.returns-in_err-survey-clause-refused
 returns-in_err-survey-clause-refused c =

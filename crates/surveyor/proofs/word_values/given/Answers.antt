@@ -2,7 +2,7 @@ use Rattle.std.proofs.Common.{◌∙◌, None, cond, sym}
 use Rattle.clap.specs.Words.{found_of}
 use Rattle.surveyor.specs.Flags.{is_given}
 use Rattle.surveyor.proofs.FlagLemmas.{value_given}
-use Rattle.surveyor.proofs.given.given.Goals as goal
+use Rattle.surveyor.proofs.word_values.given.Goals as goal
 
 pub returns : goal.returns
 returns c = sym (value_given (found_of c.args.found.now) c.args.name.now

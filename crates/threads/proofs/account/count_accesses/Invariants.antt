@@ -1,6 +1,6 @@
 use Rattle.std.proofs.Common.{◌≡◌, take, length}
 use Rattle.std.specs.Prelude.{min, sum_by}
-use Rattle.letter.specs.Letters.{Letter}
+use Rattle.round.specs.Letters.{Letter}
 use Rattle.threads.proofs.account.count_accesses.Given as goal
 
 abbrev pub invariant-loop-i : goal.invariant-loop-i

@@ -3,8 +3,8 @@ use Rattle.std.specs.Prelude.{slice_get, ◌==◌}
 use Rattle.std.proofs.lemmas.Bool.Decides.{eqb_tells}
 use Rattle.std.proofs.lemmas.Option.{slice_get_read, slice_get_within}
 use Rattle.std.proofs.lemmas.List.{length-take-le}
-use Rattle.letter.specs.Letters.{Letter}
-use Rattle.roster.specs.Scenario.{program_of}
+use Rattle.round.specs.Letters.{Letter}
+use Rattle.round.specs.Scenario.{program_of}
 use Rattle.world.specs.World.{accesses_of}
 use Rattle.world.specs.Accounted.{IsLetterOf}
 use Rattle.threads.proofs.account.holds_round.Goals as goal

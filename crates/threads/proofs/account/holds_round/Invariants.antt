@@ -1,8 +1,8 @@
 use Rattle.std.proofs.Common.{◌≡◌, ◌<◌, ℕ, List, take, Some}
 use Rattle.std.specs.Prelude.{slice_get}
-use Rattle.letter.specs.Letters.{Letter}
-use Rattle.roster.specs.Scenario.{program_of}
-use Rattle.delivery.specs.Told.{WasTold}
+use Rattle.round.specs.Letters.{Letter}
+use Rattle.round.specs.Scenario.{program_of}
+use Rattle.round.specs.Told.{WasTold}
 use Rattle.world.specs.World.{accesses_of}
 use Rattle.world.specs.Accounted.{IsLetterOf}
 use Rattle.threads.proofs.account.holds_round.Given as goal

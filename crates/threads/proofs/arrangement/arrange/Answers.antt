@@ -1,7 +1,7 @@
 use Rattle.std.proofs.Common.{rules, length-append, ◌∷◌, [], ◌≡◌, ◌<◌, suc, ◌+◌, length, ap, sym, ◌∙◌, arith, below_more}
 use Rattle.world.specs.Accounted.{letters_by}
 use Rattle.threads.proofs.Taken.{row_long, rows_more}
-use Rattle.threads.proofs.taking.arrange.Goals as goal
+use Rattle.threads.proofs.arrangement.arrange.Goals as goal
 
 pub returns-in-None-clause-grid : goal.returns-in-None-clause-grid
 returns-in-None-clause-grid c grid =

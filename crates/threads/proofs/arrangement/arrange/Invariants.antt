@@ -2,7 +2,7 @@ use Rattle.std.proofs.Common.{◌≡◌, ◌+◌, ◌*◌, ◌<◌, ℕ, suc, �
 use Rattle.world.specs.World.{each}
 use Rattle.world.specs.Accounted.{letters_by}
 use Rattle.threads.specs.Taking.{left_rounds}
-use Rattle.threads.proofs.taking.arrange.Given as goal
+use Rattle.threads.proofs.arrangement.arrange.Given as goal
 
 abbrev pub invariant-loop-r : goal.invariant-loop-r
 invariant-loop-r l = record {

@@ -1,10 +1,10 @@
 use Rattle.std.proofs.Common.{◌≡◌, true, false, ap, sym, ◌∙◌, Some, refl}
 use Rattle.std.specs.Prelude.{slice_get}
 use Rattle.std.proofs.lemmas.Option.{slice_get_read}
-use Rattle.letter.specs.Letters.{Letter}
+use Rattle.round.specs.Letters.{Letter}
 use Rattle.threads.proofs.Taken.{found_at, none_more}
-use Rattle.threads.proofs.taking.index_of.Goals as goal
-use Rattle.threads.proofs.taking.index_of.Goals.{else-letter-general-via-then-letter-general+else-letter-round, else-letter-general-via-else-letter-general}
+use Rattle.threads.proofs.arrangement.index_of.Goals as goal
+use Rattle.threads.proofs.arrangement.index_of.Goals.{else-letter-general-via-then-letter-general+else-letter-round, else-letter-general-via-else-letter-general}
 use Rattle.world.proofs.Arranged.{by_false, by_true, is_by}
 
 pub returns-then-letter-round-clause-found : goal.returns-then-letter-round-clause-found

@@ -1,7 +1,7 @@
 use Rattle.std.proofs.Common.{◌≡◌, ap, sym, ◌∙◌, None, arith, length, length-append, ◌∷◌, []}
 use Rattle.world.specs.Accounted.{letter_by}
 use Rattle.threads.proofs.Taken.{row_same, row_short, row_more}
-use Rattle.threads.proofs.taking.take_round.Goals as goal
+use Rattle.threads.proofs.arrangement.take_round.Goals as goal
 
 pub returns-in-None-clause-row : goal.returns-in-None-clause-row
 returns-in-None-clause-row c =

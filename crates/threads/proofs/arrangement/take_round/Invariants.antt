@@ -1,7 +1,7 @@
 use Rattle.std.proofs.Common.{◌≡◌, ◌+◌, length}
 use Rattle.world.specs.Accounted.{letters_by}
 use Rattle.threads.specs.Taking.{left_by_all}
-use Rattle.threads.proofs.taking.take_round.Given as goal
+use Rattle.threads.proofs.arrangement.take_round.Given as goal
 
 abbrev pub invariant-loop-general : goal.invariant-loop-general
 invariant-loop-general l = record {

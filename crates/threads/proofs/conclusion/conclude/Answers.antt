@@ -1,6 +1,6 @@
 use Rattle.std.proofs.Common.{◌≡◌, suc, List, All, refl, sym, ap, subst, ◌∙◌}
 use Rattle.board.specs.Board.{Access, IsLegal}
-use Rattle.letter.specs.Letters.{Letter, messages}
+use Rattle.round.specs.Letters.{Letter, messages}
 use Rattle.world.specs.Lists.{replayed, names_in}
 use Rattle.world.specs.Chronicle.{Chronicle, decisions, chronicle_of}
 use Rattle.world.specs.Replay.{replay_of}
@@ -11,7 +11,7 @@ use Rattle.world.proofs.Lasting.{replayed_complete}
 use Rattle.world.proofs.Listed.{replayed_finished}
 use Rattle.world.proofs.Outcomes.{finished_agree, finished_verdict, finished_well}
 use Rattle.threads.proofs.Concluded.{concluded, all_short}
-use Rattle.threads.proofs.concluding.conclude.Goals as goal
+use Rattle.threads.proofs.conclusion.conclude.Goals as goal
 
 pub returns-clause-replay : goal.returns-clause-replay
 returns-clause-replay c =

@@ -1,11 +1,11 @@
 use Rattle.std.proofs.Common.{List, length, ◌∙◌, ap, subst, arith}
 use Rattle.std.specs.List.{AllZip}
 use Rattle.combine.specs.Rule.{combined_by}
-use Rattle.combine.specs.declared.chosen.Rule.{Rule}
+use Rattle.combine.specs.declared.campaign_rule.Rule.{Rule}
 use Rattle.tree.specs.LieutenantTree.{LieutenantTree}
 use Rattle.resolve.specs.Decided.{Decides}
 use Rattle.threads.proofs.Deciding.{zip_long, all_decided}
-use Rattle.threads.proofs.concluding.decide.Goals as goal
+use Rattle.threads.proofs.conclusion.decide.Goals as goal
 
 pub as_array-requires : goal.as_array-requires
 as_array-requires g c =

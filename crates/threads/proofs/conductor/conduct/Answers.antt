@@ -1,10 +1,10 @@
 -- The letters that are delivered are those of the round to come.
 use Rattle.std.proofs.Common.{rules, suc, List, sym, subst}
 use Rattle.std.specs.Prelude.{All}
-use Rattle.letter.specs.Letters.{Letter}
-use Rattle.letter.specs.Origin.{AreLettersOf}
+use Rattle.round.specs.Letters.{Letter}
+use Rattle.round.specs.Origin.{AreLettersOf}
 use Rattle.threads.proofs.Popped.{more_all}
-use Rattle.threads.proofs.conducting.conduct.Goals as goal
+use Rattle.threads.proofs.conductor.conduct.Goals as goal
 
 pub deliver-requires-clause-letters : goal.deliver-requires-clause-letters
 deliver-requires-clause-letters g c =

@@ -1,7 +1,7 @@
 use Rattle.std.proofs.Common.{◌≡◌, length}
 use Rattle.std.specs.Prelude.{All}
-use Rattle.delivery.specs.Told.{WasTold}
-use Rattle.threads.proofs.conducting.conduct.Given as goal
+use Rattle.round.specs.Told.{WasTold}
+use Rattle.threads.proofs.conductor.conduct.Given as goal
 
 abbrev pub invariant-loop-round : goal.invariant-loop-round
 invariant-loop-round g l = record {

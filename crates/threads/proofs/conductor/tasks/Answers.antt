@@ -4,7 +4,7 @@ use Rattle.std.proofs.lemmas.List.{length-append}
 use Rattle.threads.specs.Duties.{Duty}
 use Rattle.threads.proofs.Numbered.{numbered_pushed}
 use Rattle.threads.proofs.Tasks.{duties_more}
-use Rattle.threads.proofs.conducting.tasks.Goals as goal
+use Rattle.threads.proofs.conductor.tasks.Goals as goal
 
 pub loop-general-preserved : goal.loop-general-preserved
 loop-general-preserved c =

@@ -1,10 +1,10 @@
 use Rattle.std.proofs.Common.{◌≡◌, ◌∷◌, [], List, length}
-use Rattle.letter.specs.Letters.{Letter}
-use Rattle.delivery.specs.Told.{WasTold}
+use Rattle.round.specs.Letters.{Letter}
+use Rattle.round.specs.Told.{WasTold}
 use Rattle.world.specs.World.{each}
 use Rattle.threads.specs.Duties.{duty_of}
 use Rattle.threads.specs.Inboxes.{AreByGeneral}
-use Rattle.threads.proofs.conducting.tasks.Given as goal
+use Rattle.threads.proofs.conductor.tasks.Given as goal
 
 abbrev pub invariant-loop-general : goal.invariant-loop-general
 invariant-loop-general l = record {

@@ -2,9 +2,9 @@ use Rattle.std.proofs.Common.{◌≡◌, ◌+◌, ◌<◌, ℕ, suc, List, lengt
 use Rattle.std.specs.Prelude.{slice_get}
 use Rattle.std.proofs.lemmas.List.{length-take-le}
 use Rattle.std.proofs.lemmas.Option.{slice_get_read}
-use Rattle.letter.specs.Letters.{Letter}
-use Rattle.letter.specs.Origin.{AreLettersOf}
-use Rattle.threads.proofs.gathering.deliver_all.Goals as goal
+use Rattle.round.specs.Letters.{Letter}
+use Rattle.round.specs.Origin.{AreLettersOf}
+use Rattle.threads.proofs.ledger_letters.deliver_all.Goals as goal
 
 pub returns-then-not-are_letters_of : goal.returns-then-not-are_letters_of
 returns-then-not-are_letters_of c are =

@@ -1,7 +1,7 @@
 use Rattle.std.proofs.Common.{rules, ◌≡◌, ◌+◌, ℕ, suc, Bool, List, [], ◌∷◌, Option, Some, None, Result, Ok, Err, true, false, refl, sym, subst, ◌∙◌, arith}
 use Rattle.std.specs.Prelude.{IfErr, MatchBool, MatchOption}
-use Rattle.letter.specs.Letters.{Letter}
-use Rattle.letter.specs.Origin.{AreRoundsOf}
+use Rattle.round.specs.Letters.{Letter}
+use Rattle.round.specs.Origin.{AreRoundsOf}
 use Rattle.world.specs.World.{each}
 use Rattle.world.specs.Accounted.{letters_by, rounds_of, AreAccounted}
 use Rattle.threads.specs.Taking.{IsGrid}
@@ -9,7 +9,7 @@ use Rattle.threads.specs.declared.error.MusterError.{MusterError}
 use Rattle.threads.specs.declared.error.MusterError.TheVariants.{Unaccounted}
 use Rattle.threads.proofs.Grids.{grid_of}
 use Rattle.threads.proofs.Whose.{rounds_are}
-use Rattle.threads.proofs.gathering.gather.Goals as goal
+use Rattle.threads.proofs.ledger_letters.gather.Goals as goal
 
 -- whatever the error is
 any_error : {T E : Type 0} {P : E → Type 0} (r : Result T E) → ((e : E) → P e) → IfErr r P

@@ -2,7 +2,7 @@
 use Rattle.std.proofs.Common.{List, sym, subst, ◌∙◌}
 use mathlib.Core.List.{IsPrefix}
 use Rattle.board.specs.Board.{Access}
-use Rattle.threads.proofs.mustering.by_board.Goals as goal
+use Rattle.threads.proofs.musters.by_board.Goals as goal
 
 pub returns-clause-history : goal.returns-clause-history
 returns-clause-history g c =

@@ -1,4 +1,4 @@
-use Rattle.threads.proofs.mustering.muster_on.Given as goal
+use Rattle.threads.proofs.musters.muster_on.Given as goal
 
 -- the board that was just made
 abbrev pub ghosts-mustered-J-Room : goal.ghosts-mustered-J-Room

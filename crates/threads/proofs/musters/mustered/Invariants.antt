@@ -1,6 +1,6 @@
-use Rattle.letter.specs.Letters.{Letter}
+use Rattle.round.specs.Letters.{Letter}
 use Rattle.threads.specs.Served.{IsGated}
-use Rattle.threads.proofs.mustering.mustered.Given as goal
+use Rattle.threads.proofs.musters.mustered.Given as goal
 
 -- the gate that was given
 abbrev pub ghosts-by_board : goal.ghosts-by_board

@@ -1,8 +1,8 @@
 use Rattle.std.proofs.Common.{◌≡◌, ◌++◌, true, map, vec_len}
 use Rattle.std.specs.Prelude.{All}
 use Rattle.crossbeam_queue.specs.Passes.{view, IsPassOf}
-use Rattle.post.specs.Delivery.{posted}
-use Rattle.post.proofs.post.all_back.Given as goal
+use Rattle.threads.specs.Delivery.{posted}
+use Rattle.threads.proofs.post.all_back.Given as goal
 
 abbrev pub invariant-loop-poster : goal.invariant-loop-poster
 invariant-loop-poster g l = record {

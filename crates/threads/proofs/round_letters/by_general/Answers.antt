@@ -1,8 +1,8 @@
 -- The key that is sorted by is the general.
 use Rattle.std.proofs.Common.{rules}
 use Rattle.std.proofs.lemmas.List.Sorted.{answers_always}
-use Rattle.letter.specs.Letters.{Letter}
-use Rattle.threads.proofs.receiving.by_general.Goals as goal
+use Rattle.round.specs.Letters.{Letter}
+use Rattle.threads.proofs.round_letters.by_general.Goals as goal
 
 pub returns-clause-ascending : goal.returns-clause-ascending
 returns-clause-ascending c = c.sort_unstable_by_key.ensures.sorted (λ (l : Letter). l.general) (answers_always _ _ _ (λ f a r g called. search rules))

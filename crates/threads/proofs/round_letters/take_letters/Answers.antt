@@ -2,9 +2,9 @@
 use Rattle.std.proofs.Common.{rules, ◌≡◌, [], ◌∷◌, ◌++◌, List, Option, append_assoc, sym, ap, ◌∙◌, subst}
 use Rattle.std.specs.Prelude.{IfSome, MatchOption}
 use Rattle.std.proofs.lemmas.List.Sorted.{All-permutation}
-use Rattle.letter.specs.Letters.{Letter}
+use Rattle.round.specs.Letters.{Letter}
 use Rattle.threads.proofs.Popped.{more_all}
-use Rattle.threads.proofs.receiving.take_letters.Goals as goal
+use Rattle.threads.proofs.round_letters.take_letters.Goals as goal
 
 pub loop-preserved : goal.loop-preserved
 loop-preserved g c =

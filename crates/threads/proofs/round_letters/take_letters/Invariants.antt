@@ -1,6 +1,6 @@
 use Rattle.std.proofs.Common.{◌≡◌, ◌++◌}
 use Rattle.std.specs.Prelude.{All}
-use Rattle.threads.proofs.receiving.take_letters.Given as goal
+use Rattle.threads.proofs.round_letters.take_letters.Given as goal
 
 abbrev pub invariant-loop : goal.invariant-loop
 invariant-loop g l = record {

@@ -1,9 +1,11 @@
 //! A letter that is posted, and not yet counted.
 ghost use Rattle.std.specs.Prelude.{◌≡◌, ◌++◌, ◌∷◌, [], IfOk, IfErr};
 
-use crate::tally::returned::{Returned, posted};
-use letter::Letter;
-use post::{Claim, PostOf, Poster};
+use crate::claim::Claim;
+use crate::post::PostOf;
+use crate::poster::Poster;
+use crate::tally::returned_letter::{Returned, posted};
+use round::Letter;
 use std::sync::Wait;
 
 /// A poster with which a letter was posted that is not yet counted: `send` alone makes one, and `Count::add` alone

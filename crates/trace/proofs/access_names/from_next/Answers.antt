@@ -4,7 +4,7 @@ use Rattle.text.specs.Parts.{pieces}
 use Rattle.trace.specs.Names.{named}
 use Rattle.trace.specs.Marks.{lines_left}
 use Rattle.trace.proofs.PassingLemmas.{names_later, names_no_one}
-use Rattle.trace.proofs.named.from_next.Goals as goal
+use Rattle.trace.proofs.access_names.from_next.Goals as goal
 
 pub returns-in_err-place-clause-names : goal.returns-in_err-place-clause-names
 returns-in_err-place-clause-names c =

@@ -4,9 +4,9 @@ use Rattle.text.specs.Parts.{pieces}
 use Rattle.trace.specs.Names.{Named, named, with_line}
 use Rattle.trace.specs.Marks.{all_names, lines_left, marked}
 use Rattle.trace.specs.Text.{Line}
-use Rattle.trace.specs.declared.named.Mark.TheVariants.{Round}
+use Rattle.trace.specs.declared.access_names.Mark.TheVariants.{Round}
 use Rattle.trace.proofs.MarkLemmas.{first_lists, lines_split, round_begun}
-use Rattle.trace.proofs.named.names.Goals as goal
+use Rattle.trace.proofs.access_names.names.Goals as goal
 
 pub returns-then-len-most : goal.returns-then-len-most
 returns-then-len-most c =

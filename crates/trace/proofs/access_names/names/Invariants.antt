@@ -4,7 +4,7 @@ use Rattle.text.specs.Parts.{left_len, pieces}
 use Rattle.world.specs.Playing.{lists_in}
 use Rattle.trace.specs.Names.{named}
 use Rattle.trace.specs.Marks.{all_names, behind, lines_left}
-use Rattle.trace.proofs.named.names.Given as goal
+use Rattle.trace.proofs.access_names.names.Given as goal
 
 abbrev pub invariant-loop-rest : goal.invariant-loop-rest
 invariant-loop-rest l = record {

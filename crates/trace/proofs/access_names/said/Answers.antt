@@ -3,7 +3,7 @@ use Rattle.std.specs.Prelude.{bytes_eq}
 use Rattle.text.specs.Stop.{space}
 use Rattle.text.specs.Parts.{pieces}
 use Rattle.trace.proofs.MarkLemmas.{round_said}
-use Rattle.trace.proofs.named.said.Goals as goal
+use Rattle.trace.proofs.access_names.said.Goals as goal
 
 pub returns-then-eq : goal.returns-then-eq
 returns-then-eq c =

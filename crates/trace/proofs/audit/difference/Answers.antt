@@ -1,6 +1,6 @@
 use Rattle.trace.specs.Text.{text_in}
 use Rattle.trace.proofs.Differences.{first_difference, if_none, if_some, same_texts, started}
-use Rattle.trace.proofs.auditing.difference.Goals as goal
+use Rattle.trace.proofs.audit.difference.Goals as goal
 
 pub returns-clause-same : goal.returns-clause-same
 returns-clause-same c =

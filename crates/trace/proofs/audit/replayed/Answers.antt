@@ -3,7 +3,7 @@ use Rattle.world.specs.Chronicle.{chronicle_of}
 use Rattle.world.specs.World.{oral_kind}
 use Rattle.trace.specs.Names.{chronicle_told}
 use Rattle.trace.proofs.AuditLemmas.{replayed_ok}
-use Rattle.trace.proofs.auditing.replayed.Goals as goal
+use Rattle.trace.proofs.audit.replayed.Goals as goal
 
 pub returns : goal.returns
 unfolding chronicle_told

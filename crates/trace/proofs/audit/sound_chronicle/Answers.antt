@@ -1,6 +1,6 @@
 use Rattle.std.proofs.Common.{refl, sym}
 use Rattle.trace.proofs.AuditLemmas.{fault_is_told, found_sound, refused_different, refused_unnamed}
-use Rattle.trace.proofs.auditing.sound_chronicle.Goals as goal
+use Rattle.trace.proofs.audit.sound_chronicle.Goals as goal
 
 pub returns-in_default-clause-unsound : goal.returns-in_default-clause-unsound
 returns-in_default-clause-unsound c =

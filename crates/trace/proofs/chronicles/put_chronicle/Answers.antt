@@ -1,13 +1,13 @@
 use Rattle.std.proofs.Common.{ℕ, List, [], ◌∷◌, ◌∙◌, ap}
 use Rattle.label.specs.Lieutenants.{lieutenants}
 use Rattle.board.specs.Board.{Access}
-use Rattle.roster.specs.Scenario.{Scenario}
-use Rattle.letter.specs.Letters.{Letter}
+use Rattle.round.specs.Scenario.{Scenario}
+use Rattle.round.specs.Letters.{Letter}
 use Rattle.world.specs.declared.verdict.Verdict.{Verdict}
 use Rattle.trace.specs.Text.{decision_lines, head_lines, lines_in, round_lines, text, text_in, verdict_line}
 use Rattle.trace.proofs.WrittenLemmas.{then_wrote, wrote-same}
 use Rattle.trace.proofs.RoundLemmas.{chronicle_parts}
-use Rattle.trace.proofs.chronicling.put_chronicle.Goals as goal
+use Rattle.trace.proofs.chronicles.put_chronicle.Goals as goal
 
 pub returns : goal.returns
 unfolding lines_in text_in

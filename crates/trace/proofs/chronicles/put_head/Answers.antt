@@ -3,7 +3,7 @@ use Rattle.std.specs.Prelude.{decimal, codes}
 use Rattle.trace.specs.Text.{spaced, version_line, further_words}
 use Rattle.trace.proofs.WrittenLemmas.{then_wrote, wrote-same}
 use Rattle.trace.proofs.RoundLemmas.{head_parts}
-use Rattle.trace.proofs.chronicling.put_head.Goals as goal
+use Rattle.trace.proofs.chronicles.put_head.Goals as goal
 
 pub returns : goal.returns
 returns g c =

@@ -1,5 +1,5 @@
 use Rattle.trace.proofs.PartingLemmas.{line_and_rest, no_feed}
-use Rattle.trace.proofs.parting.parted.Goals as goal
+use Rattle.trace.proofs.first_line.parted.Goals as goal
 
 pub returns-in-Some-clause-first : goal.returns-in-Some-clause-first
 returns-in-Some-clause-first c = line_and_rest c.args.text.now c.in-Some.end c.in-Some.ensures.0.high c.in-Some.ensures.0.before c.in-Some.ensures.1

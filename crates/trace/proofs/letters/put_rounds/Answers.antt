@@ -1,5 +1,5 @@
 use Rattle.std.proofs.Common.{[], List, ◌+◌, subst}
-use Rattle.letter.specs.Letters.{Letter}
+use Rattle.round.specs.Letters.{Letter}
 use Rattle.trace.specs.Sinks.{Wrote}
 use Rattle.trace.specs.Text.{text, letter_lines}
 use Rattle.trace.specs.Lines.{one_round}

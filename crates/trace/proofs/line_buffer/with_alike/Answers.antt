@@ -2,7 +2,7 @@ use Rattle.std.proofs.Common.{◌++◌, ◌∷◌, ◌∙◌, take, ap, sym}
 use Rattle.std.proofs.lemmas.Fmt.{decimal_digit}
 use Rattle.trace.specs.Text.{place}
 use Rattle.trace.specs.Lines.{repeated}
-use Rattle.trace.proofs.composing.with_alike.Goals as goal
+use Rattle.trace.proofs.line_buffer.with_alike.Goals as goal
 
 pub returns-in-Some-clause-bytes : goal.returns-in-Some-clause-bytes
 returns-in-Some-clause-bytes c =

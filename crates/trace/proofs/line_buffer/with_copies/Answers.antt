@@ -1,6 +1,6 @@
 use Rattle.std.proofs.Common.{rules, ◌∷◌, [], take, arith}
 use Rattle.trace.proofs.Repeating.{once_more}
-use Rattle.trace.proofs.composing.with_copies.Goals as goal
+use Rattle.trace.proofs.line_buffer.with_copies.Goals as goal
 
 pub loop-time-preserved : goal.loop-time-preserved
 loop-time-preserved c = record {

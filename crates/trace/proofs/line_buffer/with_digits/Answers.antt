@@ -2,7 +2,7 @@ use Rattle.std.proofs.Common.{rules, arith, refl, replicate, ap, take, ◌++◌,
 use Rattle.std.proofs.lemmas.Fmt.{length-decimal-le}
 use Rattle.trace.specs.Lines.{repeated}
 use Rattle.trace.proofs.WrittenLemmas.{next_digits}
-use Rattle.trace.proofs.composing.with_digits.Goals as goal
+use Rattle.trace.proofs.line_buffer.with_digits.Goals as goal
 
 pub write_digits-start-requires : goal.write_digits-start-requires
 write_digits-start-requires c = (search (rules, length-decimal-le 20), omega arith)

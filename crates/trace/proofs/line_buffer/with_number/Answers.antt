@@ -1,6 +1,6 @@
 use Rattle.std.proofs.Common.{arith, take}
 use Rattle.trace.proofs.Repeating.{one_digit_more}
-use Rattle.trace.proofs.composing.with_number.Goals as goal
+use Rattle.trace.proofs.line_buffer.with_number.Goals as goal
 
 pub returns-then-number-lt1000-clause-bytes : goal.returns-then-number-lt1000-clause-bytes
 returns-then-number-lt1000-clause-bytes c =

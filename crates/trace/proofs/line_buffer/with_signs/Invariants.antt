@@ -1,6 +1,6 @@
 use Rattle.std.proofs.Common.{◌≡◌, ◌≤◌, ◌+◌, ◌*◌, ◌++◌, ◌∷◌, [], take, length}
 use Rattle.trace.specs.Lines.{repeated}
-use Rattle.trace.proofs.composing.with_signs.Given as goal
+use Rattle.trace.proofs.line_buffer.with_signs.Given as goal
 
 abbrev pub invariant-loop-time : goal.invariant-loop-time
 invariant-loop-time l = record {

@@ -1,6 +1,6 @@
 use Rattle.std.proofs.Common.{◌/◌, arith, take}
 use Rattle.trace.proofs.Repeating.{one_digit, one_digit_more}
-use Rattle.trace.proofs.composing.with_two.Goals as goal
+use Rattle.trace.proofs.line_buffer.with_two.Goals as goal
 
 pub returns-then-number-lt10-clause-bytes : goal.returns-then-number-lt10-clause-bytes
 returns-then-number-lt10-clause-bytes c = one_digit c.args.number (take c.args.count c.args.bytes.now) _ c.if-number-lt10.true c.with_sign.ensures.bytes

@@ -2,7 +2,7 @@ use Rattle.std.proofs.Common.{◌≡◌, drop, map}
 use Rattle.std.specs.List.{list_any}
 use Rattle.text.specs.Parts.{pieces}
 use Rattle.text.specs.Stop.{space}
-use Rattle.asking.specs.Wording.{row_of}
+use Rattle.board.specs.Wording.{row_of}
 use Rattle.trace.specs.Shapes.{is_worded}
 use Rattle.trace.proofs.shapes.is_any.Given as goal
 

@@ -1,6 +1,6 @@
 use Rattle.trace.specs.SignedText.{signed_text}
 use Rattle.trace.proofs.Differences.{first_difference, if_none, if_some, same_texts, started}
-use Rattle.trace.proofs.signed_auditing.signed_difference.Goals as goal
+use Rattle.trace.proofs.signed_audit.signed_difference.Goals as goal
 
 pub returns-clause-same : goal.returns-clause-same
 returns-clause-same c =

@@ -3,7 +3,7 @@ use Rattle.signed.specs.Chronicle.{signed_chronicle_of}
 use Rattle.signed.specs.Kind.{signed_kind}
 use Rattle.trace.specs.SignedAudit.{signed_chronicle_told}
 use Rattle.trace.proofs.AuditLemmas.{replayed_ok}
-use Rattle.trace.proofs.signed_auditing.signed_replayed.Goals as goal
+use Rattle.trace.proofs.signed_audit.signed_replayed.Goals as goal
 
 pub returns : goal.returns
 unfolding signed_chronicle_told

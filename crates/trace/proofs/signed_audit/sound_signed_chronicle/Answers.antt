@@ -1,7 +1,7 @@
 use Rattle.std.proofs.Common.{refl, sym, ◌∙◌}
 use Rattle.trace.proofs.AuditLemmas.{fault_is_told}
 use Rattle.trace.proofs.SignedAudits.{found_sound, refused_different, refused_version}
-use Rattle.trace.proofs.signed_auditing.sound_signed_chronicle.Goals as goal
+use Rattle.trace.proofs.signed_audit.sound_signed_chronicle.Goals as goal
 
 pub returns-then-not-is_third_version-clause-unsound : goal.returns-then-not-is_third_version-clause-unsound
 returns-then-not-is_third_version-clause-unsound c =

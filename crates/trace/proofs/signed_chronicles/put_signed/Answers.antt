@@ -1,13 +1,13 @@
 use Rattle.std.proofs.Common.{ℕ, List, [], ◌∷◌, ◌∙◌, ap}
 use Rattle.label.specs.Lieutenants.{lieutenants}
-use Rattle.roster.specs.Scenario.{Scenario}
+use Rattle.round.specs.Scenario.{Scenario}
 use Rattle.signed.specs.Sent.{sent_in}
 use Rattle.world.specs.declared.verdict.Verdict.{Verdict}
 use Rattle.trace.specs.SignedText.{head_lines, letter_lines, signed_lines, signed_text}
 use Rattle.trace.specs.Text.{decision_lines, rounds_told, text, verdict_line}
 use Rattle.trace.proofs.RoundLemmas.{chronicle_parts}
 use Rattle.trace.proofs.WrittenLemmas.{then_wrote, wrote-same}
-use Rattle.trace.proofs.signed_chronicling.put_signed.Goals as goal
+use Rattle.trace.proofs.signed_chronicles.put_signed.Goals as goal
 
 pub returns : goal.returns
 unfolding signed_lines signed_text

@@ -1,6 +1,6 @@
 use Rattle.trace.proofs.SignedLines.{head_parts}
 use Rattle.trace.proofs.WrittenLemmas.{then_wrote, wrote-same}
-use Rattle.trace.proofs.signed_chronicling.put_signed_head.Goals as goal
+use Rattle.trace.proofs.signed_chronicles.put_signed_head.Goals as goal
 
 pub returns : goal.returns
 returns g c =

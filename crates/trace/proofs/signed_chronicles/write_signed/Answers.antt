@@ -1,5 +1,5 @@
 use Rattle.trace.proofs.WrittenLemmas.{all-written}
-use Rattle.trace.proofs.signed_chronicling.write_signed.Goals as goal
+use Rattle.trace.proofs.signed_chronicles.write_signed.Goals as goal
 
 pub returns-clause-written : goal.returns-clause-written
 returns-clause-written g c = all-written c.written.result c.written.ensures.ok c.put_signed.ensures

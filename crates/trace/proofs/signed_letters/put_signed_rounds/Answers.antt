@@ -1,5 +1,5 @@
 use Rattle.std.proofs.Common.{[], List, ◌≡◌, ◌+◌, ◌<◌, ◌∙◌, ap, arith, get_or, length, subst}
-use Rattle.letter.specs.Letters.{Letter}
+use Rattle.round.specs.Letters.{Letter}
 use Rattle.signed.specs.Sent.{sent_in}
 use Rattle.trace.specs.Lines.{round_told}
 use Rattle.trace.specs.SignedText.{letter_lines}

@@ -1,6 +1,6 @@
 use Rattle.std.proofs.Common.{sym, ◌∙◌}
 use Rattle.trace.proofs.WrittenLemmas.{put_more, put_none, some_left}
-use Rattle.trace.proofs.writing.put_all.Goals as goal
+use Rattle.trace.proofs.writer.put_all.Goals as goal
 
 pub loop-from-preserved : goal.loop-from-preserved
 loop-from-preserved g c =

@@ -1,7 +1,7 @@
 use Rattle.std.proofs.Common.{rules, arith, refl, replicate}
 use Rattle.std.proofs.lemmas.Fmt.{length-decimal-le}
 use Rattle.trace.proofs.WrittenLemmas.{next_digits, wrote-same}
-use Rattle.trace.proofs.writing.put_behind.Goals as goal
+use Rattle.trace.proofs.writer.put_behind.Goals as goal
 
 pub write_digits-start-requires : goal.write_digits-start-requires
 write_digits-start-requires g c = (search (rules, length-decimal-le 20), omega arith)

@@ -1,9 +1,9 @@
 use Rattle.std.proofs.Common.{suc, length, refl, arith}
 use Rattle.std.proofs.lemmas.List.{length-map}
 use Rattle.label.specs.Relay.{relay}
-use Rattle.roster.specs.Scenario.{shape_of}
-use Rattle.letter.specs.Contexts.{took}
-use Rattle.letter.proofs.Contexts.{shape_is}
+use Rattle.round.specs.Scenario.{shape_of}
+use Rattle.round.specs.Contexts.{took}
+use Rattle.round.proofs.Contexts.{shape_is}
 use Rattle.trial.proofs.laws.contexts_are_settings.Goals as goal
 
 pub returns : goal.returns

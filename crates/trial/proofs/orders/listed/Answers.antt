@@ -3,7 +3,7 @@ use Rattle.std.specs.Prelude.{slice_set}
 use Rattle.std.proofs.lemmas.Result.{err_from_is_err_and}
 use Rattle.toml.specs.View.{view}
 use Rattle.trial.specs.Checks.{set_order, number}
-use Rattle.trial.specs.declared.place.Place.TheVariants.{Order}
+use Rattle.trial.specs.declared.place.SettingPlace.TheVariants.{Order}
 use Rattle.trial.proofs.Items.{over_next, over_fails, over_done, fails_on}
 use Rattle.trial.proofs.orders.listed.Goals as goal
 

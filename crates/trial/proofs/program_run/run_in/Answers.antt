@@ -4,7 +4,7 @@ use Rattle.std.proofs.lemmas.Result.{IfOk-weaker}
 use Rattle.trial.proofs.Entering.{entered_in}
 use Rattle.trial.proofs.Owning.{board_in}
 use Rattle.trial.proofs.Trying.{ends_in, relay_in}
-use Rattle.trial.proofs.running.run_in.Goals as goal
+use Rattle.trial.proofs.program_run.run_in.Goals as goal
 
 pub returns-clause-ending : goal.returns-clause-ending
 returns-clause-ending c =

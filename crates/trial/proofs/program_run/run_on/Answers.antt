@@ -5,7 +5,7 @@ use Rattle.semantics.specs.Relay.{oral}
 use Rattle.round.proofs.Served.{any_error}
 use Rattle.trial.proofs.Entering.{entered_all, entered_first, served_more}
 use Rattle.trial.proofs.Serving.{goes_further, served_to}
-use Rattle.trial.proofs.running.run_on.Goals as goal
+use Rattle.trial.proofs.program_run.run_on.Goals as goal
 
 pub loop-request-preserved : goal.loop-request-preserved
 loop-request-preserved c =

@@ -5,11 +5,11 @@ use Rattle.semantics.specs.Relay.{Relay}
 use Rattle.semantics.specs.State.{State}
 use Rattle.semantics.proofs.StepLaws.{resumed_counts}
 use Rattle.machine.proofs.AdvanceLemmas.{fewer}
-use Rattle.tracing.specs.Slips.{number_at, where_said}
-use Rattle.tracing.specs.declared.reasons.Call.{Call}
-use Rattle.tracing.proofs.StepLemmas.{ask_of, exit_of, found_here, next_of}
-use Rattle.tracing.proofs.SlipLemmas.{none_here, nothing_there, slip_asks, slip_exit, slip_next}
-use Rattle.tracing.proofs.slipping.go_on.Goals as goal
+use Rattle.trial.specs.Slips.{number_at, where_said}
+use Rattle.trial.specs.declared.reasons.HelperCall.{HelperCall}
+use Rattle.trial.proofs.StepLemmas.{ask_of, exit_of, found_here, next_of}
+use Rattle.trial.proofs.SlipLemmas.{none_here, nothing_there, slip_asks, slip_exit, slip_next}
+use Rattle.trial.proofs.run_slips.go_on.Goals as goal
 
 pub prove-unreachable-requires : goal.prove-unreachable-requires
 prove-unreachable-requires c =
@@ -36,7 +36,7 @@ returns-in_ok-put_slip-in-Limit-clause-told c same rest =
     slip_next c.args.places.now program c.args.context.now a.relay rest c.args.board.now.words a.state c.run.new.self.state c.in-Some.insn (string_bytes c.args.out.now) (string_bytes c.put_slip.new.out) here next.0
     (c.in_ok-put_slip-in-Limit.ensures
     ∙ (ap (λ (r : Relay). string_bytes c.args.out.now ++ where_said c.args.places.now r r0 c.call_at-call.result) c.run.ensures.relay
-    ∙ ap (λ (call : Option Call). string_bytes c.args.out.now ++ where_said c.args.places.now a.relay r0 call) c.call_at-call.ensures))
+    ∙ ap (λ (call : Option HelperCall). string_bytes c.args.out.now ++ where_said c.args.places.now a.relay r0 call) c.call_at-call.ensures))
 
 pub returns-in_ok-answer-in-Asked-clause-counted : goal.returns-in_ok-answer-in-Asked-clause-counted
 returns-in_ok-answer-in-Asked-clause-counted c same =

@@ -1,7 +1,7 @@
 use Rattle.std.proofs.Common.{string_bytes}
 use Rattle.semantics.specs.Relay.{oral}
-use Rattle.tracing.proofs.SlipLemmas.{slipped_end, slipped_on}
-use Rattle.tracing.proofs.slipping.slips.Goals as goal
+use Rattle.trial.proofs.SlipLemmas.{slipped_end, slipped_on}
+use Rattle.trial.proofs.run_slips.slips.Goals as goal
 
 pub returns-then-branch : goal.returns-then-branch
 returns-then-branch c =

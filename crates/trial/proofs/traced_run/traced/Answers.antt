@@ -1,7 +1,7 @@
 use Rattle.std.proofs.Common.{string_bytes}
 use Rattle.semantics.specs.Relay.{oral}
-use Rattle.tracing.proofs.StepLemmas.{steps_left, told_end, told_on}
-use Rattle.tracing.proofs.running.traced.Goals as goal
+use Rattle.trial.proofs.StepLemmas.{steps_left, told_end, told_on}
+use Rattle.trial.proofs.traced_run.traced.Goals as goal
 
 pub returns-then-branch : goal.returns-then-branch
 returns-then-branch c =

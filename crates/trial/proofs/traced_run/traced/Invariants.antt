@@ -1,7 +1,7 @@
 use Rattle.std.proofs.Common.{◌-◌, length, string_bytes}
 use Rattle.semantics.specs.Relay.{oral}
-use Rattle.tracing.proofs.StepLemmas.{IsTold}
-use Rattle.tracing.proofs.running.traced.Given as goal
+use Rattle.trial.proofs.StepLemmas.{IsTold}
+use Rattle.trial.proofs.traced_run.traced.Given as goal
 
 abbrev pub invariant-loop-activation : goal.invariant-loop-activation
 invariant-loop-activation l = IsTold l.fn.words l.verified l.context (oral l.shape) l.activation l.board (string_bytes l.text)

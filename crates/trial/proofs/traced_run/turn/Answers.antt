@@ -4,9 +4,9 @@ use Rattle.insn.specs.Program.{instruction_at}
 use Rattle.semantics.specs.State.{State}
 use Rattle.semantics.proofs.StepLaws.{resumed_counts}
 use Rattle.machine.proofs.AdvanceLemmas.{fewer}
-use Rattle.tracing.specs.Lines.{after_told, before_told}
-use Rattle.tracing.proofs.StepLemmas.{ask_of, exit_of, found_here, grew_thrice, grew_twice, next_of, told_asks, told_exit, told_next}
-use Rattle.tracing.proofs.running.turn.Goals as goal
+use Rattle.trial.specs.StepLines.{after_told, before_told}
+use Rattle.trial.proofs.StepLemmas.{ask_of, exit_of, found_here, grew_thrice, grew_twice, next_of, told_asks, told_exit, told_next}
+use Rattle.trial.proofs.traced_run.turn.Goals as goal
 
 pub overflow_add-limit : goal.overflow_add-limit
 overflow_add-limit c =

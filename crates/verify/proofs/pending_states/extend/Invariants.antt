@@ -1,6 +1,6 @@
 use Rattle.std.proofs.Common.{◌≡◌, ◌≤◌, ◌-◌, ◌++◌, replicate, None}
 use Rattle.std.specs.Vec.{vec_len, vec_capacity}
-use Rattle.verify.proofs.pending.extend.Given as goal
+use Rattle.verify.proofs.pending_states.extend.Given as goal
 
 abbrev pub invariant-loop-states : goal.invariant-loop-states
 invariant-loop-states l = record {

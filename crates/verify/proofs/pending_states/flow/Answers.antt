@@ -1,7 +1,7 @@
 use Rattle.std.proofs.Common.{◌∙◌, refl}
 use Rattle.verify.specs.Judgement.{reached_at}
 use Rattle.verify.proofs.HandLaws.{comes_back}
-use Rattle.verify.proofs.pending.flow.Goals as goal
+use Rattle.verify.proofs.pending_states.flow.Goals as goal
 
 pub returns : goal.returns
 returns c =

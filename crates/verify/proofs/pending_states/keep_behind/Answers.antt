@@ -4,7 +4,7 @@ use Rattle.std.specs.declared.alloc.Global.{Global}
 use Rattle.verify.specs.declared.state.AbsState.{AbsState}
 use Rattle.verify.specs.Kept.{KeptStates, all_unboxed, padded}
 use Rattle.verify.proofs.Padded.{all_units, further, pushed}
-use Rattle.verify.proofs.pending.keep_behind.Goals as goal
+use Rattle.verify.proofs.pending_states.keep_behind.Goals as goal
 
 pub returns : goal.returns
 returns c =

@@ -1,7 +1,7 @@
 use Rattle.std.proofs.Common.{Some, ap, arith}
 use Rattle.verify.specs.Kept.{KeptStates}
 use Rattle.verify.proofs.Padded.{put_at}
-use Rattle.verify.proofs.pending.keep_inside.Goals as goal
+use Rattle.verify.proofs.pending_states.keep_inside.Goals as goal
 
 pub returns : goal.returns
 returns c =

@@ -1,7 +1,7 @@
 use Rattle.std.proofs.Common.{◌∙◌, Some, ap, sym}
 use Rattle.verify.specs.Kept.{unboxed}
 use Rattle.verify.proofs.HandLaws.{given_back}
-use Rattle.verify.proofs.pending.put_back.Goals as goal
+use Rattle.verify.proofs.pending_states.put_back.Goals as goal
 
 pub returns-then-unit-pending : goal.returns-then-unit-pending
 returns-then-unit-pending c = λ reached h.

@@ -4,7 +4,7 @@ use Rattle.std.specs.declared.alloc.Global.{Global}
 use Rattle.verify.specs.declared.state.AbsState.{AbsState}
 use Rattle.verify.specs.Kept.{KeptStates, unboxed}
 use Rattle.verify.proofs.Padded.{none_taken, put_at}
-use Rattle.verify.proofs.pending.take.Goals as goal
+use Rattle.verify.proofs.pending_states.take.Goals as goal
 
 pub returns-then-unit-len-clause-rest : goal.returns-then-unit-len-clause-rest
 returns-then-unit-len-clause-rest c =

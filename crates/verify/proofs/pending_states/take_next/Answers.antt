@@ -1,7 +1,7 @@
 use Rattle.std.proofs.Common.{ap, arith}
 use Rattle.verify.specs.Kept.{KeptStates}
 use Rattle.verify.proofs.Padded.{none_taken}
-use Rattle.verify.proofs.pending.take_next.Goals as goal
+use Rattle.verify.proofs.pending_states.take_next.Goals as goal
 
 pub returns-then-unit-len-clause-rest : goal.returns-then-unit-len-clause-rest
 returns-then-unit-len-clause-rest c =

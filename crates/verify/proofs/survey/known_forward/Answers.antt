@@ -9,7 +9,7 @@ use Rattle.verify.proofs.Walk.{forward_of_structure}
 use Rattle.verify.proofs.PassLaws.{length-opens}
 use Rattle.verify.proofs.UnitRuns.{room_on}
 use Rattle.verify.proofs.Surveys.{AreKnown, known_more, none_known, stops_so, survey_stopped, survey_through}
-use Rattle.verify.proofs.known.known_forward.Goals as goal
+use Rattle.verify.proofs.survey.known_forward.Goals as goal
 
 pub pass_units-requires-clause-forward : goal.pass_units-requires-clause-forward
 pass_units-requires-clause-forward c = forward_of_structure c.args.program.now c.requires

@@ -3,7 +3,7 @@ use Rattle.std.specs.Prelude.{slice_get}
 use Rattle.insn.specs.Program.{slots_of}
 use Rattle.verify.specs.Judgement.{passed_to}
 use Rattle.verify.specs.KnownAtUnits.{known_on_the_pass}
-use Rattle.verify.proofs.known.known_forward.Given as goal
+use Rattle.verify.proofs.survey.known_forward.Given as goal
 
 abbrev pub invariant-loop-unit : goal.invariant-loop-unit
 invariant-loop-unit l = record {

@@ -1,5 +1,5 @@
 use Rattle.std.proofs.Common.{◌≡◌}
-use Rattle.roster.specs.Scenario.{program_of}
+use Rattle.round.specs.Scenario.{program_of}
 use Rattle.world.specs.Kind.{each, run}
 use Rattle.world.specs.KindLists.{ticks_of}
 use Rattle.world.proofs.campaign.all_end.Given as goal

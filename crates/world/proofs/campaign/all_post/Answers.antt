@@ -1,6 +1,6 @@
 -- One general more.
 use Rattle.std.proofs.Common.{◌∙◌, ap}
-use Rattle.roster.specs.Scenario.{Scenario, program_of}
+use Rattle.round.specs.Scenario.{Scenario, program_of}
 use Rattle.world.specs.Kind.{each}
 use Rattle.world.specs.KindLists.{post_of}
 use Rattle.world.proofs.Listed.{each_more, each_inside}

@@ -1,6 +1,6 @@
 -- A general's events, or none.
 use Rattle.std.proofs.Common.{◌≡◌, ◌≤◌, ◌∙◌, sym, ap, List, arith}
-use Rattle.roster.specs.Scenario.{Scenario}
+use Rattle.round.specs.Scenario.{Scenario}
 use Rattle.world.specs.declared.event.Event.{Event}
 use Rattle.world.specs.Kind.{run}
 use Rattle.world.proofs.Listed.{line_none, entries_ok}

@@ -1,6 +1,6 @@
 -- One round more.
 use Rattle.std.proofs.Common.{◌≡◌, ◌+◌, ◌∙◌, suc, ap, arith, drop}
-use Rattle.roster.specs.Scenario.{Scenario}
+use Rattle.round.specs.Scenario.{Scenario}
 use Rattle.world.specs.Kind.{run}
 use Rattle.world.specs.KindLists.{replayed_rounds}
 use Rattle.world.specs.Playing.{lists_in}

@@ -2,7 +2,7 @@
 use Rattle.std.proofs.Common.{◌≡◌, ◌-◌, ◌∙◌, sym, subst, List, arith}
 use Rattle.std.specs.Prelude.{slice_get, replicate}
 use Rattle.world.specs.declared.event.Event.TheVariants.{Tick}
-use Rattle.world.specs.Part.{Part}
+use Rattle.world.specs.Part.{Progress}
 use Rattle.world.specs.Kind.{World, run}
 use Rattle.world.specs.Playing.{IsStill}
 use Rattle.world.proofs.Ticking.{still_ticks, some_ahead, one_less}
@@ -11,7 +11,7 @@ use Rattle.world.proofs.campaign.tick_often.Goals as goal
 pub returns-then-is_still : goal.returns-then-is_still
 returns-then-is_still g c =
     let w = g.W.Plays.seen c.loop-left.world in
-    let still : IsStill (slice_get w.parts c.args.general) = subst (λ (l : List Part). IsStill (slice_get l c.args.general)) c.open_parts.ensures (c.is_still.ensures.0 c.if-is_still.true) in
+    let still : IsStill (slice_get w.parts c.args.general) = subst (λ (l : List Progress). IsStill (slice_get l c.args.general)) c.open_parts.ensures (c.is_still.ensures.0 c.if-is_still.true) in
     sym (still_ticks g.W.Plays.kind c.loop-left.left w c.args.general still) ∙ c.loop-left.invariant
 
 pub loop-left-preserved-then-left-gt0 : goal.loop-left-preserved-then-left-gt0

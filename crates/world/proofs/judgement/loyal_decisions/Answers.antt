@@ -1,8 +1,8 @@
 -- One general more.
 use Rattle.std.proofs.Common.{◌<◌, arith, sym, ◌∙◌}
 use Rattle.world.proofs.Counted.{gathered_commander, gathered_more}
-use Rattle.world.proofs.judging.loyal_decisions.Goals as goal
-use Rattle.world.proofs.judging.loyal_decisions.Goals.{then-general-commander, else-general-commander}
+use Rattle.world.proofs.judgement.loyal_decisions.Goals as goal
+use Rattle.world.proofs.judgement.loyal_decisions.Goals.{then-general-commander, else-general-commander}
 
 pub loop-general-preserved : goal.loop-general-preserved
 loop-general-preserved c =

@@ -1,8 +1,8 @@
 -- One general more.
 use Rattle.std.proofs.Common.{◌<◌, arith, sym, ◌∙◌}
 use Rattle.world.proofs.Counted.{counted_yes, counted_no}
-use Rattle.world.proofs.judging.traitors.Goals as goal
-use Rattle.world.proofs.judging.traitors.Goals.{then-is_traitor, else-is_traitor}
+use Rattle.world.proofs.judgement.traitors.Goals as goal
+use Rattle.world.proofs.judgement.traitors.Goals.{then-is_traitor, else-is_traitor}
 
 pub loop-general-preserved : goal.loop-general-preserved
 loop-general-preserved c =

@@ -1,6 +1,6 @@
 -- A loyal general's letter follows from what he was told.
 use Rattle.std.proofs.Common.{◌+◌, length, ap, ◌∙◌, arith}
-use Rattle.letter.proofs.Contexts.{context_is}
+use Rattle.round.proofs.Contexts.{context_is}
 use Rattle.world.proofs.Hearing.{told_shape, told_own, told_ok}
 use Rattle.world.proofs.letters.loyal.Goals as goal
 

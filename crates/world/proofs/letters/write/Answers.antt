@@ -2,10 +2,10 @@
 use Rattle.std.proofs.Common.{◌≡◌, ℕ, ◌++◌, ◌∙◌, refl, sym, ap, subst, Option, Some, None, arith}
 use Rattle.std.specs.Prelude.{slice_get}
 use Rattle.std.proofs.lemmas.Option.{slice_get_past}
-use Rattle.letter.specs.Runs.{IsLetter}
+use Rattle.round.specs.Runs.{IsLetter}
 use Rattle.round.specs.Running.{letter_left}
-use Rattle.world.specs.Part.{Part}
-use Rattle.world.specs.Closing.{Draft, Begun, Whole, Missing, letter_from}
+use Rattle.world.specs.Part.{Progress}
+use Rattle.world.specs.Closing.{LetterDraft, Begun, Whole, Missing, letter_from}
 use Rattle.world.proofs.Drafting.{read_at, left_row}
 use Rattle.world.proofs.Holding.{none_written}
 use Rattle.world.proofs.Listing.{set-other}
@@ -16,7 +16,7 @@ leave-requires-clause-run c a acting =
     let g = c.args.general in
     let there = read_at c.args.drafts.now.items g c.from-place.result c.index_mut.result.now (Begun c.in-Begun.transcript) c.from-place.ensures c.requires.there c.index_mut.ensures.value (sym c.replace.ensures.value ∙ c.in-Begun.is) in
     let at = read_at c.args.parts.now.items g c.from-place.result c.index_mut-then-place-len.result.now c.index_mut-then-place-len.result.now c.from-place.ensures (let l = c.if-place-len.true in let n = c.len.ensures in let e = c.from-place.ensures in let o = c.args.parts.now.ok.0 in omega arith) c.index_mut-then-place-len.ensures.value refl in
-    subst (λ (n : ℕ). IsLetter (letter_left n c.args.round c.in-Begun.transcript a)) (sym c.from.ensures) (c.requires.run c.in-Begun.transcript a there (at ∙ ap (λ (p : Part). Some p) acting))
+    subst (λ (n : ℕ). IsLetter (letter_left n c.args.round c.in-Begun.transcript a)) (sym c.from.ensures) (c.requires.run c.in-Begun.transcript a there (at ∙ ap (λ (p : Progress). Some p) acting))
 
 pub returns-then-place-len-clause-list : goal.returns-then-place-len-clause-list
 returns-then-place-len-clause-list c =
@@ -45,7 +45,7 @@ pub returns-in-Whole-clause-list : goal.returns-in-Whole-clause-list
 returns-in-Whole-clause-list c =
     let g = c.args.general in
     let there = read_at c.args.drafts.now.items g c.from-place.result c.index_mut.result.now (Whole c.in-Whole.letter) c.from-place.ensures c.requires.there c.index_mut.ensures.value (sym c.replace.ensures.value ∙ c.in-Whole.is) in
-    c.push_reserved.ensures.items ∙ ap (λ (o : Option Draft). c.args.list.now.items ++ letter_from g c.args.round o (slice_get c.args.parts.now.items g)) (sym there)
+    c.push_reserved.ensures.items ∙ ap (λ (o : Option LetterDraft). c.args.list.now.items ++ letter_from g c.args.round o (slice_get c.args.parts.now.items g)) (sym there)
 
 pub returns-in-Whole-clause-drafts : goal.returns-in-Whole-clause-drafts
 returns-in-Whole-clause-drafts c j ne = set-other c.args.drafts.now.items c.from-place.result j c.replace.new.dest (λ e. ne (e ∙ c.from-place.ensures))
@@ -54,4 +54,4 @@ pub returns-in-Missing-clause-list : goal.returns-in-Missing-clause-list
 returns-in-Missing-clause-list c =
     let g = c.args.general in
     let there = read_at c.args.drafts.now.items g c.from-place.result c.index_mut.result.now Missing c.from-place.ensures c.requires.there c.index_mut.ensures.value (sym c.replace.ensures.value ∙ c.in-Missing.is) in
-    none_written c.args.list.now.items (letter_from g c.args.round (slice_get c.args.drafts.now.items g) (slice_get c.args.parts.now.items g)) (ap (λ (o : Option Draft). letter_from g c.args.round o (slice_get c.args.parts.now.items g)) there)
+    none_written c.args.list.now.items (letter_from g c.args.round (slice_get c.args.drafts.now.items g) (slice_get c.args.parts.now.items g)) (ap (λ (o : Option LetterDraft). letter_from g c.args.round o (slice_get c.args.parts.now.items g)) there)

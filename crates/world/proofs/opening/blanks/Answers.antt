@@ -1,6 +1,6 @@
 -- One part more.
 use Rattle.std.proofs.Common.{[], ◌∷◌, refl, arith}
-use Rattle.roster.specs.Scenario.{program_of}
+use Rattle.round.specs.Scenario.{program_of}
 use Rattle.world.specs.Closing.{blank}
 use Rattle.world.proofs.Holding.{more_each}
 use Rattle.world.proofs.opening.blanks.Goals as goal

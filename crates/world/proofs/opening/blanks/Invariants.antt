@@ -1,6 +1,6 @@
 use Rattle.std.proofs.Common.{◌≡◌, ◌≤◌, [], ◌∷◌}
 use Rattle.std.specs.Vec.{vec_len, vec_capacity}
-use Rattle.roster.specs.Scenario.{program_of}
+use Rattle.round.specs.Scenario.{program_of}
 use Rattle.world.specs.World.{each}
 use Rattle.world.specs.Closing.{blank}
 use Rattle.world.proofs.opening.blanks.Given as goal

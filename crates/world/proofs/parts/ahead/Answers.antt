@@ -1,7 +1,7 @@
 -- As many ticks as steps.
 use Rattle.std.proofs.Common.{◌-◌, inl, inr, refl, arith, [], rules}
 use Rattle.std.proofs.lemmas.Option.{slice_get_read}
-use Rattle.letter.proofs.Stepping.{runs_steps}
+use Rattle.round.proofs.Stepping.{runs_steps}
 use Rattle.world.proofs.Holding.{idle_ahead, acting_ahead}
 use Rattle.world.proofs.parts.ahead.Goals as goal
 

@@ -1,8 +1,8 @@
 use Rattle.std.proofs.Common.{◌≡◌, ◌*◌, arith, take}
 use Rattle.insn.specs.Insn.{units_of}
-use Rattle.partial.specs.Pieces.{Spelled, Raw}
-use Rattle.partial.proofs.PieceLemmas.{raw_first, spelled_first}
-use Rattle.partial.proofs.disassembler.put_piece.Goals as goal
+use Rattle.asm.specs.Pieces.{Spelled, Raw}
+use Rattle.asm.proofs.PieceLemmas.{raw_first, spelled_first}
+use Rattle.asm.proofs.partial.disassembler.put_piece.Goals as goal
 
 pub returns-in_ok-put_instruction-in-Ok-clause-piece : goal.returns-in_ok-put_instruction-in-Ok-clause-piece
 returns-in_ok-put_instruction-in-Ok-clause-piece c =

@@ -1,10 +1,10 @@
 use Rattle.std.proofs.Common.{◌≡◌, [], arith, string_bytes, w8}
 use Rattle.std.proofs.Math.Facts.{Fits-lt-pow}
 use Rattle.std.proofs.lemmas.Grind.{common_steps}
-use Rattle.partial.proofs.ByteLemmas.{are_bytes}
-use Rattle.partial.proofs.PieceLemmas.{all_read, read_on, whole_left}
-use Rattle.partial.proofs.RoundLemmas.{says_again}
-use Rattle.partial.proofs.disassembler.text_of.Goals as goal
+use Rattle.asm.proofs.ByteLemmas.{are_bytes}
+use Rattle.asm.proofs.PieceLemmas.{all_read, read_on, whole_left}
+use Rattle.asm.proofs.PartialLemmas.{says_again}
+use Rattle.asm.proofs.partial.disassembler.text_of.Goals as goal
 
 pub loop-rest-preserved : goal.loop-rest-preserved
 loop-rest-preserved c = record {

@@ -1,8 +1,8 @@
 -- What was read stands before what is left, and its lines are told.
 use Rattle.std.proofs.Common.{◌≡◌, ◌%◌, List, length, string_bytes}
-use Rattle.partial.specs.Pieces.{Piece}
-use Rattle.partial.proofs.PieceLemmas.{IsReadTo}
-use Rattle.partial.proofs.disassembler.text_of.Given as goal
+use Rattle.asm.specs.Pieces.{Piece}
+use Rattle.asm.proofs.PieceLemmas.{IsReadTo}
+use Rattle.asm.proofs.partial.disassembler.text_of.Given as goal
 
 abbrev pub invariant-loop-rest : goal.invariant-loop-rest
 invariant-loop-rest l = record { whole : length l.rest % 8 ≡ 0; read : (before : List Piece) × IsReadTo l.bytes l.rest (string_bytes l.text) before }

@@ -1,7 +1,7 @@
 use Rattle.std.proofs.Common.{◌<◌, length, arith}
 use Rattle.std.proofs.lemmas.Grind.{common_steps}
-use Rattle.partial.proofs.LineLemmas.{cut_line, one_line}
-use Rattle.partial.proofs.lines.first_line.Goals as goal
+use Rattle.asm.proofs.LineLemmas.{cut_line, one_line}
+use Rattle.asm.proofs.partial.lines.first_line.Goals as goal
 
 pub returns-in-Some-clause-first : goal.returns-in-Some-clause-first
 returns-in-Some-clause-first c = cut_line c.args.text.now c.in-Some.cut c.in-Some.ensures.cases

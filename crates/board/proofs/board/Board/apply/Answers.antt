@@ -2,7 +2,7 @@ use Rattle.std.proofs.Common.{◌≡◌, true, List, ℕ, sym, subst}
 use Rattle.semantics.specs.Call.{fits}
 use Rattle.board.proofs.Serving.{reply_fits}
 use Rattle.board.proofs.Keeping.{kept_next}
-use Rattle.board.proofs.object.Board.apply.Goals as goal
+use Rattle.board.proofs.board.Board.apply.Goals as goal
 
 pub invariant_of-self-2 : goal.invariant_of-self-2
 invariant_of-self-2 c =

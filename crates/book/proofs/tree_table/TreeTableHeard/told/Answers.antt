@@ -2,7 +2,7 @@ use Rattle.std.proofs.Common.{◌∙◌, ap, refl}
 use Rattle.tree.specs.LieutenantTree.{LieutenantTree}
 use Rattle.book.specs.Table.{told}
 use Rattle.book.proofs.TreeLemmas.{place_of_tree}
-use Rattle.tables.proofs.tree_table.TreeTableHeard.told.Goals as goal
+use Rattle.book.proofs.tree_table.TreeTableHeard.told.Goals as goal
 
 pub tree-requires : goal.tree-requires
 tree-requires c =

@@ -3,10 +3,10 @@ use Rattle.std.proofs.lemmas.Option.{slice_get_within, get_or_from_slice_get}
 use Rattle.book.specs.Table.{told}
 use Rattle.book.specs.Trees.{tree_of}
 use Rattle.book.proofs.TreeLemmas.{tree_at}
-use Rattle.tables.specs.Collected.{collected}
-use Rattle.tables.specs.Hearing.{heard}
-use Rattle.tables.proofs.LineLemmas.{place_small}
-use Rattle.tables.proofs.tree_table.TreeTableHeard.tree.Goals as goal
+use Rattle.book.specs.Collected.{collected}
+use Rattle.book.specs.Hearing.{heard}
+use Rattle.book.proofs.LineLemmas.{place_small}
+use Rattle.book.proofs.tree_table.TreeTableHeard.tree.Goals as goal
 
 pub bounds-self-inside-place : goal.bounds-self-inside-place
 bounds-self-inside-place c =

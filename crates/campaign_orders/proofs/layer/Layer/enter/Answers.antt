@@ -1,9 +1,9 @@
 -- Joined with one with an alike world, or behind all.
 use Rattle.std.proofs.Common.{◌≡◌, List, ap, get_or, set, subst}
-use Rattle.explore.specs.Layers.{State}
-use Rattle.explore.proofs.Stating.{enters_behind}
-use Rattle.explore.proofs.Weighing.{joins}
-use Rattle.explore.proofs.layer.Layer.enter.Goals as goal
+use Rattle.campaign_orders.specs.Layers.{State}
+use Rattle.campaign_orders.proofs.Stating.{enters_behind}
+use Rattle.campaign_orders.proofs.Weighing.{joins}
+use Rattle.campaign_orders.proofs.layer.Layer.enter.Goals as goal
 
 pub returns-in-Some : goal.returns-in-Some
 returns-in-Some c =

@@ -1,8 +1,8 @@
 -- The place where it was found.
 use Rattle.std.proofs.Common.{◌≡◌, ◌∙◌, List, subst}
-use Rattle.explore.specs.Layers.{State, IsAlikeAt}
-use Rattle.explore.proofs.Stating.{alike_at}
-use Rattle.explore.proofs.layer.Layer.place_of.Goals as goal
+use Rattle.campaign_orders.specs.Layers.{State, IsAlikeAt}
+use Rattle.campaign_orders.proofs.Stating.{alike_at}
+use Rattle.campaign_orders.proofs.layer.Layer.place_of.Goals as goal
 
 pub returns-then-is_like : goal.returns-then-is_like
 returns-then-is_like c =

@@ -1,6 +1,6 @@
 use Rattle.std.proofs.Common.{◌≡◌, ◌∙◌, ◌++◌, List, Option, Some, None, ℕ, ap, append_assoc, codes, option_map, refl, string_bytes, subst, sym}
 use Rattle.std.specs.Fmt.{DisplaysOnOk, debug_str, ◌++?◌}
-use Rattle.command_line.proofs.errors.MisuseDisplay.fmt.Goals as goal
+use Rattle.cli_words.proofs.errors.MisuseDisplay.fmt.Goals as goal
 
 -- a text that is put together from the left
 parts : (a own b option d wanted behind : List ℕ) → behind ≡ b ++ (option ++ (d ++ wanted)) → a ++ own ++ b ++ option ++ d ++ wanted ≡ a ++ (own ++ behind)

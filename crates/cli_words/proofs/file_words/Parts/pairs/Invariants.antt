@@ -1,8 +1,8 @@
 use Rattle.std.proofs.Common.{◌≡◌, ◌++◌, length, map}
-use Rattle.command_line.specs.Asked.{words_of}
-use Rattle.command_line.specs.Several.{pairs, request_of}
-use Rattle.command_line.proofs.SeveralLemmas.{texts}
-use Rattle.command_line.proofs.several.Parts.pairs.Given as goal
+use Rattle.cli_words.specs.Asked.{words_of}
+use Rattle.cli_words.specs.Several.{pairs, request_of}
+use Rattle.cli_words.proofs.SeveralLemmas.{texts}
+use Rattle.cli_words.proofs.file_words.Parts.pairs.Given as goal
 
 abbrev pub invariant-loop-rest : goal.invariant-loop-rest
 invariant-loop-rest l =

@@ -1,8 +1,8 @@
 use Rattle.std.proofs.Common.{◌≡◌, map, take}
-use Rattle.command_line.specs.Asked.{words_of}
-use Rattle.command_line.specs.Several.{request_of, singles}
-use Rattle.command_line.proofs.SeveralLemmas.{texts}
-use Rattle.command_line.proofs.several.Parts.singles.Given as goal
+use Rattle.cli_words.specs.Asked.{words_of}
+use Rattle.cli_words.specs.Several.{request_of, singles}
+use Rattle.cli_words.proofs.SeveralLemmas.{texts}
+use Rattle.cli_words.proofs.file_words.Parts.singles.Given as goal
 
 abbrev pub invariant-loop-file : goal.invariant-loop-file
 invariant-loop-file l =

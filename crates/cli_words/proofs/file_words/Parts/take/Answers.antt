@@ -1,6 +1,6 @@
 use Rattle.std.proofs.Common.{sym, ◌∙◌}
-use Rattle.command_line.proofs.SeveralLemmas.{flag_taken}
-use Rattle.command_line.proofs.several.Parts.take.Goals as goal
+use Rattle.cli_words.proofs.SeveralLemmas.{flag_taken}
+use Rattle.cli_words.proofs.file_words.Parts.take.Goals as goal
 
 pub returns-then-is_flag : goal.returns-then-is_flag
 returns-then-is_flag c = λ rest.

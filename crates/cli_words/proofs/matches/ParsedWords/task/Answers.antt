@@ -1,6 +1,6 @@
-use Rattle.command_line.specs.Met.{told_by}
-use Rattle.command_line.proofs.MetLemmas.{no_other_task}
-use Rattle.command_line.proofs.met.Met.task.Goals as goal
+use Rattle.cli_words.specs.Met.{told_by}
+use Rattle.cli_words.proofs.MetLemmas.{no_other_task}
+use Rattle.cli_words.proofs.matches.ParsedWords.task.Goals as goal
 
 pub unreachable-requires : goal.unreachable-requires
 unreachable-requires c = no_other_task (told_by c.args.self) c.requires c.in_default.not-check c.in_default.not-asm

@@ -1,8 +1,8 @@
 use Rattle.std.proofs.Common.{◌∙◌, None, cond, sym}
 use Rattle.clap.specs.Words.{found_of}
-use Rattle.command_line.specs.Lab.{is_given}
-use Rattle.command_line.proofs.MetLemmas.{value_given}
-use Rattle.command_line.proofs.met.Met.value.Goals as goal
+use Rattle.cli_words.specs.Lab.{is_given}
+use Rattle.cli_words.proofs.MetLemmas.{value_given}
+use Rattle.cli_words.proofs.matches.ParsedWords.value.Goals as goal
 
 pub returns : goal.returns
 returns c = value_given (found_of c.args.self.found.now) c.args.name.now

@@ -1,8 +1,8 @@
 use Rattle.std.proofs.Common.{◌∙◌, sym}
 use Rattle.std.proofs.lemmas.List.{at_drop_all}
 use Rattle.clap.specs.Words.{app_of}
-use Rattle.command_line.proofs.CommandLemmas.{flag_more, place_more, row_is, still_local, with_places}
-use Rattle.command_line.proofs.subcommand.Subcommand.command.Goals as goal
+use Rattle.cli_words.proofs.CommandLemmas.{flag_more, place_more, row_is, still_local, with_places}
+use Rattle.cli_words.proofs.subcommand.Subcommand.command.Goals as goal
 
 pub loop-flag-init : goal.loop-flag-init
 loop-flag-init c = record {

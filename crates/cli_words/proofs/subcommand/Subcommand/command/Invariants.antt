@@ -1,9 +1,9 @@
 use Rattle.std.proofs.Common.{◌≡◌, drop, false}
 use Rattle.clap.specs.Words.{app_of, new_app}
 use Rattle.clap.specs.declared.builder.command.Command.TheViews.{out-Command}
-use Rattle.command_line.specs.Subcommand.{shape_for}
-use Rattle.command_line.proofs.CommandLemmas.{with_flags, with_places}
-use Rattle.command_line.proofs.subcommand.Subcommand.command.Given as goal
+use Rattle.cli_words.specs.Subcommand.{shape_for}
+use Rattle.cli_words.proofs.CommandLemmas.{with_flags, with_places}
+use Rattle.cli_words.proofs.subcommand.Subcommand.command.Given as goal
 
 abbrev pub invariant-loop-place : goal.invariant-loop-place
 invariant-loop-place l = record {

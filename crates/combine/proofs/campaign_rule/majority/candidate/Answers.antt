@@ -1,8 +1,8 @@
 use Rattle.std.proofs.Common.{take, get_or, arith, inl, inr}
 use Rattle.std.proofs.lemmas.List.{take_more, take_all}
 use Rattle.combine.proofs.Voting.{Led, leads-up, leads-down, leads-only}
-use Rattle.combine.proofs.chosen.majority.candidate.Goals as goal
-use Rattle.combine.proofs.chosen.majority.candidate.Goals.{then-lead-eq0, else-lead-eq0, then-x-candidate, else-x-candidate}
+use Rattle.combine.proofs.campaign_rule.majority.candidate.Goals as goal
+use Rattle.combine.proofs.campaign_rule.majority.candidate.Goals.{then-lead-eq0, else-lead-eq0, then-x-candidate, else-x-candidate}
 
 pub loop-x-preserved : goal.loop-x-preserved
 loop-x-preserved c =

@@ -1,6 +1,6 @@
 use Rattle.std.proofs.Common.{sym, ◌∙◌}
 use Rattle.combine.proofs.Most.{voted, unvoted}
-use Rattle.combine.proofs.chosen.majority.most.Goals as goal
+use Rattle.combine.proofs.campaign_rule.majority.most.Goals as goal
 
 pub returns-then-is_in_most : goal.returns-then-is_in_most
 returns-then-is_in_most c = voted c.args.orders.now c.candidate-candidate.result (sym c.is_in_most.ensures ∙ c.if-is_in_most.true)

@@ -2,7 +2,7 @@
 use Rattle.std.proofs.Common.{ap, ◌∙◌}
 use Rattle.outbox.specs.Rows.{empty_row}
 use Rattle.outbox.proofs.AlikeRows.{apart_none, apart_some}
-use Rattle.outbox.proofs.alike.Alike.apart.Goals as goal
+use Rattle.outbox.proofs.alike_row.UniformRow.apart.Goals as goal
 
 pub returns-in-Some : goal.returns-in-Some
 returns-in-Some c = apart_some c.self.inside.order c.in-Some.order c.self.inside.receivers c.new-row.result c.put_all.new.self c.args.self.now c.in-Some.is (c.new-row.ensures ∙ ap empty_row c.copy.ensures) c.put_all.ensures c.self.view_is

@@ -1,7 +1,7 @@
 -- Of those who hear of it.
 use Rattle.std.proofs.Common.{sym, ◌∙◌, true, false}
 use Rattle.outbox.proofs.AlikeRows.{order_seen}
-use Rattle.outbox.proofs.alike.Alike.order.Goals as goal
+use Rattle.outbox.proofs.alike_row.UniformRow.order.Goals as goal
 
 pub returns-then-has : goal.returns-then-has
 returns-then-has c = order_seen c.self.inside.order c.self.inside.receivers c.args.self.now c.args.receiver true c.self.view_is (sym c.has.ensures.among ∙ c.if-has.true)

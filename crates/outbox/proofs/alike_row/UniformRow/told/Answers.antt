@@ -1,7 +1,7 @@
 -- One order more.
 use Rattle.std.proofs.Common.{ℕ, ◌≡◌, List, Option, [], ◌∷◌, ◌++◌, length, length-append, ap, ◌∙◌, arith}
 use Rattle.outbox.proofs.AlikeRows.{one_more, told_seen}
-use Rattle.outbox.proofs.alike.Alike.told.Goals as goal
+use Rattle.outbox.proofs.alike_row.UniformRow.told.Goals as goal
 
 pub loop-number-preserved : goal.loop-number-preserved
 loop-number-preserved c =

@@ -1,5 +1,5 @@
 use Rattle.std.proofs.Common.{◌≡◌, ◌≤◌, length, replicate}
-use Rattle.outbox.proofs.alike.Alike.told.Given as goal
+use Rattle.outbox.proofs.alike_row.UniformRow.told.Given as goal
 
 abbrev pub invariant-loop-number : goal.invariant-loop-number
 invariant-loop-number l = record {

@@ -1,5 +1,5 @@
 use Rattle.outbox.proofs.AlikeRows.{told_seen, told_long}
-use Rattle.outbox.proofs.alike.Alike.told_at_once.Goals as goal
+use Rattle.outbox.proofs.alike_row.UniformRow.told_at_once.Goals as goal
 
 pub returns-clause-orders : goal.returns-clause-orders
 returns-clause-orders c = told_seen c.self.inside.order c.self.inside.receivers c.args.self.now c.count.result c.self.view_is c.count.ensures.count

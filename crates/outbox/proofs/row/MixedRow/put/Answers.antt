@@ -3,7 +3,7 @@ use Rattle.std.proofs.Common.{◌≡◌, ◌<◌, List, Option, ℕ, sym, ap, �
 use Rattle.label.specs.Labels.{on}
 use Rattle.outbox.specs.Rows.{receivers_in, put_in_row, row_of}
 use Rattle.outbox.proofs.RowLemmas.{names_in, row_put, row_kept}
-use Rattle.outbox.proofs.row.Row.put.Goals as goal
+use Rattle.outbox.proofs.row.MixedRow.put.Goals as goal
 
 pub returns-then-there-clause-row : goal.returns-then-there-clause-row
 returns-then-there-clause-row c =

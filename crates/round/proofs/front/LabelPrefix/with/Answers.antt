@@ -1,7 +1,7 @@
 use Rattle.std.proofs.Common.{◌≡◌, ◌-◌, ◌+◌, ℕ, ap, true, refl, arith}
 use Rattle.std.proofs.Math.ListN.{set}
-use Rattle.delivery.proofs.Prolonging.{front_with}
-use Rattle.delivery.proofs.front.Front.with.Goals as goal
+use Rattle.round.proofs.Prolonging.{front_with}
+use Rattle.round.proofs.front.LabelPrefix.with.Goals as goal
 
 pub returns : goal.returns
 returns c = λ k w within few inside h off eb.

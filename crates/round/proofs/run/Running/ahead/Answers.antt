@@ -2,10 +2,10 @@
 use Rattle.std.proofs.Common.{◌≡◌, ◌∙◌, ap, sym}
 use Rattle.std.specs.Arc.{arc_value}
 use Rattle.machine.specs.Standing.{Standing}
-use Rattle.letter.specs.Runs.{IsWithin}
+use Rattle.round.specs.Runs.{IsWithin}
 use Rattle.round.specs.Running.{activation_of}
 use Rattle.round.proofs.Turning.{went_under}
-use Rattle.round.proofs.running.Running.ahead.Goals as goal
+use Rattle.round.proofs.run.Running.ahead.Goals as goal
 
 pub returns-clause-went : goal.returns-clause-went
 returns-clause-went c =

@@ -1,11 +1,11 @@
 -- At its start it stands in a run whatever it is told.
 use Rattle.std.proofs.Common.{◌≡◌, ◌∙◌, ℕ, Ok, List, ap, sym, subst, arith, length}
 use Rattle.semantics.specs.Relay.{IsContext}
-use Rattle.letter.specs.Activation.{started}
-use Rattle.letter.proofs.Contexts.{context_is}
-use Rattle.delivery.proofs.Values.{all_told}
+use Rattle.round.specs.Activation.{started}
+use Rattle.round.proofs.Contexts.{context_is}
+use Rattle.round.proofs.Values.{all_told}
 use Rattle.round.proofs.Briefing.{briefed, briefed_live}
-use Rattle.round.proofs.running.Running.brief.Goals as goal
+use Rattle.round.proofs.run.Running.brief.Goals as goal
 
 pub write_context_after-requires-clause-room : goal.write_context_after-requires-clause-room
 write_context_after-requires-clause-room c =

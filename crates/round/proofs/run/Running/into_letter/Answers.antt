@@ -1,11 +1,11 @@
 -- What is left is a letter.
 use Rattle.std.proofs.Common.{◌∙◌, ap, sym, subst}
-use Rattle.letter.specs.Activation.{Activation}
+use Rattle.round.specs.Activation.{Activation}
 use Rattle.machine.specs.Standing.{Standing}
-use Rattle.letter.specs.Letters.{Letter}
-use Rattle.letter.specs.Runs.{IsLetter}
+use Rattle.round.specs.Letters.{Letter}
+use Rattle.round.specs.Runs.{IsLetter}
 use Rattle.round.specs.Running.{letter_left}
-use Rattle.round.proofs.running.Running.into_letter.Goals as goal
+use Rattle.round.proofs.run.Running.into_letter.Goals as goal
 
 pub invariant_of-result : goal.invariant_of-result
 invariant_of-result c =

@@ -2,8 +2,8 @@
 use Rattle.std.proofs.Common.{◌∙◌, ap, List, Option}
 use Rattle.std.specs.Prelude.{slice_get}
 use Rattle.insn.specs.declared.insn.Insn.{Insn}
-use Rattle.roster.proofs.Programs.{program_at}
-use Rattle.roster.proofs.scenario.Scenario.new.Goals as goal
+use Rattle.round.proofs.Programs.{program_at}
+use Rattle.round.proofs.scenario.Scenario.new.Goals as goal
 
 pub invariant_of-result : goal.invariant_of-result
 invariant_of-result c = record {

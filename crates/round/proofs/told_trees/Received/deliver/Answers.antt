@@ -2,11 +2,11 @@
 use Rattle.std.proofs.Common.{◌+◌, ◌++◌, ◌∷◌, [], ◌∙◌, ℕ, List, suc, arith, sym, ap, subst}
 use Rattle.std.proofs.lemmas.List.{with_items_is}
 use Rattle.tree.specs.LieutenantTree.{LieutenantTree}
-use Rattle.letter.specs.Origin.{AreLettersOf}
-use Rattle.delivery.specs.Told.{AreOfCampaign, ToldSeen, WasTold}
-use Rattle.delivery.specs.Delivery.{AreApart, AreDueIn, AreEach, IsTold}
-use Rattle.delivery.proofs.Filling.{letters_due, trees_apart, trees_due, told_more}
-use Rattle.delivery.proofs.told.Told.deliver.Goals as goal
+use Rattle.round.specs.Origin.{AreLettersOf}
+use Rattle.round.specs.Told.{AreOfCampaign, ToldSeen, WasTold}
+use Rattle.round.specs.Delivery.{AreApart, AreDueIn, AreEach, IsTold}
+use Rattle.round.proofs.Filling.{letters_due, trees_apart, trees_due, told_more}
+use Rattle.round.proofs.told_trees.Received.deliver.Goals as goal
 
 pub deliver_to_all-requires-clause-letters : goal.deliver_to_all-requires-clause-letters
 deliver_to_all-requires-clause-letters c =

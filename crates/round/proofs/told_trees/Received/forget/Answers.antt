@@ -2,10 +2,10 @@
 use Rattle.std.proofs.Common.{◌≡◌, ◌-◌, ◌++◌, ◌∷◌, [], ℕ, suc, length, arith, sym, subst}
 use Rattle.label.specs.Oral.{Messages}
 use Rattle.tree.specs.LieutenantTree.{IsFilled, blank}
-use Rattle.delivery.specs.Told.{ToldSeen, WasTold}
-use Rattle.delivery.proofs.EachTree.{changed_next}
-use Rattle.delivery.proofs.Forgetting.{some_told, told_less}
-use Rattle.delivery.proofs.told.Told.forget.Goals as goal
+use Rattle.round.specs.Told.{ToldSeen, WasTold}
+use Rattle.round.proofs.EachTree.{changed_next}
+use Rattle.round.proofs.Forgetting.{some_told, told_less}
+use Rattle.round.proofs.told_trees.Received.forget.Goals as goal
 
 pub loop-index-preserved : goal.loop-index-preserved
 loop-index-preserved c = record {

@@ -1,7 +1,7 @@
 use Rattle.std.proofs.Common.{◌≡◌}
 use Rattle.tree.specs.LieutenantTree.{blank}
-use Rattle.delivery.proofs.EachTree.{AreChangedTo}
-use Rattle.delivery.proofs.told.Told.forget.Given as goal
+use Rattle.round.proofs.EachTree.{AreChangedTo}
+use Rattle.round.proofs.told_trees.Received.forget.Given as goal
 
 abbrev pub invariant-loop-index : goal.invariant-loop-index
 invariant-loop-index l = record {

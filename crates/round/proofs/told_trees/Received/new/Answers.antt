@@ -1,9 +1,9 @@
 -- A tree for each lieutenant.
 use Rattle.std.proofs.Common.{◌≡◌, ◌<◌, ◌+◌, ◌∙◌, ℕ, List, arith, sym, ap, subst, refl}
 use Rattle.tree.specs.LieutenantTree.{LieutenantTree}
-use Rattle.delivery.specs.Told.{lieutenant_at}
-use Rattle.delivery.proofs.Filling.{AreSilent, silent_none, silent_more, told_none, tree_new, lieutenant_other, lieutenant_within}
-use Rattle.delivery.proofs.told.Told.new.Goals as goal
+use Rattle.round.specs.Told.{lieutenant_at}
+use Rattle.round.proofs.Filling.{AreSilent, silent_none, silent_more, told_none, tree_new, lieutenant_other, lieutenant_within}
+use Rattle.round.proofs.told_trees.Received.new.Goals as goal
 
 pub loop-index-init : goal.loop-index-init
 loop-index-init c = subst (λ (l : List LieutenantTree). AreSilent c.args.scenario.now 0 l) (sym c.in_ok-trees.ensures.items) (silent_none c.args.scenario.now)

@@ -1,11 +1,11 @@
 -- A lieutenant's values are a level of his tree.
 use Rattle.std.proofs.Common.{◌≡◌, ◌≤◌, ℕ, List, Ok, length, take, ap, ◌∙◌, arith, sym, subst, inl, inr}
-use Rattle.letter.specs.Letters.{Letter}
-use Rattle.letter.specs.Contexts.{context_of, AreWords}
-use Rattle.delivery.specs.Told.{ToldSeen, WasTold}
-use Rattle.delivery.proofs.Filling.{looked_up, looked_tree}
-use Rattle.delivery.proofs.Values.{few_values, first_told, commander_told, later_told, words_told, words_first}
-use Rattle.delivery.proofs.told.Told.write_context_after.Goals as goal
+use Rattle.round.specs.Letters.{Letter}
+use Rattle.round.specs.Contexts.{context_of, AreWords}
+use Rattle.round.specs.Told.{ToldSeen, WasTold}
+use Rattle.round.proofs.Filling.{looked_up, looked_tree}
+use Rattle.round.proofs.Values.{few_values, first_told, commander_told, later_told, words_told, words_first}
+use Rattle.round.proofs.told_trees.Received.write_context_after.Goals as goal
 
 pub level-requires-clause-short : goal.level-requires-clause-short
 level-requires-clause-short c =

@@ -1,5 +1,5 @@
 use Rattle.std.proofs.Common.{◌≡◌, ◌+◌, [], All, length}
-use Rattle.shared_board.proofs.shared.SharedBoard.new.Given as goal
+use Rattle.shared_board.proofs.shared_board.SharedBoard.new.Given as goal
 
 abbrev pub invariant-loop : goal.invariant-loop
 invariant-loop g l = record {

@@ -1,6 +1,6 @@
 use Rattle.std.proofs.Common.{◌≡◌, ◌≤◌, ◌-◌, ◌*◌, length, take, vec_len, flat_map}
 use Rattle.signed.specs.Sending.{lent, received_in}
-use Rattle.signed.proofs.held.Held.behind.Given as goal
+use Rattle.signed.proofs.held_chains.Held.behind.Given as goal
 
 abbrev pub invariant-loop-round : goal.invariant-loop-round
 invariant-loop-round l = record {

@@ -2,9 +2,9 @@
 use Rattle.std.proofs.Common.{◌≡◌, ◌≤◌, ◌∷◌, ◌++◌, [], List, suc, length, drop, ap, sym, subst, ◌∙◌, arith}
 use Rattle.std.specs.Prelude.{◌&&◌}
 use Rattle.std.specs.List.{list_all}
-use Rattle.letter.specs.Letters.{Letter}
+use Rattle.round.specs.Letters.{Letter}
 use Rattle.world.specs.declared.event.Event.TheVariants.{Close}
-use Rattle.world.specs.declared.part.Part.{Part}
+use Rattle.world.specs.declared.part.Progress.{Progress}
 use Rattle.world.specs.Part.{owes_no_letter}
 use Rattle.world.specs.Kind.{World, happen}
 use Rattle.signed.specs.Kind.{signed_kind}
@@ -82,7 +82,7 @@ parts_are : (c : goal.After-drop-self-inside) → c.in-Ok.parts.items ≡ beginn
 parts_are c = c.in-Ok.ensures ∙ ap (λ (x : Sent). beginnings_behind c.self.inside.scenario x) c.as_slice-5.ensures.value
 
 full_is : (c : goal.After-drop-self-inside) → c.is_full-full.result ≡ (c.self.inside.full && list_all owes_no_letter c.self.inside.parts.items)
-full_is c = c.is_full-full.ensures ∙ ap (λ (l : List Part). c.self.inside.full && list_all owes_no_letter l) c.as_slice-6.ensures.value
+full_is c = c.is_full-full.ensures ∙ ap (λ (l : List Progress). c.self.inside.full && list_all owes_no_letter l) c.as_slice-6.ensures.value
 
 pub invariant_of-self-2 : goal.invariant_of-self-2
 invariant_of-self-2 c =

@@ -1,6 +1,6 @@
 -- Lieutenant by lieutenant.
 use Rattle.std.proofs.Common.{◌≡◌, ◌≢◌, ◌<◌, ◌≤◌, length, sym, ap, subst, ◌∙◌, arith, lit<}
-use Rattle.roster.specs.Scenario.{IsScenario}
+use Rattle.round.specs.Scenario.{IsScenario}
 use Rattle.world.specs.Kind.{World}
 use Rattle.signed.specs.Accepted.{decided}
 use Rattle.signed.specs.Chronicle.{signed_decisions}

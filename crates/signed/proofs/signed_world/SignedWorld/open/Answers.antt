@@ -1,6 +1,6 @@
 -- The world before any event.
 use Rattle.std.proofs.Common.{List, true, ap, sym, subst, ◌∙◌}
-use Rattle.letter.specs.Letters.{Letter}
+use Rattle.round.specs.Letters.{Letter}
 use Rattle.world.specs.KindHeld.{world_of}
 use Rattle.signed.specs.Sending.{signatures, IsSignedHeld}
 use Rattle.signed.proofs.Closed.{none_sent, opened, opened_held}

@@ -1,7 +1,7 @@
 use Rattle.clap.specs.Words.{found_of, rows_of}
 use Rattle.surveyor.specs.Wrong.{IsRefused}
 use Rattle.surveyor.proofs.MeantLemmas.{NoBreak, handed_on, no_break, no_break_shape}
-use Rattle.surveyor.proofs.meant.breaks.break_of.Goals as goal
+use Rattle.surveyor.proofs.task_words.breaks.break_of.Goals as goal
 
 pub returns-in_err-survey-clause-refused : goal.returns-in_err-survey-clause-refused
 returns-in_err-survey-clause-refused c =

@@ -2,7 +2,7 @@ use Rattle.std.proofs.Common.{codes, refl}
 use Rattle.clap.specs.Words.{found_of, rows_of}
 use Rattle.surveyor.specs.Wrong.{IsRefused}
 use Rattle.surveyor.proofs.MeantLemmas.{NoSurvey, handed_on, no_bound}
-use Rattle.surveyor.proofs.meant.plays.survey_of.Goals as goal
+use Rattle.surveyor.proofs.task_words.plays.survey_of.Goals as goal
 
 pub returns-in_err-bound-clause-refused : goal.returns-in_err-bound-clause-refused
 returns-in_err-bound-clause-refused c =

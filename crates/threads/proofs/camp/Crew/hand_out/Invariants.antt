@@ -1,6 +1,6 @@
 use Rattle.std.proofs.Common.{◌≡◌, ◌≤◌, length, vec_len}
 use Rattle.threads.specs.Inboxes.{AreByGeneral}
-use Rattle.threads.proofs.camp.Camp.hand_out.Given as goal
+use Rattle.threads.proofs.camp.Crew.hand_out.Given as goal
 
 abbrev pub invariant-loop-task : goal.invariant-loop-task
 invariant-loop-task g l = record {

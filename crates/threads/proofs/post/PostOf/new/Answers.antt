@@ -1,10 +1,10 @@
 use Rattle.std.proofs.Common.{ap, ◌∙◌, ◌≡◌, ℕ, ◌+◌, ◌<◌, ◌++◌, ◌∷◌, [], length, arith, sym, rules, slice_index_or, List, subst, length-append}
-use Rattle.post.specs.Rule.{collector, poster}
-use Rattle.post.specs.Seen.{PosterSeen, poster_seen}
-use Rattle.post.specs.declared.known.Known.{Known}
+use Rattle.threads.specs.Rule.{collector, poster}
+use Rattle.threads.specs.Seen.{PosterSeen, poster_seen}
+use Rattle.threads.specs.declared.knowledge.Known.{Known}
 use Rattle.crossbeam_queue.specs.Passes.{view}
-use Rattle.post.proofs.Rules.{begins_only, hires_only, each_more}
-use Rattle.post.proofs.post.PostOf.new.Goals as goal
+use Rattle.threads.proofs.Rules.{begins_only, hires_only, each_more}
+use Rattle.threads.proofs.post.PostOf.new.Goals as goal
 
 pub ruled-requires-clause-rule : goal.ruled-requires-clause-rule
 ruled-requires-clause-rule g c = begins_only g.C.Claim.holds

@@ -1,8 +1,8 @@
 use Rattle.std.proofs.Common.{◌≡◌, ℕ, ◌<◌, [], length, slice_index_or}
 use Rattle.crossbeam_queue.specs.Passes.{view, IsPassOf}
-use Rattle.post.specs.Rule.{collector}
-use Rattle.post.specs.Seen.{PosterSeen, poster_seen}
-use Rattle.post.proofs.post.PostOf.new.Given as goal
+use Rattle.threads.specs.Rule.{collector}
+use Rattle.threads.specs.Seen.{PosterSeen, poster_seen}
+use Rattle.threads.proofs.post.PostOf.new.Given as goal
 
 abbrev pub invariant-loop : goal.invariant-loop
 invariant-loop g l = record {

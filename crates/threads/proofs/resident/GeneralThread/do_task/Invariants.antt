@@ -1,5 +1,5 @@
 use Rattle.threads.specs.Served.{told_in}
-use Rattle.threads.proofs.resident.Resident.do_task.Given as goal
+use Rattle.threads.proofs.resident.GeneralThread.do_task.Given as goal
 
 -- what his poster has told before, and what his gate says
 abbrev pub ghosts-letter : goal.ghosts-letter

@@ -1,7 +1,7 @@
 use Rattle.std.proofs.Common.{◌≡◌}
 use Rattle.std.specs.Prelude.{All}
 use Rattle.threads.specs.Served.{told_in, IsGated, AreWitnessed}
-use Rattle.threads.proofs.resident.Resident.do_tasks.Given as goal
+use Rattle.threads.proofs.resident.GeneralThread.do_tasks.Given as goal
 
 abbrev pub invariant-loop : goal.invariant-loop
 invariant-loop g l = record {

@@ -3,7 +3,7 @@ use Rattle.std.proofs.Common.{◌≡◌, [], ◌++◌, List, sym, ap, ◌∙◌,
 use Rattle.std.proofs.lemmas.List.{append_cancel_left}
 use Rattle.board.specs.Board.{Access}
 use Rattle.threads.specs.Served.{HavePassed}
-use Rattle.threads.proofs.resident.Resident.letter.Goals as goal
+use Rattle.threads.proofs.resident.GeneralThread.letter.Goals as goal
 
 pub returns-clause-gated : goal.returns-clause-gated
 returns-clause-gated g c =

@@ -2,7 +2,7 @@ use Rattle.std.proofs.Common.{◌++◌, ◌∷◌, ◌∙◌, ap}
 use Rattle.trace.specs.Text.{place}
 use Rattle.trace.specs.Lines.{repeated}
 use Rattle.trace.proofs.Repeating.{told_alike}
-use Rattle.trace.proofs.composing.LineBuffer.add_alike.Goals as goal
+use Rattle.trace.proofs.line_buffer.LineBuffer.add_alike.Goals as goal
 
 pub returns-clause-added : goal.returns-clause-added
 returns-clause-added c =

@@ -1,7 +1,7 @@
 use Rattle.std.proofs.Common.{rules, ℕ, ◌<◌, ◌++◌, ◌∷◌, List, Option, length, map, take, get_or, ap, sym, ◌∙◌, arith, append_assoc, None}
 use Rattle.trace.specs.Text.{further, place}
 use Rattle.trace.proofs.WrittenLemmas.{further_more}
-use Rattle.trace.proofs.composing.LineBuffer.add_orders.Goals as goal
+use Rattle.trace.proofs.line_buffer.LineBuffer.add_orders.Goals as goal
 
 pub loop-order-preserved : goal.loop-order-preserved
 loop-order-preserved c =

@@ -1,6 +1,6 @@
 use Rattle.std.proofs.Common.{◌≡◌, ◌≤◌, ◌+◌, ◌*◌, ◌++◌, map, take, length}
 use Rattle.trace.specs.Text.{further, place}
-use Rattle.trace.proofs.composing.LineBuffer.add_orders.Given as goal
+use Rattle.trace.proofs.line_buffer.LineBuffer.add_orders.Given as goal
 
 abbrev pub invariant-loop-order : goal.invariant-loop-order
 invariant-loop-order l =

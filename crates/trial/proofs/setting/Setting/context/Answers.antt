@@ -4,9 +4,9 @@ use Rattle.std.specs.Vec.{vec_len}
 use Rattle.semantics.proofs.PlacesLaws.{relays_few}
 use Rattle.label.specs.Relay.{relay}
 use Rattle.semantics.specs.Relay.{oral}
-use Rattle.letter.specs.Contexts.{context_bytes}
-use Rattle.contexts.proofs.Bytes.{bytes_context}
-use Rattle.contexts.proofs.Spelling.{header_numbers}
+use Rattle.round.specs.Contexts.{context_bytes}
+use Rattle.mem.proofs.Bytes.{bytes_context}
+use Rattle.mem.proofs.Spelling.{header_numbers}
 use Rattle.trial.specs.Setting.{context_in}
 use Rattle.trial.proofs.setting.Setting.context.Goals as goal
 

@@ -3,8 +3,8 @@ use Rattle.std.proofs.Common.{◌≡◌, ◌≤◌, ◌∷◌, ◌++◌, [], Lis
 use Rattle.std.specs.Prelude.{◌&&◌}
 use Rattle.std.specs.List.{list_all}
 use Rattle.world.specs.declared.event.Event.TheVariants.{Close}
-use Rattle.world.specs.Part.{Part, owes_no_letter}
-use Rattle.letter.specs.Letters.{Letter}
+use Rattle.world.specs.Part.{Progress, owes_no_letter}
+use Rattle.round.specs.Letters.{Letter}
 use Rattle.world.specs.World.{oral_kind, World, happen}
 use Rattle.world.specs.Reached.{world_of}
 use Rattle.world.specs.Held.{letters_held, beginnings}
@@ -52,7 +52,7 @@ is_close c =
     let parts_are : c.brief.new.parts.items ≡ beginnings s.scenario c.push_reserved.new.self.items =
     c.brief.ensures ∙ ap (λ (l : List (List Letter)). beginnings s.scenario l) c.as_slice-5.ensures.value in
     let full_is : c.is_full-full.result ≡ (s.full && list_all owes_no_letter s.parts.items) =
-    c.is_full-full.ensures ∙ ap (λ (l : List Part). s.full && list_all owes_no_letter l) c.as_slice-3.ensures.value in
+    c.is_full-full.ensures ∙ ap (λ (l : List Progress). s.full && list_all owes_no_letter l) c.as_slice-3.ensures.value in
     close_is oral_kind oral_campaigns oral_relays s.scenario s.closed.items s.board s.opened s.parts.items s.full c.letters-letters.result.items c.push_reserved.new.self.items (length c.ledger-2.result.now) c.brief.new.parts.items c.is_full-full.result
     c.recall.ensures c.self.invariant.0 le letters_are (closed_is c) parts_are (ap length c.ledger-2.ensures.same) full_is
 

@@ -1,7 +1,7 @@
 -- Tree by tree.
 use Rattle.std.proofs.Common.{◌≡◌, ◌∷◌, [], ℕ, ap, lit<}
-use Rattle.letter.specs.Letters.{messages}
-use Rattle.delivery.specs.Told.{lieutenant_at}
+use Rattle.round.specs.Letters.{messages}
+use Rattle.round.specs.Told.{lieutenant_at}
 use Rattle.world.specs.Chronicle.{decision}
 use Rattle.world.proofs.Holding.{more_each}
 use Rattle.world.proofs.Deciders.{few_decided, tree_decides, all_decided}

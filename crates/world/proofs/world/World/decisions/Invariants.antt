@@ -1,6 +1,6 @@
 use Rattle.std.proofs.Common.{◌≡◌, ◌∷◌, []}
-use Rattle.letter.specs.Letters.{messages}
-use Rattle.delivery.specs.Told.{lieutenant_at}
+use Rattle.round.specs.Letters.{messages}
+use Rattle.round.specs.Told.{lieutenant_at}
 use Rattle.world.specs.World.{each}
 use Rattle.world.specs.Chronicle.{decision}
 use Rattle.world.proofs.world.World.decisions.Given as goal

@@ -2,7 +2,7 @@ use Rattle.std.proofs.Common.{sym, ◌∙◌}
 use Rattle.std.specs.Prelude.{insert}
 use Rattle.combine.proofs.Most.{most_is_majority}
 use Rattle.combine.proofs.Joining.{most_anywhere}
-use Rattle.combine.proofs.chosen.majority.MajorityCombine.combine_told.Goals as goal
+use Rattle.combine.proofs.campaign_rule.majority.MajorityCombine.combine_told.Goals as goal
 
 pub returns-then-is_in_most_told : goal.returns-then-is_in_most_told
 returns-then-is_in_most_told c =

@@ -1,9 +1,9 @@
 -- Poster and witness of the highest general who has no thread yet, and those of the others.
 use Rattle.std.proofs.Common.{rules, ◌≡◌, [], ◌∷◌, length, length-append, ap, sym, ◌∙◌, arith}
-use Rattle.post.specs.Seen.{PosterSeen, poster_seen}
+use Rattle.threads.specs.Seen.{PosterSeen, poster_seen}
 use Rattle.shared_board.specs.Witnessed.{Witnessed}
 use Rattle.threads.proofs.Popped.{kept_more, last_all, last_known, rest_all, rest_known}
-use Rattle.threads.proofs.collecting.fn.through_residents.scope.Goals as goal
+use Rattle.threads.proofs.collection.fn.through_residents.scope.Goals as goal
 
 pub spawn_scoped-started-requires-after_bounds : goal.spawn_scoped-started-requires-after_bounds
 spawn_scoped-started-requires-after_bounds g c κs within =

@@ -1,8 +1,8 @@
 use Rattle.std.proofs.Common.{◌≡◌, ◌<◌, ◌≤◌, ◌+◌, ℕ, [], length, vec_len, slice_index_or}
 use Rattle.std.specs.Prelude.{All, vec_capacity}
-use Rattle.post.specs.Seen.{PosterSeen, poster_seen}
+use Rattle.threads.specs.Seen.{PosterSeen, poster_seen}
 use Rattle.threads.specs.Inboxes.{AreOwn}
-use Rattle.threads.proofs.collecting.fn.through_residents.scope.Given as goal
+use Rattle.threads.proofs.collection.fn.through_residents.scope.Given as goal
 
 abbrev pub invariant-loop-poster : goal.invariant-loop-poster
 invariant-loop-poster g l = record {
