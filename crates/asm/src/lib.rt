@@ -1,4 +1,5 @@
-//! Assembly: programs as text.
+//! Assembly: reads programs as text, and writes them as text. The module `partial` does so for bytes that are not all
+//! instructions.
 #![tactic(auto)]
 
 mod assembler;

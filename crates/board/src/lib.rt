@@ -1,5 +1,5 @@
-//! The board that the generals share, with its ledger. What is said of it stands in specs/.
-//! What is asked of the board, in words: the one table of all that tells of a request by its kind.
+//! The board: 64 words that traitors share, the ledger of their accesses, and the words by which texts and pictures
+//! describe a request.
 #![tactic(auto)]
 
 mod access;

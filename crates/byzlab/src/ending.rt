@@ -307,7 +307,7 @@ fn put_text<O: Output>(
 ) -> Result<(), NotPrinted>
     ensures printed { OnOk result (Appends (O.contents out.old) (O.contents out.new) text.now) }
     ensures failed { OnErr result (O.fails out.old) }
-    ensures line { IfErr result (λ told. told.line ≡ Failure.Write) }
+    ensures line { IfErr result (λ told. told.line ≡ TaskFailure.Write) }
     ensures said { IfErr result (λ told. IsSaidOf request.now told.said) }
 {
     match out.put(text.as_bytes()) {

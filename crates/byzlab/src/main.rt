@@ -209,8 +209,8 @@ fn explored(
 /// None where a scenario is refused, unless that is want of memory.
 fn unexplored(refusal: InputRefusal) -> Result<Option<Ending>, AllocError>
     ensures none { IfOk result (λ ending. ending ≡ None) }
-    ensures memory { IsErr result ↔ (refusal ≡ Refusal.Memory) }
-    ensures refused { IfOk result (λ _. refusal ≢ Refusal.Memory) }
+    ensures memory { IsErr result ↔ (refusal ≡ InputRefusal.Memory) }
+    ensures refused { IfOk result (λ _. refusal ≢ InputRefusal.Memory) }
 {
     match refusal {
         InputRefusal::Memory => Err(AllocError),

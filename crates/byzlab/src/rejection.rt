@@ -142,7 +142,7 @@ pub fn tell_neighbour(
 ) -> Result<TurnedDown<Explained<String>>, AllocError>
     ensures line { IfOk result (λ told. TellsUntaken request.now.task untaken told.line) }
     ensures said { IfOk result (λ told. IsSaidOf request.now told.said) }
-    ensures memory { IsErr result ↔ (untaken ≡ Untaken.Memory) }
+    ensures memory { IsErr result ↔ (untaken ≡ FileProblem.Memory) }
 {
     match untaken {
         FileProblem::Told { lines, kind } => Ok(tell_explained(rt, request, lines, kind)),

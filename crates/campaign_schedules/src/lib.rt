@@ -1,5 +1,4 @@
-//! The schedule by which a campaign comes again, or has listed accesses.
-//! Random schedules: each is that of a seed, and of nothing else.
+//! Schedules: that of a chronicle, that of listed accesses, and that of a seed.
 #![tactic(auto)]
 
 mod access_list;

@@ -20,7 +20,7 @@ use verify::{Verified, VerifyError, verify};
 fn undecoded(bytes: &[u8]) -> BytecodeRefusal
     ensures refused { Refuses bytes.now result }
     ensures unjudged { status_of result ≢ 2 }
-    ensures only { IsProgram bytes.now → result ≡ Refusal.Memory }
+    ensures only { IsProgram bytes.now → result ≡ BytecodeRefusal.Memory }
 {
     no_fault_in_programs();
     match first_fault(bytes) {
@@ -35,7 +35,7 @@ fn spelt(alloc: Global, bytes: &[u8]) -> Result<Program, BytecodeRefusal>
     ensures refused { IfErr result (λ refusal. Refuses bytes.now refusal) }
     ensures unjudged { IfErr result (λ refusal. status_of refusal ≢ 2) }
     ensures only { (program : List InsnValue) → SpellsProgram bytes.now program →
-        MatchResult result (λ p. p ≡ program) (λ refusal. refusal ≡ Refusal.Memory) }
+        MatchResult result (λ p. p ≡ program) (λ refusal. refusal ≡ BytecodeRefusal.Memory) }
 {
     match decode(alloc, bytes) {
         Ok(program) => Ok(program),
@@ -50,7 +50,7 @@ pub fn accepted(alloc: Global, bytes: &[u8]) -> Result<Verified, BytecodeRefusal
     ensures accepted { IfOk result (λ v. judged v ≡ None) }
     ensures sound { IfOk result (λ v. IsSound v) }
     ensures refused { IfErr result (λ refusal. Refuses bytes.now refusal) }
-    ensures only { IsAccepted bytes.now → IfErr result (λ refusal. refusal ≡ Refusal.Memory) }
+    ensures only { IsAccepted bytes.now → IfErr result (λ refusal. refusal ≡ BytecodeRefusal.Memory) }
 {
     let program = match spelt(alloc, bytes) {
         Ok(program) => program,
@@ -70,7 +70,7 @@ pub fn explained(alloc: Global, bytes: &[u8]) -> Result<String, BytecodeRefusal>
     ensures text { IfOk result (λ text. IsExplanation bytes.now (string_bytes text)) }
     ensures refused { IfErr result (λ refusal. Refuses bytes.now refusal) }
     ensures unjudged { IfErr result (λ refusal. status_of refusal ≢ 2) }
-    ensures only { IsProgram bytes.now → IfErr result (λ refusal. refusal ≡ Refusal.Memory) }
+    ensures only { IsProgram bytes.now → IfErr result (λ refusal. refusal ≡ BytecodeRefusal.Memory) }
 {
     let program = match spelt(alloc, bytes) {
         Ok(program) => program,
@@ -87,7 +87,7 @@ pub fn assembly(alloc: Global, bytes: &[u8]) -> Result<String, BytecodeRefusal>
     ensures text { IfOk result (λ text. IsAssembly bytes.now (string_bytes text)) }
     ensures refused { IfErr result (λ refusal. Refuses bytes.now refusal) }
     ensures unjudged { IfErr result (λ refusal. status_of refusal ≢ 2) }
-    ensures only { IsProgram bytes.now → IfErr result (λ refusal. refusal ≡ Refusal.Memory) }
+    ensures only { IsProgram bytes.now → IfErr result (λ refusal. refusal ≡ BytecodeRefusal.Memory) }
 {
     let program = match spelt(alloc, bytes) {
         Ok(program) => program,

@@ -63,7 +63,7 @@ pub fn tell(refusal: BytecodeRefusal, fault: &mut NumberedFault) -> u32
         IsMisspelt bytes fault.new.number fault.new.unit }
     ensures refused { (bytes : List ℕ) → Refuses bytes refusal → result ≡ 2 →
         IsRefused bytes fault.new.number fault.new.unit }
-    ensures memory { refusal ≡ Refusal.Memory → result ≡ 3 }
+    ensures memory { refusal ≡ BytecodeRefusal.Memory → result ≡ 3 }
     ensures spelt { (bytes : List ℕ) → Refuses bytes refusal → result ≡ 3 → IsProgram bytes }
     ensures untold { result ≡ 3 → fault.new ≡ fault.old }
 {

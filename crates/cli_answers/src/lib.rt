@@ -1,5 +1,4 @@
-//! What the laboratory prints, as JSON: a line is an object, whose members are the words of the line by their names.
-//! What stands between the words and the laboratory: answers and refusals as JSON, or by one line.
+//! Answers in the form that was asked for: as text, as JSON Lines, or as one line.
 #![tactic(auto)]
 
 mod file_line;

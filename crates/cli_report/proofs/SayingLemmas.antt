@@ -1,27 +1,27 @@
 -- No sentence is empty.
 use Rattle.std.proofs.Common.{ℕ, ◌≢◌, List, [], ◌∷◌, Bool, true, false, cond}
 use Rattle.std.specs.Prelude.{Option, None, Some}
-use Rattle.asm.specs.declared.fault.AsmFault.{Fault as AsmFault}
+use Rattle.asm.specs.declared.fault.AsmFault.{AsmFault}
 use Rattle.asm.specs.declared.fault.AsmFault.TheVariants as asm
-use Rattle.codec.specs.declared.fault.CodecFault.{Fault as CodecFault}
+use Rattle.codec.specs.declared.fault.CodecFault.{CodecFault}
 use Rattle.codec.specs.declared.fault.CodecFault.TheVariants as codec
-use Rattle.book.specs.declared.fault.TableFault.{Fault as TableFault}
+use Rattle.book.specs.declared.fault.TableFault.{TableFault}
 use Rattle.book.specs.declared.fault.TableFault.TheVariants as table
 use Rattle.object.specs.Sentences.{sentence_of}
 use Rattle.object.specs.declared.fault.Damage.TheVariants as damages
-use Rattle.object.specs.declared.fault.ObjectFault.{Fault as ObjectFault}
+use Rattle.object.specs.declared.fault.ObjectFault.{ObjectFault}
 use Rattle.object.specs.declared.fault.ObjectFault.TheVariants as objects
 use Rattle.threads.specs.declared.error.MusterError.{MusterError}
 use Rattle.threads.specs.declared.error.MusterError.TheVariants as musters
-use Rattle.trace.specs.declared.fault.TraceFault.{Fault as TraceFault}
+use Rattle.trace.specs.declared.fault.TraceFault.{TraceFault}
 use Rattle.trace.specs.declared.fault.TraceFault.TheVariants as trace
-use Rattle.scenario.specs.declared.fault.ScenarioFault.{Fault as ScenarioFault}
+use Rattle.scenario.specs.declared.fault.ScenarioFault.{ScenarioFault}
 use Rattle.scenario.specs.declared.fault.ScenarioFault.TheVariants as faults
 use Rattle.scenario.specs.declared.place.ScenarioKey.{ScenarioKey}
 use Rattle.scenario.specs.declared.place.ScenarioKey.TheVariants as names
 use Rattle.scenario.specs.declared.place.ScenarioPlace.{ScenarioPlace}
 use Rattle.scenario.specs.declared.place.ScenarioPlace.TheVariants as places
-use Rattle.trial.specs.declared.fault.SettingFault.{Fault as SettingFault}
+use Rattle.trial.specs.declared.fault.SettingFault.{SettingFault}
 use Rattle.trial.specs.declared.fault.SettingFault.TheVariants as setting
 use Rattle.trial.specs.declared.place.SettingKey.{ScenarioKey as SettingName}
 use Rattle.trial.specs.declared.place.SettingKey.TheVariants as setting_names

@@ -2,13 +2,13 @@
 use Rattle.std.proofs.Common.{ℕ, ◌≡◌, ◌≢◌, ◌+◌, ◌-◌, ◌^◌, ◌⊎◌, inl, inr, List, [], ◌∷◌, Bool, true, false, ◌==◌, cond, codes, arith, drop, length, refl, subst, sym, take}
 use Rattle.std.specs.Prelude.{Option, None, Some, IfSome, if◌then◌else◌, nat_le, nat_lt, option_and_then, option_map}
 use Rattle.std.specs.Str.{IsUtf8}
-use Rattle.asm.specs.declared.fault.AsmFault.{Fault as AsmFault}
-use Rattle.codec.specs.declared.fault.CodecFault.{Fault as CodecFault}
+use Rattle.asm.specs.declared.fault.AsmFault.{AsmFault}
+use Rattle.codec.specs.declared.fault.CodecFault.{CodecFault}
 use Rattle.codec.specs.declared.fault.CodecFault.TheVariants as codec
-use Rattle.book.specs.declared.fault.TableFault.{Fault as TableFault}
+use Rattle.book.specs.declared.fault.TableFault.{TableFault}
 use Rattle.hex.specs.Hex.{encode_lower}
-use Rattle.trace.specs.declared.fault.TraceFault.{Fault as TraceFault}
-use Rattle.scenario.specs.declared.fault.ScenarioFault.{Fault as ScenarioFault}
+use Rattle.trace.specs.declared.fault.TraceFault.{TraceFault}
+use Rattle.scenario.specs.declared.fault.ScenarioFault.{ScenarioFault}
 use Rattle.scenario.specs.Origins.{seat}
 use Rattle.scenario.specs.Names.{text_of}
 use Rattle.scenario.specs.Sources.{source_by}
@@ -20,7 +20,7 @@ use Rattle.scenario.specs.declared.fault.ProgramFault.TheVariants as programs
 use Rattle.scenario.specs.declared.fault.ScenarioError.{ScenarioError}
 use Rattle.scenario.specs.declared.fault.ScenarioError.TheVariants as scenario
 use Rattle.trial.specs.declared.place.SettingPlace.{ScenarioPlace as SettingPlace}
-use Rattle.trial.specs.declared.fault.SettingFault.{Fault as SettingFault}
+use Rattle.trial.specs.declared.fault.SettingFault.{SettingFault}
 use Rattle.trial.specs.declared.fault.SettingError.{SettingError}
 use Rattle.trial.specs.declared.fault.SettingError.TheVariants as setting
 use Rattle.toml.specs.Data.{Members}

@@ -1,10 +1,10 @@
 -- The law of what is said: each refusal has a sentence, and the place that is told lies within the file.
 use Rattle.std.specs.Prelude.{ℕ, ◌≡◌, ◌≢◌, ◌⊎◌, ◌+◌, ◌≤◌, List, [], Option, None, Some, IfSome, codes, length, option_and_then, take, unwrap_or}
 use Rattle.hex.specs.Hex.{encode_lower}
-use Rattle.asm.specs.declared.fault.AsmFault.{Fault as AsmFault}
-use Rattle.codec.specs.declared.fault.CodecFault.{Fault as CodecFault}
-use Rattle.book.specs.declared.fault.TableFault.{Fault as TableFault}
-use Rattle.trace.specs.declared.fault.TraceFault.{Fault as TraceFault}
+use Rattle.asm.specs.declared.fault.AsmFault.{AsmFault}
+use Rattle.codec.specs.declared.fault.CodecFault.{CodecFault}
+use Rattle.book.specs.declared.fault.TableFault.{TableFault}
+use Rattle.trace.specs.declared.fault.TraceFault.{TraceFault}
 use Rattle.scenario.specs.Origins.{seat}
 use Rattle.scenario.specs.Sources.{source_by}
 use Rattle.scenario.specs.declared.fault.ProgramFault.{ProgramFault}
@@ -25,7 +25,7 @@ use Rattle.cli_report.specs.Made.{ReportsMade, assembly_of, file_shown, own_line
 use Rattle.cli_report.specs.Messages.{stranger_told, table_told}
 use Rattle.cli_report.specs.Musters.{muster_sentence}
 use Rattle.object.specs.Sentences.{sentence_of}
-use Rattle.object.specs.declared.fault.ObjectFault.{Fault as ObjectFault}
+use Rattle.object.specs.declared.fault.ObjectFault.{ObjectFault}
 use Rattle.threads.specs.declared.error.MusterError.{MusterError}
 use Rattle.cli_report.specs.Report.{Mark, report_text}
 

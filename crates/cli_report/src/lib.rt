@@ -1,5 +1,5 @@
-//! Why a file is refused: the sentence of each code, its place in the file, and a help where one is likely.
-//! Why a scenario that names files is refused, at its own lines and those of its files.
+//! Reports of refused files: the sentence of each code, its place in the file, and a help where one is likely. A fault
+//! in a file that a scenario names is reported at its place in that file.
 #![tactic(auto)]
 
 mod assembly;

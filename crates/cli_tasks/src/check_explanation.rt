@@ -69,7 +69,7 @@ pub(crate) fn refused<'a>(
 ) -> TaskFailure<'a>
     requires { Refuses task.now bytes.now refusal }
     ensures stops { StopsFirst task.entry.now bytes.now result }
-    ensures quiet { is_reported task.entry.now refusal ≡ false → refusal ≢ Refusal.Memory → result ≢ Failure.Memory }
+    ensures quiet { is_reported task.entry.now refusal ≡ false → refusal ≢ InputRefusal.Memory → result ≢ TaskFailure.Memory }
 {
     let file = task.file().unwrap_or("");
     let own = bytecode_in(task, bytes);

@@ -1,11 +1,5 @@
-//! What files tell to a task, and why they are refused: the refusal of each error, campaigns and schedules.
-//! The files beside a scenario, which it names.
-//! Why a task is not done, and what is said of it: a line, and the report behind it.
-//! What is printed of a program: assembly, a check, a trial, an explanation.
-//! What is printed of a message table: decisions, a form to fill in, a tree.
-//! What is printed of a campaign: its chronicle, the audit of one, its orders, a schedule.
-//! What is drawn of a campaign: its diagram and its page.
-//! What the laboratory's subcommands answer and print.
+//! The tasks of the command line: reads the files of a task, does the task, and prints the answer or why there is none.
+//! The tasks are those of programs, of message tables, of campaigns and of pictures.
 #![tactic(auto)]
 
 mod assembly;

@@ -11,7 +11,7 @@ use crate::failure::TaskFailure;
 use crate::refusal::InputRefusal;
 use crate::whys::unjudged;
 use cli_words::{Notation, Task};
-use codec::{CodecError, CodecFault as CodecFault};
+use codec::{CodecError, CodecFault};
 use insn::Program;
 use std::alloc::Global;
 use std::io::{self, ErrorKind};

@@ -56,7 +56,7 @@ pub fn register(width: Width, operation: Operation, fields: Fields) -> Result<In
 /// The operation that the offset chooses: unsigned where it is 0, signed where it is 1 (section 4.1).
 fn chosen(division: Division, offset: u16) -> Result<Operation, CodecFault>
     ensures found { IfOk result (λ o. (offset ≤ 1) × (o ≡ divided division offset)) }
-    ensures fault { IfErr result (λ e. (e ≡ Fault.Operand) × (1 < offset)) }
+    ensures fault { IfErr result (λ e. (e ≡ CodecFault.Operand) × (1 < offset)) }
 {
     match offset {
         0 => Ok(match division {
@@ -119,7 +119,7 @@ pub fn divide_register(width: Width, division: Division, fields: Fields) -> Resu
 /// The part of the source whose sign is extended, which the offset chooses; none where all of it is moved.
 fn part(width: Width, offset: u16) -> Result<Option<Narrow>, CodecFault>
     ensures found { IfOk result (λ p. (is_no_part width offset ≡ false) × IsMoved width p offset) }
-    ensures fault { IfErr result (λ e. (e ≡ Fault.Operand) × (is_no_part width offset ≡ true)) }
+    ensures fault { IfErr result (λ e. (e ≡ CodecFault.Operand) × (is_no_part width offset ≡ true)) }
 {
     match offset {
         0 => Ok(None),
@@ -179,7 +179,7 @@ pub fn negate(width: Width, fields: Fields) -> Result<Insn, CodecFault>
 /// How many bits are swapped, which imm chooses (section 4.2).
 fn swap_size(bits: u32) -> Result<SwapSize, CodecFault>
     ensures found { IfOk result (λ s. (is_no_swap bits ≡ false) × (bits ≡ 8 * swapped_bytes s)) }
-    ensures fault { IfErr result (λ e. (e ≡ Fault.Operand) × (is_no_swap bits ≡ true)) }
+    ensures fault { IfErr result (λ e. (e ≡ CodecFault.Operand) × (is_no_swap bits ≡ true)) }
 {
     match bits {
         16 => Ok(SwapSize::Half),

@@ -1,6 +1,6 @@
 ghost use Rattle.std.specs.Prelude.{◌≡◌, ◌≤◌, ◌<◌, [], ◌∷◌, length, slice_index, IfOk, IfErr, Some, Bool, List};
 ghost use Rattle.std.specs.Int.{w16, w32, from_le_bytes, to_le_bytes};
-ghost use Rattle.codec.specs.declared.fault.CodecFault.{Fault as FaultValue};
+ghost use Rattle.codec.specs.declared.fault.CodecFault.{CodecFault as FaultValue};
 ghost use Rattle.codec.specs.Reading.{fields_of, first_fault, is_past, is_set};
 ghost use Rattle.codec.specs.Spelling.{unit_bytes};
 
@@ -96,7 +96,7 @@ fn word_bytes(n: u32) -> [u8; 4]
 /// The register of a used field.
 pub fn used(number: u8) -> Result<Reg, CodecFault>
     ensures found { IfOk result (λ r. (r ≡ number) × (number ≤ 10)) }
-    ensures fault { IfErr result (λ e. (e ≡ Fault.Register) × (10 < number)) }
+    ensures fault { IfErr result (λ e. (e ≡ CodecFault.Register) × (10 < number)) }
 {
     Reg::new(number).ok_or(CodecFault::Register)
 }
@@ -106,7 +106,7 @@ pub fn used(number: u8) -> Result<Reg, CodecFault>
 pub fn alone(fields: Fields) -> Result<Reg, CodecFault>
     ensures found { IfOk result (λ r. (r ≡ fields.dst) × (fields.dst ≤ 10) × (fields.src ≡ 0)) }
     ensures fault { (more : List (Bool × FaultValue)) → IfErr result (λ e.
-        first_fault ((is_past fields.dst, Fault.Register) ∷ (is_set fields.src, Fault.Reserved) ∷ more) ≡ Some e) }
+        first_fault ((is_past fields.dst, CodecFault.Register) ∷ (is_set fields.src, CodecFault.Reserved) ∷ more) ≡ Some e) }
 {
     if fields.dst as u16 + 16 * fields.src as u16 > 10 {
         used(fields.dst)?;

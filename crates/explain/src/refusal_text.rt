@@ -171,7 +171,7 @@ fn put_past(out: &mut String, region: Region, span: NumberSpan) -> Result<(), Al
 
 /// Adds that a register would point too far.
 fn put_far(out: &mut String, r: Reg, region: Region, span: NumberSpan) -> Result<(), AllocError>
-    ensures { OnOk result (string_bytes out.new ≡ string_bytes out.old ++ misuse_text (Misuse.Far r region span)) }
+    ensures { OnOk result (string_bytes out.new ≡ string_bytes out.old ++ misuse_text (RegisterMisuse.Far r region span)) }
 {
     put_would(out, r)?;
     put(out, " into ")?;
@@ -186,7 +186,7 @@ fn put_stored(
     base: Reg,
     at: AbsVal,
 ) -> Result<(), AllocError>
-    ensures { OnOk result (string_bytes out.new ≡ string_bytes out.old ++ misuse_text (Misuse.Stored r value base at)) }
+    ensures { OnOk result (string_bytes out.new ≡ string_bytes out.old ++ misuse_text (RegisterMisuse.Stored r value base at)) }
 {
     put_so(out, r, value, ", stored at ")?;
     put_so(

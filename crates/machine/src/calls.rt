@@ -4,9 +4,9 @@ ghost use Rattle.semantics.specs.State.{Next};
 ghost use Rattle.semantics.specs.Call.{helper_of, called, slot_in, get_in, swap_in, add_in, cas_in, copy_in, send_in, send_row_in, sway_in, honest_in, sign_in, pass_in, returned, sent, attempted};
 ghost use Rattle.machine.specs.Turn.{Turns, Asks, IsFree};
 
-use crate::activation::Machine;
 use crate::arguments::{argument, order, pointer, word};
 use crate::flow::Flow;
+use crate::machine::Machine;
 use helper::{BOARD_WORDS, MOST_GENERALS, MOST_HELD, MOST_LABELS, RECEIVER_SETS, helper_of};
 use mem::{Context, load_row};
 use semantics::{Helper, Request, Slot, Span};

@@ -1,5 +1,5 @@
-//! The machine: it runs a verified program, step by step as it is written.
-//! The machine by types: what has asked the board is answered or taken back once, and only then can be run on.
+//! The machine: runs a verified program, step by step. A `Machine` runs an activation where it is stored. An
+//! `Activation` is passed by value, so that its type allows one answer to each request.
 #![tactic(auto)]
 
 mod activation;
@@ -9,18 +9,18 @@ mod calls;
 mod ended_program;
 mod execution;
 mod flow;
+mod machine;
 mod pairs;
 mod pause;
 mod registers;
 mod replies;
 mod stop;
 mod tag;
-mod typed_activation;
 mod waiting_program;
 
-pub use activation::Machine;
+pub use activation::Activation;
 pub use ended_program::Ended;
+pub use machine::Machine;
 pub use pause::Pause;
 pub use stop::StopReason;
-pub use typed_activation::Activation;
 pub use waiting_program::Waiting;

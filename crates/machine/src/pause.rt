@@ -1,5 +1,5 @@
+use crate::activation::Activation;
 use crate::ended_program::Ended;
-use crate::typed_activation::Activation;
 use crate::waiting_program::Waiting;
 use semantics::Request;
 

@@ -10,7 +10,7 @@ ghost use Rattle.machine.specs.Advance.{IsOfRun, IsAskOfRun};
 ghost use Rattle.semantics.specs.Call.{fits, returned, resumed};
 ghost use Rattle.semantics.specs.Replies.{words_in};
 
-use crate::activation::Machine;
+use crate::machine::Machine;
 use mem::store_words;
 use semantics::{Reply, Request, Span};
 

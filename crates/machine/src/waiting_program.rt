@@ -5,8 +5,8 @@ ghost use Rattle.semantics.specs.Replies.{words_in};
 ghost use Rattle.machine.specs.Standing.{before, HasAsked};
 ghost use Rattle.machine.specs.Advance.{IsOfRun, IsAskOfRun};
 
-use crate::activation::Machine as Machine;
-use crate::typed_activation::Activation;
+use crate::activation::Activation;
+use crate::machine::Machine;
 use semantics::{Reply, Request};
 use std::marker::Model;
 

@@ -1,7 +1,6 @@
 //! ELF objects for BPF: the code of one function, or the first fault (System V ABI, "Object Files"; LLVM's BPF
-//! relocations).
-//! The lines of an object's program: for each unit of a function the file and line of the text that it was compiled
-//! from (DWARF 5 and 4, "Line Number Information").
+//! relocations), and for each unit of a function the file and line of its source (DWARF 5 and 4, "Line Number
+//! Information").
 #![tactic(auto)]
 
 mod damage;

@@ -23,7 +23,7 @@ pub fn known_by(states: &[Option<AbsState>], unit: usize) -> Option<&AbsState>
 /// So many units of which none is open.
 #[inline(never)]
 fn closed(alloc: Global, units: usize) -> Result<Vec<UnitMark>, AllocError>
-    ensures { IfOk result (λ marks. marks.items ≡ replicate units Mark.Closed) }
+    ensures { IfOk result (λ marks. marks.items ≡ replicate units UnitMark.Closed) }
 {
     vec![in alloc; UnitMark::Closed; units]
 }

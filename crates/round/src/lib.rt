@@ -1,11 +1,5 @@
-//! What a campaign is made of: its generals with their programs, its limits, its rule. What is said of it stands in
-//! specs/.
-//! Letters: what a general was told and did in a round, and whom he told what. What a context tells, what an activation
-//! does turn by turn, and which messages letters are, stands in specs/.
-//! What the letters of closed rounds tell the lieutenants' trees, and what each general is told then. What is said of
-//! it stands in specs/.
-//! One activation from its start to its end: turn by turn before a board, or by who serves its accesses. What is said
-//! of it stands in specs/.
+//! A campaign and its rounds: the scenario with its generals and their programs, the letters of a round, their delivery
+//! to the lieutenants' trees, and one activation of a traitor's program from start to end.
 #![tactic(auto)]
 
 mod accesses;

@@ -1,6 +1,4 @@
-//! Programs that a scenario names by their files, and traitors that share a program: the text in which each stands
-//! where it is named, which a reader of scenarios takes.
-//! Scenarios: the campaigns that texts tell.
+//! Scenarios: reads campaigns from TOML texts, with the files that they name put in place of the names.
 #![tactic(auto)]
 
 mod fault;

@@ -62,7 +62,7 @@ fn is_seated(seats: &[Player], general: u8) -> bool
 /// No table before seated the general.
 fn once(place: ScenarioPlace, seats: &[Player], general: u8) -> Result<(), ScenarioError>
     requires { general < length seats.now }
-    ensures { Gives (λ _. tt) result (test (not (is_seated seats.now general)) Fault.Twice place) }
+    ensures { Gives (λ _. tt) result (test (not (is_seated seats.now general)) ScenarioFault.Twice place) }
 {
     if is_seated(seats, general) {
         return Err(ScenarioError::At(ScenarioFault::Twice, place));
@@ -73,7 +73,7 @@ fn once(place: ScenarioPlace, seats: &[Player], general: u8) -> Result<(), Scena
 /// An element of the list, which is a table.
 fn as_table(index: usize, value: &Value) -> Result<&Table, ScenarioError>
     ensures { Gives (λ t. table_view t.now) result
-        (ok_or (as_table (view value.now)) (faulty Fault.Kind (Place.Table index))) }
+        (ok_or (as_table (view value.now)) (faulty ScenarioFault.Kind (ScenarioPlace.Table index))) }
 {
     match value.as_table() {
         Some(table) => Ok(table),

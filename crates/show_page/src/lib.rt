@@ -1,7 +1,4 @@
-//! A campaign as a page of HTML: its scenario, the programs, the picture, the trees, the chronicle and the verdict. Its
-//! parts are public, for pages of other campaigns.
-//! A campaign of signed messages as a page of HTML: its scenario, the programs, the picture, what each lieutenant
-//! accepted, the chronicle and the verdict.
+//! The page of a campaign, oral or signed, as HTML.
 #![tactic(auto)]
 
 mod accesses;

@@ -1,6 +1,4 @@
-//! Broken campaigns of which nothing more can be taken out. What is said of them stands in specs/.
-//! What is told of many campaigns: which seeds lack, a table of their sums, and a picture. What is said of it stands in
-//! specs/.
+//! Searches among surveyed campaigns: the least campaign that breaks agreement, and tables of many campaigns.
 #![tactic(auto)]
 
 mod breach;

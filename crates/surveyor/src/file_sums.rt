@@ -166,7 +166,7 @@ fn covered(
 ) -> Result<u8, SurveyFailure>
     requires { AreOf (span_of seeds).0 (span_of seeds).1 all.now }
     ensures covered { IfOk result (IsCoveredBy seeds all.now) }
-    ensures memory { IfErr result (λ fault. fault ≡ Fault.Memory) }
+    ensures memory { IfErr result (λ fault. fault ≡ SurveyFailure.Memory) }
 {
     let alloc = rt.alloc();
     let span = asked_for(seeds, all);

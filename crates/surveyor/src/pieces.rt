@@ -15,8 +15,8 @@ pub fn at_once(generals: u8) -> u64
 
 /// That one of the campaigns of the seeds from `first` up to `end`, without that, is refused.
 pub fn refused(first: u64, end: u64, error: ScenarioError) -> SurveyFailure
-    ensures memory { error ≡ ScenarioError.Memory → result ≡ Fault.Memory }
-    ensures campaign { error ≢ ScenarioError.Memory → result ≡ Fault.Campaign first (end - 1) error }
+    ensures memory { error ≡ ScenarioError.Memory → result ≡ SurveyFailure.Memory }
+    ensures campaign { error ≢ ScenarioError.Memory → result ≡ SurveyFailure.Campaign first (end - 1) error }
 {
     match error {
         ScenarioError::Memory => SurveyFailure::Memory,

@@ -62,7 +62,7 @@ fn played<T: Threads + Sync, O: Output, K: Keeper>(
     family: &Family,
 ) -> Result<(), SurveyFailure>
     requires asked { IsSurvey asked.now }
-    requires shape { asked.now.shape ≢ Shape.Least }
+    requires shape { asked.now.shape ≢ ReportKind.Least }
     ensures printed { OnOk result
         (IsPrinted asked.now family.now (O.contents out.old) (O.contents out.new) (K.files keeper.old)
         (K.files keeper.new)) }
@@ -110,7 +110,7 @@ fn broken_seeds(alloc: Global, found: &[Finding]) -> Result<Vec<u64>, AllocError
 /// Adds campaigns to those that are summed, unless lines are printed alone.
 fn add(shape: ReportKind, all: &mut Vec<Finding>, found: &[Finding]) -> Result<(), SurveyFailure>
     ensures added { OnOk result (all.new.items ≡ all.old.items ++ added shape found.now) }
-    ensures memory { IfErr result (λ fault. fault ≡ Fault.Memory) }
+    ensures memory { IfErr result (λ fault. fault ≡ SurveyFailure.Memory) }
 {
     if shape == ReportKind::Lines {
         return Ok(());

@@ -1,5 +1,5 @@
-//! The post: letters of several generals in one queue that threads share.
-//! Campaigns whose generals act in threads of their own, and the letters that a ledger accounts for.
+//! Campaigns whose generals act in threads: the post, which is the queue of letters that threads share, `muster`, and
+//! the check of letters against the ledger.
 #![tactic(auto)]
 
 mod account;

@@ -1,5 +1,4 @@
-//! Trials: a program is run by its author in a setting that a text tells. What is said of them stands in specs/.
-//! Traces: the run of a program told step by step, each instruction with what it read and what it wrote.
+//! Trials: runs one program in one round by itself, in a setting that a text gives, and describes the run step by step.
 #![tactic(auto)]
 
 mod fault;

@@ -1,24 +1,37 @@
-//! Programs of traitors that tests and `bench` share, and texts of campaigns with them: macros, since a constant text
-//! is put together of literals alone.
-//! Tests of what only code can ask of worlds and threads: single events, letters and contexts, lives of activations,
-//! replays by names, texts that chance has changed, generals that meet, gates, posts, and gathers of letters. What the
-//! whole program answers is asked by the rows of the crate `rows`.
+//! Tests of what only code can ask of worlds and threads: single events, letters and contexts, activations, replays by
+//! names, randomly changed texts, gates, posts, and letters against the ledger. The rows of the crate `rows` ask what
+//! the whole program answers.
+//!
+//! The macros make texts of campaigns from traitors' programs, for these tests and for `bench`. They are macros since a
+//! constant text can be put together only from literals.
 #![tactic(auto)]
 
+#[cfg(test)]
 mod chronicles;
+#[cfg(test)]
 mod gates;
+#[cfg(test)]
 mod ledger_letters;
+#[cfg(test)]
 mod lives;
+#[cfg(test)]
 mod musters;
+#[cfg(test)]
 mod posts;
+#[cfg(test)]
 mod replays;
+#[cfg(test)]
 mod rounds;
+#[cfg(test)]
 mod scenarios;
+#[cfg(test)]
 mod signed_worlds;
+#[cfg(test)]
 mod texts;
+#[cfg(test)]
 mod threaded_campaigns;
+#[cfg(test)]
 mod worlds;
-
 
 /// Adds 1 to word 0 of the board, and tells 1, 2 and 3 the last bit of what the word was: so much of a program stands
 /// before these words in what this macro is given.
@@ -64,17 +77,3 @@ macro_rules! campaign {
         concat!($keys $(, "[[traitor]]\ngeneral = ", $general, "\nasm = '''\n", $program, $ending, "'''\n")*)
     };
 }
-
-#[cfg(test)]
-#[cfg(test)]
-#[cfg(test)]
-#[cfg(test)]
-#[cfg(test)]
-#[cfg(test)]
-#[cfg(test)]
-#[cfg(test)]
-#[cfg(test)]
-#[cfg(test)]
-#[cfg(test)]
-#[cfg(test)]
-#[cfg(test)]

@@ -115,7 +115,7 @@ fn kind(fault: CodecFault, opcode: u8) -> &'static str
 
 /// The same of an opcode that is left out.
 fn left_out(opcode: u8) -> &'static str
-    ensures { result.now ≡ kind_of Fault.LeftOut opcode }
+    ensures { result.now ≡ kind_of CodecFault.LeftOut opcode }
 {
     match opcode {
         0x18 => " wide load",

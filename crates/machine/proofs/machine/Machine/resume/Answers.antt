@@ -1,7 +1,7 @@
 -- The reply goes to what was asked.
 use Rattle.semantics.specs.Replies.{words_in}
 use Rattle.machine.proofs.AdvanceLemmas.{answer_reached, answer_of_run}
-use Rattle.machine.proofs.activation.Machine.resume.Goals as goal
+use Rattle.machine.proofs.machine.Machine.resume.Goals as goal
 
 pub returns-clause-reached : goal.returns-clause-reached
 returns-clause-reached c = λ program context answers reached asks.
