@@ -16,8 +16,8 @@ use std::thread::Threads;
 /// How many campaigns are worth a thread of their own: one of them takes 8 us to some milliseconds.
 const LEAST_PIECE: usize = 32;
 
-/// Returns what is found of the campaign of each seed from `first` up to but not including `end`, or the fault of one of
-/// the campaigns' texts. The outer error says that the threads' results could not be collected.
+/// Returns what is found of the campaign of each seed from `first` up to but not including `end`, or the fault of one
+/// of the campaigns' texts. The outer error says that memory ran out while the results were collected.
 fn gathered<R: Threads + Sync>(
     rt: &R,
     alloc: Global,

@@ -112,8 +112,8 @@ fn asks_to_swap(waiting: &Waiting) -> bool {
     }
 }
 
-/// Checks how many steps a program has taken, what it exited with, and which order it has sent to general 1. It has sent
-/// none to general 2.
+/// Checks the number of steps that a program has taken, its result, if it has exited, and the order that it has sent to
+/// general 1. Also checks that it has sent no order to general 2.
 fn has_left(ended: &Ended, steps: u32, r0: Option<u64>, order: Option<u32>) -> bool {
     ended.steps == steps
         && ended.r0 == r0
@@ -135,8 +135,8 @@ fn exits_once_answered(alloc: Global, verified: &Verified, context: &Context) ->
     }
 }
 
-/// Checks that the program asks for the same swap again after its request is cancelled, and then exits as if it had asked
-/// once.
+/// Checks that the program asks for the same swap again after its request is cancelled, and then exits as if it had
+/// asked once.
 fn asks_again(alloc: Global, verified: &Verified, context: &Context) -> bool {
     let Some(waiting) = first_request(alloc, verified, context) else {
         return false;
