@@ -11,7 +11,7 @@ use board::Board;
 use codec::decode;
 use machine::{Machine, StopReason};
 use mem::Context;
-use outbox::{MeasuredProgram as RelayShape, Outbox};
+use outbox::{Outbox, Shape};
 use semantics::Request;
 use std::alloc::Global;
 use std::fmt;
@@ -23,7 +23,7 @@ use verify::{Verified, verify};
 pub const ACTIVATIONS: usize = 16;
 
 /// The last of 4 generals in the second round: he relays one label, to two receivers.
-const SHAPE: RelayShape = RelayShape {
+const SHAPE: Shape = Shape {
     generals: 4,
     commander: 0,
     general: 3,

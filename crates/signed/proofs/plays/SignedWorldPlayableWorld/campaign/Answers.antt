@@ -1,6 +1,6 @@
 -- What is kept of a signed world.
 use Rattle.signed.proofs.Worlds.{signed_campaigns}
-use Rattle.signed.proofs.plays.SignedWorldPlays.campaign.Goals as goal
+use Rattle.signed.proofs.plays.SignedWorldPlayableWorld.campaign.Goals as goal
 
 pub returns-clause-campaigns : goal.returns-clause-campaigns
 returns-clause-campaigns c = signed_campaigns

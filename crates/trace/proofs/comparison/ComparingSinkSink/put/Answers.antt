@@ -4,7 +4,7 @@ use Rattle.std.proofs.lemmas.List.{append-nil, take_all}
 use Rattle.std.specs.Prelude.{option_to_list}
 use Rattle.mem.proofs.Parts.{take-split}
 use Rattle.trace.specs.Compared.{taken}
-use Rattle.trace.proofs.comparison.ComparisonSink.put.Goals as goal
+use Rattle.trace.proofs.comparison.ComparingSinkSink.put.Goals as goal
 
 taken_more : (text piece : List ℕ) (same n : ℕ) (other : Option ℕ) → other ≡ None → take n (drop same text) ≡ take n piece → taken text (same + n) other ≡ taken text same other ++ take n piece
 taken_more text piece same n other none alike =
