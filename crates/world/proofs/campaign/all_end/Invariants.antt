@@ -5,4 +5,4 @@ use Rattle.world.specs.KindLists.{ticks_of}
 use Rattle.world.proofs.campaign.all_end.Given as goal
 
 abbrev pub invariant-loop-general : goal.invariant-loop-general
-invariant-loop-general g l = g.W.Plays.seen l.world ≡ run g.W.Plays.kind (g.W.Plays.seen l.initial.world) (each l.general (λ i. ticks_of i (program_of (g.W.Plays.seen l.initial.world).scenario i)))
+invariant-loop-general g l = g.W.PlayableWorld.seen l.world ≡ run g.W.PlayableWorld.kind (g.W.PlayableWorld.seen l.initial.world) (each l.general (λ i. ticks_of i (program_of (g.W.PlayableWorld.seen l.initial.world).scenario i)))

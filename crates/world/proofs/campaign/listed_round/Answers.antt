@@ -6,5 +6,5 @@ use Rattle.world.proofs.campaign.listed_round.Goals as goal
 
 pub returns : goal.returns
 returns g c =
-    let w = g.W.Plays.seen c.args.world.now in
-    then_ok g.W.Plays.kind c.wind_up.result (line_events w.scenario (entries_of c.args.line.now)) w (g.W.Plays.seen c.play_line.new.world) (g.W.Plays.seen c.wind_up.new.world) c.in_ok-play_line.ensures c.wind_up.ensures
+    let w = g.W.PlayableWorld.seen c.args.world.now in
+    then_ok g.W.PlayableWorld.kind c.wind_up.result (line_events w.scenario (entries_of c.args.line.now)) w (g.W.PlayableWorld.seen c.play_line.new.world) (g.W.PlayableWorld.seen c.wind_up.new.world) c.in_ok-play_line.ensures c.wind_up.ensures

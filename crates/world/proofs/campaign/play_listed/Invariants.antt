@@ -6,9 +6,9 @@ use Rattle.world.proofs.campaign.play_listed.Given as goal
 
 abbrev pub invariant-loop-round : goal.invariant-loop-round
 invariant-loop-round g l =
-    let w = g.W.Plays.seen l.initial.world in
+    let w = g.W.PlayableWorld.seen l.initial.world in
     record {
-      scenario : (g.W.Plays.seen l.world).scenario ≡ w.scenario;
-      left : run g.W.Plays.kind (g.W.Plays.seen l.world) (listed_rounds w.scenario (l.rounds - l.round) (lines_by (drop l.round l.schedule)))
-          ≡ run g.W.Plays.kind w (listed_rounds w.scenario (suc w.scenario.bound) (lines_by l.schedule));
+      scenario : (g.W.PlayableWorld.seen l.world).scenario ≡ w.scenario;
+      left : run g.W.PlayableWorld.kind (g.W.PlayableWorld.seen l.world) (listed_rounds w.scenario (l.rounds - l.round) (lines_by (drop l.round l.schedule)))
+          ≡ run g.W.PlayableWorld.kind w (listed_rounds w.scenario (suc w.scenario.bound) (lines_by l.schedule));
     }

@@ -4,5 +4,5 @@ use Rattle.world.specs.KindLists.{names_events}
 use Rattle.world.proofs.campaign.play_names.Given as goal
 
 abbrev pub invariant-loop-general : goal.invariant-loop-general
-invariant-loop-general g l = run g.W.Plays.kind (g.W.Plays.seen l.world) (names_events g.W.Plays.kind (g.W.Plays.seen l.world) (drop l.general-index l.names))
-    ≡ run g.W.Plays.kind (g.W.Plays.seen l.initial.world) (names_events g.W.Plays.kind (g.W.Plays.seen l.initial.world) l.names)
+invariant-loop-general g l = run g.W.PlayableWorld.kind (g.W.PlayableWorld.seen l.world) (names_events g.W.PlayableWorld.kind (g.W.PlayableWorld.seen l.world) (drop l.general-index l.names))
+    ≡ run g.W.PlayableWorld.kind (g.W.PlayableWorld.seen l.initial.world) (names_events g.W.PlayableWorld.kind (g.W.PlayableWorld.seen l.initial.world) l.names)

@@ -8,6 +8,6 @@ use Rattle.world.proofs.campaign.post_often.Goals as goal
 
 pub returns : goal.returns
 returns g c =
-    let w = g.W.Plays.seen c.args.world.now in
+    let w = g.W.PlayableWorld.seen c.args.world.now in
     let m : suc (c.args.times - 1) ≡ c.args.times = (let h = c.requires in omega arith) in
-    c.give_post.ensures ∙ (sym (posts_once g.W.Plays.kind (c.args.times - 1) w c.args.general) ∙ ap (λ (n : ℕ). run g.W.Plays.kind w (replicate n (Post c.args.general))) m)
+    c.give_post.ensures ∙ (sym (posts_once g.W.PlayableWorld.kind (c.args.times - 1) w c.args.general) ∙ ap (λ (n : ℕ). run g.W.PlayableWorld.kind w (replicate n (Post c.args.general))) m)
