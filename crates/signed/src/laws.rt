@@ -10,7 +10,7 @@ ghost use Rattle.signed.specs.Laws.{
   SignedWorldsAgree,
 };
 ghost use Rattle.signed.specs.Loyal.{LoyalEntriesAreSent};
-ghost use Rattle.signed.specs.PlayableWorld.{SignedChroniclesAreReplays};
+ghost use Rattle.signed.specs.Plays.{SignedChroniclesAreReplays};
 ghost use Rattle.signed.specs.Traitors.{WhateverTraitorsWrite};
 ghost use Rattle.signed.specs.Verdicts.{SignedVerdictsMean};
 ghost use Rattle.world.specs.Refusals.{IdleEventsChangeNothing, RefusalsChangeNothing};
