@@ -17,7 +17,7 @@ use Rattle.codec.specs.Spelling.{instruction_bytes}
 use Rattle.codec.specs.ErrorText.{code_of}
 use Rattle.codec.proofs.FrontLemmas.{units_few}
 use Rattle.asm.specs.declared.fault.AsmError.{AsmError}
-use Rattle.asm.specs.declared.fault.AsmFault.{CodecFault as AsmFault}
+use Rattle.asm.specs.declared.fault.AsmFault.{AsmFault}
 use Rattle.asm.specs.Faults.{at_line, ◌>>=◌}
 use Rattle.asm.specs.Printing.{insn_text, text_of}
 use Rattle.asm.specs.Program.{ended, lines_of, nothing, program_in, program_of, read_on, said}
