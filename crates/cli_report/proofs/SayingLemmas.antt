@@ -23,9 +23,9 @@ use Rattle.scenario.specs.declared.place.ScenarioPlace.{ScenarioPlace}
 use Rattle.scenario.specs.declared.place.ScenarioPlace.TheVariants as places
 use Rattle.trial.specs.declared.fault.SettingFault.{SettingFault}
 use Rattle.trial.specs.declared.fault.SettingFault.TheVariants as setting
-use Rattle.trial.specs.declared.place.SettingKey.{ScenarioKey as SettingName}
+use Rattle.trial.specs.declared.place.SettingKey.{SettingKey as SettingName}
 use Rattle.trial.specs.declared.place.SettingKey.TheVariants as setting_names
-use Rattle.trial.specs.declared.place.SettingPlace.{ScenarioPlace as SettingPlace}
+use Rattle.trial.specs.declared.place.SettingPlace.{SettingPlace}
 use Rattle.trial.specs.declared.place.SettingPlace.TheVariants as setting_places
 use Rattle.cli_report.specs.declared.mnemonics.Takes.{Takes}
 use Rattle.cli_report.specs.declared.mnemonics.Takes.TheVariants as takes

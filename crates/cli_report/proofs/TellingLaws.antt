@@ -19,7 +19,7 @@ use Rattle.scenario.specs.declared.fault.ProgramFault.{ProgramFault}
 use Rattle.scenario.specs.declared.fault.ProgramFault.TheVariants as programs
 use Rattle.scenario.specs.declared.fault.ScenarioError.{ScenarioError}
 use Rattle.scenario.specs.declared.fault.ScenarioError.TheVariants as scenario
-use Rattle.trial.specs.declared.place.SettingPlace.{ScenarioPlace as SettingPlace}
+use Rattle.trial.specs.declared.place.SettingPlace.{SettingPlace}
 use Rattle.trial.specs.declared.fault.SettingFault.{SettingFault}
 use Rattle.trial.specs.declared.fault.SettingError.{SettingError}
 use Rattle.trial.specs.declared.fault.SettingError.TheVariants as setting

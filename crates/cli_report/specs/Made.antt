@@ -4,8 +4,8 @@ use Rattle.text.specs.Parts.{before}
 use Rattle.text.specs.declared.stop.Stop.TheVariants.{Byte}
 use Rattle.toml.specs.Data.{Members}
 use Rattle.toml.specs.Parse.{parse_document}
-use Rattle.asm.specs.declared.fault.AsmFault.{ScenarioFault as AsmFault}
-use Rattle.codec.specs.declared.fault.CodecFault.{ScenarioFault as CodecFault}
+use Rattle.asm.specs.declared.fault.AsmFault.{AsmFault}
+use Rattle.codec.specs.declared.fault.CodecFault.{CodecFault}
 use Rattle.scenario.specs.Origins.{origin, seat}
 use Rattle.scenario.specs.Names.{text_of}
 use Rattle.scenario.specs.Sources.{source_by}

@@ -8,9 +8,9 @@ use Rattle.toml.specs.Data.{Members}
 use Rattle.toml.specs.Errors.{IsMemory}
 use Rattle.toml.specs.declared.de.error.Error.{Error}
 use Rattle.toml.specs.Parse.{parse_document}
-use Rattle.asm.specs.declared.fault.AsmFault.{ScenarioFault as AsmFault}
+use Rattle.asm.specs.declared.fault.AsmFault.{AsmFault}
 use Rattle.combine.specs.Names.{rule_names}
-use Rattle.codec.specs.declared.fault.CodecFault.{ScenarioFault as CodecFault}
+use Rattle.codec.specs.declared.fault.CodecFault.{CodecFault}
 use Rattle.verify.specs.ErrorText.{code_of}
 use Rattle.verify.specs.declared.reason.Reason.{Reason}
 use Rattle.scenario.specs.Names.{text_of}
