@@ -1,4 +1,5 @@
--- What is said of the bytes of a program (own; the bytes as in RFC 9669, 3).
+-- Says when bytes encode a program, an accepted one or a sound one, and which fault they have (own; the bytes as in RFC
+-- 9669, 3).
 use Rattle.std.specs.Prelude.{ℕ, ◌≡◌, List, None, Some}
 use Rattle.insn.specs.declared.insn.Insn.{Insn}
 use Rattle.codec.specs.declared.fault.CodecFault.{CodecFault}
@@ -9,30 +10,30 @@ use Rattle.verify.specs.declared.error.VerifyError.TheVariants.{At}
 use Rattle.verify.specs.Judgement.{judged}
 use Rattle.capi.specs.Numbers.{fault_number, reason_number}
 
--- the bytes spell a program
+-- The bytes encode a program.
 pub record IsProgram (bytes : List ℕ) : Type 0 where
   pub program : List Insn
   pub spelt : SpellsProgram bytes program
 
--- the bytes spell a program that the verifier's one function accepts
+-- The bytes encode a program that the verifier accepts.
 pub record IsAccepted (bytes : List ℕ) : Type 0 where
   pub program : List Insn
   pub spelt : SpellsProgram bytes program
   pub accepted : judged program ≡ None
 
--- the bytes spell a sound program
+-- The bytes encode a sound program.
 pub record IsSoundProgram (bytes : List ℕ) : Type 0 where
   pub program : List Insn
   pub spelt : SpellsProgram bytes program
   pub sound : IsSound program
 
--- the bytes spell no program: the number of their first fault, and its unit
+-- The bytes encode no program. `number` is the number of their first fault, and `unit` is its unit.
 pub record IsMisspelt (bytes : List ℕ) (number unit : ℕ) : Type 0 where
   pub fault : CodecFault
   pub first : IsFirstFault bytes fault unit
   pub numbered : number ≡ fault_number fault
 
--- the bytes spell a program that the verifier's one function refuses: the number of its reason, and its unit
+-- The bytes encode a program that the verifier rejects. `number` is the number of the reason, and `unit` is its unit.
 pub record IsRefused (bytes : List ℕ) (number unit : ℕ) : Type 0 where
   pub program : List Insn
   pub reason : Reason

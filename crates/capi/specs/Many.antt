@@ -1,24 +1,25 @@
--- Many runs of one program, each on a board of zeros.
+-- Defines many runs of one program, each with a board of zeros.
 use Rattle.std.specs.Prelude.{ℕ, ◌*◌, ◌≡◌, ◌⊎◌, List, Some, IfSome, take, drop, replicate, slice_get}
 use Rattle.semantics.specs.Limits.{board_words}
 use Rattle.capi.specs.declared.outcome.RunOutcome.{RunOutcome}
 use Rattle.capi.specs.Runs.{IsRun}
 
--- run in this context, the program that the bytes spell has this outcome
+-- The program that the bytes encode has this outcome if it runs in this context.
 pub record IsOutcome (bytes context : List ℕ) (outcome : RunOutcome) : Type 0 where
   pub left : List ℕ
   pub run : IsRun bytes context (replicate board_words 0) outcome.r0 outcome.steps left
 
--- the context of that index, of those that stand behind one another
+-- Returns the context with the given index among contexts of 4,096 bytes that follow one another.
 abbrev pub context_at : List ℕ → ℕ → List ℕ
 context_at contexts index = take 4096 (drop (4096 * index) contexts)
 
--- each outcome is that in its context
+-- Each outcome is the outcome of the program in the context with the same index.
 abbrev pub AreRuns : List ℕ → List ℕ → List RunOutcome → Type 0
 AreRuns bytes contexts outcomes =
     (index : ℕ) → IfSome (slice_get outcomes index) (λ o. IsOutcome bytes (context_at contexts index) o)
 
--- each is that in its context, or as it was
+-- Each outcome in `after` is the outcome of the program in the context with the same index, or is the same as in
+-- `before`.
 abbrev pub AreBegun : List ℕ → List ℕ → List RunOutcome → List RunOutcome → Type 0
 AreBegun bytes contexts before after =
     (index : ℕ) →

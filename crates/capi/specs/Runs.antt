@@ -1,4 +1,4 @@
--- A program that runs alone.
+-- Defines the run of one program outside of any campaign.
 use Rattle.std.specs.Prelude.{ℕ, ◌≡◌, List, Some}
 use Rattle.insn.specs.declared.insn.Insn.{Insn}
 use Rattle.codec.specs.Program.{SpellsProgram}
@@ -6,11 +6,12 @@ use Rattle.label.specs.declared.shape.Shape.{Shape}
 use Rattle.semantics.specs.Relay.{oral}
 use Rattle.trial.specs.Trial.{Ending, trial_on}
 
--- the general whose relay it is run in: the last of 4 in the first round, who relays nothing
+-- The general in whose place a program runs: the last of 4 generals in the first round, who relays nothing.
 abbrev pub host : Shape
 host = record { generals = 4; commander = 0; general = 3; round = 1 }
 
--- run in this context on a board of these words, it exits with r0 after so many steps, and leaves the other words
+-- If the program runs in this context with a board of `words`, it exits with `r0` after `steps` steps, and leaves the
+-- words `left` on the board.
 pub record Exits (words : List ℕ) (program : List Insn) (context : List ℕ) (r0 steps : ℕ) (left : List ℕ) : Type 0 where
   pub ending : Ending
   pub ended : trial_on words program context (oral host) ≡ Some ending
@@ -18,7 +19,8 @@ pub record Exits (words : List ℕ) (program : List Insn) (context : List ℕ) (
   pub steps_are : steps ≡ ending.state.steps
   pub left_are : left ≡ ending.words
 
--- the program that the bytes spell exits so
+-- If the program that the bytes encode runs in this context with a board of `words`, it exits with `r0` after `steps`
+-- steps, and leaves the words `left` on the board.
 pub record IsRun (bytes context words : List ℕ) (r0 steps : ℕ) (left : List ℕ) : Type 0 where
   pub program : List Insn
   pub spelt : SpellsProgram bytes program

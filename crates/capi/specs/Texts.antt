@@ -1,4 +1,5 @@
--- Programs as texts, in memory that the caller gives.
+-- Defines the explanation and the assembly text of a program, and what is written of them into memory that the caller
+-- provides.
 use Rattle.std.specs.Prelude.{ℕ, ◌≡◌, ◌++◌, List, Some, length, take, drop}
 use Rattle.insn.specs.declared.insn.Insn.{Insn}
 use Rattle.codec.specs.Program.{SpellsProgram}
@@ -6,31 +7,33 @@ use Rattle.asm.specs.Printing.{text_of}
 use Rattle.asm.specs.Program.{program_of}
 use Rattle.explain.specs.Explained.{explained}
 
--- the text is the explanation of the program that the bytes spell
+-- The text is the explanation of the program that the bytes encode.
 pub record IsExplanation (bytes text : List ℕ) : Type 0 where
   pub program : List Insn
   pub spelt : SpellsProgram bytes program
   pub is : text ≡ explained program
 
--- the text is the assembly text of the program that the bytes spell, and says it again
+-- The text is the assembly text of the program that the bytes encode, and assembles to that program.
 pub record IsAssembly (bytes text : List ℕ) : Type 0 where
   pub program : List Insn
   pub spelt : SpellsProgram bytes program
   pub is : text ≡ text_of program
   pub again : program_of text ≡ Some program
 
--- as much of a text as there is room for, and what stood behind it
+-- Returns the contents of `room` after `text` was written over its beginning. The text is cut at the end of `room`.
 abbrev pub overwritten : List ℕ → List ℕ → List ℕ
 overwritten text room = take (length room) text ++ drop (length text) room
 
--- as much of the explanation as there is room for is written there, and its length is told
+-- The explanation of the program that the bytes encode is written over the beginning of `before`, and cut at its end.
+-- `needed` is the length of the whole explanation.
 pub record GivesExplanation (bytes before after : List ℕ) (needed : ℕ) : Type 0 where
   pub text : List ℕ
   pub told : IsExplanation bytes text
   pub needs : needed ≡ length text
   pub written : after ≡ overwritten text before
 
--- the same of the assembly text
+-- The assembly text of the program that the bytes encode is written over the beginning of `before`, and cut at its end.
+-- `needed` is the length of the whole text.
 pub record GivesAssembly (bytes before after : List ℕ) (needed : ℕ) : Type 0 where
   pub text : List ℕ
   pub told : IsAssembly bytes text

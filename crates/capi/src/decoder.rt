@@ -1,4 +1,5 @@
-//! Bytes that are read, verified, explained or shown.
+//! Decodes bytecode, and then verifies, explains or disassembles the program. These functions fail with a
+//! `BytecodeRefusal`.
 ghost use Rattle.std.specs.Prelude.{◌≡◌, ◌≢◌, IfOk, IfErr, MatchResult, List, None, string_bytes};
 ghost use Rattle.insn.specs.declared.insn.Insn.{Insn as InsnValue};
 ghost use Rattle.codec.specs.Program.{SpellsProgram};
@@ -16,7 +17,8 @@ use insn::Program;
 use std::alloc::Global;
 use verify::{Verified, VerifyError, verify};
 
-/// What is told of the bytes where decoding was refused memory: their first fault, which takes none to be found.
+/// Returns why the bytes are rejected when decoding has run out of memory. This is their first fault, which is found
+/// without allocating, or `Memory` if the bytes encode a program.
 fn undecoded(bytes: &[u8]) -> BytecodeRefusal
     ensures refused { Refuses bytes.now result }
     ensures unjudged { status_of result ≢ 2 }
@@ -29,7 +31,7 @@ fn undecoded(bytes: &[u8]) -> BytecodeRefusal
     }
 }
 
-/// The program that the bytes spell.
+/// Decodes the bytes into a program, or returns why they encode none.
 fn spelt(alloc: Global, bytes: &[u8]) -> Result<Program, BytecodeRefusal>
     ensures spelt { IfOk result (λ program. SpellsProgram bytes.now program) }
     ensures refused { IfErr result (λ refusal. Refuses bytes.now refusal) }
@@ -44,7 +46,12 @@ fn spelt(alloc: Global, bytes: &[u8]) -> Result<Program, BytecodeRefusal>
     }
 }
 
-/// The program that the bytes spell, where it is accepted.
+/// Decodes the bytes into a program and verifies it.
+///
+/// # Errors
+///
+/// Fails with `Misspelt` if the bytes encode no program, with `Refused` if the verifier rejects the program, and with
+/// `Memory` if memory runs out.
 pub fn accepted(alloc: Global, bytes: &[u8]) -> Result<Verified, BytecodeRefusal>
     ensures spelt { IfOk result (λ v. SpellsProgram bytes.now v) }
     ensures accepted { IfOk result (λ v. judged v ≡ None) }
@@ -65,7 +72,12 @@ pub fn accepted(alloc: Global, bytes: &[u8]) -> Result<Verified, BytecodeRefusal
     }
 }
 
-/// What the verifier knows at each unit of the program that the bytes spell, and why it refuses it, if so.
+/// Returns the explanation of the program that the bytes encode: what the verifier knows at each unit, and why it
+/// rejects the program, if it does.
+///
+/// # Errors
+///
+/// Fails with `Misspelt` if the bytes encode no program, and with `Memory` if memory runs out.
 pub fn explained(alloc: Global, bytes: &[u8]) -> Result<String, BytecodeRefusal>
     ensures text { IfOk result (λ text. IsExplanation bytes.now (string_bytes text)) }
     ensures refused { IfErr result (λ refusal. Refuses bytes.now refusal) }
@@ -82,7 +94,11 @@ pub fn explained(alloc: Global, bytes: &[u8]) -> Result<String, BytecodeRefusal>
     }
 }
 
-/// The assembly text of the program that the bytes spell.
+/// Returns the assembly text of the program that the bytes encode.
+///
+/// # Errors
+///
+/// Fails with `Misspelt` if the bytes encode no program, and with `Memory` if memory runs out.
 pub fn assembly(alloc: Global, bytes: &[u8]) -> Result<String, BytecodeRefusal>
     ensures text { IfOk result (λ text. IsAssembly bytes.now (string_bytes text)) }
     ensures refused { IfErr result (λ refusal. Refuses bytes.now refusal) }

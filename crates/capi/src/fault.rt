@@ -1,4 +1,4 @@
-//! Faults as C sees them.
+//! Numbers the faults of rejected programs for C.
 ghost use Rattle.std.specs.Prelude.{◌≡◌, ◌≤◌, ℕ, List};
 ghost use Rattle.capi.specs.Numbers.{fault_number, reason_number};
 ghost use Rattle.capi.specs.Bytes.{IsProgram, IsMisspelt, IsRefused};
@@ -9,7 +9,8 @@ use crate::status::{MEMORY, MISSPELT, REFUSED};
 use codec::CodecFault as Misspelling;
 use verify::Reason;
 
-/// Why bytes are not accepted: the number of the fault, 1 to 8 or 101 to 113, and the unit at which it stands.
+/// Why a program is rejected: the number of the fault, and the unit at which it is. The numbers 1 to 8 are faults of
+/// the bytes, and 101 to 113 are the verifier's reasons.
 #[repr(C)]
 #[derive(Clone, Copy, Drop)]
 pub struct NumberedFault {
@@ -17,7 +18,7 @@ pub struct NumberedFault {
     pub unit: usize,
 }
 
-/// 1 to 8 for C1 to C8.
+/// Returns the number of a fault in the bytes: 1 to 8 for C1 to C8.
 pub fn fault_number(fault: Misspelling) -> u32
     ensures { result ≡ fault_number fault }
 {
@@ -33,7 +34,7 @@ pub fn fault_number(fault: Misspelling) -> u32
     }
 }
 
-/// 101 to 113 for V1 to V13.
+/// Returns the number of a reason why the verifier rejects a program: 101 to 113 for V1 to V13.
 pub fn reason_number(reason: Reason) -> u32
     ensures { result ≡ reason_number reason }
 {
@@ -54,7 +55,8 @@ pub fn reason_number(reason: Reason) -> u32
     }
 }
 
-/// Writes a refusal into the fault, and answers its status. Want of memory writes nothing.
+/// Writes the number and the unit of a refusal into `fault`, and returns the refusal's status, 1 to 3. If the refusal
+/// is `Memory`, the fault is unchanged.
 pub fn tell(refusal: BytecodeRefusal, fault: &mut NumberedFault) -> u32
     ensures status { result ≡ status_of refusal }
     ensures least { 1 ≤ result }

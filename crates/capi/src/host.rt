@@ -1,4 +1,4 @@
-//! Programs that run alone.
+//! Runs one accepted program outside of any campaign, in one context or in many.
 ghost use Rattle.std.specs.Prelude.{◌≡◌, ◌*◌, List, [], ℕ, IfOk, length};
 ghost use Rattle.codec.specs.Program.{SpellsProgram};
 ghost use Rattle.semantics.specs.Outbox.{empty_outbox};
@@ -18,7 +18,7 @@ use std::alloc::{AllocError, Global};
 use trial::run_on;
 use verify::Verified;
 
-/// As whom a program runs alone: the last of four generals in the first round, who relays nothing.
+/// The general in whose place a program runs: the last of four generals in the first round, who relays nothing.
 const HOST: Shape = Shape {
     generals: 4,
     commander: 0,
@@ -26,7 +26,7 @@ const HOST: Shape = Shape {
     round: 1,
 };
 
-/// His outbox, in which nothing is put yet.
+/// Returns an empty outbox of the general `HOST`.
 #[inline(never)]
 fn outbox(alloc: Global) -> Result<Outbox, AllocError>
     ensures relay { IfOk result (λ o. o.relay ≡ oral host) }
@@ -36,7 +36,8 @@ fn outbox(alloc: Global) -> Result<Outbox, AllocError>
     Outbox::new(alloc, HOST)
 }
 
-/// Runs a program on this board, as that general of four who relays nothing.
+/// Runs an accepted program to its exit, in the place of the general `HOST`. The board answers its requests, and keeps
+/// the words that the program leaves.
 pub fn run_hosted(
     alloc: Global,
     verified: &Verified,
@@ -49,7 +50,8 @@ pub fn run_hosted(
     run_begun(verified, context, board, &mut activation)
 }
 
-/// Runs an activation that has just been started, on this board. It stands once in the library.
+/// Runs an activation that has just started to its exit, with the given board. It is not inlined, so that the library
+/// contains this code once.
 #[inline(never)]
 fn run_begun(
     verified: &Verified,
@@ -69,7 +71,7 @@ fn run_begun(
     })
 }
 
-/// Runs an activation that has just been started, on a board of zeros.
+/// Runs an activation that has just started to its exit, with a board of zeros.
 fn run_afresh(
     alloc: Global,
     verified: &Verified,
@@ -86,7 +88,12 @@ fn run_afresh(
     run_begun(verified, context, &mut board, activation)
 }
 
-/// Runs a program in each context, each time on a board of zeros: in one activation, which is started again for each.
+/// Runs a program once in each context, each time with a board of zeros, and stores the outcomes in order. A context is
+/// 4,096 bytes. One activation is restarted for each context.
+///
+/// # Errors
+///
+/// Fails with `AllocError` if memory runs out. Each outcome is then that of its run, or unchanged.
 pub fn run_each(
     alloc: Global,
     verified: &Verified,

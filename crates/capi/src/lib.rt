@@ -1,5 +1,5 @@
-//! What a program in C calls: the verifier, the machine, explanations and assembly. Each export states the promises of
-//! what it calls again; share/byzlab_sandbox.h declares them.
+//! The functions that a C program calls: the verifier, the machine, explanations and assembly. share/byzlab_sandbox.h
+//! declares these exports. The contract of each export repeats what the functions that it calls promise.
 #![tactic(auto)]
 
 mod buffer;

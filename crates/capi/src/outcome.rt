@@ -1,9 +1,10 @@
+//! The outcome of a run, as C sees it.
 /// How a run has ended.
 #[repr(C)]
 #[derive(Clone, Copy, Drop)]
 pub struct RunOutcome {
-    /// The number that it exited with.
+    /// The value of register r0 at the exit.
     pub r0: u64,
-    /// How many steps it took, at most as many as the program has instructions.
+    /// The number of steps that the run took. It is at most the number of the program's instructions.
     pub steps: u32,
 }

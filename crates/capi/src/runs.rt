@@ -1,4 +1,4 @@
-//! The exports that run programs.
+//! The exports that run programs: `byzlab_run` and `byzlab_run_many`.
 ghost use Rattle.std.specs.Prelude.{◌≡◌, ◌≤◌, ◌≢◌, ◌*◌, ◌⊎◌, length};
 ghost use Rattle.capi.specs.Bytes.{IsProgram, IsAccepted, IsMisspelt, IsRefused};
 ghost use Rattle.capi.specs.Runs.{IsRun};
@@ -13,7 +13,8 @@ use board::Board;
 use mem::Context;
 use std::alloc::Global;
 
-/// Verifies a program and runs it once in the context, on a board of these words, which are then those that it left.
+/// Verifies a program and runs it once in the context. The board holds the words that the program finds, and after the
+/// run the words that it leaves. The result is the status, 0 to 4.
 #[unsafe(no_mangle)]
 pub extern "C" fn byzlab_run(
     alloc: Global,
@@ -25,20 +26,20 @@ pub extern "C" fn byzlab_run(
 ) -> u32
     ensures known { result ≤ 4 }
 
-    // 4 exactly where the context has another length.
+    // The status is 4 exactly if the context does not have 4,096 bytes.
     ensures short { result ≡ 4 → length context.now ≢ 4096 }
     ensures cut { length context.now ≢ 4096 → result ≡ 4 }
 
-    // 0 exactly where the program is accepted, memory aside; it was then run.
+    // The status is 0 exactly if the program is accepted and memory suffices. The program has then run.
     ensures accepted { result ≡ 0 → IsAccepted program.now }
     ensures only { IsAccepted program.now → length context.now ≡ 4096 → (result ≡ 0) ⊎ (result ≡ 3) }
     ensures ran { result ≡ 0 → IsRun program.now context.now board.old outcome.new.r0 outcome.new.steps board.new }
 
-    // The fault, by its number and unit.
+    // At status 1 or 2, the fault has its number and its unit.
     ensures misspelt { result ≡ 1 → IsMisspelt program.now fault.new.number fault.new.unit }
     ensures refused { result ≡ 2 → IsRefused program.now fault.new.number fault.new.unit }
 
-    // 3 only where the bytes spell a program.
+    // The status is 3 only if the bytes encode a program.
     ensures spelt { result ≡ 3 → IsProgram program.now }
 
     // Nothing else is written.
@@ -63,8 +64,8 @@ pub extern "C" fn byzlab_run(
     }
 }
 
-/// Verifies a program once and runs it in each context, of which so many stand behind one another, each time on a board
-/// of zeros.
+/// Verifies a program once, and runs it in each context, each time with a board of zeros. The contexts follow one
+/// another, 4,096 bytes for each outcome. The result is the status, 0 to 4.
 #[unsafe(no_mangle)]
 pub extern "C" fn byzlab_run_many(
     alloc: Global,
@@ -75,24 +76,24 @@ pub extern "C" fn byzlab_run_many(
 ) -> u32
     ensures known { result ≤ 4 }
 
-    // 4 exactly where the contexts have another length.
+    // The status is 4 exactly if the contexts do not have 4,096 bytes for each outcome.
     ensures short { result ≡ 4 → length contexts.now ≢ 4096 * length outcomes.old }
     ensures cut { length contexts.now ≢ 4096 * length outcomes.old → result ≡ 4 }
 
-    // 0 exactly where the program is accepted, memory aside; it was then run in each context.
+    // The status is 0 exactly if the program is accepted and memory suffices. The program has then run in each context.
     ensures accepted { result ≡ 0 → IsAccepted program.now }
     ensures only { IsAccepted program.now → length contexts.now ≡ 4096 * length outcomes.old →
         (result ≡ 0) ⊎ (result ≡ 3) }
     ensures ran { result ≡ 0 → AreRuns program.now contexts.now outcomes.new }
 
-    // The fault, by its number and unit.
+    // At status 1 or 2, the fault has its number and its unit.
     ensures misspelt { result ≡ 1 → IsMisspelt program.now fault.new.number fault.new.unit }
     ensures refused { result ≡ 2 → IsRefused program.now fault.new.number fault.new.unit }
 
-    // 3 only where the bytes spell a program.
+    // The status is 3 only if the bytes encode a program.
     ensures spelt { result ≡ 3 → IsProgram program.now }
 
-    // Nothing else is written, but outcomes of runs before one to which memory was refused.
+    // Nothing else is written, except at status 3 the outcomes of runs that finished before memory ran out.
     ensures untold { (result ≡ 1) ⊎ (result ≡ 2) ⊎ (fault.new ≡ fault.old) }
     ensures unwritten { (result ≡ 0) ⊎ (result ≡ 3) ⊎ (outcomes.new ≡ outcomes.old) }
     ensures begun { result ≡ 3 → AreBegun program.now contexts.now outcomes.old outcomes.new }

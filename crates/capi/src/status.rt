@@ -1,16 +1,16 @@
-//! What an export answers.
+//! The statuses that the exports return.
 
-/// The bytes are accepted, and what was asked is done.
+/// The bytes are accepted, and the task is done.
 pub const DONE: u32 = 0;
 
-/// The bytes spell no program.
+/// The bytes encode no program.
 pub const MISSPELT: u32 = 1;
 
-/// The bytes spell a program that is refused.
+/// The bytes encode a program that the verifier rejects.
 pub const REFUSED: u32 = 2;
 
-/// Memory was refused; no more is said of the bytes than that they spell a program.
+/// Memory ran out. The bytes encode a program, which may be accepted or not.
 pub const MEMORY: u32 = 3;
 
-/// The contexts have another length.
+/// The contexts have the wrong length.
 pub const LENGTH: u32 = 4;

@@ -1,4 +1,4 @@
-//! The exports that tell programs as texts.
+//! The exports that write text about a program: `byzlab_explain` and `byzlab_disassemble`.
 ghost use Rattle.std.specs.Prelude.{◌≡◌, ◌≢◌, ◌≤◌, ◌⊎◌};
 ghost use Rattle.capi.specs.Bytes.{IsProgram, IsAccepted, IsMisspelt, IsRefused};
 ghost use Rattle.capi.specs.Texts.{GivesExplanation, GivesAssembly};
@@ -10,8 +10,9 @@ use crate::status::{DONE, REFUSED};
 use crate::verdict::byzlab_verify;
 use std::alloc::Global;
 
-/// Answers as `byzlab_verify`, and writes what the verifier knows at each unit, and why it refuses the program, if so:
-/// into `text` as much as there is room for, and into `needed` how many bytes the whole has.
+/// Verifies a program and explains it. It returns the same status as `byzlab_verify`. It writes what the verifier knows
+/// at each unit, and why it rejects the program, if it does. The text is cut at the end of `text`, and `needed`
+/// receives the length of the whole text in bytes.
 #[unsafe(no_mangle)]
 pub extern "C" fn byzlab_explain(
     alloc: Global,
@@ -22,18 +23,18 @@ pub extern "C" fn byzlab_explain(
 ) -> u32
     ensures known { result ≤ 3 }
 
-    // 0 exactly where the program is accepted, memory aside.
+    // The status is 0 exactly if the program is accepted and memory suffices.
     ensures accepted { result ≡ 0 → IsAccepted program.now }
     ensures only { IsAccepted program.now → (result ≡ 0) ⊎ (result ≡ 3) }
 
-    // The explanation of what is a program.
+    // At status 0 or 2, the explanation of the program is written.
     ensures text { (result ≡ 0) ⊎ (result ≡ 2) → GivesExplanation program.now text.old text.new needed.new }
 
-    // The fault, by its number and unit.
+    // At status 1 or 2, the fault has its number and its unit.
     ensures misspelt { result ≡ 1 → IsMisspelt program.now fault.new.number fault.new.unit }
     ensures refused { result ≡ 2 → IsRefused program.now fault.new.number fault.new.unit }
 
-    // 3 only where the bytes spell a program.
+    // The status is 3 only if the bytes encode a program.
     ensures spelt { result ≡ 3 → IsProgram program.now }
 
     // Nothing else is written.
@@ -51,8 +52,9 @@ pub extern "C" fn byzlab_explain(
     status
 }
 
-/// Writes the assembly text of the program that the bytes spell, accepted or not: into `text` as much as there is room
-/// for, and into `needed` how many bytes the whole has.
+/// Writes the assembly text of the program that the bytes encode, whether the verifier accepts it or not. The text is
+/// cut at the end of `text`, and `needed` receives the length of the whole text in bytes. The result is the status: 0,
+/// 1 or 3.
 #[unsafe(no_mangle)]
 pub extern "C" fn byzlab_disassemble(
     alloc: Global,
@@ -64,14 +66,14 @@ pub extern "C" fn byzlab_disassemble(
     ensures known { result ≤ 3 }
     ensures unrefused { result ≢ 2 }
 
-    // 0 exactly where the bytes spell a program, memory aside: its assembly text.
+    // The status is 0 exactly if the bytes encode a program and memory suffices. Its assembly text is then written.
     ensures text { result ≡ 0 → GivesAssembly program.now text.old text.new needed.new }
     ensures only { IsProgram program.now → (result ≡ 0) ⊎ (result ≡ 3) }
 
-    // The fault, by its number and unit.
+    // At status 1, the fault has its number and its unit.
     ensures misspelt { result ≡ 1 → IsMisspelt program.now fault.new.number fault.new.unit }
 
-    // 3 only where the bytes spell a program.
+    // The status is 3 only if the bytes encode a program.
     ensures spelt { result ≡ 3 → IsProgram program.now }
 
     // Nothing else is written.

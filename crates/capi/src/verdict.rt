@@ -1,4 +1,4 @@
-//! The export that verifies.
+//! The export that verifies a program: `byzlab_verify`.
 ghost use Rattle.std.specs.Prelude.{◌≡◌, ◌≤◌, ◌⊎◌};
 ghost use Rattle.capi.specs.Bytes.{IsProgram, IsAccepted, IsSoundProgram, IsMisspelt, IsRefused};
 
@@ -7,24 +7,24 @@ use crate::fault::{NumberedFault, tell};
 use crate::status::DONE;
 use std::alloc::Global;
 
-/// Whether the bytes spell a program that the verifier accepts.
+/// Checks whether the bytes encode a program that the verifier accepts. The result is the status, 0 to 3.
 #[unsafe(no_mangle)]
 pub extern "C" fn byzlab_verify(alloc: Global, program: &[u8], fault: &mut NumberedFault) -> u32
     ensures known { result ≤ 3 }
 
-    // 0 exactly where the program is accepted, memory aside; it is then sound.
+    // The status is 0 exactly if the program is accepted and memory suffices. The program is then sound.
     ensures accepted { result ≡ 0 → IsAccepted program.now }
     ensures only { IsAccepted program.now → (result ≡ 0) ⊎ (result ≡ 3) }
     ensures sound { result ≡ 0 → IsSoundProgram program.now }
 
-    // The fault, by its number and unit.
+    // At status 1 or 2, the fault has its number and its unit.
     ensures misspelt { result ≡ 1 → IsMisspelt program.now fault.new.number fault.new.unit }
     ensures refused { result ≡ 2 → IsRefused program.now fault.new.number fault.new.unit }
 
-    // 3 only where the bytes spell a program.
+    // The status is 3 only if the bytes encode a program.
     ensures spelt { result ≡ 3 → IsProgram program.now }
 
-    // No fault is written where none is told.
+    // At status 0 or 3, the fault is unchanged.
     ensures untold { (result ≡ 0) ⊎ (result ≡ 3) → fault.new ≡ fault.old }
 {
     match accepted(alloc, program) {
