@@ -1,4 +1,4 @@
-//! Runs of a program by typed activations, which answer or cancel each request once.
+//! Tests of typed activations, which answer or cancel each request once.
 ghost use Rattle.std.specs.Prelude.{IfSome};
 ghost use Rattle.machine.specs.Advance.{IsAskOfRun, IsOfRun};
 
@@ -153,7 +153,7 @@ fn asks_again(alloc: Global, verified: &Verified, context: &Context) -> bool {
     }
 }
 
-/// Checks that a program that is ended in place of an answer has taken five steps and has no result.
+/// Checks that the program has taken five steps and has no result if it is ended after its request is cancelled.
 fn ends_unanswered(alloc: Global, verified: &Verified, context: &Context) -> bool {
     match first_request(alloc, verified, context) {
         Some(waiting) => has_left(&waiting.cancel().end(), 5, None, Some(7)),
@@ -192,7 +192,8 @@ fn are_cuts(alloc: Global, verified: &Verified, context: &Context) -> bool {
     true
 }
 
-/// Checks the program's runs in which its request is answered, cancelled and answered, and cancelled for good.
+/// Checks three runs of the program: its request is answered, is cancelled and then answered, and is cancelled for
+/// good.
 fn requests_are_served(alloc: Global, context: &Context) -> bool {
     match accepted(alloc) {
         Some(verified) => {
@@ -211,7 +212,7 @@ fn a_request_is_answered_or_cancelled(rt: HostRuntime) {
     assert!(rt; requests_are_served(rt.alloc(), &context));
 }
 
-/// Checks the program's runs that are cut.
+/// Checks the runs of the program that a limit cuts.
 fn limits_cut(alloc: Global, context: &Context) -> bool {
     match accepted(alloc) {
         Some(verified) => are_cuts(alloc, &verified, context),

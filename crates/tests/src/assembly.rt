@@ -1,11 +1,11 @@
-//! Assembly to programs, and back.
+//! Tests of assembling texts into programs, and of disassembling programs.
 
 use asm::{AsmError, assemble, disassemble};
 use insn::Program;
 use std::alloc::Global;
 use std::fmt::Display;
 
-/// Texts, and their refusal: code and line; nothing for a program.
+/// Texts, and the code and line with which each is rejected. An accepted text has an empty string instead.
 const REFUSALS: &[(&str, &str)] = &[
     ("", "A7 line 1"),
     ("mov r11, 0", "A3 line 1"),
@@ -16,7 +16,7 @@ const REFUSALS: &[(&str, &str)] = &[
     ("; nothing\n\n", "A7 line 2"),
     ("ja +40000\nfoo", "A2 line 2"),
     ("ja +40000\nexit", "A6 line 1"),
-    // outlines come before kinds
+    // The outline of a line is checked before the kinds of its operands.
     ("mov r0 0", "A1 line 1"),
     ("mov r0,,0", "A1 line 1"),
     ("mov! r0", "A1 line 1"),
@@ -31,7 +31,7 @@ const REFUSALS: &[(&str, &str)] = &[
     ("exit\r\n\ta_1:exit ; \u{e9}\r\n", ""),
 ];
 
-/// Whether a refusal is printed so.
+/// Checks whether an error is printed as `expected`.
 fn is_printed(alloc: Global, error: AsmError, expected: &str) -> bool {
     match error.to_string(alloc) {
         Ok(text) => text.as_str() == expected,
@@ -39,7 +39,7 @@ fn is_printed(alloc: Global, error: AsmError, expected: &str) -> bool {
     }
 }
 
-/// Whether a text has this refusal.
+/// Checks whether a text is rejected with the message `refusal`, or accepted if that is empty.
 fn is_refused(alloc: Global, text: &str, refusal: &str) -> bool {
     match assemble(alloc, text) {
         Ok(_) => refusal.is_empty(),
@@ -47,7 +47,7 @@ fn is_refused(alloc: Global, text: &str, refusal: &str) -> bool {
     }
 }
 
-/// The texts have these refusals: code and line; nothing for a program.
+/// Checks that each rejected text has its code and its line.
 #[test]
 fn refusals_have_their_code_and_line(rt: HostRuntime) {
     let alloc = rt.alloc();
@@ -56,17 +56,17 @@ fn refusals_have_their_code_and_line(rt: HostRuntime) {
     }
 }
 
-/// A program in any form.
+/// A program that uses many of the forms that assembly allows.
 const WRITTEN: &str =
     "start: lddw r1, -1 ; wide\n\n mov.w r2 ,-1\nback:add r1, r2\nstxd [r10-8], r1\nstd [r10-0x10], 5\nldd r3,[r10]\n\
      jsgt.w r1, -3, end\nja back\ncall send\nend:exit\n";
 
-/// The same in the form of a disassembly.
+/// The program `WRITTEN` as the disassembler prints it.
 const PRINTED: &str =
     "lddw r1, 18446744073709551615\nmov.w r2, -1\nadd r1, r2\nstxd [r10-8], r1\nstd [r10-16], 5\nldd r3, [r10+0]\n\
      jsgt.w r1, -3, +2\nja -6\ncall 6\nexit\n";
 
-/// Whether the program is disassembled to this text.
+/// Checks whether the program is disassembled to `expected`.
 fn is_disassembled(alloc: Global, program: &Program, expected: &str) -> bool {
     match disassemble(alloc, program) {
         Ok(text) => text.as_str() == expected,
@@ -74,7 +74,7 @@ fn is_disassembled(alloc: Global, program: &Program, expected: &str) -> bool {
     }
 }
 
-/// Whether the program of a text is disassembled to this one.
+/// Checks whether a text assembles to a program that is disassembled to `expected`.
 fn is_printed_as(alloc: Global, text: &str, expected: &str) -> bool {
     match assemble(alloc, text) {
         Ok(program) => is_disassembled(alloc, &program, expected),

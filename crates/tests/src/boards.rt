@@ -1,10 +1,10 @@
-//! The board and its ledger.
+//! Tests of the board and its ledger.
 
 use board::Board;
 use helper::{Reply, Request, Slot, Span};
 use std::alloc::Global;
 
-/// Whether a general's request is answered by this word.
+/// Checks whether the board answers a general's request with the word `expected`.
 fn gets(board: &mut Board, general: u32, round: u32, request: Request, expected: u64) -> bool {
     match board.apply(general, round, request) {
         Ok(Reply::Word(word)) => word == expected,
@@ -12,7 +12,7 @@ fn gets(board: &mut Board, general: u32, round: u32, request: Request, expected:
     }
 }
 
-/// Whether five requests for a word are answered, each by what the word was.
+/// Checks that the board answers five requests for a word, each with the word's value before the request.
 fn serves(board: &mut Board, slot: Slot) -> bool {
     let wrong = Request::Cas {
         slot,
@@ -35,7 +35,7 @@ fn serves(board: &mut Board, slot: Slot) -> bool {
         && gets(board, 0, 2, Request::Get { slot }, 8)
 }
 
-/// Whether the last four words are copied, and five from there are none.
+/// Checks that the last four words can be copied, and that five words from the same place are rejected.
 fn copies(board: &mut Board) -> bool {
     let Some(span) = Span::new(60, 4) else {
         return false;
@@ -47,7 +47,7 @@ fn copies(board: &mut Board) -> bool {
         )
 }
 
-/// Whether a board of zeros serves six accesses, and enters each.
+/// Checks that a board of zeros answers six accesses, and records each in the ledger.
 fn serves_and_enters(alloc: Global) -> bool {
     let Some(slot) = Slot::new(0) else {
         return false;

@@ -1,10 +1,10 @@
-//! Bytes to programs, and back.
+//! Tests of decoding bytes into programs, and of encoding programs.
 
 use codec::{CodecError, CodecFault, decode, encode};
 use insn::Program;
 use std::alloc::Global;
 
-/// Whether the bytes are refused for this at this unit.
+/// Checks whether decoding the bytes fails with `fault` at `unit`.
 fn is_refused(alloc: Global, bytes: &[u8], fault: CodecFault, unit: usize) -> bool {
     match decode(alloc, bytes) {
         Err(error) => error == CodecError::At(fault, unit),
@@ -12,7 +12,7 @@ fn is_refused(alloc: Global, bytes: &[u8], fault: CodecFault, unit: usize) -> bo
     }
 }
 
-/// More units than a program may have; the length comes first.
+/// Rejects bytes with more units than a program may have. A wrong length is found before a wrong count.
 #[test]
 fn long_bytes_are_refused(rt: HostRuntime) {
     let alloc = rt.alloc();
@@ -20,20 +20,20 @@ fn long_bytes_are_refused(rt: HostRuntime) {
     assert!(rt; is_refused(alloc, &[0; 32_776], CodecFault::Count, 0));
 }
 
-/// What comes of a unit.
+/// The result of decoding one unit.
 #[derive(Clone, Copy, PartialEq, Eq)]
 enum Answer {
-    /// It is a program, which is spelled by it.
+    /// The unit is a program, and the program is encoded as this unit.
     Taken,
-    /// Its instruction is left out.
+    /// The instruction is one that this project leaves out.
     LeftOut,
-    /// Its opcode is none.
+    /// The opcode belongs to no instruction.
     Unknown,
-    /// Anything else.
+    /// Decoding or encoding had another result.
     Other,
 }
 
-/// Whether the program is spelled by these bytes.
+/// Checks whether the program is encoded as these bytes.
 fn is_spelt(alloc: Global, program: &Program, bytes: &[u8]) -> bool {
     match encode(alloc, program) {
         Ok(spelt) => spelt.as_slice() == bytes,
@@ -41,7 +41,7 @@ fn is_spelt(alloc: Global, program: &Program, bytes: &[u8]) -> bool {
     }
 }
 
-/// What comes of a unit that is a program.
+/// Returns the answer for a unit that decodes to a program, by whether the program is encoded as this unit.
 fn taken(is_spelt: bool) -> Answer {
     if is_spelt {
         Answer::Taken
@@ -50,7 +50,7 @@ fn taken(is_spelt: bool) -> Answer {
     }
 }
 
-/// What comes of a unit.
+/// Decodes a unit and returns the result.
 fn answered(alloc: Global, unit: &[u8]) -> Answer {
     match decode(alloc, unit) {
         Ok(program) => taken(is_spelt(alloc, &program, unit)),
@@ -60,7 +60,7 @@ fn answered(alloc: Global, unit: &[u8]) -> Answer {
     }
 }
 
-/// Of how many opcodes this comes, where all else is zero.
+/// Counts the opcodes that have the result `wanted` if all other fields are zero.
 fn count(alloc: Global, wanted: Answer) -> u32 {
     let mut found = 0u32;
     for opcode in 0..=255u8 {
@@ -71,7 +71,8 @@ fn count(alloc: Global, wanted: Answer) -> u32 {
     found
 }
 
-/// Each opcode alone, all else zero: 117 are taken, but the wide one is cut and a swap of 0 bits is none.
+/// Decodes each opcode with all other fields zero. 117 opcodes are supported. Of these, the wide instruction lacks its
+/// second half, and swaps of 0 bits do not exist, so that 113 are accepted.
 #[test]
 fn opcodes_taken(rt: HostRuntime) {
     let alloc = rt.alloc();

@@ -1,4 +1,4 @@
-//! The stack and the context, by cells.
+//! Tests of loads and stores in the stack and the context.
 
 use insn::Size;
 use mem::{Context, MemoryFault, Stack, load, load_signed, store};
@@ -11,13 +11,13 @@ const START: Value = Value::Pointer(Region::Context, 0);
 
 const NUMBER: Value = Value::Number(0xfedc_ba98_7654_3210);
 
-/// Stores the number at -8 and the frame's pointer at -16.
+/// Stores `NUMBER` at -8 and the frame pointer at -16, and returns whether both stores succeed.
 fn is_filled(stack: &mut Stack) -> bool {
     store(stack, Size::Double, FRAME, -8, NUMBER).is_ok()
         && store(stack, Size::Double, FRAME, -16, FRAME).is_ok()
 }
 
-/// How much is loaded, from where, and the answer, where all bytes of the context are 0x81.
+/// Loads: the size, the base, the offset, and the answer. All bytes of the context are 0x81.
 const LOADS: &[(Size, Value, i16, Result<Value, MemoryFault>)] = &[
     (Size::Half, FRAME, -6, Ok(Value::Number(0x7654))),
     (Size::Double, FRAME, -16, Ok(FRAME)),
@@ -26,7 +26,7 @@ const LOADS: &[(Size, Value, i16, Result<Value, MemoryFault>)] = &[
     (Size::Word, START, 4093, Err(MemoryFault::OutOfBounds)),
 ];
 
-/// Whether all loads are answered so.
+/// Checks whether each load in `LOADS` gives its answer.
 fn load_so(stack: &Stack, context: &Context) -> bool {
     for &(size, base, distance, answer) in LOADS {
         if load(stack, context, size, base, distance) != answer {
@@ -36,13 +36,13 @@ fn load_so(stack: &Stack, context: &Context) -> bool {
     true
 }
 
-/// Whether the number's last byte is loaded with its sign.
+/// Checks whether a signed load of the byte at -1 extends its sign.
 fn loads_a_sign(stack: &Stack, context: &Context) -> bool {
     let sign = load_signed(stack, context, Narrow::Byte, FRAME, -1);
     sign == Ok(Value::Number(0xffff_ffff_ffff_fffe))
 }
 
-/// Whether the context is not written to.
+/// Checks whether a store to the context fails with `ContextWrite`.
 fn is_not_written(stack: &mut Stack) -> bool {
     store(stack, Size::Byte, START, 0, NUMBER) == Err(MemoryFault::ContextWrite)
 }
@@ -57,7 +57,7 @@ fn stores_and_loads(rt: HostRuntime) {
     assert!(rt; is_not_written(&mut stack));
 }
 
-/// Whether just these bytes are a context.
+/// Checks whether `bytes` is accepted as a context and is then its contents.
 fn is_context_of(bytes: &[u8]) -> bool {
     match Context::try_new(bytes) {
         Some(context) => context.bytes() == bytes,

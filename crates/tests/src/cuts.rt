@@ -1,11 +1,13 @@
-//! Where a text may be cut: its bytes are one, or end within a character of UTF-8.
+//! Tests where a text may be cut: `may_begin_text` accepts bytes that are a text, or end within a UTF-8 character.
 
 use streams::may_begin_text;
 
-/// Beginnings of texts: none, a letter, one byte of two, two of three, and three of four.
+/// Beginnings of texts: no byte, a letter, one byte of a two-byte character, two bytes of a three-byte character, and
+/// three bytes of a four-byte character.
 const BEGINNINGS: &[&[u8]] = &[b"", b"a", b"a\xc3", b"\xe2\x82", b"\xf0\x9f\x98"];
 
-/// What begins none: a letter within a character, a byte that is never one, one that begins none, and a surrogate.
+/// Bytes that begin no text: a letter within a character, a byte that UTF-8 never uses, a continuation byte after a
+/// letter, and a surrogate.
 const OTHERS: &[&[u8]] = &[b"\xc3(", b"\xff", b"a\x80", b"\xed\xa0"];
 
 #[test]

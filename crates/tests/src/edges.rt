@@ -1,17 +1,18 @@
-//! What a jump tells of the two ranges that it compared, on either edge: rows for each condition, at the ends of what
-//! is told.
+//! Tests how a conditional jump narrows the two ranges that it compares, if it is taken and if it is not. Each
+//! condition has rows at the limits of what it narrows.
 
 use crate::ranges::range;
 use range::edges::refine;
 use word::{Condition, Width};
 
-/// The ends of two ranges.
+/// Two ranges, each given by its ends.
 type Pair = ((u64, u64), (u64, u64));
 
-/// A condition, whether the jump is taken, two ranges, and what is left of them; None where no pair goes that way.
+/// The width, the condition, whether the jump is taken, two ranges, and the narrowed ranges. These are `None` if the
+/// jump cannot go this way.
 type Row = (Width, Condition, bool, (u64, u64), (u64, u64), Option<Pair>);
 
-/// Conditions of equality, and of single bits, which tell nothing.
+/// Equality, and tests of single bits, which narrow nothing.
 const EQUALITIES: &[Row] = &[
     (Width::W64, Condition::Equal, true, (7, 9), (5, 6), None),
     (
@@ -97,7 +98,7 @@ const EQUALITIES: &[Row] = &[
     ),
 ];
 
-/// Conditions of order.
+/// Unsigned comparisons.
 const ORDERS: &[Row] = &[
     (
         Width::W32,
@@ -167,7 +168,7 @@ const ORDERS: &[Row] = &[
     (Width::W64, Condition::AtMost, true, (7, 9), (5, 6), None),
 ];
 
-/// The same of signed numbers, which tell where none may be negative.
+/// Signed comparisons, which narrow only ranges without negative numbers.
 const SIGNED_ORDERS: &[Row] = &[
     (
         Width::W64,
@@ -299,7 +300,7 @@ const SIGNED_ORDERS: &[Row] = &[
     ),
 ];
 
-/// Whether this is left of two ranges on this edge.
+/// Checks whether a jump narrows the ranges `a` and `b` to `left`.
 fn leaves(
     width: Width,
     condition: Condition,

@@ -1,8 +1,8 @@
-//! Helpers by their numbers.
+//! Tests of helpers and their numbers.
 
 use helper::{Argument, Helper, arguments, helper_of, result};
 
-/// Numbers of helpers, and two that no helper is to have.
+/// Helpers by their numbers. The numbers 0 and 1000 must not be those of helpers.
 const NUMBERS: &[(i32, Option<Helper>)] = &[
     (0, None),
     (1, Some(Helper::BoardGet)),
@@ -13,7 +13,7 @@ const NUMBERS: &[(i32, Option<Helper>)] = &[
     (1000, None),
 ];
 
-/// `send_row` takes a label and at most 13 orders, `board_copy` answers at most 64.
+/// Checks that `send_row` takes a label and at most 13 orders, and that `board_copy` returns at most 64.
 fn has_bounds() -> bool {
     let [first, _, third] = arguments(Helper::SendRow);
     first == Some(Argument::Label)

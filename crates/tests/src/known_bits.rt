@@ -1,12 +1,12 @@
-//! The numbers of a range that have certain bits: what operations make of them, and what a jump leaves of them.
+//! Tests of number sets, which have a range and known bits: the results of operations, and how a jump narrows the sets.
 
 use absval::NumberSet;
 use word::{Condition, Operation, Width};
 
-/// The least and the greatest number, the bits that are open, and those that are known to be 1.
+/// The least and the greatest number of a set, the mask of the unknown bits, and the bits that are known to be 1.
 type Known = (u64, u64, u64, u64);
 
-/// An operation on two sets, and the set of its results.
+/// Operations: the width, the operation, two sets, and the set of the results.
 const OPERATIONS: &[(Width, Operation, Known, Known, Known)] = &[
     (
         Width::W64,
@@ -73,7 +73,8 @@ const OPERATIONS: &[(Width, Operation, Known, Known, Known)] = &[
     ),
 ];
 
-/// A condition, whether the jump is taken, two sets, and what is left of them; None where no pair goes that way.
+/// Jumps: the width, the condition, whether the jump is taken, two sets, and the narrowed sets. These are `None` if the
+/// jump cannot go this way.
 const EDGES: &[(Width, Condition, bool, Known, Known, Option<(Known, Known)>)] = &[
     (
         Width::W64,
@@ -117,7 +118,7 @@ const EDGES: &[(Width, Condition, bool, Known, Known, Option<(Known, Known)>)] =
     ),
 ];
 
-/// The set of the numbers between these ends with these bits.
+/// Returns the set of the numbers with these ends and known bits, or `None` if there are none.
 fn set((lo, hi, open, ones): Known) -> Option<NumberSet> {
     let numbers = NumberSet::operate(
         Width::W64,
@@ -143,14 +144,14 @@ fn set((lo, hi, open, ones): Known) -> Option<NumberSet> {
     Some(numbers)
 }
 
-/// Whether a set has these ends and bits.
+/// Checks whether a set has these ends and known bits.
 fn is(numbers: NumberSet, (lo, hi, open, ones): Known) -> bool {
     let range = numbers.range();
     let bits = numbers.bits();
     range.lo == lo && range.hi == hi && bits.mask == open && bits.value == ones
 }
 
-/// Whether the operation on two sets has results of the third.
+/// Checks whether an operation on the sets `a` and `b` has the set `made` as its result.
 fn gives(width: Width, operation: Operation, a: Known, b: Known, made: Known) -> bool {
     let (Some(first), Some(second)) = (set(a), set(b)) else {
         return false;
@@ -158,7 +159,7 @@ fn gives(width: Width, operation: Operation, a: Known, b: Known, made: Known) ->
     is(first, a) && is(second, b) && is(NumberSet::operate(width, operation, first, second), made)
 }
 
-/// Whether this is left of two sets on this edge.
+/// Checks whether a jump narrows the sets `a` and `b` to `left`.
 fn leaves(
     width: Width,
     condition: Condition,
@@ -183,7 +184,7 @@ fn leaves(
     }
 }
 
-/// Whether two sets are joined to the third.
+/// Checks whether the join of the sets `a` and `b` is `both`.
 fn joins(a: Known, b: Known, both: Known) -> bool {
     let (Some(first), Some(second)) = (set(a), set(b)) else {
         return false;

@@ -1,22 +1,22 @@
-//! Ranks of labels.
+//! Tests of ranks of labels: `rank`, `unrank` and `count`.
 
 use label::{Label, LabelError, Space, count, rank, unrank};
 
-/// Thirteen generals under 0, seen by 12.
+/// Thirteen generals with commander 0, as general 12 sees them.
 const WIDE: Space = Space {
     generals: 13,
     commander: 0,
     general: 12,
 };
 
-/// Five generals under 2, seen by 0.
+/// Five generals with commander 2, as general 0 sees them.
 const SMALL: Space = Space {
     generals: 5,
     commander: 2,
     general: 0,
 };
 
-/// Whether the label of thirteen generals has this rank.
+/// Checks whether a label of thirteen generals has the rank `expected`.
 fn has_rank(label: &Label, expected: u32) -> bool {
     match rank(WIDE, label) {
         Ok(found) => found == expected,
@@ -24,14 +24,14 @@ fn has_rank(label: &Label, expected: u32) -> bool {
     }
 }
 
-/// Whether two labels of thirteen generals have their ranks.
+/// Checks whether two labels of thirteen generals have their ranks, 720 and 7919.
 fn have_ranks() -> bool {
     let low = Label::of(0).with(2).with(1).with(3).with(4);
     let high = Label::of(0).with(11).with(10).with(9).with(8);
     has_rank(&low, 720) && has_rank(&high, 7919)
 }
 
-/// Whether a label of five generals has its rank, and one of the general who sees it has none.
+/// Checks that label 2.3 of five generals has rank 1, and that a label with the general who sees it is not a label.
 fn are_seen() -> bool {
     matches!(rank(SMALL, &Label::of(2).with(3)), Ok(1))
         && matches!(
@@ -45,7 +45,7 @@ fn ranks(rt: HostRuntime) {
     assert!(rt; have_ranks() && are_seen());
 }
 
-/// Whether the label of thirteen generals of this rank, of five of them, is of these.
+/// Checks whether the label of five generals with rank `place` consists of `generals`.
 fn is_label(place: u32, generals: &[u8]) -> bool {
     match unrank(WIDE, 5, place) {
         Ok(label) => label.generals() == generals,

@@ -1,5 +1,6 @@
-//! Tests of words, ranges, labels, trees, tables, cells, the board, orders, programs, their activations and where a text
-//! may be cut, by values from outside: a crate with tests of its own is proved twice.
+//! Tests of the lower crates: words, ranges, labels, trees, message tables, memory cells, the board, outboxes, programs
+//! and their activations, and cuts of text. The tests have a crate of their own because a crate that contains tests is
+//! proved twice.
 #![tactic(auto)]
 
 #[cfg(test)]

@@ -1,9 +1,9 @@
-//! The orders that a general puts.
+//! Tests of the outbox, which holds the orders that a general sends.
 
 use outbox::{Outbox, Shape};
 use std::alloc::Global;
 
-/// Whether label 0 has no order at first, and `sway` puts one for 1 and for 2, but not for 0.
+/// Checks that label 0 has no order at first, and that `sway` sets the order for receivers 1 and 2, but not for 0.
 fn sways(outbox: &mut Outbox) -> bool {
     outbox.get(0, 1).is_none()
         && outbox.sway(1, 0) == 1
@@ -12,7 +12,7 @@ fn sways(outbox: &mut Outbox) -> bool {
         && outbox.get(0, 1) == Some(0)
 }
 
-/// Whether orders are put where the label and the receiver are his, one by one and by row.
+/// Checks that `put` and `put_row` set orders only for labels that the general relays, and only for their receivers.
 fn puts(outbox: &mut Outbox) -> bool {
     outbox.put(0, 2, 7)
         && !outbox.put(0, 3, 7)
@@ -22,14 +22,14 @@ fn puts(outbox: &mut Outbox) -> bool {
         && outbox.get(0, 2) == Some(6)
 }
 
-/// Whether with `honest` he tells 1 what the context has of label 0.
+/// Checks that `honest` sends general 1 the order that the context contains for label 0.
 fn is_honest(outbox: &mut Outbox) -> bool {
     let mut context = [0; 4096];
     context[33] = 1;
     outbox.honest(&context, 1) == 1 && outbox.get(0, 1) == Some(256)
 }
 
-/// Whether general 3 of 4 under commander 0 relays label 0 to 1 and 2 in round 2.
+/// Checks that general 3 of four with commander 0 relays label 0 to generals 1 and 2 in round 2.
 fn relays(alloc: Global) -> bool {
     let shape = Shape {
         generals: 4,
@@ -53,7 +53,7 @@ fn relays_one_label(rt: HostRuntime) {
     assert!(rt; relays(rt.alloc()));
 }
 
-/// Whether the same relays nothing in round 1.
+/// Checks that general 3 of four with commander 0 can send no order in round 1.
 fn is_silent(alloc: Global) -> bool {
     let shape = Shape {
         generals: 4,
@@ -73,7 +73,7 @@ fn relays_nothing(rt: HostRuntime) {
     assert!(rt; is_silent(rt.alloc()));
 }
 
-/// Whether the first of two chains is passed on to 1, once, and nothing else is sent.
+/// Checks that the outbox passes on only the first of two chains, to general 1, and sends nothing else.
 fn passes_one(outbox: &mut Outbox) -> bool {
     outbox.pass(0, 2)
         && !outbox.pass(1, 2)
@@ -83,7 +83,8 @@ fn passes_one(outbox: &mut Outbox) -> bool {
         && outbox.entries().len() == 1
 }
 
-/// Whether that is so of general 2 of 3, who holds a chain of the commander and one that he has signed himself.
+/// Checks `passes_one` for general 2 of three. He holds a chain of the commander and a chain that he has signed
+/// himself.
 fn enters(alloc: Global) -> bool {
     let shape = Shape {
         generals: 3,
@@ -97,8 +98,8 @@ fn enters(alloc: Global) -> bool {
     }
 }
 
-/// General 2 holds a chain of the commander and one that he has signed himself: he passes on the first, once he names
-/// it; he signs no order.
+/// General 2 holds a chain of the commander and a chain that he has signed himself. He can pass on the first, not the
+/// second, and he can sign no order.
 #[test]
 fn enters_what_can_be_sent(rt: HostRuntime) {
     assert!(rt; enters(rt.alloc()));

@@ -1,15 +1,15 @@
-//! Programs by their units.
+//! Tests of the units of programs.
 
 use insn::{Insn, Operand, Program, Reg};
 use std::alloc::{AllocError, Global};
 use word::{Operation, Width};
 
-/// Whether it is the instruction that takes two units.
+/// Checks whether `found` is the wide instruction that loads 7 into `register`.
 fn is_wide(found: &Option<Insn>, register: Reg) -> bool {
     matches!(found, Some(Insn::LoadImmediate { dst, number: 7 }) if *dst == register)
 }
 
-/// Whether it is the instruction that takes one.
+/// Checks whether `found` is the instruction that moves 42 into `register`.
 fn is_narrow(found: &Option<Insn>, register: Reg) -> bool {
     matches!(
         found,
@@ -22,8 +22,8 @@ fn is_narrow(found: &Option<Insn>, register: Reg) -> bool {
     )
 }
 
-/// Whether the wide instruction, the narrow one and the exit take the program's 4 units, of which the second starts
-/// nothing.
+/// Checks that the wide instruction, the narrow instruction and the exit take 4 units, and that no instruction begins
+/// at the second unit.
 fn is_laid_out(program: &Program, dst: Reg) -> bool {
     program.len() == 3
         && program.units() == 4
@@ -35,7 +35,7 @@ fn is_laid_out(program: &Program, dst: Reg) -> bool {
         && program.at(4).is_none()
 }
 
-/// The program of the wide instruction, the narrow one and the exit.
+/// Builds the program of the wide instruction, the narrow instruction and the exit.
 fn program(alloc: Global, dst: Reg) -> Result<Program, AllocError> {
     let wide = Insn::LoadImmediate { dst, number: 7 };
     let narrow = Insn::Arithmetic {
@@ -47,7 +47,7 @@ fn program(alloc: Global, dst: Reg) -> Result<Program, AllocError> {
     Program::new(alloc, [wide, narrow, Insn::Exit].to_vec(alloc)?)
 }
 
-/// Whether it is laid out in 4 units.
+/// Builds the program for register 1, and checks that it takes 4 units.
 fn takes_two_units(alloc: Global) -> bool {
     let Some(dst) = Reg::new(1) else {
         return false;

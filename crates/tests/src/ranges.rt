@@ -1,14 +1,15 @@
-//! The table of ranges: rows for each line and case of it, at the ends of what each case asks.
+//! Tests of the table of range operations. Each line and case of the table has rows whose operands are at the limits of
+//! the case.
 
 use range::Range;
 use range::operations::operate;
 use range::unary_operations::{negate, sign_extend, swap};
 use word::{ByteOrder, Narrow, Operation, SwapSize, Width};
 
-/// An operation on two ranges, and the range of its results, each by its ends.
+/// An operation on two ranges, and the range of its results. A range is given by its ends.
 type Row = (Width, Operation, (u64, u64), (u64, u64), (u64, u64));
 
-/// Sums, differences and products: without a carry, with one, and where only some have one.
+/// Sums, differences and products: those that never carry, those that always carry, and those that sometimes carry.
 const SUMS: &[Row] = &[
     (
         Width::W64,
@@ -124,7 +125,8 @@ const SUMS: &[Row] = &[
     ),
 ];
 
-/// Quotients and remainders: by numbers above 0, by 0, by either; signed ones also where an end is negative.
+/// Quotients and remainders. The divisors are positive, zero, or either. Signed operands also have ends that are
+/// negative.
 const QUOTIENTS: &[Row] = &[
     (
         Width::W64,
@@ -240,7 +242,7 @@ const QUOTIENTS: &[Row] = &[
     (Width::W64, Operation::Mod, (3, 50), (0, 1), (0, 50)),
 ];
 
-/// Bits, shifts by one number and by several, and copies.
+/// Bitwise operations, shifts by one count or by several, and copies.
 const BITS_AND_SHIFTS: &[Row] = &[
     (
         Width::W64,
@@ -373,7 +375,7 @@ const BITS_AND_SHIFTS: &[Row] = &[
     ),
 ];
 
-/// Low halves, where the upper ones agree and where they do not.
+/// Operations on the low halves of 64-bit ranges, whose upper halves are equal or differ.
 const LOW_HALVES: &[Row] = &[
     (
         Width::W32,
@@ -391,7 +393,7 @@ const LOW_HALVES: &[Row] = &[
     ),
 ];
 
-/// The range of these ends.
+/// Returns the range with these ends, or `None` if `lo` is greater than `hi`.
 pub(crate) fn range((lo, hi): (u64, u64)) -> Option<Range> {
     if lo <= hi {
         Some(Range { lo, hi })
@@ -400,7 +402,7 @@ pub(crate) fn range((lo, hi): (u64, u64)) -> Option<Range> {
     }
 }
 
-/// Whether the operation on two ranges has results of the third.
+/// Checks whether an operation on the ranges `a` and `b` has the range `ends` as its result.
 fn gives(
     width: Width,
     operation: Operation,
@@ -443,7 +445,7 @@ fn low_halves(rt: HostRuntime) {
     }
 }
 
-/// A range, and that of the negated numbers.
+/// Negations: the width, a range, and the range of the negated numbers.
 const NEGATED: &[(Width, (u64, u64), (u64, u64))] = &[
     (
         Width::W64,
@@ -454,7 +456,7 @@ const NEGATED: &[(Width, (u64, u64), (u64, u64))] = &[
     (Width::W32, (1, 2), (0, 0xffff_ffff)),
 ];
 
-/// A part, a range, and that of the numbers whose part is extended by its sign.
+/// Sign extensions: the width, the part that is extended, a range, and the range of the results.
 const EXTENDED: &[(Width, Narrow, (u64, u64), (u64, u64))] = &[
     (Width::W64, Narrow::Byte, (3, 127), (3, 127)),
     (
@@ -470,7 +472,7 @@ const EXTENDED: &[(Width, Narrow, (u64, u64), (u64, u64))] = &[
     (Width::W32, Narrow::Byte, (3, 128), (0, 0xffff_ffff)),
 ];
 
-/// An order, a size, a range, and that of the numbers whose bytes are put in the order.
+/// Byte swaps: the byte order, the size, a range, and the range of the results.
 const SWAPPED: &[(ByteOrder, SwapSize, (u64, u64), (u64, u64))] = &[
     (ByteOrder::Little, SwapSize::Half, (3, 65535), (3, 65535)),
     (ByteOrder::Little, SwapSize::Half, (3, 65536), (0, 65535)),
@@ -528,7 +530,7 @@ const SWAPPED: &[(ByteOrder, SwapSize, (u64, u64), (u64, u64))] = &[
     ),
 ];
 
-/// Whether the negated numbers of the first range have the second.
+/// Checks whether negating the numbers of range `a` has the range `ends` as its result.
 fn negates(width: Width, a: (u64, u64), ends: (u64, u64)) -> bool {
     let Some(a) = range(a) else {
         return false;
@@ -537,7 +539,7 @@ fn negates(width: Width, a: (u64, u64), ends: (u64, u64)) -> bool {
     found.lo == ends.0 && found.hi == ends.1
 }
 
-/// Whether the numbers of the first range whose part is extended have the second.
+/// Checks whether the sign extension of the numbers of range `a` has the range `ends` as its result.
 fn extends(width: Width, part: Narrow, a: (u64, u64), ends: (u64, u64)) -> bool {
     let Some(a) = range(a) else {
         return false;
@@ -546,7 +548,7 @@ fn extends(width: Width, part: Narrow, a: (u64, u64), ends: (u64, u64)) -> bool 
     found.lo == ends.0 && found.hi == ends.1
 }
 
-/// Whether the numbers of the first range whose bytes are put in the order have the second.
+/// Checks whether the byte swap of the numbers of range `a` has the range `ends` as its result.
 fn swaps(order: ByteOrder, size: SwapSize, a: (u64, u64), ends: (u64, u64)) -> bool {
     let Some(a) = range(a) else {
         return false;
@@ -568,7 +570,7 @@ fn operations_on_one(rt: HostRuntime) {
     }
 }
 
-/// Whether two ranges are joined to the one between their outer ends.
+/// Checks that the join of two ranges reaches from the lower to the upper outer end.
 fn are_joined() -> bool {
     let both = Range { lo: 3, hi: 5 }.join(Range { lo: 9, hi: 12 });
     both.lo == 3 && both.hi == 12 && both.contains(7) && !both.contains(13)

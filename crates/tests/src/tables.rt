@@ -1,9 +1,9 @@
-//! Message tables, and what the lieutenants decide by them.
+//! Tests of message tables, and of the lieutenants' decisions.
 
 use book::{TableError, TableFault, decision, decisions, read_table};
 use std::alloc::Global;
 
-/// Whether the lieutenants of a table decide so.
+/// Checks whether the lieutenants of a table decide on `orders`.
 fn decides(alloc: Global, text: &str, orders: &[u32]) -> bool {
     match read_table(alloc, text) {
         Ok(table) => decisions(&table).as_slice() == orders,
@@ -11,7 +11,7 @@ fn decides(alloc: Global, text: &str, orders: &[u32]) -> bool {
     }
 }
 
-/// Whether a table is refused for this, at this line.
+/// Checks whether a table is rejected with this fault at this line.
 fn refuses(alloc: Global, text: &str, fault: TableFault, line: u64) -> bool {
     match read_table(alloc, text) {
         Ok(_) => false,
@@ -19,8 +19,8 @@ fn refuses(alloc: Global, text: &str, fault: TableFault, line: u64) -> bool {
     }
 }
 
-/// A commander who tells two of three to attack, one who is silent to the last, and one who tells each another order:
-/// tables of four generals, and what is decided.
+/// Tables of four generals and the decisions. In the first, the commander orders two of three lieutenants to attack. In
+/// the second, he sends nothing to the last. In the third, he sends each a different order.
 const TRAITORS: &[(&str, &[u32])] = &[
     (
         "generals 4 bound 1 commander 0\ntell 0 1 1\ntell 0 2 0\ntell 0 3 1\ntell 0.1 2 1\ntell 0.1 3 1\n\
@@ -47,11 +47,11 @@ fn one_traitor(rt: HostRuntime) {
     }
 }
 
-/// A table of three generals, of whom 2 tells 1 another order than he was told.
+/// A table of three generals, in which general 2 relays to general 1 another order than he received.
 const THREE: &str =
     "generals 3 bound 1 commander 0\ntell 0 1 1\ntell 0 2 1\ntell 0.1 2 1\ntell 0.2 1 0\n";
 
-/// Whether 1 retreats there.
+/// Checks whether general 1 decides to retreat in the table `THREE`.
 fn retreats(alloc: Global) -> bool {
     match read_table(alloc, THREE) {
         Ok(table) => { table.generals() == 3 && table.commander() == 0 && decision(&table, 1) == 0 }
@@ -64,7 +64,7 @@ fn too_few_generals(rt: HostRuntime) {
     assert!(rt; retreats(rt.alloc()));
 }
 
-/// Tables in which messages are missing, and what is decided.
+/// Tables in which messages are missing, and the decisions.
 const MISSING: &[(&str, &[u32])] = &[
     ("generals 2 bound 0 commander 0\ntell 0 1 7\n", &[7]),
     (
@@ -85,10 +85,10 @@ fn messages_missing(rt: HostRuntime) {
     }
 }
 
-/// Tables that are refused, for what, and at which line.
+/// Tables that are rejected, with the fault and its line.
 const REFUSED: &[(&str, TableFault, u64)] = &[
     ("generals 3 bound 2 commander 0", TableFault::Range, 1),
-    // the receiver is on the label
+    // The receiver is on the label.
     (
         "generals 4 bound 1 commander 0\ntell 0.1 1 5\n",
         TableFault::Place,
@@ -99,7 +99,7 @@ const REFUSED: &[(&str, TableFault, u64)] = &[
         TableFault::Twice,
         3,
     ),
-    // 2^32
+    // The order is 2^32, which is too large.
     (
         "generals 4 bound 1 commander 0\ntell 0 1 4294967296\n",
         TableFault::Line,
@@ -108,7 +108,7 @@ const REFUSED: &[(&str, TableFault, u64)] = &[
     ("", TableFault::Line, 1),
 ];
 
-/// Whether a refusal is printed so.
+/// Checks whether an error is printed as `expected`.
 fn is_printed(alloc: Global, error: TableError, expected: &str) -> bool {
     match error.to_string(alloc) {
         Ok(text) => text.as_str() == expected,

@@ -1,4 +1,5 @@
-//! Trees, labels and rules together.
+//! Tests of trees together with labels and rules: sizes of levels, order of labels, and decisions that are computed in
+//! parallel.
 ghost use Rattle.std.specs.Prelude.{◌≡◌};
 ghost use Rattle.combine.specs.Rule.{majority};
 ghost use Rattle.combine.specs.Laws.{majority_is_rule};
@@ -12,19 +13,19 @@ use std::sync::atomic::{AtomicU32, Ordering};
 use std::thread::Threads;
 use tree::Tree;
 
-/// Thirteen generals under 0, seen by 12.
+/// Thirteen generals with commander 0, as general 12 sees them.
 const WIDE: Space = Space {
     generals: 13,
     commander: 0,
     general: 12,
 };
 
-/// Whether the level of labels of so many generals has so many values.
+/// Checks whether the level for labels of `size` generals has `values` values.
 fn has_level(tree: &Tree, size: u8, values: usize) -> bool {
     0 < size && size - 1 <= tree.bound() && tree.level(size).len() == values
 }
 
-/// Whether the levels of thirteen generals have their sizes.
+/// Checks whether the levels of a tree for thirteen generals have their sizes: 1, 11, 110, 990 and 7,920.
 fn have_sizes(alloc: Global) -> bool {
     match Tree::new(alloc, 13, 4, 0, 12) {
         Ok(tree) => {
@@ -43,7 +44,7 @@ fn levels_of_thirteen_generals(rt: HostRuntime) {
     assert!(rt; have_sizes(rt.alloc()));
 }
 
-/// Whether the label of four generals of this rank goes on from the one of three.
+/// Checks whether the label of four generals with this rank extends the label `parent`, which has three.
 fn is_child(parent: &Label, rank: u32) -> bool {
     match unrank(WIDE, 4, rank) {
         Ok(child) => child.len() == 4 && child.generals().starts_with(parent.generals()),
@@ -51,7 +52,8 @@ fn is_child(parent: &Label, rank: u32) -> bool {
     }
 }
 
-/// Whether of the labels of ranks 980 to 989 all but the first go on from the last one of three generals.
+/// Checks that the labels of ranks 981 to 989 extend the last label of three generals, and that the label of rank 980
+/// does not.
 fn stand_together() -> bool {
     let Ok(parent) = unrank(WIDE, 3, 109) else {
         return false;
@@ -70,16 +72,16 @@ fn children_stand_together(rt: HostRuntime) {
     assert!(rt; unrank(WIDE, 4, 990).is_err());
 }
 
-/// The majority, whose first call waits until a second has begun.
+/// The majority rule, whose first call waits until a second call has begun.
 #[derive(Drop)]
 struct Meeting<'a> {
-    /// How many calls have begun.
+    /// The number of calls that have begun.
     begun: &'a AtomicU32,
-    /// How many have waited in vain.
+    /// The number of calls that waited in vain.
     missed: &'a AtomicU32,
 }
 
-/// How many turns the first call waits at most.
+/// The most turns that the first call waits.
 const TURNS: u32 = 100_000_000;
 
 impl Combine for Meeting<'_> {
@@ -95,7 +97,7 @@ impl Combine for Meeting<'_> {
     ghost most_decide = { λ _. majority_is_rule };
 }
 
-/// Whether a second call begins within the turns.
+/// Waits until a second call has begun, for at most `TURNS` turns, and returns whether it has.
 fn is_joined(begun: &AtomicU32) -> bool {
     for _ in 0..TURNS {
         if begun.load(Ordering::SeqCst) > 1 {
@@ -106,7 +108,8 @@ fn is_joined(begun: &AtomicU32) -> bool {
     false
 }
 
-/// The trees of 1 and 2 of four generals: 0 told them the order 5, and 3 that 0 had told him the same.
+/// Builds the trees of lieutenants 1 and 2 of four generals. Commander 0 sent them the order 5, and lieutenant 3
+/// relayed the same order.
 fn told_five(alloc: Global) -> Result<Vec<Tree>, AllocError> {
     let mut trees = Vec::new(alloc);
     for general in 1..3 {
@@ -118,7 +121,7 @@ fn told_five(alloc: Global) -> Result<Vec<Tree>, AllocError> {
     Ok(trees)
 }
 
-/// Whether both lieutenants of these trees decide for 5.
+/// Checks whether both lieutenants of these trees decide on 5.
 fn decide_for_five<R: Threads + Sync>(
     rt: &R,
     alloc: Global,
@@ -131,7 +134,7 @@ fn decide_for_five<R: Threads + Sync>(
     }
 }
 
-/// Whether these trees are resolved by two calls of the majority, of which neither waits for the other in vain.
+/// Checks whether these trees are resolved in parallel: by two calls of the majority rule, of which none waits in vain.
 fn are_resolved_at_once<R: Threads + Sync>(rt: &R, alloc: Global, trees: &[Tree]) -> bool {
     let begun = AtomicU32::new(0);
     let missed = AtomicU32::new(0);
@@ -144,7 +147,7 @@ fn are_resolved_at_once<R: Threads + Sync>(rt: &R, alloc: Global, trees: &[Tree]
         && missed.load(Ordering::SeqCst) == 0
 }
 
-/// Whether that is so of the trees of two lieutenants.
+/// Checks whether the trees of two lieutenants are resolved in parallel.
 fn halves_meet<R: Threads + Sync>(rt: &R, alloc: Global) -> bool {
     match told_five(alloc) {
         Ok(trees) => are_resolved_at_once(rt, alloc, trees.as_slice()),

@@ -1,4 +1,4 @@
-//! Arithmetic, comparisons and swaps of words.
+//! Tests of arithmetic, comparisons and byte swaps of words.
 
 use word::arithmetic::{alu32, alu64, negate, sign_extend};
 use word::comparison::{compare32, compare64};
@@ -18,7 +18,7 @@ const WIDE: &[Row] = &[
     (Operation::Mod, 0x1_0000_0005, 0, 0x1_0000_0005),
     (Operation::SignedDiv, LEAST, MINUS_ONE, LEAST),
     (Operation::SignedMod, LEAST, MINUS_ONE, 0),
-    // -13 by 3: -4, and -1 is left
+    // -13 divided by 3 is -4, with remainder -1.
     (Operation::SignedDiv, MINUS_ONE - 12, 3, MINUS_ONE - 3),
     (Operation::SignedMod, MINUS_ONE - 12, 3, MINUS_ONE),
     (Operation::ShiftLeft, 1, 65, 2),
@@ -56,7 +56,7 @@ fn divides_and_shifts(rt: HostRuntime) {
     }
 }
 
-/// A width, a part, a word, and the word that the part's sign is extended to.
+/// Sign extensions: the width, the part that is extended, the word, and the result.
 const EXTENSIONS: &[(Width, Narrow, u64, u64)] = &[
     (Width::W64, Narrow::Byte, 0x80, 18_446_744_073_709_551_488),
     (Width::W32, Narrow::Half, 0x1_8000, 0xffff_8000),
@@ -81,10 +81,10 @@ fn compares(rt: HostRuntime) {
     assert!(rt; compare32(Condition::SignedBelow, 0x8000_0000, 0));
 }
 
-/// A word whose bytes are put in order.
+/// The word whose bytes `SWAPS` puts in order.
 const WORD: u64 = 0x1122_3344_5566_7788;
 
-/// An order and a size, and what the word then is.
+/// Byte swaps of `WORD`: the byte order, the size, and the result.
 const SWAPS: &[(ByteOrder, SwapSize, u64)] = &[
     (ByteOrder::Big, SwapSize::Half, 34935),
     (ByteOrder::Little, SwapSize::Word, 0x5566_7788),
