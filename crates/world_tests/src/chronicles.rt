@@ -1,4 +1,5 @@
-//! Texts of scenarios and schedules: how faults are printed, and that texts that are cut or changed are answered.
+//! Tests of the texts of scenarios and schedules: how faults are printed, and whether texts that are cut or randomly
+//! changed are accepted or rejected.
 
 use crate::scenarios::joined;
 use crate::texts::{COLLUDING, SEVEN};
@@ -6,7 +7,7 @@ use scenario::{ScenarioError, read};
 use std::alloc::{AllocError, Global};
 use trace::{TraceError, TraceFault, read_schedule};
 
-/// What each of five rounds begins with.
+/// A schedule of the events with which each of five rounds begins.
 const SCHEDULE: &str = "4*15 0*2
 0 4*4096 12
 
@@ -23,7 +24,7 @@ const PRINTED_FAULTS: &[(TraceError, &str)] = &[
     (TraceError::Memory, "out of memory"),
 ];
 
-/// Whether a fault is printed so.
+/// Checks whether a fault is printed as `expected`.
 fn is_printed(alloc: Global, fault: TraceError, expected: &str) -> bool {
     match fault.to_string(alloc) {
         Ok(text) => text.as_str() == expected,
@@ -31,7 +32,7 @@ fn is_printed(alloc: Global, fault: TraceError, expected: &str) -> bool {
     }
 }
 
-/// Whether a refusal of memory to a scenario is printed so.
+/// Checks whether the error that memory ran out while a scenario was read is printed as `expected`.
 fn is_refused_memory_printed(alloc: Global, expected: &str) -> bool {
     match ScenarioError::Memory.to_string(alloc) {
         Ok(text) => text.as_str() == expected,
@@ -48,7 +49,7 @@ fn faults_of_texts_are_printed(rt: HostRuntime) {
     assert!(rt; is_refused_memory_printed(alloc, "out of memory"));
 }
 
-/// Whether the text tells a scenario. That memory was refused is an error.
+/// Checks whether the text is accepted as a scenario, or fails if memory runs out.
 fn tells_scenario(alloc: Global, text: &str) -> Result<bool, AllocError> {
     match read(alloc, text) {
         Ok(_) => Ok(true),
@@ -57,7 +58,8 @@ fn tells_scenario(alloc: Global, text: &str) -> Result<bool, AllocError> {
     }
 }
 
-/// Whether the text tells a schedule. That it is refused by another fault than a schedule's is an error.
+/// Checks whether the text is accepted as a schedule, or fails if it is rejected with another fault than X1 in lines 1
+/// to 6.
 fn tells_schedule(alloc: Global, text: &str) -> Result<bool, AllocError> {
     match read_schedule(alloc, text) {
         Ok(_) => Ok(true),
@@ -66,14 +68,14 @@ fn tells_schedule(alloc: Global, text: &str) -> Result<bool, AllocError> {
     }
 }
 
-/// What a text is read as.
+/// What kind of text is read.
 #[derive(Clone, Copy)]
 enum Reading {
     Scenario,
     Schedule,
 }
 
-/// Whether the text is taken as what it is read as.
+/// Checks whether the text is accepted as this kind of text.
 fn is_taken(alloc: Global, reading: Reading, text: &str) -> Result<bool, AllocError> {
     match reading {
         Reading::Scenario => tells_scenario(alloc, text),
@@ -81,7 +83,7 @@ fn is_taken(alloc: Global, reading: Reading, text: &str) -> Result<bool, AllocEr
     }
 }
 
-/// How many beginnings of the text, the whole among them, are not taken.
+/// Counts the beginnings of the text, including the whole text, that are rejected.
 fn refused_beginnings(alloc: Global, reading: Reading, text: &str) -> Result<u32, AllocError> {
     let mut refused = 0u32;
     for end in 0..=text.len() {
@@ -94,7 +96,7 @@ fn refused_beginnings(alloc: Global, reading: Reading, text: &str) -> Result<u32
     Ok(refused)
 }
 
-/// Whether so many beginnings of the text are not taken.
+/// Checks whether `refused` beginnings of the text are rejected.
 fn has_refused(alloc: Global, reading: Reading, text: &str, refused: u32) -> bool {
     match refused_beginnings(alloc, reading, text) {
         Ok(found) => found == refused,
@@ -102,7 +104,7 @@ fn has_refused(alloc: Global, reading: Reading, text: &str, refused: u32) -> boo
     }
 }
 
-/// Whether the scenario of two colluders has 431 bytes, and so many of its beginnings are not taken.
+/// Checks that the scenario of two colluders has 431 bytes, and that `refused` of its beginnings are rejected.
 fn has_refused_of_scenario(alloc: Global, refused: u32) -> bool {
     match joined(alloc, SEVEN, COLLUDING) {
         Ok(scenario) => {
@@ -113,8 +115,8 @@ fn has_refused_of_scenario(alloc: Global, refused: u32) -> bool {
     }
 }
 
-/// A scenario has 432 beginnings: it is taken behind the four lines of the head, and behind each traitor, with the line
-/// feeds that follow.
+/// The scenario has 432 beginnings. Six are accepted: those that end after the four keys, after the first traitor or
+/// after the second, each with the last line feed or without.
 #[test]
 fn beginnings_of_texts(rt: HostRuntime) {
     let alloc = rt.alloc();
@@ -122,7 +124,7 @@ fn beginnings_of_texts(rt: HostRuntime) {
     assert!(rt; has_refused(alloc, Reading::Schedule, SCHEDULE, 10));
 }
 
-/// The next number by a linear congruential generator, of which the upper bits are used.
+/// Returns the next number of a linear congruential generator, which consists of the upper 31 bits of its state.
 fn next(state: &mut u64) -> u64 {
     *state = state
         .wrapping_mul(6364136223846793005)
@@ -130,7 +132,7 @@ fn next(state: &mut u64) -> u64 {
     *state >> 33
 }
 
-/// Replaces a character, takes one out or puts one in.
+/// Replaces, removes or inserts a byte at a random place, or does nothing if the place is beyond the end.
 fn change(bytes: &mut Vec<u8>, state: &mut u64) -> Result<(), AllocError> {
     let kind = next(state) % 3;
     let place = next(state) as usize % 1024;
@@ -148,7 +150,7 @@ fn change(bytes: &mut Vec<u8>, state: &mut u64) -> Result<(), AllocError> {
     Ok(())
 }
 
-/// The text with one to four changes.
+/// Returns the bytes of the text with one to four random changes.
 fn changed(alloc: Global, text: &str, state: &mut u64) -> Result<Vec<u8>, AllocError> {
     let mut bytes = text.as_bytes().to_vec(alloc)?;
     for _ in 0..=next(state) % 4 {
@@ -157,7 +159,7 @@ fn changed(alloc: Global, text: &str, state: &mut u64) -> Result<Vec<u8>, AllocE
     Ok(bytes)
 }
 
-/// Whether the text, changed, is taken.
+/// Checks whether the text is accepted after random changes.
 fn is_taken_changed(
     alloc: Global,
     reading: Reading,
@@ -171,7 +173,8 @@ fn is_taken_changed(
     }
 }
 
-/// How many of so many changed texts are taken. That one is not answered is an error.
+/// Counts how many of `count` randomly changed texts are accepted. It fails if one of them can be neither accepted nor
+/// rejected.
 fn taken_changed(
     alloc: Global,
     reading: Reading,
@@ -189,7 +192,7 @@ fn taken_changed(
     Ok(taken)
 }
 
-/// Whether each of so many changed texts is answered, some are taken and some are not.
+/// Checks that each of `count` randomly changed texts is accepted or rejected, and that both happen.
 fn are_some_taken(alloc: Global, reading: Reading, text: &str, seed: u64, count: u32) -> bool {
     match taken_changed(alloc, reading, text, seed, count) {
         Ok(taken) => 0 < taken && taken < count,
@@ -197,7 +200,7 @@ fn are_some_taken(alloc: Global, reading: Reading, text: &str, seed: u64, count:
     }
 }
 
-/// Whether that is so of 6,000 scenarios of two colluders, by two seeds.
+/// Checks `are_some_taken` for 6,000 scenarios of two colluders, from two seeds.
 fn are_some_scenarios_taken(alloc: Global) -> bool {
     match joined(alloc, SEVEN, COLLUDING) {
         Ok(scenario) => {

@@ -1,4 +1,5 @@
-//! What a gate is asked before each access, and that the generals of a muster act at once.
+//! Tests of gates, which may hold a general before an access, and tests that the generals' threads act at the same
+//! time.
 
 use crate::scenarios::told;
 use crate::texts::{
@@ -16,11 +17,11 @@ use std::thread::Threads;
 use threads::{Gate, muster, muster_with};
 use world::{Chronicle, Verdict};
 
-/// How many turns a general is held at most.
+/// The most turns that a general is held.
 const TURNS: u32 = 100_000_000;
 
-/// Holds a general until the count has come to so many. Where the turns are over before, that is noted, and nobody is
-/// held any more.
+/// Holds a general until the count is at least `wanted`. If this takes more than `TURNS` turns, `missed` is counted up,
+/// and no general is held any more.
 fn hold(count: &AtomicU32, wanted: u32, missed: &AtomicU32) {
     for turn in 0..TURNS {
         if count.load(Ordering::SeqCst) >= wanted || missed.load(Ordering::SeqCst) > 0 {
@@ -33,7 +34,7 @@ fn hold(count: &AtomicU32, wanted: u32, missed: &AtomicU32) {
     missed.fetch_add(1, Ordering::SeqCst);
 }
 
-/// A count for each round.
+/// A count for each of three rounds.
 #[derive(Drop)]
 struct Counts {
     first: AtomicU32,
@@ -50,7 +51,7 @@ impl Counts {
         }
     }
 
-    /// The count of a round.
+    /// Returns the count of a round.
     fn of(&self, round: u32) -> &AtomicU32 {
         match round {
             1 => &self.first,
@@ -59,7 +60,7 @@ impl Counts {
         }
     }
 
-    /// Whether these are the counts.
+    /// Checks whether the counts of the three rounds are `counts`.
     fn are(&self, counts: (u32, u32, u32)) -> bool {
         self.first.load(Ordering::SeqCst) == counts.0
             && self.second.load(Ordering::SeqCst) == counts.1
@@ -67,14 +68,15 @@ impl Counts {
     }
 }
 
-/// Holds each general at one of his accesses until all that are wanted have come to it, in the rounds up to one.
+/// A gate that holds each general at his access number `nth` until `wanted` generals have come to it. It does so in the
+/// rounds up to `last_round`.
 #[derive(Drop)]
 struct Meeting {
     nth: u64,
     last_round: u32,
     wanted: u32,
     come: Counts,
-    /// How many were let go since the turns were over.
+    /// How many generals were released because the turns were over.
     missed: AtomicU32,
 }
 
@@ -89,7 +91,7 @@ impl Meeting {
         }
     }
 
-    /// Whether so many came in each round, and none was let go since the turns were over.
+    /// Checks that `come` generals came in each round, and that none was released because the turns were over.
     fn is_met(&self, come: (u32, u32, u32)) -> bool {
         self.come.are(come) && self.missed.load(Ordering::SeqCst) == 0
     }
@@ -106,12 +108,12 @@ impl Gate for Meeting {
     }
 }
 
-/// Whether an access got a word that was 1.
+/// Checks whether an access read a word with the value 1.
 fn got_one(access: &Access) -> bool {
     matches!(access.request, Request::Get { .. }) && word(&access.reply) == Some(1)
 }
 
-/// Whether all of these accesses are of round 1.
+/// Checks whether all of these accesses are of round 1.
 fn are_of_first_round(accesses: &[Access]) -> bool {
     for access in accesses {
         if access.round != 1 {
@@ -121,14 +123,15 @@ fn are_of_first_round(accesses: &[Access]) -> bool {
     true
 }
 
-/// Whether by these two accesses, of 5 and of 6, both got a 1.
+/// Checks whether generals 5 and 6 made one of these accesses each, and both read a 1.
 fn both_got_one(third: &Access, fourth: &Access) -> bool {
     let is_order = third.general == 5 && fourth.general == 6;
     let is_other = third.general == 6 && fourth.general == 5;
     (is_order || is_other) && got_one(third) && got_one(fourth)
 }
 
-/// Whether of the twelve accesses the first four are of round 1, and by the third and the fourth both generals got a 1.
+/// Checks that the first four of twelve accesses are of round 1, and that both generals read a 1 in the third and the
+/// fourth.
 fn have_met(accesses: &[Access]) -> bool {
     let Some(four) = accesses.get(..4) else {
         return false;
@@ -139,7 +142,8 @@ fn have_met(accesses: &[Access]) -> bool {
     accesses.len() == 12 && are_of_first_round(four) && both_got_one(third, fourth)
 }
 
-/// Whether two generals who set a word each, and meet before they get the other's, both get what the other set.
+/// Checks that two generals, who each set a word and meet before they read the other's word, both read what the other
+/// set.
 fn get_what_the_other_set<R: Threads + Wait + Sync>(rt: &R, alloc: Global) -> bool {
     let gate = Meeting::of(1, 1, 2);
     match mustered(rt, alloc, SEVEN, SETTING, &gate) {
@@ -155,14 +159,14 @@ fn two_generals_get_what_the_other_set(rt: HostRuntime) {
     assert!(rt; get_what_the_other_set(&rt, rt.alloc()));
 }
 
-/// The verdict where all are traitors.
+/// The verdict of a campaign in which all generals are traitors.
 const BEYOND_BOUND: Verdict = Verdict {
     alike: true,
     obeyed: None,
     bound: false,
 };
 
-/// Whether seven generals who all add, and meet before their first access of each round, add one after another.
+/// Checks that seven generals, who meet before their first access of each round, add to the board one after another.
 fn add_together<R: Threads + Wait + Sync>(rt: &R, alloc: Global) -> bool {
     let gate = Meeting::of(0, 3, 7);
     match mustered(rt, alloc, SEVEN, SEVEN_ADDERS, &gate) {
@@ -181,7 +185,7 @@ fn seven_traitors_come_to_the_board_together(rt: HostRuntime) {
     assert!(rt; add_together(&rt, rt.alloc()));
 }
 
-/// Holds general 0 at his first access of a round until general 4 has come to his second.
+/// A gate that holds general 0 at his first access of a round until general 4 has come to his second.
 #[derive(Drop)]
 struct Reversing {
     come: Counts,
@@ -199,13 +203,13 @@ impl Gate for Reversing {
     }
 }
 
-/// Whether an addition that is the next behind so many is by 4 and 0 in turn, and got how many there were.
+/// Checks the addition that follows `added` others: generals 4 and 0 add alternately, and the reply is `added`.
 fn is_in_turn(access: &Access, added: u64) -> bool {
     let general = if added % 2 == 0 { 4 } else { 0 };
     access.general == general && word(&access.reply) == Some(added)
 }
 
-/// Whether of the twelve accesses six are additions, by 4 and 0 in turn.
+/// Checks that six of the twelve accesses are additions, which generals 4 and 0 make alternately.
 fn are_reversed(accesses: &[Access]) -> bool {
     let mut added = 0u64;
     for access in accesses {
@@ -219,12 +223,12 @@ fn are_reversed(accesses: &[Access]) -> bool {
     added == 6 && accesses.len() == 12
 }
 
-/// Whether a traitor's letter says so many steps.
+/// Checks whether a letter is a loyal general's, or says that its program took `steps` steps.
 fn has_taken(letter: &Letter, steps: u32) -> bool {
     letter.program.program().is_none() || letter.steps == steps
 }
 
-/// Whether each letter of a traitor says so many steps.
+/// Checks whether each traitor's letter says that its program took `steps` steps.
 fn have_taken(chronicle: &Chronicle, steps: u32) -> bool {
     for round in chronicle.letters() {
         for letter in round.letters() {
@@ -236,7 +240,8 @@ fn have_taken(chronicle: &Chronicle, steps: u32) -> bool {
     true
 }
 
-/// Whether the loyal lieutenants of seven, 1, 2, 3, 5 and 6, decide for 0, and the verdict is that they agree.
+/// Checks that the loyal lieutenants of seven generals, 1, 2, 3, 5 and 6, decide on 0, and that the verdict says they
+/// agree.
 fn five_retreat(chronicle: &Chronicle) -> bool {
     let [0, 0, 0, _, 0, 0] = chronicle.decisions() else {
         return false;
@@ -244,7 +249,8 @@ fn five_retreat(chronicle: &Chronicle) -> bool {
     chronicle.verdict() == AGREED
 }
 
-/// Whether the second colluder has added before the first in each round, and each of their letters says so many steps.
+/// Checks that general 4 added before general 0 in each round, that each of their programs took `steps` steps, and that
+/// a replay gives the same chronicle.
 fn is_reversed(alloc: Global, chronicle: &Chronicle, steps: u32) -> bool {
     are_reversed(chronicle.accesses())
         && have_taken(chronicle, steps)
@@ -252,7 +258,8 @@ fn is_reversed(alloc: Global, chronicle: &Chronicle, steps: u32) -> bool {
         && replays(alloc, chronicle)
 }
 
-/// Whether that is so of two colluders with these keys who get word 63 in the end, where the first is held.
+/// Plays a campaign of two colluders who read word 63 at the end, while general 0 is held, and checks it with
+/// `is_reversed`.
 fn adds_first<R: Threads + Wait + Sync>(rt: &R, alloc: Global, keys: &str, steps: u32) -> bool {
     let gate = Reversing {
         come: Counts::none(),
@@ -266,7 +273,7 @@ fn adds_first<R: Threads + Wait + Sync>(rt: &R, alloc: Global, keys: &str, steps
     }
 }
 
-/// With a patience of sixteen steps, of which each has seventeen, the last step is an access.
+/// Each colluder's program takes seventeen steps. With a patience of sixteen steps, the last step is an access.
 #[test]
 fn the_second_colluder_adds_first(rt: HostRuntime) {
     let alloc = rt.alloc();
@@ -274,7 +281,7 @@ fn the_second_colluder_adds_first(rt: HostRuntime) {
     assert!(rt; adds_first(&rt, alloc, SEVEN_AND_SIXTEEN_STEPS, 16));
 }
 
-/// Counts how often it is asked for a general's first, second and third access, and for a later one.
+/// A gate that counts how many times it is called for a first, a second, a third and a later access.
 #[derive(Drop)]
 struct Counting {
     asked: Counts,
@@ -293,8 +300,8 @@ impl Gate for Counting {
     }
 }
 
-/// Whether of two who get three words in each of three rounds the gate is asked once for each of 18 accesses, where
-/// threads get this stack, or the usual one.
+/// Checks that the gate is called once for each access of two generals who read three words in each of three rounds.
+/// The threads have stacks of `stack` bytes, or of the usual size.
 fn is_asked_once<R: Threads + Wait + Sync>(rt: &R, alloc: Global, stack: Option<usize>) -> bool {
     let Some(scenario) = told(alloc, SEVEN, LOOKING) else {
         return false;

@@ -1,4 +1,4 @@
-//! Which letters a ledger accounts for.
+//! Tests which letters a ledger accounts for.
 
 use crate::texts::{COLLUDING, SEVEN};
 use crate::threaded_campaigns::{letters, mustered};
@@ -10,12 +10,12 @@ use std::thread::Threads;
 use threads::{MusterError, Open, gather};
 use world::Chronicle;
 
-/// A chronicle of the two colluders among seven generals.
+/// Plays the campaign of two colluders among seven generals in threads, and returns its chronicle.
 fn colluded<R: Threads + Wait + Sync>(rt: &R, alloc: Global) -> Option<Chronicle> {
     mustered(rt, alloc, SEVEN, COLLUDING, &Open)
 }
 
-/// Whether the letters of two rounds are the same.
+/// Checks whether two rounds have equal letters.
 fn are_alike(round: &Round, other: &Round) -> bool {
     for (letter, other) in round.letters().iter().zip(other.letters().iter()) {
         if !letter.same(other) {
@@ -25,7 +25,7 @@ fn are_alike(round: &Round, other: &Round) -> bool {
     round.letters().len() == 7 && other.letters().len() == 7
 }
 
-/// Whether these are a chronicle's three rounds.
+/// Checks whether these rounds are the chronicle's three rounds.
 fn are_rounds(rounds: &[Round], chronicle: &Chronicle) -> bool {
     for (round, other) in rounds.iter().zip(chronicle.letters().iter()) {
         if !are_alike(round, other) {
@@ -35,14 +35,14 @@ fn are_rounds(rounds: &[Round], chronicle: &Chronicle) -> bool {
     rounds.len() == 3 && chronicle.letters().len() == 3
 }
 
-/// The chronicle's letters in reverse order.
+/// Returns the chronicle's letters in reverse order.
 fn reversed(alloc: Global, chronicle: &Chronicle) -> Result<Vec<Letter>, AllocError> {
     let mut all = letters(alloc, chronicle)?;
     all.reverse();
     Ok(all)
 }
 
-/// Whether these letters are gathered into the chronicle's rounds.
+/// Checks whether these letters are gathered into the chronicle's rounds.
 fn gathers(alloc: Global, chronicle: &Chronicle, letters: Vec<Letter>) -> bool {
     match gather(alloc, chronicle.scenario(), chronicle.accesses(), letters) {
         Ok(rounds) => are_rounds(rounds.as_slice(), chronicle),
@@ -50,7 +50,7 @@ fn gathers(alloc: Global, chronicle: &Chronicle, letters: Vec<Letter>) -> bool {
     }
 }
 
-/// Whether the chronicle's letters in reverse order are gathered into its rounds.
+/// Checks whether the chronicle's letters in reverse order are gathered into its rounds.
 fn are_gathered(alloc: Global, chronicle: &Chronicle) -> bool {
     match reversed(alloc, chronicle) {
         Ok(letters) => gathers(alloc, chronicle, letters),
@@ -58,7 +58,7 @@ fn are_gathered(alloc: Global, chronicle: &Chronicle) -> bool {
     }
 }
 
-/// Whether the letters are not those that the ledger accounts for.
+/// Checks whether the letters are rejected because the ledger does not account for them.
 fn refuses(alloc: Global, chronicle: &Chronicle, ledger: &[Access], letters: Vec<Letter>) -> bool {
     matches!(
         gather(alloc, chronicle.scenario(), ledger, letters),
@@ -66,7 +66,7 @@ fn refuses(alloc: Global, chronicle: &Chronicle, ledger: &[Access], letters: Vec
     )
 }
 
-/// The chronicle's letters without the one at a place.
+/// Returns the chronicle's letters without the one at index `place`.
 fn without(alloc: Global, chronicle: &Chronicle, place: usize) -> Result<Vec<Letter>, AllocError> {
     let mut fewer = letters(alloc, chronicle)?;
     if place < fewer.len() {
@@ -75,7 +75,7 @@ fn without(alloc: Global, chronicle: &Chronicle, place: usize) -> Result<Vec<Let
     Ok(fewer)
 }
 
-/// The chronicle's letters with the one at a place twice.
+/// Returns the chronicle's letters, with a second copy of the one at index `place`.
 fn with(alloc: Global, chronicle: &Chronicle, place: usize) -> Result<Vec<Letter>, AllocError> {
     let mut more = letters(alloc, chronicle)?;
     if let Some(letter) = more.get(place) {
@@ -85,7 +85,7 @@ fn with(alloc: Global, chronicle: &Chronicle, place: usize) -> Result<Vec<Letter
     Ok(more)
 }
 
-/// Whether the ledger does not account for the chronicle's letters without the one at a place.
+/// Checks that the ledger does not account for the chronicle's letters without the one at index `place`.
 fn is_missed(alloc: Global, chronicle: &Chronicle, place: usize) -> bool {
     match without(alloc, chronicle, place) {
         Ok(fewer) => refuses(alloc, chronicle, chronicle.accesses(), fewer),
@@ -93,7 +93,7 @@ fn is_missed(alloc: Global, chronicle: &Chronicle, place: usize) -> bool {
     }
 }
 
-/// Whether the ledger does not account for the chronicle's letters with the one at a place twice.
+/// Checks that the ledger does not account for the chronicle's letters with a second copy of the one at index `place`.
 fn is_wanted_once(alloc: Global, chronicle: &Chronicle, place: usize) -> bool {
     match with(alloc, chronicle, place) {
         Ok(more) => refuses(alloc, chronicle, chronicle.accesses(), more),
@@ -101,7 +101,7 @@ fn is_wanted_once(alloc: Global, chronicle: &Chronicle, place: usize) -> bool {
     }
 }
 
-/// Whether just the chronicle's 21 letters are gathered.
+/// Checks that the chronicle's 21 letters are gathered, and that no letter may be missing or come twice.
 fn are_just_these(alloc: Global, chronicle: &Chronicle) -> bool {
     for place in 0..21 {
         if !is_missed(alloc, chronicle, place) || !is_wanted_once(alloc, chronicle, place) {
@@ -111,7 +111,7 @@ fn are_just_these(alloc: Global, chronicle: &Chronicle) -> bool {
     are_gathered(alloc, chronicle)
 }
 
-/// Whether just the letters of two colluders' campaign are gathered.
+/// Checks `are_just_these` for the campaign of two colluders.
 fn gathers_just_these<R: Threads + Wait + Sync>(rt: &R, alloc: Global) -> bool {
     match colluded(rt, alloc) {
         Some(chronicle) => are_just_these(alloc, &chronicle),
@@ -124,7 +124,7 @@ fn just_the_letters_are_gathered(rt: HostRuntime) {
     assert!(rt; gathers_just_these(&rt, rt.alloc()));
 }
 
-/// Copies of a ledger's entries.
+/// Copies a ledger's entries.
 fn copied(alloc: Global, ledger: &[Access]) -> Result<Vec<Access>, AllocError> {
     let mut entries = Vec::new(alloc);
     for access in ledger {
@@ -133,7 +133,7 @@ fn copied(alloc: Global, ledger: &[Access]) -> Result<Vec<Access>, AllocError> {
     Ok(entries)
 }
 
-/// Copies of a ledger's entries, and the last one once more as a general's who is none.
+/// Copies a ledger's entries, and appends the last one again as the access of general 12, who does not exist.
 fn with_a_stranger(alloc: Global, ledger: &[Access]) -> Result<Vec<Access>, AllocError> {
     let mut entries = copied(alloc, ledger)?;
     if let Some(last) = ledger.last() {
@@ -144,7 +144,7 @@ fn with_a_stranger(alloc: Global, ledger: &[Access]) -> Result<Vec<Access>, Allo
     Ok(entries)
 }
 
-/// Whether this ledger does not account for the chronicle's letters.
+/// Checks whether this ledger does not account for the chronicle's letters.
 fn is_another(alloc: Global, chronicle: &Chronicle, ledger: &[Access]) -> bool {
     match letters(alloc, chronicle) {
         Ok(letters) => refuses(alloc, chronicle, ledger, letters),
@@ -152,7 +152,7 @@ fn is_another(alloc: Global, chronicle: &Chronicle, ledger: &[Access]) -> bool {
     }
 }
 
-/// Whether a ledger of one entry less does not account for the chronicle's letters.
+/// Checks that the ledger without its last entry does not account for the chronicle's letters.
 fn is_wanted_whole(alloc: Global, chronicle: &Chronicle) -> bool {
     match chronicle.accesses().split_last() {
         Some((_, fewer)) => is_another(alloc, chronicle, fewer),
@@ -160,7 +160,7 @@ fn is_wanted_whole(alloc: Global, chronicle: &Chronicle) -> bool {
     }
 }
 
-/// Whether a ledger of one entry more does not account for the chronicle's letters.
+/// Checks that the ledger with an access of a general who does not exist does not account for the chronicle's letters.
 fn is_wanted_alone(alloc: Global, chronicle: &Chronicle) -> bool {
     match with_a_stranger(alloc, chronicle.accesses()) {
         Ok(more) => is_another(alloc, chronicle, more.as_slice()),
@@ -168,7 +168,8 @@ fn is_wanted_alone(alloc: Global, chronicle: &Chronicle) -> bool {
     }
 }
 
-/// Whether the ledger of two colluders' campaign has six entries, and another accounts for nothing.
+/// Checks that the ledger of two colluders' campaign has six entries, and that a shorter or a longer ledger does not
+/// account for the letters.
 fn has_its_ledger<R: Threads + Wait + Sync>(rt: &R, alloc: Global) -> bool {
     match colluded(rt, alloc) {
         Some(chronicle) => {

@@ -1,9 +1,9 @@
-//! Tests of what only code can ask of worlds and threads: single events, letters and contexts, activations, replays by
-//! names, randomly changed texts, gates, posts, and letters against the ledger. The rows of the crate `rows` ask what
-//! the whole program answers.
+//! Tests of worlds and threads that need calls from code: single events, letters and contexts, activations, replays,
+//! randomly changed texts, gates, the post, and letters against the ledger. The crate `rows` tests what the whole
+//! program prints.
 //!
-//! The macros make texts of campaigns from traitors' programs, for these tests and for `bench`. They are macros since a
-//! constant text can be put together only from literals.
+//! The macros make texts of campaigns from traitors' programs, for these tests and for `bench`. They are macros because
+//! a constant text can be joined only from literals.
 #![tactic(auto)]
 
 #[cfg(test)]
@@ -33,8 +33,8 @@ mod threaded_campaigns;
 #[cfg(test)]
 mod worlds;
 
-/// Adds 1 to word 0 of the board, and tells 1, 2 and 3 the last bit of what the word was: so much of a program stands
-/// before these words in what this macro is given.
+/// Passes the beginning of a program to the macro `$form`, followed by `$words`. The program adds 1 to word 0 of the
+/// board, and sends generals 1, 2 and 3 the last bit of the word's old value.
 #[macro_export]
 macro_rules! counting {
     ($form:ident $($words:tt)*) => {
@@ -56,7 +56,8 @@ call sway
     };
 }
 
-/// The same of one that tells 1 and 2 to retreat.
+/// Passes the beginning of a program to the macro `$form`, followed by `$words`. The program sends generals 1 and 2 the
+/// order to retreat.
 #[macro_export]
 macro_rules! swaying {
     ($form:ident $($words:tt)*) => {
@@ -70,7 +71,8 @@ call sway
     };
 }
 
-/// The text of a campaign of these keys, whose traitors are these generals, each with this program, which ends so.
+/// Joins the text of a campaign: the keys, and for each of the given generals a traitor's table. Each traitor runs the
+/// program that consists of `$program` and `$ending`.
 #[macro_export]
 macro_rules! campaign {
     ($program:literal, $ending:literal, $keys:literal, [$($general:literal),*]) => {

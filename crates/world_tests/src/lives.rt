@@ -1,4 +1,4 @@
-//! Activations from their start to their end, or to their patience.
+//! Tests of `live`, which runs a traitor's program from its start to its end, or until its patience is over.
 ghost use Rattle.std.specs.Prelude.{◌≡◌};
 
 use crate::scenarios::{first_letters, played};
@@ -9,7 +9,8 @@ use semantics::{Reply, Request};
 use std::alloc::{AllocError, Global};
 use world::Chronicle;
 
-/// A server whose replies are these words, one after another. It has no memory for more, nor for a copy.
+/// A server that replies with these words, one after another. It fails with `AllocError` if there are no more words,
+/// and at a request to copy.
 #[derive(Drop)]
 struct Answers<'a> {
     words: &'a [u64],
@@ -50,7 +51,8 @@ impl Server for Answers<'_> {
     }
 }
 
-/// The letter of this one's program in its context, with the replies of this server.
+/// Runs the program of a letter again in the letter's context, with the replies of this server, and returns its new
+/// letter.
 fn lived(
     alloc: Global,
     server: &mut Answers<'_>,
@@ -75,7 +77,7 @@ fn lived(
     )
 }
 
-/// Whether these are the words of the replies that a letter's program had, one after another from the first.
+/// Checks whether the replies in a letter's transcript are the first of these words, in order.
 fn had(letter: &Letter, words: &[u64]) -> bool {
     let mut rest = words;
     for access in &letter.transcript {
@@ -93,7 +95,7 @@ fn had(letter: &Letter, words: &[u64]) -> bool {
     true
 }
 
-/// The words of the replies that a letter's program had.
+/// Returns the words of the replies in a letter's transcript.
 fn words_of(alloc: Global, letter: &Letter) -> Result<Vec<u64>, AllocError> {
     let mut words = Vec::new(alloc);
     for access in &letter.transcript {
@@ -104,7 +106,7 @@ fn words_of(alloc: Global, letter: &Letter) -> Result<Vec<u64>, AllocError> {
     Ok(words)
 }
 
-/// Whether the letter's program lives again as it did, with these replies, in one access.
+/// Runs the letter's program again with these replies, and checks that it writes the same letter, with one access.
 fn lives_with(alloc: Global, letter: &Letter, words: &[u64]) -> bool {
     let mut server = Answers::new(alloc, words);
     match lived(alloc, &mut server, letter, None) {
@@ -113,7 +115,8 @@ fn lives_with(alloc: Global, letter: &Letter, words: &[u64]) -> bool {
     }
 }
 
-/// Whether the letter's program, with the replies that it had, lives again as it did, with one access.
+/// Runs the letter's program again with the replies that it had, and checks that it writes the same letter, with one
+/// access.
 fn lives_again(alloc: Global, letter: &Letter) -> bool {
     match words_of(alloc, letter) {
         Ok(words) => lives_with(alloc, letter, words.as_slice()),
@@ -124,7 +127,8 @@ fn lives_again(alloc: Global, letter: &Letter) -> bool {
 /// The generals and rounds of the letters that two colluders' programs write.
 const LIVES: &[(u32, u32)] = &[(0, 1), (4, 1), (0, 2), (4, 2), (0, 3), (4, 3)];
 
-/// Whether the letter at this place is the one of a general and a round, and lives again.
+/// Checks whether the letter is that of the general and the round at index `place` in `LIVES`, and is written again by
+/// another run.
 fn is_life(alloc: Global, letter: &Letter, place: usize) -> bool {
     match LIVES.get(place) {
         Some(&(general, round)) => {
@@ -134,7 +138,8 @@ fn is_life(alloc: Global, letter: &Letter, place: usize) -> bool {
     }
 }
 
-/// Whether the letters that programs wrote are those of `LIVES`, in this order, and each lives again.
+/// Checks that the letters that programs wrote are those of `LIVES`, in this order, and that another run writes each
+/// again.
 fn are_lives(alloc: Global, chronicle: &Chronicle) -> bool {
     let mut place = 0usize;
     for round in chronicle.letters() {
@@ -150,7 +155,7 @@ fn are_lives(alloc: Global, chronicle: &Chronicle) -> bool {
     place == LIVES.len()
 }
 
-/// Whether the two colluders live again, of whom 4 comes first in the first round.
+/// Checks the letters of two colluders, of whom general 4 acts first in the first round.
 fn colluders_live_again(alloc: Global) -> bool {
     match played(alloc, SEVEN, COLLUDING, "4*15") {
         Some(chronicle) => are_lives(alloc, &chronicle),
@@ -163,7 +168,7 @@ fn traitors_live_again(rt: HostRuntime) {
     assert!(rt; colluders_live_again(rt.alloc()));
 }
 
-/// The first letter of general 5 of seven, who swaps word 5 and then gets word 6, in six steps.
+/// Returns the first letter of general 5 of seven, who swaps word 5 and then reads word 6, in six steps.
 fn spy(chronicle: &Chronicle) -> Option<&Letter> {
     match first_letters(chronicle).get(5) {
         Some(letter) if letter.general == 5 => Some(letter),
@@ -171,10 +176,10 @@ fn spy(chronicle: &Chronicle) -> Option<&Letter> {
     }
 }
 
-/// A patience, and then the steps, the accesses, and whether the program exited.
+/// A patience, and then the number of steps, the number of accesses, and whether the program exited.
 type Patience = (Option<u32>, u32, usize, bool);
 
-/// What comes of the spy's program by its patience.
+/// How the spy's program ends with each patience.
 const PATIENCES: &[Patience] = &[
     (None, 6, 2, true),
     (Some(4096), 6, 2, true),
@@ -186,7 +191,8 @@ const PATIENCES: &[Patience] = &[
     (Some(1), 1, 0, false),
 ];
 
-/// Whether a letter took so many steps, exited or not, and had so many of the replies 7, 9 and 11, one after another.
+/// Checks whether a letter has `steps` steps and `accesses` accesses, exited as given, and received the first of the
+/// replies 7, 9 and 11.
 fn has_taken(letter: &Letter, steps: u32, accesses: usize, exited: bool) -> bool {
     letter.steps == steps
         && letter.exited == exited
@@ -194,8 +200,8 @@ fn has_taken(letter: &Letter, steps: u32, accesses: usize, exited: bool) -> bool
         && had(letter, &[7, 9, 11])
 }
 
-/// Whether this one's program, with the replies 7, 9 and 11, takes so many steps, exits or not, and makes so many
-/// accesses, which are served and no more.
+/// Runs the letter's program with the replies 7, 9 and 11, and checks that it ends as the row says. The server must
+/// have served exactly its accesses.
 fn takes(alloc: Global, letter: &Letter, row: &Patience) -> bool {
     let (patience, steps, accesses, exited) = *row;
     let mut server = Answers::new(alloc, &[7, 9, 11]);
@@ -207,7 +213,7 @@ fn takes(alloc: Global, letter: &Letter, row: &Patience) -> bool {
     }
 }
 
-/// Whether all rows of `PATIENCES` hold of this one's program.
+/// Checks all rows of `PATIENCES` for a letter's program.
 fn takes_all(alloc: Global, letter: &Letter) -> bool {
     for row in PATIENCES {
         if !takes(alloc, letter, row) {
@@ -217,12 +223,12 @@ fn takes_all(alloc: Global, letter: &Letter) -> bool {
     true
 }
 
-/// The chronicle of seven generals of whom 5 spies.
+/// Plays the campaign of seven generals, of whom general 5 is a spy, and returns its chronicle.
 fn spied(alloc: Global) -> Option<Chronicle> {
     played(alloc, SEVEN, SPYING, "")
 }
 
-/// Whether all rows of `PATIENCES` hold of the spy's first letter.
+/// Checks all rows of `PATIENCES` for the spy's first letter.
 fn spies_by_patience(alloc: Global) -> bool {
     let Some(chronicle) = spied(alloc) else {
         return false;
@@ -238,10 +244,11 @@ fn the_last_permitted_request_is_served(rt: HostRuntime) {
     assert!(rt; spies_by_patience(rt.alloc()));
 }
 
-/// The words that a server has, the patience, and how many accesses a letter has; none where one reply is too few.
+/// The words of a server, the patience, and the number of accesses, which is `None` if the server has one reply too
+/// few.
 type Scarcity = (&'static [u64], Option<u32>, Option<usize>);
 
-/// What comes of the spy's program where a server has few words.
+/// How the spy's program ends if the server has few words.
 const SCARCE: &[Scarcity] = &[
     (&[], None, None),
     (&[], Some(3), None),
@@ -250,7 +257,7 @@ const SCARCE: &[Scarcity] = &[
     (&[7], Some(4), Some(1)),
 ];
 
-/// How many accesses the program of this one makes with a server; none where memory is refused.
+/// Runs the letter's program with a server, and returns the number of its accesses, or `None` if memory runs out.
 fn accesses_with(
     alloc: Global,
     server: &mut Answers<'_>,
@@ -263,8 +270,8 @@ fn accesses_with(
     }
 }
 
-/// Whether with a server of these words the program comes to a letter of so many accesses, or to none, and each word is
-/// served.
+/// Runs the letter's program with a server of these words. Checks that it makes the number of accesses in the row, or
+/// fails, and that each word is served.
 fn comes_to(alloc: Global, letter: &Letter, row: &Scarcity) -> bool {
     let (words, patience, accesses) = *row;
     let mut server = Answers::new(alloc, words);
@@ -272,7 +279,7 @@ fn comes_to(alloc: Global, letter: &Letter, row: &Scarcity) -> bool {
         && server.served.len() == words.len()
 }
 
-/// Whether all rows of `SCARCE` hold of this one's program.
+/// Checks all rows of `SCARCE` for a letter's program.
 fn comes_to_all(alloc: Global, letter: &Letter) -> bool {
     for row in SCARCE {
         if !comes_to(alloc, letter, row) {
@@ -282,7 +289,7 @@ fn comes_to_all(alloc: Global, letter: &Letter) -> bool {
     true
 }
 
-/// Whether all rows of `SCARCE` hold of the spy's first letter.
+/// Checks all rows of `SCARCE` for the spy's first letter.
 fn spies_in_scarcity(alloc: Global) -> bool {
     let Some(chronicle) = spied(alloc) else {
         return false;

@@ -1,4 +1,4 @@
-//! Campaigns that are mustered, in any order of the accesses.
+//! Tests of campaigns with a thread for each general, whose accesses may come in any order.
 
 use crate::scenarios::{are_told_alike, played, told};
 use crate::texts::{
@@ -12,7 +12,8 @@ use std::thread::Threads;
 use threads::{MusterError, Open, ended, muster_with};
 use world::Chronicle;
 
-/// The keys of seven generals, the first reply, how many accesses there are, and how often the campaign is mustered.
+/// Campaigns of two colluders: the keys, the first reply, the number of accesses, and how many times the campaign is
+/// played.
 const COLLUSIONS: &[(&str, u64, usize, u32)] = &[
     (SEVEN, 0, 6, 21),
     (SEVEN_AND_THREE_STEPS, 0, 6, 1),
@@ -20,7 +21,7 @@ const COLLUSIONS: &[(&str, u64, usize, u32)] = &[
     (SEVEN_ON_A_BOARD, 5, 6, 1),
 ];
 
-/// Why a thread was not started, by what each general has failed, and what is told where the letters are not all there.
+/// Failures of a campaign: why a thread was not started, how each general has failed, and the expected error.
 const FAILURES: &[(Option<MusterError>, &[Option<MusterError>], MusterError)] = &[
     (
         None,
@@ -45,7 +46,7 @@ const FAILURES: &[(Option<MusterError>, &[Option<MusterError>], MusterError)] = 
     (None, &[None, None], MusterError::Unaccounted),
 ];
 
-/// Whether two of the accesses are in each round.
+/// Checks whether each round has two of the accesses.
 fn are_two_a_round(accesses: &[Access]) -> bool {
     for (place, access) in accesses.iter().enumerate() {
         if access.round as usize != place / 2 + 1 {
@@ -55,7 +56,8 @@ fn are_two_a_round(accesses: &[Access]) -> bool {
     true
 }
 
-/// Whether two colluders made so many accesses, with ascending replies from this one on, agreed, and replay.
+/// Checks that two colluders made `accesses` accesses with replies that count up from `first`. Also checks that the
+/// lieutenants agreed, and that a replay gives the same chronicle.
 fn have_colluded(alloc: Global, chronicle: &Chronicle, first: u64, accesses: usize) -> bool {
     count(chronicle.accesses(), accesses, first)
         && are_two_a_round(chronicle.accesses())
@@ -63,7 +65,7 @@ fn have_colluded(alloc: Global, chronicle: &Chronicle, first: u64, accesses: usi
         && replays(alloc, chronicle)
 }
 
-/// Whether the campaign of two colluders with these keys is mustered so.
+/// Plays the campaign of two colluders in threads, and checks its chronicle with `have_colluded`.
 fn collude<R: Threads + Wait + Sync>(
     rt: &R,
     alloc: Global,
@@ -87,7 +89,7 @@ fn two_colluders_in_any_order(rt: HostRuntime) {
     }
 }
 
-/// Whether a campaign is not mustered where threads are to have stacks of 2^60 bytes.
+/// Checks that a campaign fails with `Spawn` if its threads need stacks of 2^60 bytes.
 fn cannot_start<R: Threads + Wait + Sync>(
     rt: &R,
     alloc: Global,
@@ -103,7 +105,7 @@ fn cannot_start<R: Threads + Wait + Sync>(
     )
 }
 
-/// Whether a campaign is told alike where the generals act in threads and where they act on one.
+/// Checks that a campaign has the same chronicle whether its generals act in threads or on one thread.
 fn is_told_as_played<R: Threads + Wait + Sync>(
     rt: &R,
     alloc: Global,

@@ -1,4 +1,4 @@
-//! The post: letter by letter, and between threads.
+//! Tests of the post, the queue of letters that threads share: first letter by letter, and then between threads.
 ghost use Rattle.std.specs.Prelude.{◌≡◌, IfSome};
 
 use crate::scenarios::{first_letters, played};
@@ -11,18 +11,18 @@ use std::thread;
 use std::thread::Threads;
 use threads::{Collector, Post, Poster};
 
-/// How many letters of a general differ.
+/// How many different letters a general has.
 const ORDERS: u32 = 50;
 
-/// How often each of them is posted: a general posts 1,000 letters.
+/// How many times each different letter is posted, so that a general posts 1,000 letters.
 const TIMES: u32 = 20;
 
-/// The keys of three generals, of whom this one commands, and his order is this number.
+/// Returns the keys of a campaign of three generals with this commander and this order.
 fn keys(alloc: Global, general: u32, number: u32) -> Result<String, AllocError> {
     format!(in alloc; "generals = 3\nbound = 0\ncommander = {general}\norder = {number}\n")
 }
 
-/// A copy of the letter, where it is this general's.
+/// Copies the letter if it is this general's.
 fn own(alloc: Global, letter: &Letter, general: u32) -> Option<Letter>
     ensures { IfSome result (λ letter. letter.general ≡ general) }
 {
@@ -35,7 +35,7 @@ fn own(alloc: Global, letter: &Letter, general: u32) -> Option<Letter>
     }
 }
 
-/// A general's first letter, where he commands three generals and his order is this number.
+/// Returns the first letter of a general who commands three generals and has the order `number`.
 fn numbered(alloc: Global, general: u32, number: u32) -> Option<Letter>
     ensures { IfSome result (λ letter. letter.general ≡ general) }
 {
@@ -51,7 +51,7 @@ fn numbered(alloc: Global, general: u32, number: u32) -> Option<Letter>
     }
 }
 
-/// Two letters of general 1, and one of general 2.
+/// Two letters of general 1, and one letter of general 2.
 #[derive(Drop)]
 struct Letters {
     first: Letter,
@@ -59,7 +59,7 @@ struct Letters {
     other: Letter,
 }
 
-/// The letters of the orders 1 and 2 of general 1, and that of the order 1 of general 2.
+/// Returns the letters of general 1 with the orders 1 and 2, and the letter of general 2 with the order 1.
 fn three_letters(alloc: Global) -> Option<Letters>
     ensures first { IfSome result (λ letters. letters.first.general ≡ 1) }
     ensures second { IfSome result (λ letters. letters.second.general ≡ 1) }
@@ -81,7 +81,8 @@ fn three_letters(alloc: Global) -> Option<Letters>
     })
 }
 
-/// A post of three generals with room for two letters, the posters of generals 1 and 2, and the collector.
+/// Creates a post of three generals with room for two letters. Returns it with the posters of generals 1 and 2 and the
+/// collector.
 fn post_of_three(alloc: Global) -> Option<(Post, (Poster, Poster, Collector))>
     ensures first { IfSome result (λ r. (r.1.0.table ≡ r.0.table) × (r.1.0.general ≡ 1)) }
     ensures second { IfSome result (λ r. (r.1.1.table ≡ r.0.table) × (r.1.1.general ≡ 2)) }
@@ -99,7 +100,7 @@ fn post_of_three(alloc: Global) -> Option<(Post, (Poster, Poster, Collector))>
     Some((post, (first, second, collector)))
 }
 
-/// There is room for the letter.
+/// Posts a letter, and asserts that there is room for it.
 fn goes_in<R: Wait + Abort>(rt: &R, post: &Post, poster: Poster, letter: Letter) -> Poster
     requires post { poster.table ≡ post.now.table }
     requires general { letter.general ≡ poster.general }
@@ -111,7 +112,7 @@ fn goes_in<R: Wait + Abort>(rt: &R, post: &Post, poster: Poster, letter: Letter)
     poster
 }
 
-/// There is no room for the letter, which comes back, the same as this one.
+/// Posts a letter, and asserts that there is no room for it and that the returned letter equals `same`.
 fn comes_back<R: Wait + Abort>(
     rt: &R,
     post: &Post,
@@ -135,7 +136,7 @@ fn comes_back<R: Wait + Abort>(
     }
 }
 
-/// Whether what was taken is this letter, or none.
+/// Checks whether the letter that was taken equals the expected one, or whether there is none and none is expected.
 fn is_taken(taken: &Option<Letter>, expected: Option<&Letter>) -> bool {
     match (taken, expected) {
         (Some(letter), Some(expected)) => letter.same(expected),
@@ -144,7 +145,7 @@ fn is_taken(taken: &Option<Letter>, expected: Option<&Letter>) -> bool {
     }
 }
 
-/// What is taken next is this letter, or none.
+/// Takes a letter, and asserts that it equals the expected one, or that there is none if none is expected.
 fn comes_next<R: Wait + Abort>(
     rt: &R,
     post: &Post,
@@ -159,7 +160,8 @@ fn comes_next<R: Wait + Abort>(
     collector
 }
 
-/// General 1 posts, general 2 posts, general 1's second letter comes back, his first is taken, and he posts the second.
+/// General 1 posts a letter, and so does general 2. General 1's second letter is returned for lack of room, his first
+/// is taken, and he posts the second again.
 fn exchange<R: Wait + Abort>(
     rt: &R,
     post: &Post,
@@ -191,7 +193,7 @@ fn exchange<R: Wait + Abort>(
     (one, other, collector)
 }
 
-/// A post in which that has been done.
+/// Creates a post and does in it what `exchange` describes.
 fn exchanged<R: Wait + Abort>(
     rt: &R,
     alloc: Global,
@@ -211,7 +213,7 @@ fn exchanged<R: Wait + Abort>(
     (post, ends)
 }
 
-/// The letters that the post still has.
+/// Ends the post, and returns the letters that it still has.
 fn left_in<R: Wait + Abort>(
     rt: &R,
     alloc: Global,
@@ -232,7 +234,7 @@ fn left_in<R: Wait + Abort>(
     }
 }
 
-/// Whether these two letters are left, and no other.
+/// Checks whether exactly these two letters are left.
 fn are_left(left: &[Letter], first: &Letter, second: &Letter) -> bool {
     match left {
         [one, other] => one.same(first) && other.same(second),
@@ -240,7 +242,7 @@ fn are_left(left: &[Letter], first: &Letter, second: &Letter) -> bool {
     }
 }
 
-/// General 2's letter is taken, then general 1's second, and then there is none.
+/// Takes general 2's letter, then general 1's second letter, and asserts that there is no other.
 fn others_come<R: Wait + Abort>(
     rt: &R,
     post: &Post,
@@ -278,7 +280,7 @@ fn letters_are_left_in_the_order_of_their_posting(rt: HostRuntime) {
     assert!(rt; are_left(left.as_slice(), &letters.other, &letters.second));
 }
 
-/// Letters of a general that differ, by their numbers.
+/// Returns a general's `ORDERS` different letters, in the order of their numbers.
 fn originals(alloc: Global, general: u32) -> Option<Vec<Letter>> {
     let mut letters = Vec::new(alloc);
     for number in 0..ORDERS {
@@ -292,7 +294,7 @@ fn originals(alloc: Global, general: u32) -> Option<Vec<Letter>> {
     Some(letters)
 }
 
-/// These letters, over and over.
+/// Returns `TIMES` copies of these letters, in turn.
 fn repeated(alloc: Global, originals: &[Letter]) -> Result<Vec<Letter>, AllocError> {
     let mut letters = Vec::new(alloc);
     for _ in 0..TIMES {
@@ -303,7 +305,7 @@ fn repeated(alloc: Global, originals: &[Letter]) -> Result<Vec<Letter>, AllocErr
     Ok(letters)
 }
 
-/// A general's 1,000 letters.
+/// Returns a general's 1,000 letters.
 fn letters_of(alloc: Global, general: u32) -> Option<Vec<Letter>> {
     let Some(originals) = originals(alloc, general) else {
         return None;
@@ -314,7 +316,7 @@ fn letters_of(alloc: Global, general: u32) -> Option<Vec<Letter>> {
     }
 }
 
-/// Posts a letter, as soon as there is room.
+/// Posts a letter, and tries again until there is room.
 fn send<R: Wait>(rt: &R, post: &Post, mut poster: Poster, mut letter: Letter) -> Poster
     requires post { poster.table ≡ post.now.table }
     requires general { letter.general ≡ poster.general }
@@ -333,7 +335,7 @@ fn send<R: Wait>(rt: &R, post: &Post, mut poster: Poster, mut letter: Letter) ->
     unreachable!()
 }
 
-/// Posts copies of a general's letters, and says whether all are his, and all were posted.
+/// Posts copies of a general's letters, and returns whether all are his and were posted.
 fn send_all<R: Wait>(
     rt: &R,
     alloc: Global,
@@ -354,7 +356,8 @@ fn send_all<R: Wait>(
     true
 }
 
-/// The same, and then counts that it has ended.
+/// Posts copies of a general's letters, and then counts up `ended`. Returns whether all letters are his and were
+/// posted.
 fn send_and_end<R: Wait>(
     rt: &R,
     alloc: Global,
@@ -372,7 +375,7 @@ fn send_and_end<R: Wait>(
     sent
 }
 
-/// A general's letters, and how many of them have come.
+/// A general's letters, and how many of them were received.
 #[derive(Drop)]
 struct Course<'a> {
     letters: &'a [Letter],
@@ -384,7 +387,7 @@ impl<'a> Course<'a> {
         Course { letters, come: 0 }
     }
 
-    /// Whether the letter is the next one. If so, it is counted.
+    /// Counts one more received letter, and returns whether it is the next of the list.
     fn goes_on(&mut self, letter: &Letter) -> bool {
         match self.letters.get(self.come) {
             Some(wanted) => {
@@ -395,13 +398,13 @@ impl<'a> Course<'a> {
         }
     }
 
-    /// Whether all have come.
+    /// Checks whether all letters were received.
     fn is_over(&self) -> bool {
         self.come == self.letters.len()
     }
 }
 
-/// Whether the letter is the next one of its general, 0 or 1. If so, it is counted.
+/// Counts one more letter of general 0 or 1, and returns whether it is the next of his list.
 fn is_next(first: &mut Course<'_>, second: &mut Course<'_>, letter: &Letter) -> bool {
     match letter.general {
         0 => first.goes_on(letter),
@@ -410,8 +413,8 @@ fn is_next(first: &mut Course<'_>, second: &mut Course<'_>, letter: &Letter) -> 
     }
 }
 
-/// Takes letters until both generals have posted theirs and none is left, and says whether each general's have come in
-/// order, each once.
+/// Takes letters until both generals have posted all theirs and none is left. Returns whether each general's letters
+/// were received in order, each once.
 fn receive<R: Wait>(
     rt: &R,
     post: &Post,
@@ -436,7 +439,7 @@ fn receive<R: Wait>(
     in_order && first.is_over() && second.is_over()
 }
 
-/// Whether generals 0 and 1 post their letters, both at once.
+/// Posts the letters of generals 0 and 1 from two threads at the same time, and returns whether all were posted.
 fn both_send<R: Threads + Wait + Sync>(
     rt: &R,
     alloc: Global,
@@ -462,7 +465,8 @@ fn both_send<R: Threads + Wait + Sync>(
     one && other
 }
 
-/// Whether two generals' letters come in order, where both post at once and a third thread takes them.
+/// Checks that the letters of two generals are received in order if both post at the same time and a third thread takes
+/// the letters.
 fn come_in_order<R: Threads + Wait + Sync>(
     rt: &R,
     alloc: Global,
@@ -501,7 +505,7 @@ fn come_in_order<R: Threads + Wait + Sync>(
     sent && received
 }
 
-/// A post of two generals with room for four letters, their posters, and the collector.
+/// Creates a post of two generals with room for four letters. Returns it with their posters and the collector.
 fn post_of_two(alloc: Global) -> Option<(Post, (Poster, Poster), Collector)>
     ensures first { IfSome result (λ r. (r.1.0.table ≡ r.0.table) × (r.1.0.general ≡ 0)) }
     ensures second { IfSome result (λ r. (r.1.1.table ≡ r.0.table) × (r.1.1.general ≡ 1)) }
@@ -519,7 +523,7 @@ fn post_of_two(alloc: Global) -> Option<(Post, (Poster, Poster), Collector)>
     Some((post, (first, second), collector))
 }
 
-/// Whether these letters of two generals, who both post at once, come in order.
+/// Checks that these letters of two generals, who post at the same time, are received in order.
 fn come_between_threads<R: Threads + Wait + Sync>(
     rt: &R,
     alloc: Global,
@@ -534,7 +538,7 @@ fn come_between_threads<R: Threads + Wait + Sync>(
     }
 }
 
-/// Whether the 1,000 letters of each of two generals, who both post at once, come in order.
+/// Checks that the 1,000 letters of each of two generals, who post at the same time, are received in order.
 fn thousands_come<R: Threads + Wait + Sync>(rt: &R, alloc: Global) -> bool {
     let Some(firsts) = letters_of(alloc, 0) else {
         return false;

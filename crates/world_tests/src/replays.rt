@@ -1,5 +1,6 @@
-//! Campaigns that are replayed by the names of those who make accesses: each is told as by a schedule, also where names
-//! are of generals who make none. The chronicles by schedules are those of the rows of `rows`.
+//! Tests of replays, in which the generals make their accesses in a given order. A replay must have the same text as
+//! the campaign played by a schedule, even if the order names generals who make no access. The crate `rows` tests the
+//! texts of campaigns played by schedules.
 
 use crate::scenarios::{are_told_alike, played, replayed};
 use crate::texts::{
@@ -9,7 +10,7 @@ use crate::texts::{
 };
 use std::alloc::Global;
 
-/// The keys of a campaign and its traitors, the names in each round, and the schedule.
+/// The keys of a campaign, its traitors, the order of accesses in each round, and the schedule.
 type Row = (
     &'static str,
     &'static str,
@@ -17,7 +18,7 @@ type Row = (
     &'static str,
 );
 
-/// Campaigns by names and by schedules.
+/// Campaigns with orders of accesses, and schedules that lead to the same chronicles.
 const REPLAYED: &[Row] = &[
     (FOUR, SWAYING, &[&[3, 3, 12], &[0], &[3]], ""),
     (FOUR_AND_THREE_STEPS, SWAYING, &[], ""),
@@ -36,7 +37,7 @@ const REPLAYED: &[Row] = &[
     (SEVEN_AND_TWO_STEPS, COLLUDING, &[], ""),
 ];
 
-/// Whether a campaign is told alike by names and by a schedule.
+/// Checks whether a campaign has the same text if it is replayed and if it is played by the schedule.
 fn is_told_alike(alloc: Global, row: &Row) -> bool {
     let (keys, traitors, names, schedule) = *row;
     let Some(scheduled) = played(alloc, keys, traitors, schedule) else {

@@ -1,4 +1,4 @@
-//! Contexts, loyal generals' letters and what letters tell.
+//! Tests of contexts, of loyal generals' letters, and of the delivery of letters.
 ghost use Rattle.std.specs.Prelude.{◌≡◌, ◌<◌, IsTrue};
 ghost use Rattle.round.specs.Told.{AreDue};
 
@@ -13,7 +13,8 @@ use std::alloc::{AllocError, Global};
 use tree::Tree;
 use world::Chronicle;
 
-/// The context of a general behind these rounds, where they are the campaign's and he is one of its generals.
+/// Returns the context of a general after the rounds `before`. Returns `None` if these are not rounds of the campaign,
+/// if he is not one of its generals, or if memory runs out.
 fn context(alloc: Global, scenario: &Scenario, general: u8, before: &[Round]) -> Option<Vec<u8>> {
     if before.len() > usize::from(scenario.bound()) || general >= scenario.generals() {
         return None;
@@ -27,7 +28,7 @@ fn context(alloc: Global, scenario: &Scenario, general: u8, before: &[Round]) ->
     }
 }
 
-/// The context of a general behind so many rounds of a campaign.
+/// Plays a campaign, and returns the context of a general after its first `behind` rounds.
 fn context_behind(
     alloc: Global,
     keys: &str,
@@ -44,7 +45,7 @@ fn context_behind(
     }
 }
 
-/// These numbers in four bytes each, and then zeros, 4,096 bytes in all.
+/// Encodes the numbers in four bytes each, followed by zeros, 4,096 bytes in all.
 fn spelt(alloc: Global, numbers: &[u32]) -> Result<Vec<u8>, AllocError> {
     let mut bytes = Vec::new(alloc);
     for number in numbers {
@@ -54,11 +55,11 @@ fn spelt(alloc: Global, numbers: &[u32]) -> Result<Vec<u8>, AllocError> {
     Ok(bytes)
 }
 
-/// The keys of a campaign and its traitors, a general, how many rounds are behind him, and the numbers that his context
-/// begins with.
+/// The keys of a campaign, its traitors, a general, the number of rounds before his context, and the numbers with which
+/// his context begins.
 type Row = (&'static str, &'static str, u8, usize, &'static [u32]);
 
-/// Contexts: of four loyal generals, of four under a traitor, and of five.
+/// Contexts in campaigns of four loyal generals, of four generals with a traitor as commander, and of five generals.
 const CONTEXTS: &[Row] = &[
     (
         FOUR_OF_BYTES,
@@ -95,7 +96,7 @@ const CONTEXTS: &[Row] = &[
     (FIVE, NINE_FOR_FOUR, 1, 2, &[5, 2, 1, 1, 3, 0, 2, 0]),
 ];
 
-/// Whether a row's context has its numbers.
+/// Checks whether the context of a row has its numbers.
 fn tells(alloc: Global, row: &Row) -> bool {
     let (keys, traitors, general, behind, numbers) = *row;
     let Some(bytes) = context_behind(alloc, keys, traitors, general, behind) else {
@@ -115,11 +116,11 @@ fn contexts_tell_what_was_told(rt: HostRuntime) {
     }
 }
 
-/// The bytes that the first context of `CONTEXTS` begins with.
+/// The bytes with which the first context of `CONTEXTS` begins.
 const BYTES: &[u8] =
     b"\x04\0\0\0\x01\0\0\0\0\0\0\0\0\0\0\0\x01\0\0\0\x01\0\0\0\x03\0\0\0\0\0\0\0\x04\x03\x02\x01\0";
 
-/// Whether that context has 4,096 bytes, and these first.
+/// Checks that the first context of `CONTEXTS` has 4,096 bytes, and begins with `BYTES`.
 fn begins_with_its_bytes(alloc: Global) -> bool {
     match context_behind(alloc, FOUR_OF_BYTES, "", 0, 0) {
         Some(bytes) => bytes.as_slice().starts_with(BYTES) && bytes.len() == 4096,
@@ -132,7 +133,8 @@ fn context_begins_with_its_bytes(rt: HostRuntime) {
     assert!(rt; begins_with_its_bytes(rt.alloc()));
 }
 
-/// The letter that a loyal general writes who is told what the writer of this one was.
+/// Returns the letter that a loyal general would write in place of this letter's writer, with the same context and
+/// round.
 fn faithful(alloc: Global, letter: &Letter) -> Option<Letter> {
     letter.recall();
     let _shape = letter.outbox.shape();
@@ -145,7 +147,7 @@ fn faithful(alloc: Global, letter: &Letter) -> Option<Letter> {
     }
 }
 
-/// Whether the letter is faithful where its writer is loyal, and not otherwise.
+/// Checks that the letter is faithful exactly if its writer is loyal.
 fn is_faithful_if_loyal(alloc: Global, letter: &Letter) -> bool {
     let is_loyal = letter.program.program().is_none();
     match faithful(alloc, letter) {
@@ -154,7 +156,7 @@ fn is_faithful_if_loyal(alloc: Global, letter: &Letter) -> bool {
     }
 }
 
-/// Whether a copy of the letter is the same.
+/// Checks that a copy of the letter equals it.
 fn is_copied(alloc: Global, letter: &Letter) -> bool {
     match letter.copy(alloc) {
         Ok(copy) => copy.same(letter),
@@ -162,7 +164,7 @@ fn is_copied(alloc: Global, letter: &Letter) -> bool {
     }
 }
 
-/// Whether of the chronicle's letters just this one has its round and general, and no other is the same.
+/// Checks that the letter equals no letter of the chronicle except that of the same general and round.
 fn is_its_own(chronicle: &Chronicle, letter: &Letter) -> bool {
     for round in chronicle.letters() {
         for other in round.letters() {
@@ -175,8 +177,8 @@ fn is_its_own(chronicle: &Chronicle, letter: &Letter) -> bool {
     true
 }
 
-/// Whether each letter of the chronicle is faithful where its writer is loyal, and not otherwise, its copy is the same,
-/// and no other letter is.
+/// Checks that each letter of the chronicle is faithful exactly if its writer is loyal, equals its copy, and equals no
+/// other letter.
 fn are_right(alloc: Global, chronicle: &Chronicle) -> bool {
     for round in chronicle.letters() {
         for letter in round.letters() {
@@ -191,7 +193,7 @@ fn are_right(alloc: Global, chronicle: &Chronicle) -> bool {
     true
 }
 
-/// Whether those are that four generals write, of whom one sways.
+/// Checks the letters of four generals, of whom general 3 sends orders to retreat.
 fn follow_from_their_contexts(alloc: Global) -> bool {
     match played(alloc, FOUR, SWAYING, "") {
         Some(chronicle) => are_right(alloc, &chronicle),
@@ -204,7 +206,7 @@ fn letters_follow_from_their_contexts(rt: HostRuntime) {
     assert!(rt; follow_from_their_contexts(rt.alloc()));
 }
 
-/// Whether of these letters of four generals those of 3 alone differ.
+/// Checks that two lists of four generals' letters differ only in those of general 3.
 fn last_differs(letters: &[Letter], others: &[Letter]) -> bool {
     for (letter, other) in letters.iter().zip(others.iter()) {
         if letter.general != other.general || letter.same(other) != (letter.general != 3) {
@@ -214,7 +216,7 @@ fn last_differs(letters: &[Letter], others: &[Letter]) -> bool {
     letters.len() == 4 && others.len() == 4
 }
 
-/// Whether of the first letters under a patience of two and of three steps those of 3 alone differ.
+/// Checks that the first letters with a patience of two steps and of three steps differ only in those of general 3.
 fn differ_by_their_steps(alloc: Global) -> bool {
     let Some(short) = played(alloc, FOUR_AND_TWO_STEPS, SWAYING, "") else {
         return false;
@@ -225,13 +227,14 @@ fn differ_by_their_steps(alloc: Global) -> bool {
     last_differs(first_letters(&short), first_letters(&long))
 }
 
-/// In the first round he relays nothing, so that only the number of steps tells two cut-offs apart.
+/// In the first round general 3 relays nothing, so that the letters of two runs that were cut off differ only in the
+/// number of steps.
 #[test]
 fn letters_differ_by_their_steps(rt: HostRuntime) {
     assert!(rt; differ_by_their_steps(rt.alloc()));
 }
 
-/// Whether the letter is of this round of the tree's campaign.
+/// Checks whether the letter is of this round of the tree's campaign.
 fn is_due(tree: &Tree, round: u32, letter: &Letter) -> bool
     ensures { IsTrue result → letter.now.outbox.relay.shape ≡ record {
       generals = tree.now.generals;
@@ -248,7 +251,7 @@ fn is_due(tree: &Tree, round: u32, letter: &Letter) -> bool
         && shape.round == round
 }
 
-/// Whether the letters are of one round of the tree's campaign.
+/// Checks whether all letters are of one round of the tree's campaign, and there is at least one.
 fn are_due(tree: &Tree, letters: &[Letter]) -> bool
     ensures { IsTrue result → AreDue tree.now letters.now }
 {
@@ -267,7 +270,8 @@ fn are_due(tree: &Tree, letters: &[Letter]) -> bool
     true
 }
 
-/// What the commander 0, and 2 and 3 about him, have told.
+/// Returns the orders in the tree for the labels 0, 0.2 and 0.3: what commander 0 sent, and what generals 2 and 3
+/// relayed.
 fn orders(tree: &Tree) -> [Option<u32>; 3] {
     [
         tree.value(&Label::of(0)),
@@ -276,7 +280,8 @@ fn orders(tree: &Tree) -> [Option<u32>; 3] {
     ]
 }
 
-/// Whether the letters are of a round of the tree's campaign, and fill in what makes up these orders.
+/// Checks that the letters are of a round of the tree's campaign, and that the tree has the orders `told` after their
+/// delivery.
 fn fills(tree: &mut Tree, round: &Round, told: [Option<u32>; 3]) -> bool {
     if !are_due(tree, round.letters()) {
         return false;
@@ -285,7 +290,7 @@ fn fills(tree: &mut Tree, round: &Round, told: [Option<u32>; 3]) -> bool {
     orders(tree) == told
 }
 
-/// Whether the letters of two rounds fill in what makes up these orders.
+/// Checks the orders in the tree after the delivery of each of two rounds.
 fn are_filled_in(tree: &mut Tree, chronicle: &Chronicle) -> bool {
     match chronicle.letters() {
         [first, second] => {
@@ -296,7 +301,7 @@ fn are_filled_in(tree: &mut Tree, chronicle: &Chronicle) -> bool {
     }
 }
 
-/// Whether those of four generals, of whom 3 sways, fill in the tree of 1.
+/// Checks that the letters of four generals, of whom general 3 sends orders to retreat, fill the tree of general 1.
 fn fill_a_tree(alloc: Global) -> bool {
     let Ok(mut tree) = Tree::new(alloc, 4, 1, 0, 1) else {
         return false;

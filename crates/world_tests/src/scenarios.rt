@@ -1,4 +1,5 @@
-//! Campaigns told by texts. Where memory is refused, there is none.
+//! Reads, plays and replays the campaigns of these tests. The functions that return an `Option` return `None` if a text
+//! is rejected or memory runs out.
 
 use round::{Letter, Scenario};
 use scenario::read;
@@ -6,14 +7,14 @@ use std::alloc::{AllocError, Global};
 use trace::{Latch, read_schedule, write_chronicle};
 use world::{Chronicle, play, replay};
 
-/// The text of a campaign with these keys and these tables of traitors.
+/// Joins the keys of a campaign and its tables of traitors to one text.
 pub(crate) fn joined(alloc: Global, keys: &str, traitors: &str) -> Result<String, AllocError> {
     let mut text = String::from_str(alloc, keys)?;
     text.push_str(traitors)?;
     Ok(text)
 }
 
-/// The campaign with these keys and traitors.
+/// Reads the campaign with these keys and traitors.
 pub(crate) fn told(alloc: Global, keys: &str, traitors: &str) -> Option<Scenario> {
     let Ok(text) = joined(alloc, keys, traitors) else {
         return None;
@@ -24,7 +25,7 @@ pub(crate) fn told(alloc: Global, keys: &str, traitors: &str) -> Option<Scenario
     }
 }
 
-/// The chronicle of a campaign by a schedule.
+/// Plays a campaign by a schedule, and returns its chronicle.
 pub(crate) fn played(
     alloc: Global,
     keys: &str,
@@ -43,7 +44,7 @@ pub(crate) fn played(
     }
 }
 
-/// The letters of a chronicle's first round.
+/// Returns the letters of a chronicle's first round.
 pub(crate) fn first_letters(chronicle: &Chronicle) -> &[Letter] {
     match chronicle.letters() {
         [first, ..] => first.letters(),
@@ -51,7 +52,7 @@ pub(crate) fn first_letters(chronicle: &Chronicle) -> &[Letter] {
     }
 }
 
-/// The names of generals, by round.
+/// Copies the names of generals, which are listed by round.
 fn named(alloc: Global, names: &[&[u8]]) -> Result<Vec<Vec<u8>>, AllocError> {
     let mut rounds = Vec::new(alloc);
     for generals in names {
@@ -60,7 +61,8 @@ fn named(alloc: Global, names: &[&[u8]]) -> Result<Vec<Vec<u8>>, AllocError> {
     Ok(rounds)
 }
 
-/// The chronicle of a campaign in which these generals, by round, make their accesses in this order.
+/// Replays a campaign in which the generals that `names` lists by round make their accesses in this order, and returns
+/// its chronicle.
 pub(crate) fn replayed(
     alloc: Global,
     keys: &str,
@@ -79,7 +81,7 @@ pub(crate) fn replayed(
     }
 }
 
-/// The text of a chronicle.
+/// Returns the text of a chronicle.
 fn text(alloc: Global, chronicle: &Chronicle) -> Option<Vec<u8>> {
     let mut sink = Latch::new(Vec::new(alloc));
     match write_chronicle(chronicle, &mut sink) {
@@ -88,7 +90,7 @@ fn text(alloc: Global, chronicle: &Chronicle) -> Option<Vec<u8>> {
     }
 }
 
-/// Whether two chronicles have one text.
+/// Checks whether two chronicles have the same text.
 pub(crate) fn are_told_alike(alloc: Global, chronicle: &Chronicle, other: &Chronicle) -> bool {
     let Some(told) = text(alloc, chronicle) else {
         return false;

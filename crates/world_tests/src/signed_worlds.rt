@@ -1,4 +1,4 @@
-//! The world of signed messages, event by event.
+//! Tests of the world of signed messages, event by event.
 
 use crate::scenarios::joined;
 use crate::texts::{PASSING, SIGNING_TWICE, THREE_SIGNED};
@@ -8,7 +8,7 @@ use signed::{Chain, SignedChronicle, SignedWorld};
 use std::alloc::Global;
 use world::{Event, EventError, Verdict};
 
-/// The campaign of three generals with these traitors' tables.
+/// Reads the campaign of three generals with these traitors' tables.
 fn three(alloc: Global, traitors: &str) -> Option<Scenario> {
     let Ok(text) = joined(alloc, THREE_SIGNED, traitors) else {
         return None;
@@ -19,7 +19,7 @@ fn three(alloc: Global, traitors: &str) -> Option<Scenario> {
     }
 }
 
-/// The world of that campaign.
+/// Opens the world of the campaign of three generals with these traitors' tables.
 fn opened(alloc: Global, traitors: &str) -> Option<SignedWorld> {
     let Some(scenario) = three(alloc, traitors) else {
         return None;
@@ -30,20 +30,20 @@ fn opened(alloc: Global, traitors: &str) -> Option<SignedWorld> {
     }
 }
 
-/// What is done with a world, or asked of it.
+/// A step of a test: events for a world, or a check of it.
 #[derive(Clone, Copy)]
 enum Step {
-    /// Each of these events is done.
+    /// Each of these events happens.
     Done(&'static [Event]),
-    /// Each of these events is refused for this reason, and the decisions stay.
+    /// Each of these events is rejected for this reason, and does not change the decisions.
     Refused(&'static [Event], EventError),
-    /// Whether it is full.
+    /// Whether every loyal general has posted in each closed round.
     Full(bool),
-    /// Its decisions.
+    /// The decisions of the lieutenants.
     Decided(&'static [u32]),
 }
 
-/// A round of a lieutenant who passes on.
+/// The events of a round in which general 2 passes on a chain.
 const PASSED_ON: &[Event] = &[
     Event::Post(0),
     Event::Post(1),
@@ -54,7 +54,7 @@ const PASSED_ON: &[Event] = &[
     Event::Close,
 ];
 
-/// A round of a commander who signs two orders.
+/// The events of a round in which the commander signs two orders.
 const SIGNED_TWICE: &[Event] = &[
     Event::Tick(0),
     Event::Tick(0),
@@ -68,7 +68,7 @@ const SIGNED_TWICE: &[Event] = &[
     Event::Close,
 ];
 
-/// Both rounds beside one who passes on.
+/// Two rounds in which lieutenant 2 is a traitor who passes on a chain.
 const BESIDE_ONE_WHO_PASSES_ON: &[Step] = &[
     Step::Decided(&[0, 0]),
     Step::Done(PASSED_ON),
@@ -78,14 +78,14 @@ const BESIDE_ONE_WHO_PASSES_ON: &[Step] = &[
     Step::Full(true),
 ];
 
-/// Both rounds under a commander who signs two orders.
+/// Two rounds in which the commander is a traitor who signs two orders.
 const UNDER_TWO_ORDERS: &[Step] = &[
     Step::Done(SIGNED_TWICE),
     Step::Done(SIGNED_TWICE),
     Step::Decided(&[0, 0]),
 ];
 
-/// Events of those who do not act so, two rounds in which nobody acts, and events behind them.
+/// Events of generals who cannot act so, two rounds in which nobody acts, and events after the last round.
 const WITH_STRANGERS: &[Step] = &[
     Step::Refused(
         &[Event::Tick(0), Event::Post(2), Event::Post(3)],
@@ -101,12 +101,12 @@ const WITH_STRANGERS: &[Step] = &[
     ),
 ];
 
-/// Whether the event is done.
+/// Checks whether the event happens.
 fn is_done(world: &mut SignedWorld, event: Event) -> bool {
     world.apply(event).is_ok()
 }
 
-/// Whether each of these events is done.
+/// Checks whether each of these events happens.
 fn are_done(world: &mut SignedWorld, events: &[Event]) -> bool {
     for event in events {
         if !is_done(world, *event) {
@@ -116,7 +116,7 @@ fn are_done(world: &mut SignedWorld, events: &[Event]) -> bool {
     true
 }
 
-/// Whether the event is refused for this reason.
+/// Checks whether the event is rejected for this reason.
 fn is_refused(world: &mut SignedWorld, event: Event, reason: EventError) -> bool {
     match world.apply(event) {
         Ok(()) => false,
@@ -124,12 +124,12 @@ fn is_refused(world: &mut SignedWorld, event: Event, reason: EventError) -> bool
     }
 }
 
-/// Whether these are the decisions.
+/// Checks whether the lieutenants' decisions are `orders`.
 fn has_decided(world: &SignedWorld, orders: &[u32]) -> bool {
     world.decisions().as_slice() == orders
 }
 
-/// Whether each of these events is refused for this reason, and the decisions stay.
+/// Checks whether each of these events is rejected for this reason and does not change the decisions.
 fn are_refused(world: &mut SignedWorld, events: &[Event], reason: EventError) -> bool {
     let before = world.decisions();
     for event in events {
@@ -140,7 +140,7 @@ fn are_refused(world: &mut SignedWorld, events: &[Event], reason: EventError) ->
     true
 }
 
-/// Whether the step goes as it says.
+/// Takes a step in a world, and checks whether it goes as expected.
 fn goes(world: &mut SignedWorld, step: Step) -> bool {
     match step {
         Step::Done(events) => are_done(world, events),
@@ -150,7 +150,7 @@ fn goes(world: &mut SignedWorld, step: Step) -> bool {
     }
 }
 
-/// Whether all steps go as they say.
+/// Takes all steps in a world, and checks whether each goes as expected.
 fn go(world: &mut SignedWorld, steps: &[Step]) -> bool {
     for step in steps {
         if !goes(world, *step) {
@@ -160,14 +160,14 @@ fn go(world: &mut SignedWorld, steps: &[Step]) -> bool {
     true
 }
 
-/// Whether a chain has this order, these signers and these receivers.
+/// Checks whether a chain that was sent has this order, these signers and these receivers.
 fn is_sent(sent: &(Chain, u16), order: u32, signers: &[u8], receivers: u16) -> bool {
     let (chain, to) = sent;
     chain.order() == order && chain.signers() == signers && *to == receivers
 }
 
-/// Whether the commander sent one chain in the first round, and the traitor 2 none, but in the second his signed one to
-/// 1.
+/// Checks that the commander sent one chain in the first round. Traitor 2 sent none in the first round, and in the
+/// second passed on that chain to general 1, with his own signature.
 fn is_passed_on(chronicle: &SignedChronicle) -> bool {
     let [sent] = chronicle.sent(2, 2) else {
         return false;
@@ -177,14 +177,15 @@ fn is_passed_on(chronicle: &SignedChronicle) -> bool {
         && is_sent(sent, 1, &[0, 2], 2)
 }
 
-/// The verdict where all obey.
+/// The verdict of a campaign in which all loyal lieutenants obey the commander.
 const OBEYED: Verdict = Verdict {
     alike: true,
     obeyed: Some(true),
     bound: true,
 };
 
-/// The chronicle of a world of these traitors, where all steps go as they say.
+/// Takes all steps in the world of these traitors, and returns its chronicle. Returns `None` if a step does not go as
+/// expected.
 fn led(alloc: Global, traitors: &str, steps: &[Step]) -> Option<SignedChronicle> {
     let Some(mut world) = opened(alloc, traitors) else {
         return None;
@@ -195,7 +196,7 @@ fn led(alloc: Global, traitors: &str, steps: &[Step]) -> Option<SignedChronicle>
     world.chronicle()
 }
 
-/// Whether three generals agree beside one who passes on.
+/// Checks that three generals agree if one of them is a traitor who passes on a chain.
 fn agree_beside_one_who_passes_on(alloc: Global) -> bool {
     match led(alloc, PASSING, BESIDE_ONE_WHO_PASSES_ON) {
         Some(chronicle) => is_passed_on(&chronicle) && chronicle.verdict() == OBEYED,
@@ -208,14 +209,15 @@ fn three_generals_agree_beside_one_who_passes_on(rt: HostRuntime) {
     assert!(rt; agree_beside_one_who_passes_on(rt.alloc()));
 }
 
-/// Whether the commander sent two chains in the first round, 1 one in the second, and nobody had to obey.
+/// Checks that the commander sent two chains in the first round, that general 1 sent one in the second, and that there
+/// was no order to obey.
 fn are_sent_two_orders(chronicle: &SignedChronicle) -> bool {
     chronicle.sent(0, 1).len() == 2
         && chronicle.sent(1, 2).len() == 1
         && chronicle.verdict().obeyed.is_none()
 }
 
-/// Whether three generals agree under a commander who signs two orders.
+/// Checks that three generals agree if the commander is a traitor who signs two orders.
 fn agree_under_two_orders(alloc: Global) -> bool {
     match led(alloc, SIGNING_TWICE, UNDER_TWO_ORDERS) {
         Some(chronicle) => are_sent_two_orders(&chronicle),
@@ -228,7 +230,7 @@ fn three_generals_agree_under_a_commander_who_signs_two_orders(rt: HostRuntime) 
     assert!(rt; agree_under_two_orders(rt.alloc()));
 }
 
-/// Whether all steps of strangers go as they say, and the world has no chronicle then.
+/// Checks that the steps of `WITH_STRANGERS` go as expected, and that the world then has no chronicle.
 fn refuses_strangers(alloc: Global) -> bool {
     let Some(mut world) = opened(alloc, PASSING) else {
         return false;

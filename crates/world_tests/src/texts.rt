@@ -1,70 +1,70 @@
-//! The texts of campaigns: their keys, and the tables of their traitors.
+//! The texts of the campaigns in these tests: their keys, and the tables of their traitors.
 
 use crate::{campaign, counting, swaying};
 
-/// Four generals, bound 1, whose commander 0 has order 1.
+/// Four generals with bound 1, whose commander 0 has order 1.
 pub(crate) const FOUR: &str = "generals = 4\nbound = 1\ncommander = 0\norder = 1\n";
 
-/// The same, in which nobody waits for more than two steps.
+/// Four generals with bound 1, whose commander 0 has order 1, with a patience of two steps.
 pub(crate) const FOUR_AND_TWO_STEPS: &str =
     "generals = 4\nbound = 1\ncommander = 0\norder = 1\npatience = 2\n";
 
-/// The same, in which nobody waits for more than three steps.
+/// Four generals with bound 1, whose commander 0 has order 1, with a patience of three steps.
 pub(crate) const FOUR_AND_THREE_STEPS: &str =
     "generals = 4\nbound = 1\ncommander = 0\norder = 1\npatience = 3\n";
 
-/// Four generals, bound 1, whose commander 0 has order 0, by the majority.
+/// Four generals with bound 1, whose commander 0 has order 0, and who decide by the majority.
 pub(crate) const FOUR_BY_MAJORITY: &str =
     "generals = 4\nbound = 1\ncommander = 0\norder = 0\nrule = \"majority\"\n";
 
-/// The same, by the median.
+/// Four generals with bound 1, whose commander 0 has order 0, and who decide by the median.
 pub(crate) const FOUR_BY_MEDIAN: &str =
     "generals = 4\nbound = 1\ncommander = 0\norder = 0\nrule = \"median\"\n";
 
-/// Four generals, bound 1, whose commander 0 has an order of four different bytes.
+/// Four generals with bound 1, whose commander 0 has an order of four different bytes.
 pub(crate) const FOUR_OF_BYTES: &str = "generals = 4\nbound = 1\ncommander = 0\norder = 16909060\n";
 
-/// Two generals, both loyal.
+/// Two loyal generals with bound 0, whose commander 0 has order 7.
 pub(crate) const TWO_LOYAL: &str = "generals = 2\nbound = 0\ncommander = 0\norder = 7\n";
 
-/// Three generals, bound 1, whose commander 0 has order 1, by the majority.
+/// Three generals with bound 1, whose commander 0 has order 1, and who decide by the majority.
 pub(crate) const THREE_BY_MAJORITY: &str =
     "generals = 3\nbound = 1\ncommander = 0\norder = 1\nrule = \"majority\"\n";
 
-/// The same, by the median.
+/// Three generals with bound 1, whose commander 0 has order 1, and who decide by the median.
 pub(crate) const THREE_BY_MEDIAN: &str =
     "generals = 3\nbound = 1\ncommander = 0\norder = 1\nrule = \"median\"\n";
 
-/// Three generals, bound 1, whose commander 0 has order 1, with signed messages.
+/// Three generals with bound 1, whose commander 0 has order 1, with signed messages.
 pub(crate) const THREE_SIGNED: &str =
     "generals = 3\nbound = 1\ncommander = 0\norder = 1\nmessages = \"signed\"\n";
 
-/// Five generals, bound 2, whose commander 1 has order 6.
+/// Five generals with bound 2, whose commander 1 has order 6.
 pub(crate) const FIVE: &str = "generals = 5\nbound = 2\ncommander = 1\norder = 6\n";
 
-/// Seven generals, bound 2, whose commander 0 has order 0.
+/// Seven generals with bound 2, whose commander 0 has order 0.
 pub(crate) const SEVEN: &str = "generals = 7\nbound = 2\ncommander = 0\norder = 0\n";
 
-/// The same, in which nobody waits for more than two steps.
+/// Seven generals with bound 2, whose commander 0 has order 0, with a patience of two steps.
 pub(crate) const SEVEN_AND_TWO_STEPS: &str =
     "generals = 7\nbound = 2\ncommander = 0\norder = 0\npatience = 2\n";
 
-/// The same, in which nobody waits for more than three steps.
+/// Seven generals with bound 2, whose commander 0 has order 0, with a patience of three steps.
 pub(crate) const SEVEN_AND_THREE_STEPS: &str =
     "generals = 7\nbound = 2\ncommander = 0\norder = 0\npatience = 3\n";
 
-/// The same seven generals, whose board begins with the word 5.
+/// Seven generals with bound 2, whose commander 0 has order 0, and whose board begins with the word 5.
 pub(crate) const SEVEN_ON_A_BOARD: &str =
     "generals = 7\nbound = 2\ncommander = 0\norder = 0\nboard = [5]\n";
 
-/// The same, in which nobody waits for more than sixteen steps.
+/// Seven generals with bound 2, whose commander 0 has order 0, with a patience of sixteen steps.
 pub(crate) const SEVEN_AND_SIXTEEN_STEPS: &str =
     "generals = 7\nbound = 2\ncommander = 0\norder = 0\npatience = 16\n";
 
-/// General 3 tells 1 and 2 to retreat, in seven instructions.
+/// General 3 sends generals 1 and 2 the order to retreat, in seven instructions.
 pub(crate) const SWAYING: &str = swaying!(campaign "exit\n", "", [3]);
 
-/// General 3 tells 1 to attack and 2 to retreat, in seven instructions.
+/// General 3 sends general 1 the order to attack and general 2 the order to retreat, in seven instructions.
 pub(crate) const TORN: &str = "[[traitor]]
 general = 3
 asm = '''
@@ -78,7 +78,7 @@ exit
 '''
 ";
 
-/// General 2 tells 1 to retreat.
+/// General 2 sends general 1 the order to retreat.
 pub(crate) const LYING: &str = "[[traitor]]
 general = 2
 asm = '''
@@ -89,7 +89,7 @@ exit
 '''
 ";
 
-/// General 2 tells 4 the order 9.
+/// General 2 sends general 4 the order 9.
 pub(crate) const NINE_FOR_FOUR: &str = "[[traitor]]
 general = 2
 asm = '''
@@ -100,7 +100,7 @@ exit
 '''
 ";
 
-/// The commander tells 1 the order 7, and nobody else anything.
+/// The commander sends general 1 the order 7, and sends nothing to the others.
 pub(crate) const SEVEN_FOR_ONE: &str = "[[traitor]]
 general = 0
 asm = '''
@@ -111,7 +111,7 @@ exit
 '''
 ";
 
-/// The commander tells 1 and 3 to attack, and 2 to retreat.
+/// The commander sends generals 1 and 3 the order to attack, and general 2 the order to retreat.
 pub(crate) const TWO_FACED: &str = "[[traitor]]
 general = 0
 asm = '''
@@ -128,7 +128,8 @@ exit
 '''
 ";
 
-/// The commander tells 1 to attack and 2 to retreat, and 3 nothing.
+/// The commander sends general 1 the order to attack and general 2 the order to retreat, and sends nothing to general
+/// 3.
 pub(crate) const SILENT_TO_ONE: &str = "[[traitor]]
 general = 0
 asm = '''
@@ -142,7 +143,7 @@ exit
 '''
 ";
 
-/// The commander tells 1, 2 and 3 their own numbers.
+/// The commander sends generals 1, 2 and 3 their own numbers as orders.
 pub(crate) const NUMBERING: &str = "[[traitor]]
 general = 0
 asm = '''
@@ -159,17 +160,18 @@ exit
 '''
 ";
 
-/// Generals 0 and 4 count on the board who comes first, and tell 1, 2 and 3 whether they came second.
+/// Generals 0 and 4 each add 1 to word 0 of the board, and send generals 1, 2 and 3 the last bit of its old value.
 pub(crate) const COLLUDING: &str = counting!(campaign "exit\n", "", [0, 4]);
 
-/// The same, and each then gets word 63: seventeen steps.
+/// Generals 0 and 4 each add 1 to word 0 of the board, and send generals 1, 2 and 3 the last bit of its old value. Each
+/// then reads word 63. The program takes seventeen steps.
 pub(crate) const COLLUDING_AND_LOOKING: &str =
     counting!(campaign "mov r1, 63\ncall board_get\nexit\n", "", [0, 4]);
 
-/// Seven generals, all of whom count so, and tell 1, 2 and 3 whether the count was odd.
+/// Each of seven generals adds 1 to word 0 of the board, and sends generals 1, 2 and 3 the last bit of its old value.
 pub(crate) const SEVEN_ADDERS: &str = counting!(campaign "exit\n", "", [0, 1, 2, 3, 4, 5, 6]);
 
-/// Generals 5 and 6 each set the word of their number to 1, and get the other's.
+/// Generals 5 and 6 each set the word of their own number to 1, and then read the other's word.
 pub(crate) const SETTING: &str = "[[traitor]]
 general = 5
 asm = '''
@@ -192,7 +194,7 @@ exit
 '''
 ";
 
-/// Generals 0 and 4 get three words each.
+/// Generals 0 and 4 read three words each.
 pub(crate) const LOOKING: &str = "[[traitor]]
 general = 0
 asm = '''
@@ -217,7 +219,7 @@ exit
 '''
 ";
 
-/// General 5 swaps word 5 of the board for 1, and then gets word 6: six instructions.
+/// General 5 swaps word 5 of the board for 1, and then reads word 6. The program takes six steps.
 pub(crate) const SPYING: &str = "[[traitor]]
 general = 5
 asm = '''
@@ -230,7 +232,7 @@ exit
 '''
 ";
 
-/// General 2 passes on to 1 the first chain that he holds, in four instructions.
+/// General 2 passes on his first chain to general 1, in four instructions.
 pub(crate) const PASSING: &str = "[[traitor]]
 general = 2
 asm = '''
@@ -241,7 +243,7 @@ exit
 '''
 ";
 
-/// The commander signs the order 1 for 1, and the order 0 for 2, in seven instructions.
+/// The commander signs order 1 for general 1 and order 0 for general 2, in seven instructions.
 pub(crate) const SIGNING_TWICE: &str = "[[traitor]]
 general = 0
 asm = '''

@@ -1,4 +1,4 @@
-//! Campaigns whose generals act in threads.
+//! Plays and checks campaigns with a thread for each general, for several tests.
 
 use crate::scenarios::{are_told_alike, told};
 use board::Access;
@@ -10,14 +10,14 @@ use std::thread::Threads;
 use threads::{Gate, muster};
 use world::{Chronicle, Verdict, replay};
 
-/// What stands of a verdict where the commander is a traitor, and the bound holds.
+/// The verdict of a campaign in which the loyal lieutenants agree, the commander is a traitor, and the bound holds.
 pub(crate) const AGREED: Verdict = Verdict {
     alike: true,
     obeyed: None,
     bound: true,
 };
 
-/// The chronicle of a campaign whose generals act in threads; none where it is not mustered.
+/// Plays a campaign with a thread for each general, and returns its chronicle, or `None` if this fails.
 pub(crate) fn mustered<R: Threads + Wait + Sync, G: Gate + Sync>(
     rt: &R,
     alloc: Global,
@@ -34,7 +34,7 @@ pub(crate) fn mustered<R: Threads + Wait + Sync, G: Gate + Sync>(
     }
 }
 
-/// The names of those who made a round's accesses.
+/// Returns the general who made each access of a round, in the order of the accesses.
 fn names_in(alloc: Global, accesses: &[Access], round: usize) -> Result<Vec<u8>, AllocError> {
     let mut names = Vec::new(alloc);
     for access in accesses {
@@ -45,7 +45,7 @@ fn names_in(alloc: Global, accesses: &[Access], round: usize) -> Result<Vec<u8>,
     Ok(names)
 }
 
-/// The names of those who made a campaign's accesses, by round.
+/// Returns, for each round, the general who made each access, in the order of the accesses.
 fn names(alloc: Global, chronicle: &Chronicle) -> Result<Vec<Vec<u8>>, AllocError> {
     let mut rounds = Vec::new(alloc);
     for place in 0..chronicle.letters().len() {
@@ -54,13 +54,13 @@ fn names(alloc: Global, chronicle: &Chronicle) -> Result<Vec<Vec<u8>>, AllocErro
     Ok(rounds)
 }
 
-/// The replay of the accesses that a chronicle tells.
+/// Replays a chronicle's campaign with its accesses in the same order.
 fn replayed(alloc: Global, chronicle: &Chronicle) -> Result<Chronicle, AllocError> {
     let names = names(alloc, chronicle)?;
     replay(alloc, chronicle.scenario().copy(alloc)?, names.as_slice())
 }
 
-/// Whether the replay of the accesses that a chronicle tells has its text.
+/// Checks whether the replay of a chronicle's accesses has the same text as the chronicle.
 pub(crate) fn replays(alloc: Global, chronicle: &Chronicle) -> bool {
     match replayed(alloc, chronicle) {
         Ok(again) => are_told_alike(alloc, chronicle, &again),
@@ -68,7 +68,7 @@ pub(crate) fn replays(alloc: Global, chronicle: &Chronicle) -> bool {
     }
 }
 
-/// The word of a reply.
+/// Returns the word of a reply, or `None` if the reply has several words.
 pub(crate) fn word(reply: &Reply) -> Option<u64> {
     match reply {
         Reply::Word(word) => Some(*word),
@@ -76,7 +76,7 @@ pub(crate) fn word(reply: &Reply) -> Option<u64> {
     }
 }
 
-/// Whether the replies of so many accesses count them, from this one on.
+/// Checks that there are `number` accesses, and that their replies count up from `first`.
 pub(crate) fn count(accesses: &[Access], number: usize, first: u64) -> bool {
     let mut next = first;
     for access in accesses {
@@ -88,7 +88,7 @@ pub(crate) fn count(accesses: &[Access], number: usize, first: u64) -> bool {
     accesses.len() == number
 }
 
-/// Copies of a chronicle's letters, round by round.
+/// Copies a chronicle's letters, round by round.
 pub(crate) fn letters(alloc: Global, chronicle: &Chronicle) -> Result<Vec<Letter>, AllocError> {
     let mut all = Vec::new(alloc);
     for round in chronicle.letters() {

@@ -1,30 +1,30 @@
-//! The world, event by event.
+//! Tests of the world, event by event.
 
 use crate::scenarios::told;
 use crate::texts::{FOUR, SWAYING, TORN};
 use std::alloc::Global;
 use world::{Event, EventError, Verdict, World};
 
-/// What is done with a world, or asked of it.
+/// A step of a test: events for a world, or a check of it.
 #[derive(Clone, Copy)]
 enum Step {
-    /// Each of these events is done.
+    /// Each of these events happens.
     Done(&'static [Event]),
-    /// Each of these events is refused for this reason, and the decisions stay.
+    /// Each of these events is rejected for this reason, and does not change the decisions.
     Refused(&'static [Event], EventError),
-    /// Whether it is full.
+    /// Whether every loyal general has posted in each closed round.
     Full(bool),
-    /// Its decisions.
+    /// The decisions of the lieutenants.
     Decided(&'static [u32]),
 }
 
 /// The loyal generals of four post, and the round is closed.
 const POSTS: &[Event] = &[Event::Post(0), Event::Post(1), Event::Post(2), Event::Close];
 
-/// General 3 goes to the end of his seven instructions.
+/// General 3 runs his program of seven instructions to its end.
 const TICKS: &[Event] = &[Event::Tick(3); 7];
 
-/// Events of those who do not act so.
+/// Events of generals who do not exist or cannot act so.
 const STRANGE: &[Event] = &[Event::Tick(0), Event::Post(3), Event::Post(12)];
 
 /// Events of a campaign that is over.
@@ -36,7 +36,7 @@ const LATE: &[Event] = &[
     Event::Tick(0),
 ];
 
-/// Both rounds, with events of nobody between them.
+/// Two rounds, with events before them and between them that are rejected because no general can act so.
 const WITH_STRANGERS: &[Step] = &[
     Step::Refused(STRANGE, EventError::NoGeneral),
     Step::Done(TICKS),
@@ -49,7 +49,7 @@ const WITH_STRANGERS: &[Step] = &[
     Step::Full(true),
 ];
 
-/// In the second round nobody posts but the traitor.
+/// Two rounds. In the second, no loyal general posts.
 const WITH_THE_ABSENT: &[Step] = &[
     Step::Done(POSTS),
     Step::Done(TICKS),
@@ -59,7 +59,7 @@ const WITH_THE_ABSENT: &[Step] = &[
     Step::Decided(&[1, 0, 0]),
 ];
 
-/// In the second round all post.
+/// Two rounds. In the second, all loyal generals post.
 const WITH_ALL: &[Step] = &[
     Step::Done(POSTS),
     Step::Done(TICKS),
@@ -68,26 +68,27 @@ const WITH_ALL: &[Step] = &[
     Step::Decided(&[1, 1, 1]),
 ];
 
-/// The verdict where all obey.
+/// The verdict of a campaign in which all loyal lieutenants obey the commander.
 const OBEYED: Verdict = Verdict {
     alike: true,
     obeyed: Some(true),
     bound: true,
 };
 
-/// The traitors' tables of a campaign of four, what is done, and the verdict, where the world then has a chronicle.
+/// The traitors' tables of a campaign of four generals, the steps, and the verdict, which is `None` if the world then
+/// has no chronicle.
 const WORLDS: &[(&str, &[Step], Option<Verdict>)] = &[
     (SWAYING, WITH_STRANGERS, Some(OBEYED)),
     (TORN, WITH_THE_ABSENT, None),
     (TORN, WITH_ALL, Some(OBEYED)),
 ];
 
-/// Whether the event is done.
+/// Checks whether the event happens.
 fn is_done(world: &mut World, event: Event) -> bool {
     world.apply(event).is_ok()
 }
 
-/// Whether each of these events is done.
+/// Checks whether each of these events happens.
 fn are_done(world: &mut World, events: &[Event]) -> bool {
     for event in events {
         if !is_done(world, *event) {
@@ -97,7 +98,7 @@ fn are_done(world: &mut World, events: &[Event]) -> bool {
     true
 }
 
-/// Whether the event is refused for this reason.
+/// Checks whether the event is rejected for this reason.
 fn is_refused(world: &mut World, event: Event, reason: EventError) -> bool {
     match world.apply(event) {
         Ok(()) => false,
@@ -105,12 +106,12 @@ fn is_refused(world: &mut World, event: Event, reason: EventError) -> bool {
     }
 }
 
-/// Whether these are the decisions.
+/// Checks whether the lieutenants' decisions are `orders`.
 fn has_decided(world: &World, orders: &[u32]) -> bool {
     world.decisions().as_slice() == orders
 }
 
-/// Whether each of these events is refused for this reason, and the decisions stay.
+/// Checks whether each of these events is rejected for this reason and does not change the decisions.
 fn are_refused(world: &mut World, events: &[Event], reason: EventError) -> bool {
     let before = world.decisions();
     for event in events {
@@ -121,7 +122,7 @@ fn are_refused(world: &mut World, events: &[Event], reason: EventError) -> bool 
     true
 }
 
-/// Whether the step goes as it says.
+/// Takes a step in a world, and checks whether it goes as expected.
 fn goes(world: &mut World, step: Step) -> bool {
     match step {
         Step::Done(events) => are_done(world, events),
@@ -131,7 +132,7 @@ fn goes(world: &mut World, step: Step) -> bool {
     }
 }
 
-/// Whether all steps go as they say.
+/// Takes all steps in a world, and checks whether each goes as expected.
 fn go(world: &mut World, steps: &[Step]) -> bool {
     for step in steps {
         if !goes(world, *step) {
@@ -141,7 +142,7 @@ fn go(world: &mut World, steps: &[Step]) -> bool {
     true
 }
 
-/// The verdict of the world's chronicle, where it has one.
+/// Returns the verdict of the world's chronicle, or `None` if it has no chronicle.
 fn verdict_of(world: World) -> Option<Verdict> {
     match world.chronicle() {
         Some(chronicle) => Some(chronicle.verdict()),
@@ -149,7 +150,8 @@ fn verdict_of(world: World) -> Option<Verdict> {
     }
 }
 
-/// Whether all steps go as they say in a world of these traitors, which then has a chronicle of this verdict, if any.
+/// Takes all steps in the world of these traitors. Checks whether they go as expected, and whether the world's
+/// chronicle then has the verdict `verdict`.
 fn leads(alloc: Global, traitors: &str, steps: &[Step], verdict: Option<Verdict>) -> bool {
     let Some(scenario) = told(alloc, FOUR, traitors) else {
         return false;
