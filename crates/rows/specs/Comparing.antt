@@ -1,9 +1,9 @@
--- Where two texts part (own).
+-- Defines the first line in which two texts differ (own).
 use Rattle.std.specs.Prelude.{ℕ, suc, ◌==◌, List, [], ◌∷◌, if◌then◌else◌, Option, Some, None}
 use Rattle.rows.specs.declared.comparison.ComparisonResult.{ComparisonResult}
 use Rattle.rows.specs.declared.comparison.ComparisonResult.TheVariants.{AsStored, Differs}
 
--- the line in which two texts first differ, if they do; the given one is their first
+-- Returns the first line in which two texts differ, if they do. `line` is the number of their first line.
 abbrev pub parting : ℕ → List ℕ → List ℕ → Option ℕ
 parting line [] [] = None
 parting line [] (d ∷ ds) = Some line

@@ -1,4 +1,4 @@
-//! What a call answers.
+//! Answers a call as the program `byzlab` does, with the files of a row.
 use crate::shelf::{AnswerOutput, FileContent, FileInput, Shelf};
 use anyhow::{Result, bail};
 use campaign_schedules::seeded;
@@ -14,7 +14,7 @@ use std::io::ErrorKind;
 use std::sync::Wait;
 use std::thread::Threads;
 
-/// What a call prints, what it tells of a fault, and its exit status.
+/// The answer to a call: what it writes to standard output and to standard error, and its exit status.
 #[derive(Drop)]
 pub struct CallOutput {
     pub out: Vec<u8>,
@@ -23,7 +23,7 @@ pub struct CallOutput {
 }
 
 impl CallOutput {
-    /// Nothing.
+    /// Returns an answer that writes nothing and has status 0.
     fn nothing(alloc: Global) -> CallOutput {
         CallOutput {
             out: Vec::new(alloc),
@@ -32,7 +32,7 @@ impl CallOutput {
         }
     }
 
-    /// Adds what is told next, and the worse status.
+    /// Appends the next answer, and keeps the higher status.
     fn add(&mut self, next: CallOutput) -> Result<(), AllocError> {
         self.out.extend_from_slice(next.out.as_slice())?;
         self.err.extend_from_slice(next.err.as_slice())?;
@@ -42,7 +42,7 @@ impl CallOutput {
         Ok(())
     }
 
-    /// A fault: this is all that is told.
+    /// Returns an answer that writes this text to standard error, and nothing to standard output.
     fn fault(alloc: Global, status: u8, text: String) -> CallOutput {
         CallOutput {
             out: Vec::new(alloc),
@@ -52,8 +52,8 @@ impl CallOutput {
     }
 }
 
-/// What the program answers to these words with these files, with this standard output: of several requests one behind
-/// the other, and the worst status. A file that it writes is put with them.
+/// Answers a call with these words, files and standard output. If the words are several requests, their answers follow
+/// one another, with the highest status. A file that the call writes is put on the shelf.
 pub fn answered<R: Threads + Wait + Sync + AllocGlobal>(
     rt: &R,
     words: &[&str],
@@ -80,7 +80,7 @@ pub fn answered<R: Threads + Wait + Sync + AllocGlobal>(
     Ok(all)
 }
 
-/// What the program answers to one request.
+/// Answers one request.
 fn answered_one<R: Threads + Wait + Sync + AllocGlobal>(
     rt: &R,
     request: &TaskRequest,
@@ -95,7 +95,7 @@ fn answered_one<R: Threads + Wait + Sync + AllocGlobal>(
     written(alloc, &request.task, shelf, told)
 }
 
-/// Puts with the files what a task that is done writes besides its answer: the schedule of a seed, or the outcomes of
+/// Puts the files on the shelf that a task writes in addition to its answer: the schedule of a seed, or the outcomes of
 /// an exploration.
 fn keep(alloc: Global, task: &Task, shelf: &mut Shelf) -> Result<()> {
     if let (Some(seed), Some(name)) = (task.seed(), task.schedule_target()) {
@@ -131,7 +131,7 @@ fn keep(alloc: Global, task: &Task, shelf: &mut Shelf) -> Result<()> {
     Ok(())
 }
 
-/// What is told of words that name no task.
+/// Returns the answer to words that name no task.
 fn refused(alloc: Global, error: TaskError) -> Result<CallOutput> {
     match error {
         TaskError::Words(error) => {
@@ -150,7 +150,7 @@ fn refused(alloc: Global, error: TaskError) -> Result<CallOutput> {
     }
 }
 
-/// Opens the task's files, and does it.
+/// Finds the task's files on the shelf, and does the task.
 fn opened<R: Threads + Wait + Sync + AllocGlobal>(
     rt: &R,
     request: &TaskRequest,
@@ -181,7 +181,7 @@ fn opened<R: Threads + Wait + Sync + AllocGlobal>(
     completed(rt, request, shelf, first, second, output)
 }
 
-/// Does the task on these files, of which a scenario gets those that it names.
+/// Does the task with these files. In a scenario, the names of other files are replaced by their contents.
 fn completed<R: Threads + Wait + Sync + AllocGlobal>(
     rt: &R,
     request: &TaskRequest,
@@ -222,7 +222,7 @@ fn completed<R: Threads + Wait + Sync + AllocGlobal>(
     }
 }
 
-/// What is told of a file that is not there.
+/// Returns the answer to a task whose file does not exist.
 fn unopened(alloc: Global, request: &TaskRequest, name: &str, output: AnswerOutput) -> CallOutput {
     let name = FileName(name);
     let kind = Some(ErrorKind::NotFound);
@@ -235,7 +235,8 @@ fn unopened(alloc: Global, request: &TaskRequest, name: &str, output: AnswerOutp
     )
 }
 
-/// What is told of a file that is not taken.
+/// Returns the answer to a task whose file is not accepted. If the task explains its faults, the reason for `kind` is
+/// added.
 fn untaken<D: Display + Drop>(
     alloc: Global,
     request: &TaskRequest,
@@ -257,7 +258,7 @@ fn untaken<D: Display + Drop>(
     }
 }
 
-/// What is told where the task is not done, by this line.
+/// Returns the answer to a task that is not done for the reason in `line`.
 fn turn_down<D: Display + Drop>(
     alloc: Global,
     request: &TaskRequest,
@@ -270,7 +271,7 @@ fn turn_down<D: Display + Drop>(
     CallOutput { out, err, status }
 }
 
-/// Does the task.
+/// Does the task and returns its answer.
 fn served<R: Threads + Wait + Sync + AllocGlobal>(
     rt: &R,
     request: &TaskRequest,
@@ -285,8 +286,8 @@ fn served<R: Threads + Wait + Sync + AllocGlobal>(
     CallOutput { out, err, status }
 }
 
-/// Puts what was written to a file with the files: nothing of it is on standard output, and where nothing was written
-/// no file is made.
+/// Moves the standard output of a task that writes to a file into that file on the shelf. No file is made if nothing
+/// was written.
 fn written(alloc: Global, task: &Task, shelf: &mut Shelf, told: CallOutput) -> Result<CallOutput> {
     let name = match task.target() {
         None | Some("-") => return Ok(told),

@@ -1,16 +1,16 @@
-//! Whether a text is the stored one.
+//! Compares a text with the stored one.
 ghost use Rattle.std.specs.Prelude.{◌≡◌, ◌↔◌};
 ghost use Rattle.rows.specs.declared.comparison.ComparisonResult.TheVariants.{AsStored};
 ghost use Rattle.rows.specs.Comparing.{parting, outcome_by};
 
 use std::fmt;
 
-/// What the comparison of a text with the stored one gives.
+/// The result of comparing a text with the stored one.
 #[derive(Clone, Copy)]
 pub enum ComparisonResult {
-    /// They are the same.
+    /// The texts are equal.
     AsStored,
-    /// This line, counted from 1, is the first in which they differ.
+    /// The texts first differ in this line, counted from 1.
     Differs(usize),
 }
 
@@ -23,7 +23,7 @@ impl fmt::Display for ComparisonResult {
     }
 }
 
-/// The first line in which two texts differ, if they do.
+/// Returns the first line in which two texts differ, or `None` if they are equal.
 fn differing_line(told: &[u8], stored: &[u8]) -> Option<usize>
     ensures { result ≡ parting 1 told.now stored.now }
 {
@@ -44,7 +44,7 @@ fn differing_line(told: &[u8], stored: &[u8]) -> Option<usize>
     if rest.is_empty() { None } else { Some(line) }
 }
 
-/// What the comparison of these texts gives.
+/// Compares a text with the stored one.
 pub fn compare(told: &[u8], stored: &[u8]) -> ComparisonResult
     ensures line { result ≡ outcome_by (parting 1 told.now stored.now) }
     ensures same { result ≡ AsStored ↔ told.now ≡ stored.now }

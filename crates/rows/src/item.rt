@@ -1,60 +1,60 @@
-//! What a table is made of.
+//! The items of a table: the keys of its lines, and the text below each line.
 use std::alloc::{AllocError, Global};
 
-/// What an item says.
+/// What an item means.
 #[derive(Clone, Copy, PartialEq, Eq)]
 pub enum ItemKey {
-    /// A row of this name begins.
+    /// A row with this name begins.
     Row,
-    /// A file of this name: the lines below, or a copy of another file.
+    /// A file has this name. Its contents are the lines below, or a copy of another file.
     File,
-    /// Bytes in hex, behind those of the last file.
+    /// The last file continues with these bytes, in hexadecimal.
     Hex,
-    /// The lines below stand in place of this line of the last file, counted from 1.
+    /// The lines below replace this line of the last file, counted from 1.
     Line,
-    /// The last file ends behind so many bytes.
+    /// The last file ends after this number of bytes.
     Cut,
-    /// The last file has no line feed at its end.
+    /// The last file loses its last byte, which is the line feed at its end.
     Unended,
-    /// A file of this name that opens and cannot be read.
+    /// A file with this name can be opened, but not read.
     Unreadable,
-    /// The words of a call, between blanks.
+    /// A call has these words, separated by blanks.
     Words,
-    /// One more word, with its blanks.
+    /// The call has one more word, which may contain blanks.
     Word,
-    /// Standard output takes nothing.
+    /// Each write to standard output fails.
     Full,
-    /// Standard output takes at most so many bytes a write, and cannot be flushed.
+    /// Standard output keeps at most this number of bytes of each write, and cannot be flushed.
     Unflushed,
-    /// The call is made with each beginning of this file, and each answer is asked the same.
+    /// The call is made with each beginning of this file except the whole. The same items check each answer.
     Beginnings,
-    /// The exit status.
+    /// The exit status is this number.
     Status,
-    /// All of standard output: the lines below, or those of another file.
+    /// Standard output is the lines below, or the contents of another file.
     Out,
-    /// All of standard error.
+    /// Standard error is the lines below.
     Err,
-    /// What all of standard output is like.
+    /// Standard output matches the pattern below.
     Like,
-    /// What all of standard error is like.
+    /// Standard error matches the pattern below.
     Tells,
-    /// What the last line is like.
+    /// The last line of standard output matches this pattern.
     Last,
-    /// What some line is like.
+    /// At least one line of standard output matches this pattern.
     Has,
-    /// What no line is like.
+    /// No line of standard output matches this pattern.
     Lacks,
-    /// How many lines are like this.
+    /// This number of lines of standard output match this pattern.
     Times,
-    /// The accesses of this round, in their order.
+    /// The accesses of this round are the lines below, in this order.
     Accesses,
-    /// The chronicle of which standard output has the JSON Lines: that of another file.
+    /// Standard output is the JSON Lines of the chronicle in this file.
     Again,
-    /// Standard output becomes a file of this name.
+    /// Standard output is kept as a file with this name.
     Keep,
 }
 
-/// The keys and their words.
+/// The words of a table that stand for the keys.
 const KEYS: [(&str, ItemKey); 24] = [
     ("row", ItemKey::Row),
     ("file", ItemKey::File),
@@ -83,7 +83,7 @@ const KEYS: [(&str, ItemKey); 24] = [
 ];
 
 impl ItemKey {
-    /// The key of this word.
+    /// Returns the key for a word, or `None` if there is none.
     pub fn named(word: &str) -> Option<ItemKey> {
         for (name, key) in &KEYS {
             if *name == word {
@@ -94,19 +94,19 @@ impl ItemKey {
     }
 }
 
-/// An item: a line of the table, with the text that stands below it.
+/// An item: a line of the table, and the text below it.
 #[derive(Drop)]
 pub struct Item {
-    /// What it says.
+    /// The key at the beginning of the line.
     pub key: ItemKey,
-    /// What stands behind the key.
+    /// The rest of the line after the key.
     pub value: String,
-    /// The text below it.
+    /// The text below the line.
     pub block: Vec<u8>,
 }
 
 impl Item {
-    /// The item of a line, without a text.
+    /// Creates an item without a text below it.
     pub fn of(alloc: Global, key: ItemKey, value: &str) -> Result<Item, AllocError> {
         Ok(Item {
             key,

@@ -1,13 +1,14 @@
-//! Texts that leave something open: a star stands for any text, `#` for a number.
+//! Matches texts against patterns, in which `*` matches any text and `#` matches a number.
 use std::alloc::{AllocError, Global};
 
-/// Whether the text is like the pattern.
+/// Checks whether the text matches the pattern.
 pub fn is_like(alloc: Global, pattern: &[u8], text: &[u8]) -> Result<bool, AllocError> {
     let pieces: Vec<&[u8]> = pattern.split(|sign| *sign == b'*').collect(alloc)?;
     Ok(are_found(pieces.as_slice(), text))
 }
 
-/// Whether these pieces stand in the text one behind the other, the first where it begins and the last where it ends.
+/// Checks whether the pieces of a pattern between its stars occur in the text in this order, the first at its beginning
+/// and the last at its end.
 fn are_found(pieces: &[&[u8]], text: &[u8]) -> bool {
     match pieces {
         [] => text.is_empty(),
@@ -19,7 +20,7 @@ fn are_found(pieces: &[&[u8]], text: &[u8]) -> bool {
     }
 }
 
-/// Whether these pieces stand somewhere in the text one behind the other, and then the last, where the text ends.
+/// Checks whether the pieces `middle` occur in the text in this order, followed by `last` at its end.
 fn are_behind(middle: &[&[u8]], last: &[u8], text: &[u8]) -> bool {
     let mut rest = text;
     for piece in middle {
@@ -31,7 +32,7 @@ fn are_behind(middle: &[&[u8]], last: &[u8], text: &[u8]) -> bool {
     is_end(last, rest)
 }
 
-/// What is behind the first place of the text at which this piece stands.
+/// Returns the text after the first occurrence of this piece.
 fn behind_first<'a>(piece: &[u8], text: &'a [u8]) -> Option<&'a [u8]> {
     for start in 0..=text.len() {
         if let Some(rest) = behind(piece, &text[start..]) {
@@ -41,7 +42,7 @@ fn behind_first<'a>(piece: &[u8], text: &'a [u8]) -> Option<&'a [u8]> {
     None
 }
 
-/// Whether the text ends with this piece.
+/// Checks whether the text ends with this piece.
 fn is_end(piece: &[u8], text: &[u8]) -> bool {
     for start in 0..=text.len() {
         if is_whole(piece, &text[start..]) {
@@ -51,7 +52,7 @@ fn is_end(piece: &[u8], text: &[u8]) -> bool {
     false
 }
 
-/// Whether the text is this piece.
+/// Checks whether the whole text matches this piece.
 fn is_whole(piece: &[u8], text: &[u8]) -> bool {
     match behind(piece, text) {
         Some(rest) => rest.is_empty(),
@@ -59,7 +60,7 @@ fn is_whole(piece: &[u8], text: &[u8]) -> bool {
     }
 }
 
-/// What is behind this piece, with which the text begins.
+/// Returns the rest of a text that begins with this piece, or `None` if it does not.
 fn behind<'a>(piece: &[u8], text: &'a [u8]) -> Option<&'a [u8]> {
     let mut rest = text;
     for sign in piece {
@@ -73,7 +74,7 @@ fn behind<'a>(piece: &[u8], text: &'a [u8]) -> Option<&'a [u8]> {
     Some(rest)
 }
 
-/// What is behind this byte, with which the text begins.
+/// Returns the rest of a text that begins with this byte, or `None` if it does not.
 fn behind_byte(text: &[u8], byte: u8) -> Option<&[u8]> {
     match text {
         [first, rest @ ..] if *first == byte => Some(rest),
@@ -81,7 +82,7 @@ fn behind_byte(text: &[u8], byte: u8) -> Option<&[u8]> {
     }
 }
 
-/// What is behind the digits with which the text begins.
+/// Returns the rest of a text that begins with a digit, after all digits at its beginning, or `None` if it does not.
 fn behind_number(text: &[u8]) -> Option<&[u8]> {
     match text.iter().position(|byte| !byte.is_ascii_digit()) {
         Some(0) => None,

@@ -1,8 +1,8 @@
-//! Lines of an answer.
+//! Reads the lines of an answer: all lines, the lines that match a pattern, the last line, and the accesses of a round.
 use crate::likeness::is_like;
 use std::alloc::{AllocError, Global};
 
-/// The lines of a text, without their line feeds.
+/// Splits a text into its lines, without their line feeds.
 pub fn lines(alloc: Global, text: &[u8]) -> Result<Vec<&[u8]>, AllocError> {
     let mut lines: Vec<&[u8]> = text.split(|byte| *byte == b'\n').collect(alloc)?;
     let is_ended = match lines.last() {
@@ -15,7 +15,7 @@ pub fn lines(alloc: Global, text: &[u8]) -> Result<Vec<&[u8]>, AllocError> {
     Ok(lines)
 }
 
-/// How many of the text's lines are like this.
+/// Counts the lines of a text that match a pattern.
 pub fn number_like(alloc: Global, text: &[u8], pattern: &[u8]) -> Result<usize, AllocError> {
     let mut number = 0usize;
     for line in &lines(alloc, text)? {
@@ -26,7 +26,7 @@ pub fn number_like(alloc: Global, text: &[u8], pattern: &[u8]) -> Result<usize, 
     Ok(number)
 }
 
-/// The last line, which is empty where there is none.
+/// Returns the last line of a text, or an empty line if the text has none.
 pub fn last(alloc: Global, text: &[u8]) -> Result<Vec<u8>, AllocError> {
     match lines(alloc, text)?.last() {
         Some(line) => line.to_vec(alloc),
@@ -34,7 +34,8 @@ pub fn last(alloc: Global, text: &[u8]) -> Result<Vec<u8>, AllocError> {
     }
 }
 
-/// The accesses of this round, counted from 1: the lines that begin so, behind that of the round and before the next.
+/// Returns the lines of a chronicle that begin with `access `, after the line of the given round and before that of the
+/// next. Rounds are counted from 1.
 pub fn accesses(alloc: Global, text: &[u8], round: usize) -> Result<Vec<u8>, AllocError> {
     let mut accesses = Vec::new(alloc);
     let mut begun = 0usize;

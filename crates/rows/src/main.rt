@@ -1,6 +1,6 @@
-//! `rows`, which asks the laboratory what the rows of the tables in data/ ask, by the same calls that the program
-//! makes, and says which rows are answered otherwise. `rows NAME..` takes the tables of these names; docs/TESTING.md
-//! says how one is written.
+//! The program `rows`. It answers the calls in the tables of data/ with the same functions as the program `byzlab`, and
+//! prints which rows have another answer than the table says. `rows NAME..` runs the tables with these names.
+//! docs/TESTING.md describes how a table is written.
 #![tactic(auto)]
 
 mod call_answers;

@@ -1,4 +1,4 @@
-//! What an answer is asked, and the first difference.
+//! Compares the answer to a call with what the table says, and finds the first difference.
 use crate::call_answers::CallOutput;
 use crate::comparison::{ComparisonResult, compare};
 use crate::item::{Item, ItemKey};
@@ -12,8 +12,8 @@ use anyhow::Result;
 use std::alloc::Global;
 use std::rt::Files;
 
-/// The first difference between the answer and what the call's items ask, if there is one. Where nothing is asked of
-/// the status it is to be 0, and where nothing is asked of standard output or of standard error it is to be empty.
+/// Returns the first difference between an answer and what the call's items say, if there is one. Without an item for
+/// it, the status must be 0, and standard output and standard error must be empty.
 pub fn difference<R: Files + AllocGlobal>(
     rt: &R,
     call: &ProgramCall,
@@ -32,7 +32,7 @@ pub fn difference<R: Files + AllocGlobal>(
     Ok(None)
 }
 
-/// The keys that ask of standard output.
+/// The keys that say something about standard output.
 const OF_OUTPUT: [ItemKey; 9] = [
     ItemKey::Out,
     ItemKey::Like,
@@ -45,7 +45,7 @@ const OF_OUTPUT: [ItemKey; 9] = [
     ItemKey::Keep,
 ];
 
-/// Whether the call asks of standard output.
+/// Checks whether the call says something about standard output.
 fn asks_output(call: &ProgramCall) -> bool {
     for key in OF_OUTPUT {
         if call.has(key) {
@@ -55,7 +55,7 @@ fn asks_output(call: &ProgramCall) -> bool {
     false
 }
 
-/// The first difference in what the call does not ask.
+/// Returns the first difference in the parts of the answer about which the call says nothing, if there is one.
 fn unasked(alloc: Global, call: &ProgramCall, told: &CallOutput) -> Result<Option<String>> {
     if !call.has(ItemKey::Status) && told.status != 0 {
         return is_status(alloc, 0, told);
@@ -71,7 +71,7 @@ fn unasked(alloc: Global, call: &ProgramCall, told: &CallOutput) -> Result<Optio
     whole(alloc, "standard output", &told.out, &[])
 }
 
-/// The difference in what the item asks, if there is one.
+/// Returns the difference between the answer and what the item says, if there is one.
 fn asked<R: Files + AllocGlobal>(
     rt: &R,
     item: &Item,
@@ -106,7 +106,8 @@ fn asked<R: Files + AllocGlobal>(
     }
 }
 
-/// The text that standard output is to be: a file's where the item says `= NAME`, and otherwise the one below it.
+/// Returns the standard output that the item demands. If its value is `= NAME`, this is the contents of that file, and
+/// otherwise the text below the item.
 fn expected<R: Files + AllocGlobal>(rt: &R, item: &Item, shelf: &Shelf) -> Result<Vec<u8>> {
     match item.value.as_str().strip_prefix("= ") {
         Some(name) => copied(rt, shelf, name),
@@ -114,7 +115,7 @@ fn expected<R: Files + AllocGlobal>(rt: &R, item: &Item, shelf: &Shelf) -> Resul
     }
 }
 
-/// The difference in the exit status.
+/// Returns the difference between the exit status and `status`, if there is one.
 fn is_status(alloc: Global, status: usize, told: &CallOutput) -> Result<Option<String>> {
     let got = usize::from(told.status);
     if got == status {
@@ -124,7 +125,7 @@ fn is_status(alloc: Global, status: usize, told: &CallOutput) -> Result<Option<S
     Ok(Some(format!(in alloc; "status {got}, not {status}: {err}")?))
 }
 
-/// The difference between a text and the whole that it is to be.
+/// Returns the difference between a text and the text that it must be, if there is one.
 fn whole(alloc: Global, what: &str, got: &Vec<u8>, expected: &[u8]) -> Result<Option<String>> {
     match compare(got.as_slice(), expected) {
         ComparisonResult::AsStored => Ok(None),
@@ -136,7 +137,7 @@ fn whole(alloc: Global, what: &str, got: &Vec<u8>, expected: &[u8]) -> Result<Op
     }
 }
 
-/// The difference between a text and what it is to be like.
+/// Returns the difference between a text and the pattern that it must match, if there is one.
 fn alike(alloc: Global, what: &str, got: &Vec<u8>, pattern: &[u8]) -> Result<Option<String>> {
     if is_like(alloc, pattern, got.as_slice())? {
         return Ok(None);
@@ -145,7 +146,8 @@ fn alike(alloc: Global, what: &str, got: &Vec<u8>, pattern: &[u8]) -> Result<Opt
     Ok(Some(format!(in alloc; "{what} is otherwise: {got}")?))
 }
 
-/// The difference in how many lines are like the item's.
+/// Returns the difference between the number of lines that match the item's pattern and the number that the item
+/// demands, if there is one.
 fn counted(alloc: Global, item: &Item, told: &CallOutput) -> Result<Option<String>> {
     let value = item.value.as_str();
     let (times, pattern) = match item.key {

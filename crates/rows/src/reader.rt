@@ -1,14 +1,15 @@
-//! Reads a table.
+//! Reads a table into rows.
 use crate::item::{Item, ItemKey};
 use crate::row::WorkedRow;
 use anyhow::{Result, bail};
 use std::alloc::Global;
 
-/// The rows of a table's text.
+/// Reads the text of a table into its rows.
 ///
 /// # Errors
 ///
-/// A line that has no shape, by its number.
+///
+/// Fails with the number of the first line that is not understood.
 pub fn rows(alloc: Global, text: &str) -> Result<Vec<WorkedRow>> {
     let mut rows = Vec::new(alloc);
     let mut number = 0usize;
@@ -21,7 +22,7 @@ pub fn rows(alloc: Global, text: &str) -> Result<Vec<WorkedRow>> {
     Ok(rows)
 }
 
-/// Takes a line in; the answer is whether it has a shape.
+/// Reads a line into the rows, and returns whether it is understood.
 fn is_taken(alloc: Global, rows: &mut Vec<WorkedRow>, line: &str) -> Result<bool> {
     if line.is_empty() || line.starts_with('#') {
         return Ok(true);
@@ -45,7 +46,7 @@ fn is_taken(alloc: Global, rows: &mut Vec<WorkedRow>, line: &str) -> Result<bool
     }
 }
 
-/// How many times a line of text stands: what is before its bar, and once where that is nothing.
+/// Returns how often a line of text is repeated: the number before its bar, or once if there is nothing before the bar.
 fn number_of_times(before: &str) -> Option<usize> {
     if before.is_empty() {
         return Some(1);
@@ -53,7 +54,7 @@ fn number_of_times(before: &str) -> Option<usize> {
     before.parse::<usize>().ok()
 }
 
-/// Adds a line of text to the last item, so many times; the answer is whether there is one.
+/// Appends a line of text `times` times to the last item, and returns whether there is such an item.
 fn is_added(rows: &mut Vec<WorkedRow>, times: usize, text: &str) -> Result<bool> {
     let Some(row) = rows.last_mut() else {
         return Ok(false);
@@ -72,7 +73,7 @@ fn is_added(rows: &mut Vec<WorkedRow>, times: usize, text: &str) -> Result<bool>
     Ok(true)
 }
 
-/// Adds an item to the last row; the answer is whether there is one.
+/// Adds an item to the last row, and returns whether there is such a row.
 fn is_begun(alloc: Global, rows: &mut Vec<WorkedRow>, key: ItemKey, value: &str) -> Result<bool> {
     let Some(row) = rows.last_mut() else {
         return Ok(false);

@@ -1,13 +1,14 @@
-//! Lines, made again from their objects.
+//! Converts the JSON Lines of a chronicle back to its text.
 use anyhow::{Result, bail};
 use serde_json::{Map, Value};
 use std::alloc::{AllocError, Global};
 
-/// The chronicle of which these are JSON Lines.
+/// Returns the text of the chronicle that is given as JSON Lines.
 ///
 /// # Errors
 ///
-/// A line that is no object, or that of no line of a chronicle.
+///
+/// Fails if a line is not an object, or not the object of a chronicle's line.
 pub fn again(alloc: Global, lines: &[u8]) -> Result<Vec<u8>> {
     let Ok(lines) = str::from_utf8(lines) else {
         bail!("no text");
@@ -23,7 +24,7 @@ pub fn again(alloc: Global, lines: &[u8]) -> Result<Vec<u8>> {
     Ok(out.into_bytes())
 }
 
-/// Adds the line of an object.
+/// Appends the line that an object describes.
 fn put_line(alloc: Global, out: &mut String, object: &Map<String, Value>) -> Result<()> {
     let mut front = "";
     for word in words(object)?.split(' ') {
@@ -40,8 +41,8 @@ fn put_line(alloc: Global, out: &mut String, object: &Map<String, Value>) -> Res
     Ok(())
 }
 
-/// The words of an object's line: `$NAME` stands for a member, `$NAME..` for those of a list, and `$NAME.` for them,
-/// joined by dots.
+/// Returns the words of the line that an object describes. `$NAME` is replaced by a member, `$NAME..` by the members of
+/// a list, and `$NAME.` by these, joined by dots.
 fn words(object: &Map<String, Value>) -> Result<&'static str> {
     let Some(line) = object.get("line").and_then(Value::as_str) else {
         bail!("an object that does not say what it is");
@@ -62,7 +63,7 @@ fn words(object: &Map<String, Value>) -> Result<&'static str> {
     }
 }
 
-/// The words of a campaign's line.
+/// Returns the words of a campaign's line.
 fn campaign(object: &Map<String, Value>) -> &'static str {
     if object.contains_key("messages") {
         "signed generals $generals bound $bound commander $commander order $order patience $patience"
@@ -73,7 +74,7 @@ fn campaign(object: &Map<String, Value>) -> &'static str {
     }
 }
 
-/// The words of an access.
+/// Returns the words of an access's line.
 fn access(object: &Map<String, Value>) -> &'static str {
     if object.contains_key("expected") {
         "access $general $request $slot $expected $new = $answer.."
@@ -86,12 +87,12 @@ fn access(object: &Map<String, Value>) -> &'static str {
     }
 }
 
-/// Whether the member is true.
+/// Checks whether the object has this member and it is true.
 fn holds(object: &Map<String, Value>, name: &str) -> bool {
     object.get(name).and_then(Value::as_bool).unwrap_or(false)
 }
 
-/// Adds a member's words.
+/// Appends the words of a member.
 fn put_member(
     alloc: Global,
     out: &mut String,
@@ -120,7 +121,7 @@ fn put_member(
     Ok(())
 }
 
-/// Adds the word of a value.
+/// Appends the word of a value.
 fn put_value(alloc: Global, out: &mut String, value: &Value) -> Result<(), AllocError> {
     match value {
         Value::Null => out.push_str("-"),

@@ -1,4 +1,4 @@
-//! What is printed of a table.
+//! Runs a table and prints which of its rows have another answer than the table says.
 use crate::call_answers::answered;
 use crate::item::ItemKey;
 use crate::questions::difference;
@@ -13,8 +13,8 @@ use std::rt::Files;
 use std::sync::Wait;
 use std::thread::Threads;
 
-/// Asks what the rows of the table ask, and prints each that is answered otherwise, with its first difference, and how
-/// many they are.
+/// Makes the calls of all rows of a table. Prints each row whose answer differs, with its first difference, and then
+/// the number of rows and of wrong rows.
 pub fn report<R: Print + Files + Threads + Wait + Sync + AllocGlobal>(
     rt: &R,
     table: &str,
@@ -36,7 +36,7 @@ pub fn report<R: Print + Files + Threads + Wait + Sync + AllocGlobal>(
     Ok(())
 }
 
-/// The first difference in the answers to a row's calls.
+/// Makes a row's calls in turn, and returns the first difference in their answers, if there is one.
 fn differing<R: Files + Threads + Wait + Sync + AllocGlobal>(
     rt: &R,
     row: &WorkedRow,
@@ -54,7 +54,7 @@ fn differing<R: Files + Threads + Wait + Sync + AllocGlobal>(
     Ok(None)
 }
 
-/// Makes a call; the difference in its answer.
+/// Makes a call, and returns the first difference in its answer, if there is one.
 fn called<R: Files + Threads + Wait + Sync + AllocGlobal>(
     rt: &R,
     call: &ProgramCall,
@@ -81,7 +81,7 @@ fn called<R: Files + Threads + Wait + Sync + AllocGlobal>(
     Ok(difference)
 }
 
-/// Where the call's standard output goes.
+/// Returns the output to which the call's standard output is written.
 fn output(alloc: Global, call: &ProgramCall) -> Result<AnswerOutput> {
     let bytes = Vec::new(alloc);
     match call.value(ItemKey::Unflushed) {
@@ -94,7 +94,7 @@ fn output(alloc: Global, call: &ProgramCall) -> Result<AnswerOutput> {
     }
 }
 
-/// Makes the call with each beginning of the file but the whole; the difference in the first answer that has one.
+/// Makes the call with each beginning of the file except the whole, and returns the first difference in the answers.
 fn beginnings<R: Files + Threads + Wait + Sync + AllocGlobal>(
     rt: &R,
     call: &ProgramCall,

@@ -1,26 +1,26 @@
-//! A row: its files, and the calls that are made with them.
+//! A row of a table: its files, and the calls that are made with them.
 use crate::item::{Item, ItemKey};
 use std::alloc::{AllocError, Global};
 
 /// A row of a table.
 #[derive(Drop)]
 pub struct WorkedRow {
-    /// What it shows.
+    /// What the row shows, in words.
     pub name: String,
-    /// Its files.
+    /// The items that describe the row's files.
     pub files: Vec<Item>,
-    /// Its calls, one after the other.
+    /// The row's calls, in the order in which they are made.
     pub calls: Vec<ProgramCall>,
 }
 
-/// A call: its words, how it is made, and what its answer is asked.
+/// A call: its words, how it is made, and what its answer must be.
 #[derive(Drop)]
 pub struct ProgramCall {
     pub items: Vec<Item>,
 }
 
 impl WorkedRow {
-    /// A row of this name, without files and calls.
+    /// Creates a row with this name, without files and calls.
     pub fn named(alloc: Global, name: &str) -> Result<WorkedRow, AllocError> {
         Ok(WorkedRow {
             name: String::from_str(alloc, name)?,
@@ -29,7 +29,8 @@ impl WorkedRow {
         })
     }
 
-    /// Takes the item in: it belongs to the last call, or to the files where there is none yet.
+    /// Adds an item to the row. An item with words begins a call. Any other item belongs to the last call, or to the
+    /// files if there is no call yet.
     pub fn take_in(&mut self, alloc: Global, item: Item) -> Result<(), AllocError> {
         if item.key == ItemKey::Words {
             let mut items = Vec::new(alloc);
@@ -44,7 +45,7 @@ impl WorkedRow {
         Ok(())
     }
 
-    /// The last of its items.
+    /// Returns the last item of the row.
     pub fn last_item(&mut self) -> Option<&mut Item> {
         match self.calls.last_mut() {
             Some(call) => call.items.last_mut(),
@@ -54,7 +55,7 @@ impl WorkedRow {
 }
 
 impl ProgramCall {
-    /// What stands behind this key, where the call has it.
+    /// Returns the value of the first item with this key, or `None` if the call has no such item.
     pub fn value(&self, key: ItemKey) -> Option<&str> {
         for item in &self.items {
             if item.key == key {
@@ -64,7 +65,7 @@ impl ProgramCall {
         None
     }
 
-    /// Whether the call has this key.
+    /// Checks whether the call has an item with this key.
     pub fn has(&self, key: ItemKey) -> bool {
         self.value(key).is_some()
     }

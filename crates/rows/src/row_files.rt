@@ -1,4 +1,4 @@
-//! Puts the files of a row on its shelf.
+//! Makes the files of a row and puts them on its shelf.
 use crate::item::{Item, ItemKey};
 use crate::shelf::{FileContent, Shelf};
 use anyhow::{Result, bail};
@@ -6,11 +6,12 @@ use std::alloc::Global;
 use std::fs;
 use std::rt::Files;
 
-/// The files of these items.
+/// Makes the files that these items describe.
 ///
 /// # Errors
 ///
-/// An item that makes no file, or a file of data/ that cannot be read.
+///
+/// Fails if an item does not describe a file, or if a file of data/ cannot be read.
 pub fn shelf<R: Files + AllocGlobal>(rt: &R, items: &[Item]) -> Result<Shelf> {
     let mut shelf = Shelf::new(rt.alloc());
     for item in items {
@@ -19,7 +20,7 @@ pub fn shelf<R: Files + AllocGlobal>(rt: &R, items: &[Item]) -> Result<Shelf> {
     Ok(shelf)
 }
 
-/// Does what the item says of the files.
+/// Creates a file or changes the last one, as the item says.
 fn shelve<R: Files + AllocGlobal>(rt: &R, shelf: &mut Shelf, item: &Item) -> Result<()> {
     let alloc = rt.alloc();
     let value = item.value.as_str();
@@ -39,7 +40,8 @@ fn shelve<R: Files + AllocGlobal>(rt: &R, shelf: &mut Shelf, item: &Item) -> Res
     }
 }
 
-/// Puts a file: a copy of another where the value says `NAME = OTHER`, and the text otherwise.
+/// Creates a file. If the value is `NAME = OTHER`, the file NAME is a copy of the file OTHER. Otherwise its contents
+/// are `block`.
 fn put<R: Files + AllocGlobal>(rt: &R, shelf: &mut Shelf, value: &str, block: &[u8]) -> Result<()> {
     let alloc = rt.alloc();
     let (name, bytes) = match value.split_once(" = ") {
@@ -50,7 +52,7 @@ fn put<R: Files + AllocGlobal>(rt: &R, shelf: &mut Shelf, value: &str, block: &[
     Ok(())
 }
 
-/// The bytes of a file of the row, or of data/ where it has none of this name.
+/// Returns the bytes of the row's file with this name, or of the file in data/ if the row has none.
 pub fn copied<R: Files + AllocGlobal>(rt: &R, shelf: &Shelf, name: &str) -> Result<Vec<u8>> {
     match shelf.bytes(name) {
         Some(bytes) => Ok(bytes.to_vec(rt.alloc())?),
@@ -58,7 +60,7 @@ pub fn copied<R: Files + AllocGlobal>(rt: &R, shelf: &Shelf, name: &str) -> Resu
     }
 }
 
-/// Changes the last file as the item says.
+/// Changes the contents of a file as the item says.
 fn change(alloc: Global, bytes: &mut Vec<u8>, item: &Item) -> Result<()> {
     let value = item.value.as_str();
     match item.key {
@@ -82,7 +84,7 @@ fn change(alloc: Global, bytes: &mut Vec<u8>, item: &Item) -> Result<()> {
     Ok(())
 }
 
-/// The number that the word says.
+/// Parses a number, and fails if the word is not one.
 pub fn number(word: &str) -> Result<usize> {
     match word.parse::<usize>() {
         Ok(number) => Ok(number),
@@ -90,7 +92,7 @@ pub fn number(word: &str) -> Result<usize> {
     }
 }
 
-/// The text with other lines in place of one, counted from 1.
+/// Returns the text with `lines` in place of line `number`, counted from 1.
 fn with_line(alloc: Global, text: &[u8], number: usize, lines: &[u8]) -> Result<Vec<u8>> {
     let mut changed = Vec::new(alloc);
     let mut line = 1usize;

@@ -1,41 +1,41 @@
-//! The files of a row.
+//! The files of a row, which are kept in memory, and the outputs to which an answer is written.
 ghost use Rattle.std.specs.Prelude.{◌≤◌, IfOk, length};
 
 use cli_tasks::Folder;
 use std::alloc::{AllocError, Global};
 use std::io::{self, ErrorKind, Read, Write};
 
-/// What a file holds.
+/// The contents of a file.
 #[derive(Drop)]
 pub enum FileContent {
-    /// These bytes.
+    /// The file has these bytes.
     Bytes(Vec<u8>),
-    /// It opens, and cannot be read.
+    /// The file can be opened, but not read.
     Unreadable,
 }
 
-/// A file, and its name.
+/// A file and its name.
 #[derive(Drop)]
 struct Named {
     name: String,
     content: FileContent,
 }
 
-/// Files by their names.
+/// The files of a row by their names.
 #[derive(Drop)]
 pub struct Shelf {
     files: Vec<Named>,
 }
 
 impl Shelf {
-    /// No files.
+    /// Creates a shelf without files.
     pub fn new(alloc: Global) -> Shelf {
         Shelf {
             files: Vec::new(alloc),
         }
     }
 
-    /// Puts a file of this name on top.
+    /// Adds a file, which hides any older file with the same name.
     pub fn put(
         &mut self,
         alloc: Global,
@@ -47,7 +47,7 @@ impl Shelf {
         Ok(())
     }
 
-    /// What the file of this name holds: the last that was put.
+    /// Returns the contents of the file with this name that was added last.
     pub fn find(&self, name: &str) -> Option<&FileContent> {
         for file in self.files.iter().rev() {
             if file.name.as_str() == name {
@@ -57,7 +57,7 @@ impl Shelf {
         None
     }
 
-    /// The bytes of the file of this name.
+    /// Returns the bytes of the file with this name, or `None` if there is no such file or it cannot be read.
     pub fn bytes(&self, name: &str) -> Option<&[u8]> {
         match self.find(name) {
             Some(FileContent::Bytes(bytes)) => Some(bytes.as_slice()),
@@ -65,7 +65,7 @@ impl Shelf {
         }
     }
 
-    /// The bytes of the last file.
+    /// Returns the bytes of the file that was added last, or `None` if there is none or it cannot be read.
     pub fn last(&mut self) -> Option<&mut Vec<u8>> {
         match self.files.last_mut() {
             Some(
@@ -78,7 +78,7 @@ impl Shelf {
         }
     }
 
-    /// Takes the file away that was put last.
+    /// Removes the file that was added last.
     pub fn drop_last(&mut self) {
         let _ = self.files.pop();
     }
@@ -93,17 +93,17 @@ impl Folder for Shelf {
     }
 }
 
-/// A file that is read.
+/// A file from which is read.
 #[derive(Clone, Copy, Drop)]
 pub enum FileInput<'a> {
-    /// These bytes.
+    /// Reads return these bytes.
     Bytes(&'a [u8]),
     /// Each read fails.
     Unreadable,
 }
 
 impl FileContent {
-    /// The file as it is read.
+    /// Returns a reader of the contents.
     pub fn input(&self) -> FileInput<'_> {
         match self {
             FileContent::Bytes(bytes) => FileInput::Bytes(bytes.as_slice()),
@@ -121,18 +121,18 @@ impl Read for FileInput<'_> {
     }
 }
 
-/// Where an answer is written.
+/// An output to which an answer is written.
 #[derive(Drop)]
 pub enum AnswerOutput {
-    /// It is kept.
+    /// The output keeps what is written.
     Kept(Vec<u8>),
-    /// Each write fails.
+    /// Each write and each flush fails.
     Full,
-    /// It is kept, at most so many bytes a write, and each flush fails.
+    /// The output keeps at most `most` bytes of each write, and each flush fails.
     Unflushed { most: usize, bytes: Vec<u8> },
 }
 
-/// Takes a beginning of the bytes, of so many at most.
+/// Appends the first bytes to `taken`, at most `most` of them, and returns how many it appended.
 fn take(taken: &mut Vec<u8>, bytes: &[u8], most: usize) -> Result<usize, AllocError>
     ensures { IfOk result (λ n. n ≤ length bytes.now) }
 {
@@ -146,7 +146,7 @@ fn take(taken: &mut Vec<u8>, bytes: &[u8], most: usize) -> Result<usize, AllocEr
 }
 
 impl AnswerOutput {
-    /// What was written.
+    /// Returns the bytes that were written.
     pub fn into_bytes(self, alloc: Global) -> Vec<u8> {
         match self {
             AnswerOutput::Kept(bytes) => bytes,
