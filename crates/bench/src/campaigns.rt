@@ -1,5 +1,5 @@
-//! Times campaigns: from a scenario to its chronicle, from text to text, and audits; of signed messages the dearest
-//! close, too.
+//! Times campaigns: from a scenario to its chronicle, from text to text, audits, and the most expensive close of a
+//! round of signed messages.
 
 use crate::chronicles::{MessageKind, audited, freely, scenario_of, told_freely};
 use crate::task::{Workload, report_task};
@@ -16,7 +16,7 @@ use std::thread::Threads;
 use std::time::Instant;
 use world::{Event, EventError, play};
 
-/// How long a campaign takes from its scenario to its chronicle, in nanoseconds.
+/// Measures how long a campaign takes from its scenario to its chronicle, in nanoseconds.
 pub fn play_once<C: Clock>(
     alloc: Global,
     clock: &C,
@@ -30,7 +30,7 @@ pub fn play_once<C: Clock>(
     }
 }
 
-/// The same of oral messages.
+/// Measures how long a campaign of oral messages takes from its scenario to its chronicle, in nanoseconds.
 fn play_oral<C: Clock>(alloc: Global, clock: &C, scenario: Scenario) -> Result<u64> {
     let schedule = freely(alloc);
     let start = Instant::now(clock)?;
@@ -42,7 +42,7 @@ fn play_oral<C: Clock>(alloc: Global, clock: &C, scenario: Scenario) -> Result<u
     }
 }
 
-/// The same of signed messages.
+/// Measures how long a campaign of signed messages takes from its scenario to its chronicle, in nanoseconds.
 fn sign_once<C: Clock>(alloc: Global, clock: &C, scenario: Scenario) -> Result<u64> {
     let schedule = freely(alloc);
     let start = Instant::now(clock)?;
@@ -54,12 +54,12 @@ fn sign_once<C: Clock>(alloc: Global, clock: &C, scenario: Scenario) -> Result<u
     }
 }
 
-/// The text of the chronicle of a scenario's text.
+/// Plays the scenario in a text, and returns the text of its chronicle.
 fn chronicle_of(alloc: Global, messages: MessageKind, text: &str) -> Result<Vec<u8>> {
     told_freely(alloc, messages, scenario_of(alloc, messages, text)?)
 }
 
-/// How long a campaign takes from its scenario's text to its chronicle's, in nanoseconds.
+/// Measures how long a campaign takes from the text of its scenario to the text of its chronicle, in nanoseconds.
 pub fn tell_once<C: Clock>(
     alloc: Global,
     clock: &C,
@@ -75,7 +75,7 @@ pub fn tell_once<C: Clock>(
     }
 }
 
-/// How long an audit takes, from a scenario and its chronicle's text to the verdict, in nanoseconds.
+/// Measures how long an audit takes, from a scenario and the text of its chronicle to the verdict, in nanoseconds.
 pub fn audit_once<C: Clock>(
     alloc: Global,
     clock: &C,
@@ -92,7 +92,7 @@ pub fn audit_once<C: Clock>(
     }
 }
 
-/// What all do before a round is closed, each event so many times.
+/// The events before a round is closed, each with the number of times it happens.
 const TURNS: &[(Event, u32)] = &[
     (Event::Post(1), 1),
     (Event::Post(2), 1),
@@ -109,7 +109,7 @@ const TURNS: &[(Event, u32)] = &[
     (Event::Tick(12), 80),
 ];
 
-/// All generals act to their end in the open round.
+/// Lets all generals act to their end in the open round.
 fn act(world: &mut SignedWorld) -> Result<(), EventError> {
     for (event, times) in TURNS {
         for _ in 0..*times {
@@ -119,14 +119,14 @@ fn act(world: &mut SignedWorld) -> Result<(), EventError> {
     Ok(())
 }
 
-/// The time of a close, in nanoseconds.
+/// Closes the round and measures how long this takes, in nanoseconds.
 fn close<C: Clock>(clock: &C, world: &mut SignedWorld) -> Result<u64> {
     let start = Instant::now(clock)?;
     world.apply(Event::Close)?;
     nanoseconds(clock, start)
 }
 
-/// The time of the dearest close of so many rounds and one, in nanoseconds.
+/// Plays the `bound + 1` rounds of a campaign, and returns the longest time of a close, in nanoseconds.
 fn dearest<C: Clock>(clock: &C, world: &mut SignedWorld, bound: u8) -> Result<u64> {
     let mut dearest = 0;
     for _ in 0..=bound {
@@ -136,13 +136,13 @@ fn dearest<C: Clock>(clock: &C, world: &mut SignedWorld, bound: u8) -> Result<u6
     Ok(dearest)
 }
 
-/// The time of the dearest close of a campaign of signed messages, in nanoseconds.
+/// Plays a campaign of signed messages, and returns the longest time of a close, in nanoseconds.
 pub fn close_once<C: Clock>(alloc: Global, clock: &C, scenario: &Scenario) -> Result<u64> {
     let mut world = SignedWorld::open(alloc, scenario.copy(alloc)?)?;
     dearest(clock, &mut world, scenario.bound())
 }
 
-/// What is printed of a campaign.
+/// The descriptions that are printed for a campaign.
 #[derive(Clone, Copy)]
 struct Names {
     play: &'static str,
@@ -150,28 +150,28 @@ struct Names {
     audit: &'static str,
 }
 
-/// Of seven generals, of whom two collude.
+/// Descriptions of the campaign of seven generals, of whom two collude.
 const TWO_OF_SEVEN: Names = Names {
     play: "play, two colluding traitors of seven",
     tell: "from text to text, two colluding traitors of seven",
     audit: "audit, two colluding traitors of seven",
 };
 
-/// Of thirteen, of whom four have long programs.
+/// Descriptions of the campaign of thirteen generals, of whom four have long programs.
 const FOUR_LONG: Names = Names {
     play: "play, four long traitors of thirteen",
     tell: "from text to text, four long traitors of thirteen",
     audit: "audit, four long traitors of thirteen",
 };
 
-/// Of thirteen, of whom four sign and pass on.
+/// Descriptions of the campaign of thirteen generals, of whom four sign and pass on chains.
 const SIGNED: Names = Names {
     play: "play, signed, four traitors of thirteen",
     tell: "from text to text, signed, four traitors of thirteen",
     audit: "audit, signed, four traitors of thirteen",
 };
 
-/// Measures each campaign.
+/// Measures all campaigns.
 pub fn report_campaigns<R: Print + Eprint + Clock + Threads + Wait + Sync + AllocGlobal>(
     rt: &R,
 ) -> Result<()> {

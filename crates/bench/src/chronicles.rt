@@ -1,4 +1,4 @@
-//! Campaigns of oral and of signed messages: their scenarios, their chronicles, and the texts of these.
+//! Reads, plays, writes and audits campaigns of oral or of signed messages.
 
 use anyhow::{Result, bail};
 use round::Scenario;
@@ -8,14 +8,14 @@ use std::alloc::{AllocError, Global};
 use trace::{Latch, TraceError, check, check_signed, write_chronicle, write_signed};
 use world::{Chronicle, Schedule, Verdict, play};
 
-/// Of which kind a campaign's messages are.
+/// The kind of a campaign's messages.
 #[derive(Clone, Copy)]
 pub enum MessageKind {
     Oral,
     Signed,
 }
 
-/// The scenario that a text tells.
+/// Reads the scenario in a text.
 pub fn scenario_of(alloc: Global, messages: MessageKind, text: &str) -> Result<Scenario> {
     match messages {
         MessageKind::Oral => oral_scenario(alloc, text),
@@ -37,14 +37,14 @@ fn signed_scenario(alloc: Global, text: &str) -> Result<Scenario> {
     }
 }
 
-/// A schedule of no entries: the generals act one after another.
+/// Returns a schedule without entries, by which the generals act one after another.
 pub fn freely(alloc: Global) -> Schedule {
     Schedule {
         lines: Vec::new(alloc),
     }
 }
 
-/// The chronicle of a scenario of oral messages by a schedule.
+/// Plays a scenario of oral messages by a schedule, and returns its chronicle.
 pub fn played(
     alloc: Global,
     scenario: &Scenario,
@@ -53,7 +53,7 @@ pub fn played(
     play(alloc, scenario.copy(alloc)?, schedule)
 }
 
-/// The text of a chronicle.
+/// Returns the text of a chronicle.
 pub fn text(alloc: Global, chronicle: &Chronicle) -> Result<Vec<u8>> {
     let mut sink = Latch::new(Vec::new(alloc));
     match write_chronicle(chronicle, &mut sink) {
@@ -62,7 +62,7 @@ pub fn text(alloc: Global, chronicle: &Chronicle) -> Result<Vec<u8>> {
     }
 }
 
-/// The text of a chronicle of signed messages.
+/// Returns the text of a chronicle of signed messages.
 pub fn signed_text(alloc: Global, chronicle: &SignedChronicle) -> Result<Vec<u8>> {
     let mut sink = Latch::new(Vec::new(alloc));
     match write_signed(chronicle, &mut sink) {
@@ -71,7 +71,7 @@ pub fn signed_text(alloc: Global, chronicle: &SignedChronicle) -> Result<Vec<u8>
     }
 }
 
-/// The text of a scenario's chronicle by a schedule.
+/// Plays a scenario by a schedule, and returns the text of its chronicle.
 pub fn told(
     alloc: Global,
     messages: MessageKind,
@@ -84,12 +84,17 @@ pub fn told(
     }
 }
 
-/// The text of a scenario's chronicle, in which the generals act one after another.
+/// Plays a scenario whose generals act one after another, and returns the text of its chronicle.
 pub fn told_freely(alloc: Global, messages: MessageKind, scenario: Scenario) -> Result<Vec<u8>> {
     told(alloc, messages, scenario, &freely(alloc))
 }
 
-/// The audit of a text.
+/// Audits a text as the chronicle of a scenario, and returns the verdict.
+///
+/// # Errors
+///
+///
+/// Fails with the text's first fault, or with `Memory` if memory runs out.
 pub fn audited(
     alloc: Global,
     messages: MessageKind,

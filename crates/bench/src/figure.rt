@@ -1,14 +1,15 @@
+//! The figure that is printed for a piece of work.
 use crate::bytecode::UNITS;
 use std::fmt;
 
 /// How long a piece of work took.
 #[derive(Clone, Copy)]
 pub struct Figure {
-    /// How many units or steps it had.
+    /// The number of units, activations or steps.
     pub count: u64,
-    /// Its median time in nanoseconds.
+    /// The median time of the work in nanoseconds.
     pub time: u64,
-    /// The median time of the plain loop over 4,096 units.
+    /// The median time of the plain loop over 4,096 units in nanoseconds.
     pub plain: u64,
 }
 
@@ -28,7 +29,7 @@ impl fmt::Display for Figure {
     }
 }
 
-/// A quotient in hundredths, cut off.
+/// A quotient in hundredths, rounded down.
 #[derive(Clone, Copy)]
 struct Hundredths(u64);
 
@@ -46,7 +47,7 @@ impl fmt::Display for Hundredths {
     }
 }
 
-/// The quotient, cut off; a divisor 0 counts as 1.
+/// Returns the quotient, rounded down. A divisor of 0 counts as 1.
 fn quotient(dividend: u64, divisor: u64) -> u64 {
     dividend / divisor.max(1)
 }

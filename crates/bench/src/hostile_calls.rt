@@ -1,8 +1,8 @@
-//! Makes the calls of the laboratory's layers that take memory, and gives them damaged input.
+//! Makes the calls of the laboratory's layers that allocate memory, and gives them damaged input.
 //!
-//! A call on what belongs to one campaign: `ready` is printed, the call made, and `back` printed. What is asked of
-//! memory between the two lines is asked by the call alone, so that something outside can refuse it there. Then the
-//! same call is made again, and what both answered is compared.
+//! Before a call on the data of a campaign, the line `ready` is printed, and after it the line `back`. All memory that
+//! is allocated between the two lines is allocated by the call, so that another program can refuse it there. Then the
+//! same call is made again, and the two results are compared.
 
 mod audit_calls;
 mod board_calls;
@@ -29,8 +29,8 @@ use std::rt::Files;
 use std::sync::Wait;
 use std::thread::Threads;
 
-/// Makes the call on the campaign of two names; where there are not two words, makes every call so, and then gives the
-/// layers damaged chronicles and schedules, and writers that fail, and damages the programs of these files.
+/// Makes one call on one campaign if `words` are their two names. Otherwise it makes every call on every campaign,
+/// damages the programs in the files that `words` names, and gives the layers the rest of the hostile input.
 pub fn answer<R: Print + Files + Threads + Wait + Sync + AllocGlobal>(
     rt: &R,
     words: &[String],
@@ -45,7 +45,7 @@ pub fn answer<R: Print + Files + Threads + Wait + Sync + AllocGlobal>(
     }
 }
 
-/// Gives the layers programs and schedules by chance, damaged chronicles, and writers that fail.
+/// Gives the layers random programs and schedules, damaged chronicles, and writers that fail.
 fn damaged<R: Print + AllocGlobal>(rt: &R) -> Result<()> {
     bytecode::report(rt)?;
     audit_calls::report(rt)?;
@@ -53,7 +53,7 @@ fn damaged<R: Print + AllocGlobal>(rt: &R) -> Result<()> {
     write_failures::report(rt)
 }
 
-/// Makes the call of this name on the campaign of this name.
+/// Makes the call with this name on the campaign with this name.
 fn one<R: Print + Threads + Wait + Sync + AllocGlobal>(
     rt: &R,
     name: &str,

@@ -1,9 +1,9 @@
-//! `bench`, which times the layers of the laboratory, and gives them hostile input.
+//! The program `bench`, which times the layers of the laboratory and gives them hostile input.
 //!
 //! `bench times`, or `bench` without a word, times the codec, the verifier, the machine, trees, rounds, oral and signed
-//! campaigns and audits: what it measures goes to standard output, which is the same at every run, and the times go to
-//! standard error. `bench hostile ..` is described in hostile.rt, and `bench objects ..` in objects.rt. The words
-//! `bench all PROGRAMS OBJECT NAME..` do all three: with the programs of a file, and with the functions of an object.
+//! campaigns, and audits. It prints what it measures on standard output, which is the same at every run, and the times
+//! on standard error. hostile_calls.rt describes `bench hostile ..`, and objects.rt describes `bench objects ..`.
+//! `bench all PROGRAMS OBJECT NAME..` does all three, with the programs of a file and with the functions of an object.
 #![tactic(auto)]
 
 mod bytecode;
@@ -38,7 +38,12 @@ fn main(rt: HostRuntime) -> Result<()> {
     }
 }
 
-/// Does the task of this name with these words.
+/// Runs the task with this name, with these words.
+///
+/// # Errors
+///
+///
+/// Fails if there is no such task, or if it fails.
 fn answer<R: Print + Eprint + Clock + Files + Threads + Wait + Sync + AllocGlobal>(
     rt: &R,
     task: &str,
@@ -60,7 +65,7 @@ fn answer<R: Print + Eprint + Clock + Files + Threads + Wait + Sync + AllocGloba
     }
 }
 
-/// Times everything.
+/// Times all layers.
 fn times<R: Print + Eprint + Clock + Threads + Wait + Sync + AllocGlobal>(rt: &R) -> Result<()> {
     report::report(rt)?;
     trees::report_trees(rt)?;

@@ -1,4 +1,4 @@
-//! Times campaigns whose generals act in threads, beside as many threads that do nothing.
+//! Times campaigns with a thread for each general, and for comparison as many threads that do nothing.
 
 use crate::chronicles::{MessageKind, scenario_of};
 use crate::task::{Workload, report_task};
@@ -13,7 +13,7 @@ use std::thread::Threads;
 use std::time::Instant;
 use threads::{Open, muster};
 
-/// How long a campaign takes once with each general in a thread of his own through all rounds, in nanoseconds.
+/// Measures how long a campaign takes once with a thread for each general through all rounds, in nanoseconds.
 pub fn muster_once<R: Clock + Threads + Wait + Sync + AllocGlobal>(
     rt: &R,
     scenario: &Scenario,
@@ -28,8 +28,9 @@ pub fn muster_once<R: Clock + Threads + Wait + Sync + AllocGlobal>(
     }
 }
 
-/// How long it takes once to start a thread for each general in each round, that does nothing, in nanoseconds: what it
-/// saves that a general stays in his. How many were started is added up.
+/// Measures how long it takes to start a thread that does nothing for each general in each round, in nanoseconds. A
+/// campaign avoids most of this time because each general keeps his thread. The number of started threads is added to
+/// `count`.
 pub fn start_once<R: Clock + Threads + Wait + Sync>(
     rt: &R,
     generals: u8,
@@ -43,7 +44,7 @@ pub fn start_once<R: Clock + Threads + Wait + Sync>(
     nanoseconds(rt, start)
 }
 
-/// Starts so many threads, waits for them, and answers how many there were.
+/// Starts `wanted` threads, waits for them, and returns how many were started.
 fn started_at_once<R: Threads + Wait + Sync>(rt: &R, wanted: u8) -> u64 {
     thread::scope(thread::scope_env(), rt, |scope| -> u64 {
         let mut count = 0u64;
@@ -57,8 +58,8 @@ fn started_at_once<R: Threads + Wait + Sync>(rt: &R, wanted: u8) -> u64 {
     })
 }
 
-/// Measures campaigns of thirteen generals in five rounds, of whom four take 4,096 steps, and of seven in three, of
-/// whom two meet at the board.
+/// Measures two campaigns in threads. In one, four of thirteen generals take 4,096 steps in each of five rounds. In the
+/// other, two of seven generals share the board in three rounds.
 pub fn report_musters<R: Print + Eprint + Clock + Threads + Wait + Sync + AllocGlobal>(
     rt: &R,
 ) -> Result<()> {
@@ -70,7 +71,7 @@ pub fn report_musters<R: Print + Eprint + Clock + Threads + Wait + Sync + AllocG
     report_musters_of_seven(rt)
 }
 
-/// Measures those of seven generals.
+/// Measures the campaign of seven generals in threads.
 fn report_musters_of_seven<R: Print + Eprint + Clock + Threads + Wait + Sync + AllocGlobal>(
     rt: &R,
 ) -> Result<()> {
@@ -80,7 +81,7 @@ fn report_musters_of_seven<R: Print + Eprint + Clock + Threads + Wait + Sync + A
     report_task(rt, what, &Workload::Threads(7, 3))
 }
 
-/// Measures the muster of the campaign that a text tells.
+/// Measures the campaign of a text in threads.
 fn report_muster<R: Print + Eprint + Clock + Threads + Wait + Sync + AllocGlobal>(
     rt: &R,
     text: &str,

@@ -1,7 +1,8 @@
+//! The plain loop over a program's units, with which other work is compared.
 use byteorder::{ByteOrder, LittleEndian};
 use std::alloc::{AllocError, Global};
 
-/// The units of bytecode as numbers.
+/// Reads bytecode as units of 64 bits, little endian.
 pub fn units_of(alloc: Global, bytecode: &[u8]) -> Result<Vec<u64>, AllocError> {
     let mut units = Vec::with_capacity(alloc, bytecode.len() / 8)?;
     for unit in bytecode.chunks_exact(8) {
@@ -10,8 +11,8 @@ pub fn units_of(alloc: Global, bytecode: &[u8]) -> Result<Vec<u64>, AllocError> 
     Ok(units)
 }
 
-/// The plain measure: one loop over the units, which mixes each into a sum. Each round waits for
-/// the one before, so that it is not done several units at a time.
+/// Computes the plain measure: a loop that mixes each unit into a sum. Each step needs the result of the step before,
+/// so that the processor cannot do several at a time.
 pub fn mixed(units: &[u64], first: u64) -> u64 {
     units.iter().fold(
         first,

@@ -1,3 +1,4 @@
+//! Measures the programs of all shapes, and prints the figures.
 use crate::bytecode::UNITS;
 use crate::figure::Figure;
 use crate::median::median;
@@ -8,7 +9,7 @@ use anyhow::Result;
 use std::alloc::Global;
 use std::rt::Clock;
 
-/// Measures every shape. What was measured is printed on standard output, the figures on standard error.
+/// Measures the programs of all shapes. Prints descriptions on standard output, and the figures on standard error.
 pub fn report<R: Print + Eprint + Clock + AllocGlobal>(rt: &R) -> Result<()> {
     let mut sum = 0;
     for shape in SHAPES {
@@ -18,7 +19,7 @@ pub fn report<R: Print + Eprint + Clock + AllocGlobal>(rt: &R) -> Result<()> {
     Ok(())
 }
 
-/// What is timed of a shape besides the plain loop.
+/// Returns the kinds of work that are timed for a shape.
 fn works(shape: &MeasuredProgram) -> &'static [TimedWork] {
     if shape.is_started {
         &[
@@ -38,7 +39,8 @@ fn works(shape: &MeasuredProgram) -> &'static [TimedWork] {
     }
 }
 
-/// The median time of the work, in nanoseconds. What it gives is mixed into `sum`, so that it is done.
+/// Returns the median time of the work, in nanoseconds. The results are mixed into `sum`, so that the compiler cannot
+/// leave out the work.
 fn time_of<C: Clock>(
     alloc: Global,
     clock: &C,
@@ -67,7 +69,8 @@ fn report_shape<R: Print + Eprint + Clock + AllocGlobal>(
     Ok(())
 }
 
-/// How long a piece of work of this median time took, where the plain loop took this.
+/// Returns the figure of work with the median time `time`, if the plain loop took the time `plain`, both in
+/// nanoseconds.
 fn figure(work: TimedWork, time: u64, plain: u64) -> Figure {
     Figure {
         count: count(work),
@@ -76,7 +79,7 @@ fn figure(work: TimedWork, time: u64, plain: u64) -> Figure {
     }
 }
 
-/// Prints what was measured on standard output, the figures on standard error.
+/// Prints a description of the work on standard output, and its figure on standard error.
 fn report_figure<R: Print + Eprint>(
     rt: &R,
     shape: &str,
@@ -89,7 +92,7 @@ fn report_figure<R: Print + Eprint>(
     Ok(())
 }
 
-/// How many things are done at once.
+/// Returns the number of units, activations or steps that are timed together.
 fn count(work: TimedWork) -> u64 {
     let units = UNITS as u64;
     let activations = ACTIVATIONS as u64;
@@ -100,7 +103,7 @@ fn count(work: TimedWork) -> u64 {
     }
 }
 
-/// What these are.
+/// Returns the name of what `count` counts.
 fn things(work: TimedWork) -> &'static str {
     match work {
         TimedWork::Plain | TimedWork::Decode | TimedWork::Verify => "units",

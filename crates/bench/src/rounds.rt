@@ -1,4 +1,4 @@
-//! Times the contexts of a round, and the delivery of its letters.
+//! Times the context of a general in a round, and the delivery of a round's letters.
 ghost use Rattle.std.specs.Prelude.{◌≡◌, ◌≤◌, suc, List, IfOk, length};
 ghost use Rattle.round.specs.Letters.{Letter as LetterSeen};
 ghost use Rattle.round.specs.Origin.{AreLettersOf, AreRoundsOf};
@@ -14,17 +14,16 @@ use std::rt::Clock;
 use std::time::Instant;
 use world::Chronicle;
 
-/// Thirteen loyal generals, of whom each lieutenant relays 990 labels in the last round.
+/// Thirteen loyal generals. In the last round, each lieutenant relays 990 labels.
 const THIRTEEN: &str = "generals = 13\nbound = 4\ncommander = 0\norder = 1\n";
 
-/// Their chronicle.
+/// Plays the campaign `THIRTEEN` and returns its chronicle.
 fn thirteen(alloc: Global) -> Result<Chronicle> {
     let scenario = scenario_of(alloc, MessageKind::Oral, THIRTEEN)?;
     Ok(played(alloc, &scenario, &freely(alloc))?)
 }
 
-/// Measures the last round of thirteen generals. What was measured is printed on standard output, the figures on
-/// standard error.
+/// Measures the last round of thirteen generals. Prints descriptions on standard output, and times on standard error.
 pub fn report_rounds<R: Print + Eprint + Clock + AllocGlobal>(rt: &R) -> Result<()> {
     let alloc = rt.alloc();
     let chronicle = thirteen(alloc)?;
@@ -40,7 +39,7 @@ pub fn report_rounds<R: Print + Eprint + Clock + AllocGlobal>(rt: &R) -> Result<
     report_delivery(rt, scenario, &mut told, last.letters())
 }
 
-/// What the letters of these rounds have told.
+/// Delivers the letters of these rounds, and returns what the lieutenants received.
 fn told_by(alloc: Global, scenario: &Scenario, rounds: &[Round]) -> Result<Received, AllocError>
     requires few { length rounds.now ≤ scenario.now.bound }
     requires letters { AreRoundsOf scenario.now rounds.now }
@@ -66,7 +65,7 @@ fn report_context<R: Print + Eprint + Clock + AllocGlobal>(
     report_time(rt, what, time)
 }
 
-/// The median time of a general's context, in nanoseconds.
+/// Returns the median time of computing a general's context, in nanoseconds.
 fn context_time<C: Clock>(
     alloc: Global,
     clock: &C,
@@ -83,7 +82,7 @@ fn context_time<C: Clock>(
     Ok(median(&mut times).unwrap_or(0))
 }
 
-/// The time of the context of the last general, in nanoseconds.
+/// Measures how long it takes to compute the last general's context, in nanoseconds.
 fn context_once<C: Clock>(
     alloc: Global,
     clock: &C,
@@ -116,7 +115,7 @@ fn report_delivery<R: Print + Eprint + Clock + AllocGlobal>(
     )
 }
 
-/// The median time of the delivery of a round's letters to all lieutenants, in nanoseconds.
+/// Returns the median time of delivering a round's letters to all lieutenants, in nanoseconds.
 fn delivery_time<C: Clock>(
     alloc: Global,
     clock: &C,
@@ -138,7 +137,7 @@ fn delivery_time<C: Clock>(
     Ok(median(&mut times).unwrap_or(0))
 }
 
-/// The time of one delivery, which is then taken back.
+/// Measures how long one delivery takes, in nanoseconds, and then undoes it.
 fn deliver_once<C: Clock>(
     clock: &C,
     scenario: &Scenario,

@@ -1,21 +1,21 @@
-//! What the measured programs do.
+//! The shapes of the measured programs: which instructions they consist of.
 
-/// What a program of 4,096 units does throughout: its first lines, and then others in turn, each at the units that its
-/// place stands for.
+/// The shape of a program of 4,096 units: its first lines, and lines that repeat in turn after them. The line at a unit
+/// is the one at index `unit % in_turn.len()`.
 #[derive(Clone, Copy)]
 pub struct MeasuredProgram {
-    /// What is printed of it.
+    /// The name of the shape that is printed.
     pub name: &'static str,
-    /// Whether starts of activations are measured by it, too.
+    /// Whether starts of activations are measured with this shape, too.
     pub is_started: bool,
     first: &'static [&'static str],
     in_turn: &'static [&'static str],
-    /// The line of each unit from 2 to 2,094, where it is another.
+    /// The line after the first lines up to unit 2,094, if it differs from `in_turn`.
     far: Option<&'static str>,
 }
 
 impl MeasuredProgram {
-    /// The assembly of the instruction at the unit.
+    /// Returns the assembly of the instruction at this unit.
     pub fn line(&self, unit: usize) -> &'static str {
         match self.first.get(unit) {
             Some(line) => *line,
@@ -23,7 +23,7 @@ impl MeasuredProgram {
         }
     }
 
-    /// The same behind the first lines.
+    /// Returns the assembly of the instruction at a unit after the first lines.
     fn later(&self, unit: usize) -> &'static str {
         match self.far {
             Some(line) if unit <= 2094 => line,
@@ -32,7 +32,7 @@ impl MeasuredProgram {
     }
 }
 
-/// The line at the unit, of lines in turn.
+/// Returns the line at this unit, if these lines repeat in turn.
 fn of_turn(lines: &[&'static str], unit: usize) -> &'static str {
     match lines.get(unit % lines.len().max(1)) {
         Some(line) => *line,
@@ -154,5 +154,5 @@ const STORES: &[&str] = &[
     "stxd [r10-264], r0",
 ];
 
-/// A load from the context, and a move: before conditional jumps, which are not taken.
+/// The lines before conditional jumps that are not taken: a load from the context, and a move.
 const JUMPS: &[&str] = &["ldd r2, [r1+32]", "mov r0, 0"];

@@ -1,4 +1,4 @@
-//! Pieces of work on labels, trees and campaigns, and how long each takes.
+//! The workloads on labels, trees, campaigns and threads, and how long each takes.
 
 use crate::chronicles::MessageKind;
 use crate::median::median;
@@ -13,33 +13,34 @@ use std::sync::Wait;
 use std::thread::Threads;
 use tree::Tree;
 
-/// A piece of work.
+/// A workload that is timed.
 #[derive(Clone, Copy)]
 pub enum Workload<'a> {
-    /// All labels are ranked.
+    /// Rank all labels.
     Ranks(&'a [Label]),
-    /// One tree is resolved, each time the next one.
+    /// Resolve one tree, each time the next one.
     Tree(&'a [Tree], Rule),
-    /// All trees are resolved, one after another.
+    /// Resolve all trees, one after another.
     Turns(&'a [Tree]),
-    /// All trees are resolved at once.
+    /// Resolve all trees in parallel.
     Halves(&'a [Tree]),
-    /// From a scenario to its chronicle.
+    /// Play a campaign from its scenario to its chronicle.
     Play(MessageKind, &'a Scenario),
-    /// From a scenario's text to its chronicle's.
+    /// Play a campaign from the text of its scenario to the text of its chronicle.
     Tell(MessageKind, &'a str),
-    /// From a scenario and its chronicle's text to the verdict.
+    /// Audit the text of a scenario's chronicle.
     Audit(MessageKind, &'a Scenario, &'a str),
-    /// The dearest close of a campaign of signed messages.
+    /// Play a campaign of signed messages, and take the time of its most expensive close only.
     Close(&'a Scenario),
-    /// From a scenario to its chronicle, each general in a thread of his own through all rounds.
+    /// Play a campaign from its scenario to its chronicle, with a thread for each general through all rounds.
     Muster(&'a Scenario),
-    /// For so many generals in each of so many rounds a thread that does nothing.
+    /// Start threads that do nothing, one for each general in each round. The fields are the numbers of generals and of
+    /// rounds.
     Threads(u8, u8),
 }
 
-/// How long the task takes once, the one of this number, in nanoseconds. What it gives is mixed into `sum`, so that it
-/// is done.
+/// Measures how long the workload takes once, in nanoseconds. `nth` is the number of the attempt, and chooses a tree.
+/// The results are added to `sum`, so that the compiler cannot leave out the work.
 fn time_once<R: Clock + Threads + Wait + Sync + AllocGlobal>(
     rt: &R,
     task: &Workload<'_>,
@@ -63,7 +64,7 @@ fn time_once<R: Clock + Threads + Wait + Sync + AllocGlobal>(
     }
 }
 
-/// The median time of the task, in nanoseconds.
+/// Returns the median time of the workload, in nanoseconds.
 fn median_time<R: Clock + Threads + Wait + Sync + AllocGlobal>(
     rt: &R,
     task: &Workload<'_>,
@@ -76,7 +77,7 @@ fn median_time<R: Clock + Threads + Wait + Sync + AllocGlobal>(
     Ok(median(&mut times).unwrap_or(0))
 }
 
-/// Measures the task. What it is goes to standard output, its median time to standard error.
+/// Measures the workload. Prints its description on standard output, and its median time on standard error.
 pub fn report_task<R: Print + Eprint + Clock + Threads + Wait + Sync + AllocGlobal>(
     rt: &R,
     what: &str,

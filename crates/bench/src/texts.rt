@@ -3,16 +3,16 @@
 use std::alloc::{AllocError, Global};
 use world_tests::{campaign, counting};
 
-/// How many instructions a long program has before its exit.
+/// The number of instructions in a long program before its exit.
 const MOVES: usize = 4095;
 
-/// Seven generals, bound 2, of whom 0, the commander, and 4 share the board.
+/// Seven generals with bound 2. The commander 0 and general 4 are traitors who share the board.
 pub const COLLUDING: &str = counting!(
     campaign "exit\n", "generals = 7\nbound = 2\ncommander = 0\norder = 0\n", [0, 4]
 );
 
-/// A program that signs eight orders, where it is the commander's, and then passes on the last eight chains held, each
-/// to all.
+/// A program that signs eight orders, which only the commander can do, and then passes on the last eight chains that it
+/// holds. Each goes to all generals.
 const SIGNING: &str = "ldw r6, [r1+20]
 mov r1, 0
 mov r2, 8191
@@ -81,19 +81,21 @@ call pass_on
 exit
 ";
 
-/// Thirteen generals, bound 4, of whom 9 to 12 take 4,096 steps in each round.
+/// Returns the text of a campaign of thirteen generals with bound 4. Generals 9 to 12 are traitors who take 4,096 steps
+/// in each round.
 pub fn idle(alloc: Global) -> Result<String, AllocError> {
     let keys = "generals = 13\nbound = 4\ncommander = 0\norder = 1\n";
     with_program(alloc, keys, &["9", "10", "11", "12"], long(alloc)?.as_str())
 }
 
-/// Thirteen generals, bound 4, of whom 0, the commander, and 10 to 12 sign and pass on whatever they can.
+/// Returns the text of a campaign of thirteen generals with bound 4. The commander 0 and generals 10 to 12 are traitors
+/// who sign and pass on what they can.
 pub fn signing(alloc: Global) -> Result<String, AllocError> {
     let keys = "generals = 13\nbound = 4\ncommander = 0\norder = 1\nmessages = \"signed\"\n";
     with_program(alloc, keys, &["0", "10", "11", "12"], SIGNING)
 }
 
-/// A program of 4,096 instructions.
+/// Returns a program of 4,096 instructions.
 fn long(alloc: Global) -> Result<String, AllocError> {
     let mut program = String::new(alloc);
     for _ in 0..MOVES {
@@ -103,7 +105,7 @@ fn long(alloc: Global) -> Result<String, AllocError> {
     Ok(program)
 }
 
-/// The text of a campaign with these keys, in which these generals have this program.
+/// Returns the text of a campaign with these keys, in which these generals are traitors with this program.
 fn with_program(
     alloc: Global,
     keys: &str,
@@ -117,7 +119,7 @@ fn with_program(
     Ok(text)
 }
 
-/// Adds a general who has this program.
+/// Appends the table of a traitor with this program.
 fn push_traitor(text: &mut String, general: &str, program: &str) -> Result<(), AllocError> {
     text.push_str("[[traitor]]\ngeneral = ")?;
     text.push_str(general)?;

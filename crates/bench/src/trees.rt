@@ -1,4 +1,4 @@
-//! Times ranks of labels, and the resolution of one tree and of twelve.
+//! Times the ranks of labels, and the resolution of one tree and of twelve.
 
 use crate::task::{Workload, report_task};
 use crate::timing::nanoseconds;
@@ -13,14 +13,14 @@ use std::thread::Threads;
 use std::time::Instant;
 use tree::Tree;
 
-/// The labels that are ranked: of five generals, of thirteen, seen by the last of them.
+/// The space of the labels that are ranked: thirteen generals with commander 0, as the last of them sees them.
 const SPACE: Space = Space {
     generals: 13,
     commander: 0,
     general: 12,
 };
 
-/// All labels of five generals.
+/// Returns all labels of five generals.
 fn labels(alloc: Global) -> Result<Vec<Label>, AllocError> {
     let mut labels = Vec::new(alloc);
     for place in 0..7920 {
@@ -31,7 +31,7 @@ fn labels(alloc: Global) -> Result<Vec<Label>, AllocError> {
     Ok(labels)
 }
 
-/// The trees of twelve lieutenants, each value one of two orders, by chance.
+/// Returns the trees of twelve lieutenants. Each value is a pseudorandom order of 0 or 1.
 fn trees(alloc: Global) -> Result<Vec<Tree>, AllocError> {
     let mut trees = Vec::new(alloc);
     let mut state = 1;
@@ -41,7 +41,7 @@ fn trees(alloc: Global) -> Result<Vec<Tree>, AllocError> {
     Ok(trees)
 }
 
-/// The tree with a value for each label, by a linear congruential generator.
+/// Fills the tree with a value for each label, by a linear congruential generator.
 fn filled(mut tree: Tree, state: &mut u64) -> Tree {
     let space = tree.space();
     for size in 1..6 {
@@ -57,7 +57,7 @@ fn filled(mut tree: Tree, state: &mut u64) -> Tree {
     tree
 }
 
-/// How long it takes to rank all labels, in nanoseconds. The ranks are added up.
+/// Measures how long it takes to rank all labels, in nanoseconds. The ranks are added to `sum`.
 pub fn rank_all<C: Clock>(clock: &C, labels: &[Label], sum: &mut u64) -> Result<u64> {
     let start = Instant::now(clock)?;
     for label in labels {
@@ -66,7 +66,8 @@ pub fn rank_all<C: Clock>(clock: &C, labels: &[Label], sum: &mut u64) -> Result<
     nanoseconds(clock, start)
 }
 
-/// How long it takes to resolve the tree of this number, in nanoseconds. Its order is added up.
+/// Measures how long it takes to resolve the tree at index `nth % trees.len()`, in nanoseconds. The decision is added
+/// to `sum`.
 pub fn resolve_one<C: Clock>(
     clock: &C,
     trees: &[Tree],
@@ -82,7 +83,8 @@ pub fn resolve_one<C: Clock>(
     nanoseconds(clock, start)
 }
 
-/// How long it takes to resolve all trees, one after another, in nanoseconds. Their orders are added up.
+/// Measures how long it takes to resolve all trees, one after another, in nanoseconds. The decisions are added to
+/// `sum`.
 pub fn resolve_in_turn<C: Clock>(clock: &C, trees: &[Tree], sum: &mut u64) -> Result<u64> {
     let start = Instant::now(clock)?;
     for tree in trees {
@@ -91,7 +93,7 @@ pub fn resolve_in_turn<C: Clock>(clock: &C, trees: &[Tree], sum: &mut u64) -> Re
     nanoseconds(clock, start)
 }
 
-/// How long it takes to resolve all trees at once, in nanoseconds.
+/// Measures how long it takes to resolve all trees in parallel, in nanoseconds.
 pub fn resolve_at_once<R: Clock + Threads + Sync + AllocGlobal>(
     rt: &R,
     trees: &[Tree],

@@ -1,3 +1,4 @@
+//! Times work on one program: the plain loop, decoding, verification, and starts and runs of activations.
 ghost use Rattle.std.specs.Prelude.{List, ℕ, OnOk};
 ghost use Rattle.insn.specs.declared.insn.Insn.{Insn};
 ghost use Rattle.machine.specs.Advance.{IsOfRun, IsAskOfRun};
@@ -19,10 +20,10 @@ use std::rt::Clock;
 use std::time::Instant;
 use verify::{Verified, verify};
 
-/// How many activations are run at a time.
+/// The number of activations that are timed together.
 pub const ACTIVATIONS: usize = 16;
 
-/// The last of 4 generals in the second round: he relays one label, to two receivers.
+/// The last of 4 generals in the second round, who relays one label to two receivers.
 const SHAPE: Shape = Shape {
     generals: 4,
     commander: 0,
@@ -30,16 +31,16 @@ const SHAPE: Shape = Shape {
     round: 2,
 };
 
-/// What is timed.
+/// The work on a program that is timed.
 #[derive(Clone, Copy)]
 pub enum TimedWork {
-    /// The plain measure: a loop over the program's units.
+    /// Run the plain measure, which is a loop over the program's units.
     Plain,
     Decode,
     Verify,
-    /// Activations are started, and end at once.
+    /// Start activations, which end at once.
     Start,
-    /// Activations are run to their exit.
+    /// Run activations to their exit.
     Run,
 }
 
@@ -55,7 +56,7 @@ impl fmt::Display for TimedWork {
     }
 }
 
-/// What the work is done on.
+/// What the work is done on: a program as bytecode, as units and verified, and a context.
 #[derive(Drop)]
 pub struct Material {
     bytecode: Vec<u8>,
@@ -65,7 +66,7 @@ pub struct Material {
 }
 
 impl Material {
-    /// That of a program of this shape.
+    /// Creates the material for a program of this shape.
     pub fn of(alloc: Global, shape: &MeasuredProgram) -> Result<Material> {
         let bytecode = bytecode(alloc, shape)?;
         let units = units_of(alloc, bytecode.as_slice())?;
@@ -80,7 +81,7 @@ impl Material {
     }
 }
 
-/// The verified program that the bytecode spells.
+/// Decodes and verifies the bytecode.
 fn accepted(alloc: Global, bytecode: &[u8]) -> Result<Verified> {
     match verify(alloc, decode(alloc, bytecode)?) {
         Ok(verified) => Ok(verified),
@@ -88,7 +89,8 @@ fn accepted(alloc: Global, bytecode: &[u8]) -> Result<Verified> {
     }
 }
 
-/// How long the work took once, in nanoseconds. What it gave is mixed into `sum`, so that it is done.
+/// Measures how long the work takes once, in nanoseconds. The results are mixed into `sum`, so that the compiler cannot
+/// leave out the work.
 pub fn time_once<C: Clock>(
     alloc: Global,
     clock: &C,
@@ -135,7 +137,8 @@ fn time_verify<C: Clock>(alloc: Global, clock: &C, bytecode: &[u8], sum: &mut u6
     time
 }
 
-/// Starts activations and runs each until it has taken so many steps or has ended.
+/// Measures how long `ACTIVATIONS` activations take, in nanoseconds. Each runs until it has taken `limit` steps or has
+/// exited.
 fn time_activations<C: Clock>(
     alloc: Global,
     clock: &C,
@@ -154,7 +157,7 @@ fn time_activations<C: Clock>(
     Ok(time)
 }
 
-/// The same of one activation.
+/// Measures how long one activation takes, in nanoseconds. It runs until it has taken `limit` steps or has exited.
 fn time_activation<C: Clock>(
     alloc: Global,
     clock: &C,
@@ -173,8 +176,8 @@ fn time_activation<C: Clock>(
     time
 }
 
-/// Runs an activation, whose requests the board answers, until it has taken so many steps or has
-/// ended. The answer is how many steps it took.
+/// Runs an activation until it has taken `limit` steps or has exited, and returns the number of its steps. The board
+/// answers its requests.
 fn served(
     verified: &Verified,
     context: &Context,
@@ -193,7 +196,7 @@ fn served(
     bail!("more requests than units")
 }
 
-/// The board answers an activation's request.
+/// Answers an activation's request from the board.
 fn answer(activation: &mut Machine, board: &mut Board, request: &Request) -> Result<()>
     ensures of_run { OnOk result ((program : List Insn) (context : List ℕ) →
         IsAskOfRun program context request.now activation.old →

@@ -54,7 +54,7 @@ pub enum ItemKey {
     Keep,
 }
 
-/// The words of a table that stand for the keys.
+/// The keys, and the words that mean them in a table.
 const KEYS: [(&str, ItemKey); 24] = [
     ("row", ItemKey::Row),
     ("file", ItemKey::File),

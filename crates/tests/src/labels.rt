@@ -31,7 +31,7 @@ fn have_ranks() -> bool {
     has_rank(&low, 720) && has_rank(&high, 7919)
 }
 
-/// Checks that label 2.3 of five generals has rank 1, and that a label with the general who sees it is not a label.
+/// Checks that label 2.3 of five generals has rank 1, and that the labels of general 12's tree do not contain 12.
 fn are_seen() -> bool {
     matches!(rank(SMALL, &Label::of(2).with(3)), Ok(1))
         && matches!(

@@ -1,4 +1,4 @@
-//! The call that audits a chronicle, and chronicles that are cut off or changed.
+//! Calls that audit a chronicle, and audits of chronicles that are cut off or changed.
 use crate::chronicles::{MessageKind, audited, told, told_freely};
 use crate::hostile_calls::campaign::SampleCampaign;
 use crate::hostile_calls::changes::{next, with_byte};
@@ -11,7 +11,7 @@ use std::str;
 use trace::TraceError;
 use world::Verdict;
 
-/// The text of the campaign's chronicle by its schedule.
+/// Plays the campaign by its schedule, and returns the text of its chronicle.
 fn scheduled(alloc: Global, messages: MessageKind, campaign: SampleCampaign) -> Result<Vec<u8>> {
     let schedule = campaign.schedule(alloc)?;
     told(
@@ -22,7 +22,7 @@ fn scheduled(alloc: Global, messages: MessageKind, campaign: SampleCampaign) -> 
     )
 }
 
-/// `check` of the chronicle by the campaign's schedule, or `check_signed`.
+/// Calls `check` or `check_signed` on the campaign's chronicle.
 pub fn checks<R: Print + AllocGlobal>(
     rt: &R,
     messages: MessageKind,
@@ -33,7 +33,7 @@ pub fn checks<R: Print + AllocGlobal>(
     checks_text(rt, messages, &scenario, str::from_utf8(text.as_slice())?)
 }
 
-/// The same of this text.
+/// Calls `check` or `check_signed` on this text.
 fn checks_text<R: Print + AllocGlobal>(
     rt: &R,
     messages: MessageKind,
@@ -48,7 +48,7 @@ fn checks_text<R: Print + AllocGlobal>(
     compared(first, judged(rt.alloc(), again)?)
 }
 
-/// What an audit tells: its verdict.
+/// Returns the answer of an audit: the verdict, or that memory ran out.
 fn judged(alloc: Global, answer: Result<Verdict, TraceError>) -> Result<CallAnswer> {
     match answer {
         Ok(verdict) => Ok(CallAnswer::Bytes(verdict_bytes(alloc, verdict)?)),
@@ -57,7 +57,7 @@ fn judged(alloc: Global, answer: Result<Verdict, TraceError>) -> Result<CallAnsw
     }
 }
 
-/// A verdict in three bytes.
+/// Encodes a verdict in three bytes.
 fn verdict_bytes(alloc: Global, verdict: Verdict) -> Result<Vec<u8>, AllocError> {
     let obeyed = match verdict.obeyed {
         Some(true) => b'y',
@@ -68,17 +68,18 @@ fn verdict_bytes(alloc: Global, verdict: Verdict) -> Result<Vec<u8>, AllocError>
     Vec::from_slice(alloc, &bytes)
 }
 
-/// How often each byte of the chronicle is changed.
+/// The number of times each byte of the chronicle is changed.
 const TIMES: u32 = 9;
 
-/// Audits each proper beginning of the chronicle of seven generals, and the chronicle with one byte changed; then those
-/// of the same generals with signed messages.
+/// Audits each proper beginning of the chronicle of seven generals, and the chronicle with one byte changed. It does so
+/// with oral and with signed messages.
 pub fn report<R: Print + AllocGlobal>(rt: &R) -> Result<()> {
     damage(rt, MessageKind::Oral)?;
     damage(rt, MessageKind::Signed)
 }
 
-/// The same of those of one kind of messages.
+/// Audits each proper beginning of the chronicle of seven generals with this kind of messages, and the chronicle with
+/// one byte changed.
 fn damage<R: Print + AllocGlobal>(rt: &R, messages: MessageKind) -> Result<()> {
     let scenario = SampleCampaign::Seven.scenario(rt.alloc(), messages)?;
     let chronicle = told_freely(rt.alloc(), messages, scenario.copy(rt.alloc())?)?;
@@ -86,7 +87,7 @@ fn damage<R: Print + AllocGlobal>(rt: &R, messages: MessageKind) -> Result<()> {
     change(rt, messages, &scenario, chronicle.as_slice())
 }
 
-/// Audits each proper beginning.
+/// Audits each proper beginning of a chronicle. It fails unless all are rejected.
 fn cut_off<R: Print + AllocGlobal>(
     rt: &R,
     messages: MessageKind,
@@ -101,7 +102,7 @@ fn cut_off<R: Print + AllocGlobal>(
     Ok(())
 }
 
-/// Audits the chronicle with one byte changed.
+/// Audits a chronicle with one byte changed. It fails unless all changes are rejected.
 fn change<R: Print + AllocGlobal>(
     rt: &R,
     messages: MessageKind,
@@ -115,7 +116,7 @@ fn change<R: Print + AllocGlobal>(
     Ok(())
 }
 
-/// Whether each proper beginning is refused.
+/// Checks whether each proper beginning of a chronicle is rejected.
 fn are_beginnings_refused(
     alloc: Global,
     messages: MessageKind,
@@ -130,7 +131,7 @@ fn are_beginnings_refused(
     Ok(true)
 }
 
-/// Whether the chronicle is refused with another byte at any place, as often as it is changed.
+/// Checks whether a chronicle with one byte changed is rejected, for `TIMES` changes at each place.
 fn are_changes_refused(
     alloc: Global,
     messages: MessageKind,
@@ -149,7 +150,7 @@ fn are_changes_refused(
     Ok(true)
 }
 
-/// Whether the chronicle is refused with this byte at a place.
+/// Checks whether a chronicle with this byte at this place is rejected.
 fn is_refused_with(
     alloc: Global,
     messages: MessageKind,
@@ -162,14 +163,19 @@ fn is_refused_with(
     is_refused(alloc, messages, scenario, changed.as_slice())
 }
 
-/// By how much a byte is changed: not by 0.
+/// Returns a pseudorandom number to add to a byte, which is not 0.
 fn difference(state: &mut u64) -> u8 {
     let [.., more] = next(state).to_be_bytes();
     if more == 0 { 1 } else { more }
 }
 
-/// Whether the bytes are refused as a chronicle of the campaign: as no text, or by a line. That memory was refused is
-/// an error.
+/// Checks whether the bytes are rejected as a chronicle of the campaign, because they are not UTF-8 or because of a
+/// line.
+///
+/// # Errors
+///
+///
+/// Fails with `AllocError` if the audit fails for another reason.
 fn is_refused(
     alloc: Global,
     messages: MessageKind,

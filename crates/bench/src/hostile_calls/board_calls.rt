@@ -1,4 +1,4 @@
-//! The board's calls.
+//! Calls that make accesses to the board.
 use crate::hostile_calls::marks::{back, ready};
 use crate::hostile_calls::outcome::{CallOutcome, led};
 use anyhow::{Result, bail};
@@ -6,12 +6,12 @@ use board::{Access, Board};
 use semantics::{Reply, Request, Slot, Span};
 use std::alloc::{AllocError, Global};
 
-/// Whose accesses they are, and in which round.
+/// The general who makes the accesses.
 const GENERAL: u32 = 3;
 
 const ROUND: u32 = 1;
 
-/// Six requests, two of them copies.
+/// Returns six requests, two of which are copies.
 fn requests() -> Option<[Request; 6]> {
     let (Some(slot), Some(last)) = (Slot::new(0), Slot::new(63)) else {
         return None;
@@ -36,8 +36,8 @@ fn requests() -> Option<[Request; 6]> {
     ])
 }
 
-/// `Board::apply` of six requests. Where memory is refused, the words and the ledger are as before, and the request is
-/// made again.
+/// Calls `Board::apply` for six requests. If memory runs out, the words and the ledger must be unchanged, and the
+/// request is made again.
 pub fn applies<R: Print + AllocGlobal>(rt: &R) -> Result<CallOutcome> {
     let Some(requests) = requests() else {
         bail!("the requests");
@@ -49,7 +49,7 @@ pub fn applies<R: Print + AllocGlobal>(rt: &R) -> Result<CallOutcome> {
     ended(rt.alloc(), served?, &board, requests.as_slice())
 }
 
-/// What comes of a board that has served these requests.
+/// Compares the ledger with that of a board with enough memory, and returns the outcome of the calls.
 fn ended(
     alloc: Global,
     is_refused: bool,
@@ -61,7 +61,7 @@ fn ended(
     led(is_refused, first.as_slice(), ample.as_slice())
 }
 
-/// The replies with ample memory.
+/// Returns the replies to the requests from a board with enough memory.
 fn ample(alloc: Global, requests: &[Request]) -> Result<Vec<u8>> {
     let mut board = Board::new(alloc, [0; 64]);
     if serve(&mut board, requests)? {
@@ -70,7 +70,7 @@ fn ample(alloc: Global, requests: &[Request]) -> Result<Vec<u8>> {
     Ok(ledger_bytes(alloc, board.ledger())?)
 }
 
-/// Serves the requests. The answer is whether memory was refused to any of them.
+/// Makes the requests, and returns whether memory ran out at any of them.
 fn serve(board: &mut Board, requests: &[Request]) -> Result<bool> {
     let mut is_refused = false;
     for request in requests {
@@ -81,8 +81,8 @@ fn serve(board: &mut Board, requests: &[Request]) -> Result<bool> {
     Ok(is_refused)
 }
 
-/// Serves the request. The answer is whether memory was refused first: then words and ledger were as before, and it was
-/// made again.
+/// Makes the request, and returns whether memory ran out at the first attempt. In this case it checks that the words
+/// and the ledger are unchanged, and makes the request again.
 fn is_served_again(board: &mut Board, request: &Request) -> Result<bool> {
     let words = *board.words();
     let entries = board.ledger().len();
@@ -98,7 +98,7 @@ fn is_served_again(board: &mut Board, request: &Request) -> Result<bool> {
     Ok(true)
 }
 
-/// The replies of a ledger, word by word.
+/// Returns the replies in a ledger, word by word.
 fn ledger_bytes(alloc: Global, ledger: &[Access]) -> Result<Vec<u8>, AllocError> {
     let mut bytes = Vec::new(alloc);
     for access in ledger {
@@ -107,7 +107,7 @@ fn ledger_bytes(alloc: Global, ledger: &[Access]) -> Result<Vec<u8>, AllocError>
     Ok(bytes)
 }
 
-/// Adds the words of a reply.
+/// Appends the words of a reply.
 fn push_reply(bytes: &mut Vec<u8>, reply: &Reply) -> Result<(), AllocError> {
     match reply {
         Reply::Word(word) => bytes.extend_from_slice(&word.to_le_bytes()),
@@ -115,7 +115,7 @@ fn push_reply(bytes: &mut Vec<u8>, reply: &Reply) -> Result<(), AllocError> {
     }
 }
 
-/// Adds words.
+/// Appends words as bytes, little endian.
 fn push_words(bytes: &mut Vec<u8>, words: &[u64]) -> Result<(), AllocError> {
     for word in words {
         bytes.extend_from_slice(&word.to_le_bytes())?;

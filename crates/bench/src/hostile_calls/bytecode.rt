@@ -1,4 +1,4 @@
-//! Bytes that are to be programs, and what is owed to any of them.
+//! Random bytes as programs, and the checks that hold for any bytes.
 use crate::hostile_calls::changes::stepped;
 use anyhow::{Result, bail};
 use codec::{CodecError, decode, encode};
@@ -7,10 +7,10 @@ use std::alloc::{AllocError, Global};
 use trial::{Setting, run_in};
 use verify::{Verified, VerifyError, verify};
 
-/// How many programs are tried.
+/// The number of random programs.
 const PROGRAMS: u64 = 10_000;
 
-/// Answers programs that chance has made.
+/// Checks random programs. It fails if one of them breaks a promise.
 pub fn report<R: Print + AllocGlobal>(rt: &R) -> Result<()> {
     if !are_answered(rt.alloc())? {
         bail!("a program is not answered as it should be");
@@ -19,7 +19,7 @@ pub fn report<R: Print + AllocGlobal>(rt: &R) -> Result<()> {
     Ok(())
 }
 
-/// Whether programs that chance has made are answered as they should be.
+/// Checks whether all random programs are decoded, verified and run as promised.
 fn are_answered(alloc: Global) -> Result<bool, AllocError> {
     for number in 1..=PROGRAMS {
         if !is_answered(alloc, generated(alloc, number)?.as_slice())? {
@@ -29,7 +29,8 @@ fn are_answered(alloc: Global) -> Result<bool, AllocError> {
     Ok(true)
 }
 
-/// The program of this number: of 1 to 32 units, each byte the upper eight bits of the generator's state.
+/// Returns the random program with this number, which has 1 to 32 units. Each byte is the upper eight bits of the
+/// generator's state.
 fn generated(alloc: Global, number: u64) -> Result<Vec<u8>, AllocError> {
     let mut bytes = Vec::new(alloc);
     let mut state = number;
@@ -41,8 +42,8 @@ fn generated(alloc: Global, number: u64) -> Result<Vec<u8>, AllocError> {
     Ok(bytes)
 }
 
-/// Whether these bytes get the answer that they should: where they spell a program, it is spelled by them, and where it
-/// is accepted, its run on the bench ends within as many steps as it has instructions.
+/// Checks that these bytes are decoded, verified and run as promised. If they are a program, encoding it must give the
+/// same bytes. If it is accepted, its run must end within as many steps as it has instructions.
 pub fn is_answered(alloc: Global, bytes: &[u8]) -> Result<bool, AllocError> {
     match decode(alloc, bytes) {
         Ok(program) => Ok(is_spelt(alloc, &program, bytes)? && is_judged(alloc, program)?),
@@ -51,13 +52,13 @@ pub fn is_answered(alloc: Global, bytes: &[u8]) -> Result<bool, AllocError> {
     }
 }
 
-/// Whether the program is spelled by these bytes.
+/// Checks whether encoding the program gives these bytes.
 fn is_spelt(alloc: Global, program: &Program, bytes: &[u8]) -> Result<bool, AllocError> {
     let spelt = encode(alloc, program)?;
     Ok(spelt.as_slice() == bytes)
 }
 
-/// Whether the program is refused, or its run on the bench ends within as many steps as it has instructions.
+/// Checks whether the program is rejected, or its run ends within as many steps as it has instructions.
 fn is_judged(alloc: Global, program: Program) -> Result<bool, AllocError> {
     match verify(alloc, program) {
         Ok(verified) => ends_in_time(alloc, &verified),
@@ -70,7 +71,7 @@ fn is_judged(alloc: Global, program: Program) -> Result<bool, AllocError> {
     }
 }
 
-/// Whether the program's run on the bench ends within as many steps as it has instructions.
+/// Checks whether the program's run ends within as many steps as it has instructions.
 fn ends_in_time(alloc: Global, verified: &Verified) -> Result<bool, AllocError> {
     let exited = run_in(alloc, verified, &Setting::bench(alloc))?;
     Ok(exited.activation.steps() as usize <= verified.program().len())

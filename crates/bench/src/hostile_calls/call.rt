@@ -1,6 +1,7 @@
+//! The calls that allocate memory, and their names.
 use crate::chronicles::MessageKind;
 
-/// A call that takes memory.
+/// A call that allocates memory.
 #[derive(Clone, Copy)]
 pub enum AllocatingCall {
     Decode,
@@ -9,9 +10,9 @@ pub enum AllocatingCall {
     Disassemble,
     Verify,
     BoardApply,
-    /// `World::open`, or `SignedWorld::open`.
+    /// `World::open` or `SignedWorld::open`.
     Open(MessageKind),
-    /// The same of `apply`.
+    /// `World::apply` or `SignedWorld::apply`.
     WorldApply(MessageKind),
     /// `play` or `play_signed`.
     Play(MessageKind),
@@ -23,7 +24,7 @@ pub enum AllocatingCall {
     Check(MessageKind),
 }
 
-/// All of them, each with its name among the words.
+/// All calls, each with its name on the command line.
 pub const CALLS: &[(&str, AllocatingCall)] = &[
     ("decode", AllocatingCall::Decode),
     ("encode", AllocatingCall::Encode),
@@ -48,7 +49,7 @@ pub const CALLS: &[(&str, AllocatingCall)] = &[
     ("check_signed", AllocatingCall::Check(MessageKind::Signed)),
 ];
 
-/// The call of this name.
+/// Returns the call with this name, or `None` if there is none.
 pub fn named(name: &str) -> Option<AllocatingCall> {
     for &(own, call) in CALLS {
         if own == name {

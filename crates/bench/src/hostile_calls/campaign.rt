@@ -11,32 +11,34 @@ use trace::read_schedule;
 use world::{Event, Schedule};
 use world_tests::{campaign, counting, swaying};
 
-/// A campaign.
+/// A campaign on which calls are made.
 #[derive(Clone, Copy)]
 pub enum SampleCampaign {
-    /// Four generals, of whom the last tells two others to retreat.
+    /// Four generals, the last of whom sends two others orders to retreat.
     Four,
-    /// Seven generals, of whom the commander and another count on the board who comes first.
+    /// Seven generals. The commander and another are traitors, who both add 1 to word 0 of the board.
     Seven,
-    /// Four generals by the median, with a patience. The last copies words of the board, and acts by the round.
+    /// Four generals, who decide by the median and have a patience. The last copies words of the board, and acts
+    /// differently in each round.
     Copying,
 }
 
-/// All of them.
+/// All campaigns.
 pub const CAMPAIGNS: &[SampleCampaign] = &[
     SampleCampaign::Four,
     SampleCampaign::Seven,
     SampleCampaign::Copying,
 ];
 
-/// Tells 1 and 2 the order 0.
+/// A program that sends generals 1 and 2 the order 0.
 const SWAYING: &str = swaying!(concat "exit\n");
 
-/// Adds 1 to word 0, and tells 1, 2 and 3 the last bit of what the word was.
+/// A program that adds 1 to word 0 of the board, and sends generals 1, 2 and 3 the last bit of its old value.
 const COUNTING: &str = counting!(concat "exit\n");
 
-/// Copies four words of the board to the stack. In round 1 it then leaves 9 in word 0, later it tells 1 what it found
-/// there. So much of a program stands before these words in what this macro is given.
+/// Passes the beginning of a program to the macro `$form`, followed by `$words`. The program copies four words of the
+/// board to the stack. In round 1 it then stores 9 in word 0. In later rounds it sends general 1 the value that it
+/// found in word 0.
 macro_rules! copying {
     ($form:ident $($words:tt)*) => {
         $form!("ldw r6, [r1+16]
@@ -59,11 +61,12 @@ done: mov r0, 0
     };
 }
 
-/// The program that copies.
+/// A program that copies words of the board.
 const COPYING: &str = copying!(concat "exit\n");
 
-/// The same of one that signs: the order 1 for 1 and the order 0 for 2, which the commander alone can, and passes on to
-/// all the first two chains that he holds.
+/// Passes the beginning of a program to the macro `$form`, followed by `$words`. The program signs order 1 for general
+/// 1 and order 0 for general 2, which only the commander can do. It then passes on its first two chains to all
+/// generals.
 macro_rules! signing {
     ($form:ident $($words:tt)*) => {
         $form!("mov r1, 1
@@ -94,31 +97,32 @@ const FOUR_WHO_COPY: &str = copying!(
     [3]
 );
 
-/// The scenario of `Four`, in which the same general signs.
+/// The scenario of `Four` with signed messages.
 const FOUR_SIGNED: &str = signing!(
     campaign "exit\n",
     "generals = 4\nbound = 1\ncommander = 0\norder = 1\nmessages = \"signed\"\n",
     [3]
 );
 
-/// The same of `Seven`.
+/// The scenario of `Seven` with signed messages.
 const SEVEN_SIGNED: &str = signing!(
     campaign "exit\n",
     "generals = 7\nbound = 2\ncommander = 0\norder = 0\nmessages = \"signed\"\n",
     [0, 4]
 );
 
-/// The same of `Copying`.
+/// The scenario of `Copying` with signed messages.
 const FOUR_SIGNED_WITH_PATIENCE: &str = signing!(
     campaign "exit\n",
     "generals = 4\nbound = 1\ncommander = 0\norder = 1\npatience = 20\nmessages = \"signed\"\n",
     [3]
 );
 
-/// Events, each so many times.
+/// Events, each with the number of times it happens.
 type Turns = &'static [(Event, u32)];
 
-/// A round of four without a schedule: the loyal generals' letters, then the traitor's steps and more.
+/// The events of a round of four generals without a schedule: the loyal generals' letters, and then more ticks than the
+/// traitor's program has steps.
 const TURNS_OF_FOUR: Turns = &[
     (Event::Post(0), 1),
     (Event::Post(1), 1),
@@ -127,7 +131,7 @@ const TURNS_OF_FOUR: Turns = &[
     (Event::Close, 1),
 ];
 
-/// A round of seven.
+/// The events of a round of seven generals without a schedule.
 const TURNS_OF_SEVEN: Turns = &[
     (Event::Post(1), 1),
     (Event::Post(2), 1),
@@ -140,7 +144,7 @@ const TURNS_OF_SEVEN: Turns = &[
 ];
 
 impl SampleCampaign {
-    /// Its name among the words.
+    /// Returns the campaign's name on the command line.
     pub fn name(self) -> &'static str {
         match self {
             SampleCampaign::Four => "four",
@@ -149,7 +153,7 @@ impl SampleCampaign {
         }
     }
 
-    /// The campaign of this name.
+    /// Returns the campaign with this name, or `None` if there is none.
     pub fn named(name: &str) -> Option<SampleCampaign> {
         for campaign in CAMPAIGNS {
             if campaign.name() == name {
@@ -159,7 +163,7 @@ impl SampleCampaign {
         None
     }
 
-    /// The assembly of its traitors' program.
+    /// Returns the assembly of the traitors' program.
     pub fn assembly(self) -> &'static str {
         match self {
             SampleCampaign::Four => SWAYING,
@@ -168,7 +172,7 @@ impl SampleCampaign {
         }
     }
 
-    /// The text of a schedule for it.
+    /// Returns the text of the campaign's schedule.
     pub fn schedule_text(self) -> &'static str {
         match self {
             SampleCampaign::Four => "3*4096 3 12\n",
@@ -177,7 +181,7 @@ impl SampleCampaign {
         }
     }
 
-    /// The text of its scenario.
+    /// Returns the text of the campaign's scenario with oral messages.
     pub fn text(self) -> &'static str {
         match self {
             SampleCampaign::Four => FOUR,
@@ -186,7 +190,7 @@ impl SampleCampaign {
         }
     }
 
-    /// The text of the scenario in which the same generals sign their orders, and the same are traitors.
+    /// Returns the text of the campaign's scenario with signed messages, in which the same generals are traitors.
     fn signed_text(self) -> &'static str {
         match self {
             SampleCampaign::Four => FOUR_SIGNED,
@@ -195,7 +199,7 @@ impl SampleCampaign {
         }
     }
 
-    /// Its scenario; of signed messages the one in which the same generals sign their orders.
+    /// Reads the campaign's scenario with this kind of messages.
     pub fn scenario(self, alloc: Global, messages: MessageKind) -> Result<Scenario> {
         match messages {
             MessageKind::Oral => scenario_of(alloc, messages, self.text()),
@@ -203,7 +207,7 @@ impl SampleCampaign {
         }
     }
 
-    /// Its schedule.
+    /// Reads the campaign's schedule.
     pub fn schedule(self, alloc: Global) -> Result<Schedule> {
         match read_schedule(alloc, self.schedule_text()) {
             Ok(schedule) => Ok(schedule),
@@ -211,7 +215,7 @@ impl SampleCampaign {
         }
     }
 
-    /// Its traitors' program.
+    /// Assembles the traitors' program.
     pub fn program(self, alloc: Global) -> Result<Program> {
         match assemble(alloc, self.assembly()) {
             Ok(program) => Ok(program),
@@ -219,12 +223,12 @@ impl SampleCampaign {
         }
     }
 
-    /// The bytecode of its traitors' program.
+    /// Returns the bytecode of the traitors' program.
     pub fn bytecode(self, alloc: Global) -> Result<Vec<u8>> {
         Ok(encode(alloc, &self.program(alloc)?)?)
     }
 
-    /// Its events without a schedule, and how many rounds of them there are.
+    /// Returns the events of a round without a schedule, and the number of rounds.
     fn turns(self) -> (Turns, u32) {
         match self {
             SampleCampaign::Four | SampleCampaign::Copying => (TURNS_OF_FOUR, 2),
@@ -232,7 +236,7 @@ impl SampleCampaign {
         }
     }
 
-    /// Its events without a schedule, one after another.
+    /// Returns the events of the whole campaign without a schedule.
     pub fn events(self, alloc: Global) -> Result<Vec<Event>, AllocError> {
         let mut events = Vec::new(alloc);
         let (turns, rounds) = self.turns();
@@ -243,7 +247,7 @@ impl SampleCampaign {
     }
 }
 
-/// Adds a round's events.
+/// Appends the events of a round.
 fn push_turns(events: &mut Vec<Event>, turns: Turns) -> Result<(), AllocError> {
     for (event, times) in turns {
         for _ in 0..*times {

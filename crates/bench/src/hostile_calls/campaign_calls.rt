@@ -1,4 +1,4 @@
-//! One call on what belongs to one campaign, and what is printed of it.
+//! Makes one call on one campaign, and prints its outcome.
 use crate::hostile_calls::call::AllocatingCall;
 use crate::hostile_calls::campaign::SampleCampaign;
 use crate::hostile_calls::outcome::CallOutcome;
@@ -9,7 +9,7 @@ use anyhow::Result;
 use std::sync::Wait;
 use std::thread::Threads;
 
-/// Makes the call of this name, and prints what it came to.
+/// Makes the call, and prints its name, the campaign and the outcome.
 pub fn report<R: Print + Threads + Wait + Sync + AllocGlobal>(
     rt: &R,
     name: &str,

@@ -1,20 +1,20 @@
-//! Chance, and changes to bytes.
+//! Pseudorandom numbers, and changes to bytes.
 use std::alloc::{AllocError, Global};
 
-/// The next number by a linear congruential generator, of which the upper bits are used.
+/// Returns the next number of a linear congruential generator, which consists of the upper 31 bits of its state.
 pub fn next(state: &mut u64) -> u64 {
     *state = stepped(*state);
     *state >> 33
 }
 
-/// The generator's next state.
+/// Returns the generator's next state.
 pub fn stepped(state: u64) -> u64 {
     state
         .wrapping_mul(6364136223846793005)
         .wrapping_add(1442695040888963407)
 }
 
-/// The bytes with another one at a place; the same where there is no such place.
+/// Returns the bytes with `byte` at index `place`, or unchanged if there is no such index.
 pub fn with_byte(
     alloc: Global,
     bytes: &[u8],

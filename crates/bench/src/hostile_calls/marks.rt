@@ -1,11 +1,12 @@
-//! The lines between which a call is made. Where one cannot be printed, whoever reads them misses it.
+//! The lines that are printed before and after a call. If a line cannot be printed, this is not reported, but a reader
+//! misses the line.
 
-/// Says that the call comes next.
+/// Prints the line that comes before the call.
 pub fn ready<R: Print>(rt: &R) {
     let _ = rt.println("ready");
 }
 
-/// Says that the call has come back.
+/// Prints the line that comes after the call.
 pub fn back<R: Print>(rt: &R) {
     let _ = rt.println("back");
 }

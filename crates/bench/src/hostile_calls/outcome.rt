@@ -1,27 +1,27 @@
-//! What a call came to.
+//! Compares the answers of a call that is made twice, and describes the outcome.
 use anyhow::Result;
 use std::fmt;
 use thiserror::Error;
 
-/// What a call answered.
+/// The answer of a call.
 #[derive(Drop)]
 pub enum CallAnswer {
-    /// Its answer, told byte by byte.
+    /// The call succeeded. Its result is encoded as bytes.
     Bytes(Vec<u8>),
-    /// That memory was refused.
+    /// The call failed because memory ran out.
     Memory,
-    /// That a thread could not be started.
+    /// The call failed because a thread could not be started.
     NoThread,
 }
 
-/// What a call came to.
+/// The outcome of a call that is made twice.
 #[derive(Clone, Copy)]
 pub enum CallOutcome {
-    /// It answered, and the same again when it was asked again.
+    /// The call succeeded, and again with the same result.
     Answered,
-    /// It was refused memory, and answered when it was asked again.
+    /// The call ran out of memory, and succeeded the second time.
     Memory,
-    /// It could not start a thread, and answered when it was asked again.
+    /// The call could not start a thread, and succeeded the second time.
     NoThread,
 }
 
@@ -35,7 +35,7 @@ impl fmt::Display for CallOutcome {
     }
 }
 
-/// How what a call was asked again answers differs from what it is to answer.
+/// How the answer of the second call differs from what it must be.
 #[derive(Clone, Copy, Debug, PartialEq, Eq, Error)]
 pub enum Difference {
     #[error("asked again, the call does not answer")]
@@ -46,16 +46,17 @@ pub enum Difference {
     OtherEnd,
 }
 
-/// What a call comes to that told this, and this when it was asked again.
+/// Compares the first answer of a call with its second answer, and returns the outcome.
 ///
 /// # Errors
 ///
-/// That the second answer is none, or another than the first.
+///
+/// Fails if the second call did not succeed, or if both succeeded with different results.
 pub fn compared(first: CallAnswer, again: CallAnswer) -> Result<CallOutcome> {
     Ok(asked_again(first, again)?)
 }
 
-/// The same, with what differs.
+/// Compares the first answer of a call with its second answer, and returns the outcome or the difference.
 fn asked_again(
     first: CallAnswer,
     again: CallAnswer,
@@ -75,11 +76,13 @@ fn asked_again(
     }
 }
 
-/// What several calls come to, where they led to this, and to this with ample memory.
+/// Compares the end to which several calls led with the end to which they lead with enough memory. `is_refused` says
+/// whether memory ran out in one of the calls.
 ///
 /// # Errors
 ///
-/// That they led to something else.
+///
+/// Fails if the two ends differ.
 pub fn led(is_refused: bool, first: &[u8], ample: &[u8]) -> Result<CallOutcome> {
     same_end(first, ample)?;
     Ok(if is_refused {

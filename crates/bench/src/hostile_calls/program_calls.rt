@@ -1,4 +1,4 @@
-//! The calls on programs: their bytes, their text, and the verifier.
+//! Calls on programs: `decode`, `encode`, `assemble`, `disassemble` and `verify`.
 use crate::hostile_calls::campaign::SampleCampaign;
 use crate::hostile_calls::marks::{back, ready};
 use crate::hostile_calls::outcome::{CallAnswer, CallOutcome, compared};
@@ -9,7 +9,7 @@ use insn::Program;
 use std::alloc::{AllocError, Global};
 use verify::{Refused, Verified, VerifyError, verify};
 
-/// `decode` of the bytecode.
+/// Calls `decode` on the bytecode of the campaign's traitors.
 pub fn decodes<R: Print + AllocGlobal>(rt: &R, campaign: SampleCampaign) -> Result<CallOutcome> {
     let bytes = campaign.bytecode(rt.alloc())?;
     ready(rt);
@@ -18,7 +18,7 @@ pub fn decodes<R: Print + AllocGlobal>(rt: &R, campaign: SampleCampaign) -> Resu
     decodes_again(rt.alloc(), first, bytes.as_slice())
 }
 
-/// What comes of it, and of the same call again.
+/// Calls `decode` again, and compares the results.
 fn decodes_again(
     alloc: Global,
     first: Result<Program, CodecError>,
@@ -28,7 +28,7 @@ fn decodes_again(
     compared(first, decoded(alloc, decode(alloc, bytes))?)
 }
 
-/// What `decode` tells.
+/// Returns the answer of `decode`.
 fn decoded(alloc: Global, answer: Result<Program, CodecError>) -> Result<CallAnswer> {
     match answer {
         Ok(program) => told_program(alloc, &program),
@@ -37,7 +37,7 @@ fn decoded(alloc: Global, answer: Result<Program, CodecError>) -> Result<CallAns
     }
 }
 
-/// `encode` of the program.
+/// Calls `encode` on the program of the campaign's traitors.
 pub fn encodes<R: Print + AllocGlobal>(rt: &R, campaign: SampleCampaign) -> Result<CallOutcome> {
     let program = campaign.program(rt.alloc())?;
     ready(rt);
@@ -46,7 +46,7 @@ pub fn encodes<R: Print + AllocGlobal>(rt: &R, campaign: SampleCampaign) -> Resu
     compared(encoded(first), encoded(encode(rt.alloc(), &program)))
 }
 
-/// What `encode` tells.
+/// Returns the answer of `encode`.
 fn encoded(answer: Result<Vec<u8>, AllocError>) -> CallAnswer {
     match answer {
         Ok(bytes) => CallAnswer::Bytes(bytes),
@@ -54,7 +54,7 @@ fn encoded(answer: Result<Vec<u8>, AllocError>) -> CallAnswer {
     }
 }
 
-/// `assemble` of the assembly.
+/// Calls `assemble` on the assembly of the campaign's traitors.
 pub fn assembles<R: Print + AllocGlobal>(rt: &R, campaign: SampleCampaign) -> Result<CallOutcome> {
     ready(rt);
     let first = assemble(rt.alloc(), campaign.assembly());
@@ -62,7 +62,7 @@ pub fn assembles<R: Print + AllocGlobal>(rt: &R, campaign: SampleCampaign) -> Re
     assembles_again(rt.alloc(), first, campaign.assembly())
 }
 
-/// What comes of it, and of the same call again.
+/// Calls `assemble` again, and compares the results.
 fn assembles_again(
     alloc: Global,
     first: Result<Program, AsmError>,
@@ -72,7 +72,7 @@ fn assembles_again(
     compared(first, assembled(alloc, assemble(alloc, assembly))?)
 }
 
-/// What `assemble` tells.
+/// Returns the answer of `assemble`.
 fn assembled(alloc: Global, answer: Result<Program, AsmError>) -> Result<CallAnswer> {
     match answer {
         Ok(program) => told_program(alloc, &program),
@@ -81,7 +81,7 @@ fn assembled(alloc: Global, answer: Result<Program, AsmError>) -> Result<CallAns
     }
 }
 
-/// `disassemble` of the program.
+/// Calls `disassemble` on the program of the campaign's traitors.
 pub fn disassembles<R: Print + AllocGlobal>(
     rt: &R,
     campaign: SampleCampaign,
@@ -96,7 +96,7 @@ pub fn disassembles<R: Print + AllocGlobal>(
     )
 }
 
-/// What `disassemble` tells.
+/// Returns the answer of `disassemble`.
 fn disassembled(answer: Result<String, AllocError>) -> CallAnswer {
     match answer {
         Ok(text) => CallAnswer::Bytes(text.into_bytes()),
@@ -104,7 +104,8 @@ fn disassembled(answer: Result<String, AllocError>) -> CallAnswer {
     }
 }
 
-/// `verify` of the program. Where memory is refused, the program that it hands back is given to it again.
+/// Calls `verify` on the program of the campaign's traitors. If memory runs out, it is called again with the program
+/// that it returned.
 pub fn verifies<R: Print + AllocGlobal>(rt: &R, campaign: SampleCampaign) -> Result<CallOutcome> {
     let program = campaign.program(rt.alloc())?;
     ready(rt);
@@ -113,7 +114,7 @@ pub fn verifies<R: Print + AllocGlobal>(rt: &R, campaign: SampleCampaign) -> Res
     verifies_again(rt.alloc(), first, campaign)
 }
 
-/// What comes of it, and of the same call with ample memory.
+/// Compares the result with that of another call with enough memory.
 fn verifies_again(
     alloc: Global,
     first: Result<Verified, Refused>,
@@ -129,7 +130,8 @@ fn verifies_again(
     })
 }
 
-/// What `verify` tells, at last: where memory was refused first, the program came back, and was given again.
+/// Returns the answer of `verify`. If memory ran out, this is the answer of another call with the program that it
+/// returned.
 fn judged(alloc: Global, answer: Result<Verified, Refused>) -> Result<CallAnswer> {
     match answer {
         Ok(verified) => told_program(alloc, verified.program()),
@@ -137,7 +139,7 @@ fn judged(alloc: Global, answer: Result<Verified, Refused>) -> Result<CallAnswer
     }
 }
 
-/// What it tells when it is given the program again, which came back since memory was refused.
+/// Calls `verify` again with the program that it returned because memory ran out, and returns the answer.
 fn given_again(alloc: Global, program: Program, fault: VerifyError) -> Result<CallAnswer> {
     match fault {
         VerifyError::Memory => accepted(alloc, program),
@@ -145,7 +147,7 @@ fn given_again(alloc: Global, program: Program, fault: VerifyError) -> Result<Ca
     }
 }
 
-/// What `verify` tells of a program that is accepted.
+/// Calls `verify` on a program that must be accepted, and returns the answer.
 fn accepted(alloc: Global, program: Program) -> Result<CallAnswer> {
     match verify(alloc, program) {
         Ok(verified) => told_program(alloc, verified.program()),
@@ -153,7 +155,7 @@ fn accepted(alloc: Global, program: Program) -> Result<CallAnswer> {
     }
 }
 
-/// A program, told by its assembly.
+/// Returns the answer for a program, which is its assembly.
 fn told_program(alloc: Global, program: &Program) -> Result<CallAnswer> {
     Ok(CallAnswer::Bytes(disassemble(alloc, program)?.into_bytes()))
 }

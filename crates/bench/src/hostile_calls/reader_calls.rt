@@ -1,4 +1,4 @@
-//! The calls that read scenarios and schedules, and schedules that chance has made.
+//! Calls that read scenarios and schedules, and random schedules.
 use crate::chronicles::{MessageKind, played, told, told_freely};
 use crate::hostile_calls::campaign::SampleCampaign;
 use crate::hostile_calls::changes::next;
@@ -11,7 +11,7 @@ use std::alloc::{AllocError, Global};
 use trace::{TraceError, TraceFault, read_schedule};
 use world::Schedule;
 
-/// `read` of the scenario's text.
+/// Calls `read` on the text of the campaign's scenario.
 pub fn reads<R: Print + AllocGlobal>(rt: &R, campaign: SampleCampaign) -> Result<CallOutcome> {
     ready(rt);
     let first = read(rt.alloc(), campaign.text());
@@ -21,7 +21,7 @@ pub fn reads<R: Print + AllocGlobal>(rt: &R, campaign: SampleCampaign) -> Result
     compared(first, read_as(rt.alloc(), again)?)
 }
 
-/// What `read` tells: the text of the scenario's chronicle without a schedule.
+/// Returns the answer of `read`: the text of the scenario's chronicle without a schedule, or that memory ran out.
 fn read_as(alloc: Global, answer: Result<Scenario, ScenarioError>) -> Result<CallAnswer> {
     match answer {
         Ok(scenario) => Ok(CallAnswer::Bytes(told_freely(alloc, MessageKind::Oral, scenario)?)),
@@ -30,7 +30,7 @@ fn read_as(alloc: Global, answer: Result<Scenario, ScenarioError>) -> Result<Cal
     }
 }
 
-/// `read_schedule` of the schedule's text.
+/// Calls `read_schedule` on the text of the campaign's schedule.
 pub fn reads_schedule<R: Print + AllocGlobal>(
     rt: &R,
     campaign: SampleCampaign,
@@ -43,7 +43,7 @@ pub fn reads_schedule<R: Print + AllocGlobal>(
     compared(first, told_by(rt.alloc(), campaign, again)?)
 }
 
-/// What `read_schedule` tells: the text of the campaign's chronicle by the schedule.
+/// Returns the answer of `read_schedule`: the text of the campaign's chronicle by the schedule, or that memory ran out.
 fn told_by(
     alloc: Global,
     campaign: SampleCampaign,
@@ -56,21 +56,21 @@ fn told_by(
     }
 }
 
-/// The text of the campaign's chronicle by a schedule.
+/// Plays the campaign by a schedule, and returns the text of its chronicle as an answer.
 fn scheduled(alloc: Global, campaign: SampleCampaign, schedule: &Schedule) -> Result<CallAnswer> {
     let scenario = campaign.scenario(alloc, MessageKind::Oral)?;
     Ok(CallAnswer::Bytes(told(alloc, MessageKind::Oral, scenario, schedule)?))
 }
 
-/// What a schedule is made of by chance.
+/// The pieces of which a random schedule consists.
 const PIECES: &[&str; 16] = &[
     "0", "3", "4", "12", "13", "*15", "*4096", "*4097", "*0", " ", " ", " ", "\n", "\n", "01", "-",
 ];
 
-/// How many schedules are tried.
+/// The number of random schedules.
 const SCHEDULES: u32 = 10_000;
 
-/// Reads schedules that chance has made, and plays those that are told.
+/// Reads random schedules, and plays a campaign by those that are accepted.
 pub fn report<R: Print + AllocGlobal>(rt: &R) -> Result<()> {
     let alloc = rt.alloc();
     let scenario = SampleCampaign::Seven.scenario(alloc, MessageKind::Oral)?;
@@ -81,7 +81,7 @@ pub fn report<R: Print + AllocGlobal>(rt: &R) -> Result<()> {
     Ok(())
 }
 
-/// Whether schedules that chance has made are answered.
+/// Checks whether all random schedules are accepted or rejected as promised.
 fn are_answered(alloc: Global, scenario: &Scenario) -> Result<bool, AllocError> {
     let mut state = 1;
     for _ in 0..SCHEDULES {
@@ -93,7 +93,8 @@ fn are_answered(alloc: Global, scenario: &Scenario) -> Result<bool, AllocError> 
     Ok(true)
 }
 
-/// Whether the text is refused by one of the first lines, or else a schedule, by which the campaign is then played.
+/// Reads the text as a schedule, and plays the campaign by it if it is accepted. Checks that a text is only rejected
+/// because of one of its first six lines.
 fn is_answered(alloc: Global, scenario: &Scenario, text: &str) -> Result<bool, AllocError> {
     match read_schedule(alloc, text) {
         Ok(schedule) => {
@@ -105,7 +106,7 @@ fn is_answered(alloc: Global, scenario: &Scenario, text: &str) -> Result<bool, A
     }
 }
 
-/// A schedule of up to 31 pieces.
+/// Returns a random schedule of up to 31 pieces.
 fn schedule(alloc: Global, state: &mut u64) -> Result<String, AllocError> {
     let mut schedule = String::new(alloc);
     for _ in 0..next(state) % 32 {

@@ -1,4 +1,4 @@
-//! Stored programs, cut off and changed.
+//! Stored programs that are cut off and changed.
 use crate::hostile_calls::bytecode::is_answered;
 use crate::hostile_calls::changes::with_byte;
 use anyhow::{Result, bail};
@@ -8,14 +8,14 @@ use std::alloc::{AllocError, Global};
 use std::fs;
 use std::rt::Files;
 
-/// A program in assembly, by its name.
+/// A program in assembly, and its name.
 #[derive(Drop)]
 struct Program {
     name: String,
     text: String,
 }
 
-/// Answers each beginning of the programs in these files, and each program with one byte changed in one of three ways.
+/// Checks each beginning of the programs in these files, and each program with one byte changed in one of three ways.
 pub fn report<R: Print + Files + AllocGlobal>(rt: &R, files: &[String]) -> Result<()> {
     for file in files {
         report_file(rt, file.as_str())?;
@@ -23,7 +23,7 @@ pub fn report<R: Print + Files + AllocGlobal>(rt: &R, files: &[String]) -> Resul
     Ok(())
 }
 
-/// The same of the programs of one file.
+/// Checks each beginning and each change of the programs in one file.
 fn report_file<R: Print + Files + AllocGlobal>(rt: &R, file: &str) -> Result<()> {
     let text = fs::read_to_string(rt, file)?;
     let programs = programs(rt.alloc(), text.as_str())?;
@@ -33,7 +33,7 @@ fn report_file<R: Print + Files + AllocGlobal>(rt: &R, file: &str) -> Result<()>
     Ok(())
 }
 
-/// Answers what comes of each program.
+/// Checks each beginning and each change of these programs.
 fn answer_all(alloc: Global, programs: &[Program]) -> Result<()> {
     for program in programs {
         let bytes = assembled(alloc, program.text.as_str())?;
@@ -42,7 +42,7 @@ fn answer_all(alloc: Global, programs: &[Program]) -> Result<()> {
     Ok(())
 }
 
-/// The programs of a text: each begins behind a line of two semicolons and its name.
+/// Splits a text into its programs. Each begins after a line of two semicolons, a blank and its name.
 fn programs(alloc: Global, text: &str) -> Result<Vec<Program>> {
     let mut programs = Vec::new(alloc);
     for line in text.lines() {
@@ -57,7 +57,7 @@ fn programs(alloc: Global, text: &str) -> Result<Vec<Program>> {
     Ok(programs)
 }
 
-/// Adds a line to the last program.
+/// Appends a line to the last program.
 fn add_line(programs: &mut Vec<Program>, line: &str) -> Result<()> {
     let Some(program) = programs.last_mut() else {
         bail!("a line stands before the first program");
@@ -67,7 +67,7 @@ fn add_line(programs: &mut Vec<Program>, line: &str) -> Result<()> {
     Ok(())
 }
 
-/// Answers what comes of the program of this name.
+/// Checks each beginning and each change of the program with this name.
 fn answer(alloc: Global, name: &str, bytes: &[u8]) -> Result<()> {
     if !are_answered(alloc, bytes)? {
         bail!("{name} is not answered as it should be");
@@ -75,7 +75,7 @@ fn answer(alloc: Global, name: &str, bytes: &[u8]) -> Result<()> {
     Ok(())
 }
 
-/// The bytecode that assembly says.
+/// Assembles a text and returns the bytecode.
 fn assembled(alloc: Global, text: &str) -> Result<Vec<u8>> {
     match assemble(alloc, text) {
         Ok(program) => Ok(encode(alloc, &program)?),
@@ -83,8 +83,8 @@ fn assembled(alloc: Global, text: &str) -> Result<Vec<u8>> {
     }
 }
 
-/// Whether each beginning of the program, and the program with any byte replaced by 00, by ff and by itself with its
-/// top bit changed, gets the answer that it should.
+/// Checks that each beginning of the program is decoded, verified and run as promised. The same must hold if any byte
+/// is replaced by 00, by ff, or by itself with its top bit changed.
 fn are_answered(alloc: Global, bytes: &[u8]) -> Result<bool, AllocError> {
     for place in 0..bytes.len() {
         let old = bytes[place];
@@ -99,7 +99,7 @@ fn are_answered(alloc: Global, bytes: &[u8]) -> Result<bool, AllocError> {
     is_answered(alloc, bytes)
 }
 
-/// Whether the program with this byte at this place gets the answer that it should.
+/// Checks that the program with this byte at this place is decoded, verified and run as promised.
 fn is_answered_with(
     alloc: Global,
     bytes: &[u8],

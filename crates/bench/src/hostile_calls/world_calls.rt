@@ -1,4 +1,4 @@
-//! The calls on worlds: opened, led on event by event, played, and mustered.
+//! Calls on worlds: `open`, `apply`, `play`, and `muster`, which uses threads.
 use crate::chronicles::{MessageKind, text, told_freely};
 use crate::hostile_calls::campaign::SampleCampaign;
 use crate::hostile_calls::marks::{back, ready};
@@ -14,7 +14,7 @@ use threads::{MusterError, Open, muster};
 use trace::check;
 use world::{Chronicle, Event, EventError, Schedule};
 
-/// `World::open`, or `SignedWorld::open`.
+/// Calls `World::open` or `SignedWorld::open` on the campaign's scenario.
 pub fn opens<R: Print + AllocGlobal>(
     rt: &R,
     messages: MessageKind,
@@ -27,7 +27,7 @@ pub fn opens<R: Print + AllocGlobal>(
     opens_again(rt.alloc(), messages, campaign, first)
 }
 
-/// What comes of it, and of the same call again.
+/// Opens the world again, and compares the results.
 fn opens_again(
     alloc: Global,
     messages: MessageKind,
@@ -39,7 +39,8 @@ fn opens_again(
     compared(first, opened(alloc, again, campaign)?)
 }
 
-/// What it tells: the text of the chronicle to which the campaign's events lead the world.
+/// Returns the answer of a call that opens a world: the text of its chronicle after the campaign's events, or that
+/// memory ran out.
 fn opened(
     alloc: Global,
     answer: Result<Led, AllocError>,
@@ -51,14 +52,15 @@ fn opened(
     }
 }
 
-/// The text of the chronicle to which the campaign's events lead the world.
+/// Applies the campaign's events to the world, and returns the text of its chronicle.
 fn led_on(alloc: Global, mut world: Led, campaign: SampleCampaign) -> Result<Vec<u8>> {
     let events = campaign.events(alloc)?;
     let _is_refused = happen(&mut world, events.as_slice())?;
     world.text(alloc)
 }
 
-/// `apply` of each of the campaign's events. In the end the world has the chronicle of ample memory.
+/// Calls `apply` for each of the campaign's events. At the end, the world must have the same chronicle as with enough
+/// memory.
 pub fn happens<R: Print + AllocGlobal>(
     rt: &R,
     messages: MessageKind,
@@ -76,7 +78,7 @@ pub fn happens<R: Print + AllocGlobal>(
     ended(rt.alloc(), happened?, world, messages, campaign)
 }
 
-/// What comes of a world that its events have led to its end.
+/// Compares the chronicle of a world after all events with the chronicle that results with enough memory.
 fn ended(
     alloc: Global,
     is_refused: bool,
@@ -89,7 +91,7 @@ fn ended(
     led(is_refused, first.as_slice(), ample.as_slice())
 }
 
-/// Lets the events happen. The answer is whether memory was refused to any of them.
+/// Applies the events to the world, and returns whether memory ran out at any of them.
 fn happen(world: &mut Led, events: &[Event]) -> Result<bool> {
     let mut is_refused = false;
     for event in events {
@@ -100,8 +102,8 @@ fn happen(world: &mut Led, events: &[Event]) -> Result<bool> {
     Ok(is_refused)
 }
 
-/// Lets the event happen. The answer is whether memory was refused first: then the decisions were as before, and the
-/// event was given again.
+/// Applies the event to the world, and returns whether memory ran out at the first attempt. In this case it checks that
+/// the decisions are unchanged, and applies the event again.
 fn is_refused_first(world: &mut Led, event: Event) -> Result<bool> {
     let before = world.decisions();
     match world.apply(event) {
@@ -111,7 +113,7 @@ fn is_refused_first(world: &mut Led, event: Event) -> Result<bool> {
     }
 }
 
-/// Lets an event happen to which memory was refused, where the decisions were these.
+/// Checks that the decisions are unchanged after an event for which memory ran out, and applies the event again.
 fn happens_again(world: &mut Led, event: Event, before: &[u32]) -> Result<bool> {
     if world.decisions().as_slice() != before {
         bail!("a refused event changed the decisions");
@@ -122,7 +124,7 @@ fn happens_again(world: &mut Led, event: Event, before: &[u32]) -> Result<bool> 
     Ok(true)
 }
 
-/// `play` by the campaign's schedule, or `play_signed`.
+/// Calls `play` or `play_signed` with the campaign's schedule.
 pub fn plays<R: Print + AllocGlobal>(
     rt: &R,
     messages: MessageKind,
@@ -136,7 +138,7 @@ pub fn plays<R: Print + AllocGlobal>(
     plays_again(rt.alloc(), messages, campaign, &schedule, first)
 }
 
-/// What comes of it, and of the same call again.
+/// Plays the campaign again, and compares the results.
 fn plays_again(
     alloc: Global,
     messages: MessageKind,
@@ -150,7 +152,7 @@ fn plays_again(
     compared(first, chronicled(alloc, again)?)
 }
 
-/// What it tells: the text of its chronicle.
+/// Returns the answer of a call that plays a campaign: the text of its chronicle, or that memory ran out.
 fn chronicled(alloc: Global, answer: Result<Made, AllocError>) -> Result<CallAnswer> {
     match answer {
         Ok(chronicle) => Ok(CallAnswer::Bytes(chronicle.text(alloc)?)),
@@ -158,7 +160,8 @@ fn chronicled(alloc: Global, answer: Result<Made, AllocError>) -> Result<CallAns
     }
 }
 
-/// `muster`. The order of the accesses is the threads', so chronicles are not compared, but audited.
+/// Calls `muster` on the campaign's scenario. The order of the accesses depends on the threads, so that the chronicles
+/// are audited and not compared.
 pub fn musters<R: Print + Threads + Wait + Sync + AllocGlobal>(
     rt: &R,
     campaign: SampleCampaign,
@@ -170,7 +173,7 @@ pub fn musters<R: Print + Threads + Wait + Sync + AllocGlobal>(
     musters_again(rt, campaign, first)
 }
 
-/// What comes of it, and of the same call again.
+/// Calls `muster` again, and compares the results.
 fn musters_again<R: Threads + Wait + Sync + AllocGlobal>(
     rt: &R,
     campaign: SampleCampaign,
@@ -182,7 +185,7 @@ fn musters_again<R: Threads + Wait + Sync + AllocGlobal>(
     compared(first, audited(rt.alloc(), again, &scenario)?)
 }
 
-/// What `muster` tells: no more than that its chronicle is sound.
+/// Returns the answer of `muster`, which is an empty text if an audit accepts the chronicle.
 fn audited(
     alloc: Global,
     answer: Result<Chronicle, MusterError>,
@@ -196,7 +199,7 @@ fn audited(
     }
 }
 
-/// Audits the chronicle, which is to be sound.
+/// Audits the chronicle, and fails if it is rejected.
 fn audit(alloc: Global, scenario: &Scenario, chronicle: &Chronicle) -> Result<CallAnswer> {
     let text = text(alloc, chronicle)?;
     let told = str::from_utf8(text.as_slice())?;

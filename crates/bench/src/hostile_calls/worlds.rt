@@ -7,7 +7,7 @@ use signed::{SignedChronicle, SignedWorld, play_signed};
 use std::alloc::{AllocError, Global};
 use world::{Chronicle, Event, EventError, Schedule, World, play};
 
-/// A world.
+/// A world of oral or of signed messages.
 #[derive(Drop)]
 pub enum Led {
     Oral(World),
@@ -15,7 +15,7 @@ pub enum Led {
 }
 
 impl Led {
-    /// `World::open`, or `SignedWorld::open`.
+    /// Calls `World::open` or `SignedWorld::open`.
     pub fn open(
         alloc: Global,
         messages: MessageKind,
@@ -27,7 +27,7 @@ impl Led {
         }
     }
 
-    /// Lets an event happen.
+    /// Applies an event to the world.
     pub fn apply(&mut self, event: Event) -> Result<(), EventError> {
         match self {
             Led::Oral(world) => world.apply(event),
@@ -35,7 +35,7 @@ impl Led {
         }
     }
 
-    /// The decisions.
+    /// Returns the lieutenants' decisions.
     pub fn decisions(&self) -> ArrayVec<u32, 12> {
         match self {
             Led::Oral(world) => world.decisions(),
@@ -43,7 +43,7 @@ impl Led {
         }
     }
 
-    /// Its chronicle.
+    /// Returns the world's chronicle, or `None` if it has none.
     fn chronicle(self) -> Option<Made> {
         match self {
             Led::Oral(world) => oral_chronicle(world),
@@ -51,7 +51,7 @@ impl Led {
         }
     }
 
-    /// The text of its chronicle.
+    /// Returns the text of the world's chronicle, and fails if it has none.
     pub fn text(self, alloc: Global) -> Result<Vec<u8>> {
         match self.chronicle() {
             Some(chronicle) => chronicle.text(alloc),
@@ -60,7 +60,7 @@ impl Led {
     }
 }
 
-/// The chronicle of a world of oral messages.
+/// Returns the chronicle of a world of oral messages, or `None` if it has none.
 fn oral_chronicle(world: World) -> Option<Made> {
     match world.chronicle() {
         Some(chronicle) => Some(Made::Oral(chronicle)),
@@ -68,7 +68,7 @@ fn oral_chronicle(world: World) -> Option<Made> {
     }
 }
 
-/// The chronicle of a world of signed messages.
+/// Returns the chronicle of a world of signed messages, or `None` if it has none.
 fn signed_chronicle(world: SignedWorld) -> Option<Made> {
     match world.chronicle() {
         Some(chronicle) => Some(Made::Signed(chronicle)),
@@ -76,7 +76,7 @@ fn signed_chronicle(world: SignedWorld) -> Option<Made> {
     }
 }
 
-/// A chronicle.
+/// A chronicle of oral or of signed messages.
 #[derive(Drop)]
 pub enum Made {
     Oral(Chronicle),
@@ -84,7 +84,7 @@ pub enum Made {
 }
 
 impl Made {
-    /// `play`, or `play_signed`.
+    /// Calls `play` or `play_signed`.
     pub fn play(
         alloc: Global,
         messages: MessageKind,
@@ -97,7 +97,7 @@ impl Made {
         }
     }
 
-    /// Its text.
+    /// Returns the text of the chronicle.
     pub fn text(&self, alloc: Global) -> Result<Vec<u8>> {
         match self {
             Made::Oral(chronicle) => text(alloc, chronicle),

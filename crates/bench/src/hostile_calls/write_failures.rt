@@ -1,4 +1,4 @@
-//! Writers that fail, and what they have taken then.
+//! Writes chronicles to writers that fail, and checks which bytes they received.
 use crate::chronicles::{MessageKind, freely, signed_text, text};
 use crate::hostile_calls::campaign::SampleCampaign;
 use crate::hostile_calls::writer::Writer;
@@ -8,10 +8,10 @@ use std::alloc::Global;
 use trace::{Latch, TraceError, write_chronicle, write_signed};
 use world::{Chronicle, play};
 
-/// How many bytes a call the writers take at most.
+/// How many bytes a writer takes at most in one call.
 const SIZES: &[usize] = &[1, 7, 4096];
 
-/// No text takes more writes.
+/// More writes than any of the texts needs.
 const MOST_WRITES: u32 = 100_000;
 
 /// A chronicle of oral or of signed messages.
@@ -22,7 +22,7 @@ enum Told<'a> {
 }
 
 impl<'a> Told<'a> {
-    /// Writes it.
+    /// Writes the chronicle.
     fn write(&self, sink: &mut Latch<Writer>) -> Result<(), TraceError> {
         match self {
             Told::Oral(chronicle) => write_chronicle(chronicle, sink),
@@ -39,7 +39,8 @@ pub fn report<R: Print + AllocGlobal>(rt: &R) -> Result<()> {
     Ok(())
 }
 
-/// Writes them so many bytes a call.
+/// Writes the chronicles of seven generals to writers that take `size` bytes in one call. It fails unless each failure
+/// is reported.
 fn report_size<R: Print + AllocGlobal>(rt: &R, size: usize) -> Result<()> {
     if !are_told(rt.alloc(), size)? || !are_signed_told(rt.alloc(), size)? {
         bail!("a failure is not told");
@@ -48,7 +49,7 @@ fn report_size<R: Print + AllocGlobal>(rt: &R, size: usize) -> Result<()> {
     Ok(())
 }
 
-/// Whether each failure is told of the chronicle of oral messages.
+/// Checks whether each failure is reported while the chronicle of oral messages is written.
 fn are_told(alloc: Global, size: usize) -> Result<bool> {
     let schedule = SampleCampaign::Seven.schedule(alloc)?;
     let scenario = SampleCampaign::Seven.scenario(alloc, MessageKind::Oral)?;
@@ -57,7 +58,7 @@ fn are_told(alloc: Global, size: usize) -> Result<bool> {
     Ok(fails_at_each_write(alloc, Told::Oral(&chronicle), whole.as_slice(), size))
 }
 
-/// Whether each failure is told of that of signed messages.
+/// Checks whether each failure is reported while the chronicle of signed messages is written.
 fn are_signed_told(alloc: Global, size: usize) -> Result<bool> {
     let scenario = SampleCampaign::Seven.scenario(alloc, MessageKind::Signed)?;
     let chronicle = play_signed(alloc, scenario, &freely(alloc))?;
@@ -65,19 +66,19 @@ fn are_signed_told(alloc: Global, size: usize) -> Result<bool> {
     Ok(fails_at_each_write(alloc, Told::Signed(&chronicle), whole.as_slice(), size))
 }
 
-/// What comes of a text that is written to a writer which fails at one of its writes.
+/// The result of writing a text to a writer that fails at one of its writes.
 #[derive(Clone, Copy)]
 enum End {
-    /// All of it was taken.
+    /// The writer received the whole text.
     Whole,
-    /// The failure was told, behind a beginning of the text.
+    /// The failure was reported, and the writer had received a beginning of the text.
     Told,
-    /// Anything else.
+    /// Anything else happened.
     Other,
 }
 
-/// Writes the chronicle to writers that fail at their first write, at their second, and so on, until one takes all of
-/// it. The answer is whether one does, and each failure is told before.
+/// Writes the chronicle to a writer that fails at its first write, then to one that fails at its second, and so on,
+/// until one receives the whole text. Returns whether one does, and each failure before is reported.
 fn fails_at_each_write(alloc: Global, chronicle: Told<'_>, whole: &[u8], size: usize) -> bool {
     for nth in 1..MOST_WRITES {
         let writer = Writer::new(alloc, size, nth);
@@ -90,7 +91,7 @@ fn fails_at_each_write(alloc: Global, chronicle: Told<'_>, whole: &[u8], size: u
     false
 }
 
-/// What comes of the chronicle of this text that is written to the writer.
+/// Writes the chronicle to the writer, and returns the result. `whole` is the text of the chronicle.
 fn written(chronicle: Told<'_>, whole: &[u8], writer: Writer) -> End {
     let mut sink = Latch::new(writer);
     let answer = chronicle.write(&mut sink);

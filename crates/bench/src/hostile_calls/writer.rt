@@ -1,9 +1,10 @@
+//! A writer that fails once, for tests of write failures.
 ghost use Rattle.std.specs.Prelude.{◌≤◌, IfOk, length};
 
 use std::alloc::{AllocError, Global};
 use std::io::{self, ErrorKind, Write};
 
-/// A writer that takes few bytes a call, and fails once.
+/// A writer that takes few bytes in one call, and fails once.
 #[derive(Drop)]
 pub struct Writer {
     most: usize,
@@ -14,7 +15,8 @@ pub struct Writer {
 }
 
 impl Writer {
-    /// A writer that takes at most so many bytes a call, and fails at the write of this number, counted from 1.
+    /// Creates a writer that takes at most `most` bytes in one call, and fails at the write number `fails`, counted
+    /// from 1.
     pub fn new(alloc: Global, most: usize, fails: u32) -> Writer {
         Writer {
             most,
@@ -24,12 +26,12 @@ impl Writer {
         }
     }
 
-    /// What it has taken.
+    /// Returns the bytes that the writer has received.
     pub fn taken(&self) -> &[u8] {
         self.taken.as_slice()
     }
 
-    /// Takes a beginning of the bytes, as much as it takes a call.
+    /// Appends the first bytes to those received, at most `most` of them, and returns how many it appended.
     fn take(&mut self, bytes: &[u8]) -> Result<usize, AllocError>
         ensures { IfOk result (λ n. n ≤ length bytes.now) }
     {
