@@ -10,6 +10,7 @@ parting line [] (d ∷ ds) = Some line
 parting line (c ∷ cs) [] = Some line
 parting line (c ∷ cs) (d ∷ ds) = if c == d then parting (if c == 10 then suc line else line) cs ds else Some line
 
+-- Returns the result of a comparison from the first line in which the texts differ, if they do.
 abbrev pub outcome_by : Option ℕ → ComparisonResult
 outcome_by None = AsStored
 outcome_by (Some line) = Differs line

@@ -93,7 +93,7 @@ impl Folder for Shelf {
     }
 }
 
-/// A file from which is read.
+/// A file that is open for reading.
 #[derive(Clone, Copy, Drop)]
 pub enum FileInput<'a> {
     /// Reads return these bytes.

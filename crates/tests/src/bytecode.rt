@@ -12,7 +12,8 @@ fn is_refused(alloc: Global, bytes: &[u8], fault: CodecFault, unit: usize) -> bo
     }
 }
 
-/// Rejects bytes with more units than a program may have. A wrong length is found before a wrong count.
+/// Checks that bytes with more units than a program may have are rejected. A wrong length is found before a wrong
+/// count.
 #[test]
 fn long_bytes_are_refused(rt: HostRuntime) {
     let alloc = rt.alloc();

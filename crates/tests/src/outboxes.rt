@@ -67,7 +67,7 @@ fn is_silent(alloc: Global) -> bool {
     }
 }
 
-/// A lieutenant relays nothing in round 1.
+/// Checks that a lieutenant relays nothing in round 1.
 #[test]
 fn relays_nothing(rt: HostRuntime) {
     assert!(rt; is_silent(rt.alloc()));
@@ -98,8 +98,8 @@ fn enters(alloc: Global) -> bool {
     }
 }
 
-/// General 2 holds a chain of the commander and a chain that he has signed himself. He can pass on the first, not the
-/// second, and he can sign no order.
+/// Checks what general 2 can send. He holds a chain of the commander and a chain that he has signed himself. He can
+/// pass on the first, not the second, and he can sign no order.
 #[test]
 fn enters_what_can_be_sent(rt: HostRuntime) {
     assert!(rt; enters(rt.alloc()));

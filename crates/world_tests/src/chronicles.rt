@@ -115,8 +115,8 @@ fn has_refused_of_scenario(alloc: Global, refused: u32) -> bool {
     }
 }
 
-/// The scenario has 432 beginnings. Six are accepted: those that end after the four keys, after the first traitor or
-/// after the second, each with the last line feed or without.
+/// Checks which beginnings of texts are accepted. The scenario has 432 beginnings, of which six are accepted: those
+/// that end after the four keys, after the first traitor or after the second, each with the last line feed or without.
 #[test]
 fn beginnings_of_texts(rt: HostRuntime) {
     let alloc = rt.alloc();
@@ -132,7 +132,7 @@ fn next(state: &mut u64) -> u64 {
     *state >> 33
 }
 
-/// Replaces, removes or inserts a byte at a random place, or does nothing if the place is beyond the end.
+/// Replaces, removes or inserts a byte at a random place. It does nothing if the place is beyond the end.
 fn change(bytes: &mut Vec<u8>, state: &mut u64) -> Result<(), AllocError> {
     let kind = next(state) % 3;
     let place = next(state) as usize % 1024;

@@ -273,7 +273,8 @@ fn adds_first<R: Threads + Wait + Sync>(rt: &R, alloc: Global, keys: &str, steps
     }
 }
 
-/// Each colluder's program takes seventeen steps. With a patience of sixteen steps, the last step is an access.
+/// Checks that general 4 adds first in each round while general 0 is held. Each program takes seventeen steps. With a
+/// patience of sixteen steps, the last step is an access.
 #[test]
 fn the_second_colluder_adds_first(rt: HostRuntime) {
     let alloc = rt.alloc();

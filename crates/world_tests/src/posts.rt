@@ -160,8 +160,8 @@ fn comes_next<R: Wait + Abort>(
     collector
 }
 
-/// General 1 posts a letter, and so does general 2. General 1's second letter is returned for lack of room, his first
-/// is taken, and he posts the second again.
+/// Lets general 1 post a letter, and general 2 another. General 1's second letter is then returned for lack of room.
+/// After his first letter is taken, he posts the second again.
 fn exchange<R: Wait + Abort>(
     rt: &R,
     post: &Post,
@@ -193,7 +193,7 @@ fn exchange<R: Wait + Abort>(
     (one, other, collector)
 }
 
-/// Creates a post and does in it what `exchange` describes.
+/// Creates a post and lets the generals post the letters that `exchange` describes.
 fn exchanged<R: Wait + Abort>(
     rt: &R,
     alloc: Global,

@@ -227,8 +227,8 @@ fn differ_by_their_steps(alloc: Global) -> bool {
     last_differs(first_letters(&short), first_letters(&long))
 }
 
-/// In the first round general 3 relays nothing, so that the letters of two runs that were cut off differ only in the
-/// number of steps.
+/// Checks that letters differ by their number of steps. In the first round general 3 relays nothing, so that the
+/// letters of two runs that were cut off differ in nothing else.
 #[test]
 fn letters_differ_by_their_steps(rt: HostRuntime) {
     assert!(rt; differ_by_their_steps(rt.alloc()));
