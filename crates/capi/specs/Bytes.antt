@@ -1,5 +1,4 @@
--- Says when bytes encode a program, an accepted one or a sound one, and which fault they have (own; the bytes as in RFC
--- 9669, 3).
+-- Says whether bytes encode a program, and which fault they have (own; the bytes as in RFC 9669, 3).
 use Rattle.std.specs.Prelude.{ℕ, ◌≡◌, List, None, Some}
 use Rattle.insn.specs.declared.insn.Insn.{Insn}
 use Rattle.codec.specs.declared.fault.CodecFault.{CodecFault}

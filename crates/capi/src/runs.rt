@@ -30,7 +30,8 @@ pub extern "C" fn byzlab_run(
     ensures short { result ≡ 4 → length context.now ≢ 4096 }
     ensures cut { length context.now ≢ 4096 → result ≡ 4 }
 
-    // The status is 0 exactly if the program is accepted and memory suffices. The program has then run.
+    // The status is 0 only if the program is accepted, and it has then run. If the program is accepted and the context
+    // has 4,096 bytes, the status is 0 or 3.
     ensures accepted { result ≡ 0 → IsAccepted program.now }
     ensures only { IsAccepted program.now → length context.now ≡ 4096 → (result ≡ 0) ⊎ (result ≡ 3) }
     ensures ran { result ≡ 0 → IsRun program.now context.now board.old outcome.new.r0 outcome.new.steps board.new }
@@ -80,7 +81,8 @@ pub extern "C" fn byzlab_run_many(
     ensures short { result ≡ 4 → length contexts.now ≢ 4096 * length outcomes.old }
     ensures cut { length contexts.now ≢ 4096 * length outcomes.old → result ≡ 4 }
 
-    // The status is 0 exactly if the program is accepted and memory suffices. The program has then run in each context.
+    // The status is 0 only if the program is accepted, and it has then run in each context. If the program is accepted
+    // and the contexts have the right length, the status is 0 or 3.
     ensures accepted { result ≡ 0 → IsAccepted program.now }
     ensures only { IsAccepted program.now → length contexts.now ≡ 4096 * length outcomes.old →
         (result ≡ 0) ⊎ (result ≡ 3) }

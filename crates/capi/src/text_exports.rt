@@ -23,7 +23,7 @@ pub extern "C" fn byzlab_explain(
 ) -> u32
     ensures known { result ≤ 3 }
 
-    // The status is 0 exactly if the program is accepted and memory suffices.
+    // The status is 0 only if the program is accepted. If it is accepted, the status is 0 or 3.
     ensures accepted { result ≡ 0 → IsAccepted program.now }
     ensures only { IsAccepted program.now → (result ≡ 0) ⊎ (result ≡ 3) }
 
@@ -66,7 +66,8 @@ pub extern "C" fn byzlab_disassemble(
     ensures known { result ≤ 3 }
     ensures unrefused { result ≢ 2 }
 
-    // The status is 0 exactly if the bytes encode a program and memory suffices. Its assembly text is then written.
+    // The status is 0 only if the assembly text of the program is written. If the bytes encode a program, the status
+    // is 0 or 3.
     ensures text { result ≡ 0 → GivesAssembly program.now text.old text.new needed.new }
     ensures only { IsProgram program.now → (result ≡ 0) ⊎ (result ≡ 3) }
 

@@ -12,7 +12,8 @@ use std::alloc::Global;
 pub extern "C" fn byzlab_verify(alloc: Global, program: &[u8], fault: &mut NumberedFault) -> u32
     ensures known { result ≤ 3 }
 
-    // The status is 0 exactly if the program is accepted and memory suffices. The program is then sound.
+    // The status is 0 only if the program is accepted, and the program is then sound. If it is accepted, the status is
+    // 0 or 3.
     ensures accepted { result ≡ 0 → IsAccepted program.now }
     ensures only { IsAccepted program.now → (result ≡ 0) ⊎ (result ≡ 3) }
     ensures sound { result ≡ 0 → IsSoundProgram program.now }
