@@ -93,7 +93,6 @@ pub fn told_freely(alloc: Global, messages: MessageKind, scenario: Scenario) -> 
 ///
 /// # Errors
 ///
-///
 /// Fails with the text's first fault, or with `Memory` if memory runs out.
 pub fn audited(
     alloc: Global,

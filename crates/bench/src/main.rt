@@ -42,7 +42,6 @@ fn main(rt: HostRuntime) -> Result<()> {
 ///
 /// # Errors
 ///
-///
 /// Fails if there is no such task, or if it fails.
 fn answer<R: Print + Eprint + Clock + Files + Threads + Wait + Sync + AllocGlobal>(
     rt: &R,

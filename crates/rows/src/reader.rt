@@ -8,7 +8,6 @@ use std::alloc::Global;
 ///
 /// # Errors
 ///
-///
 /// Fails with the number of the first line that is not understood.
 pub fn rows(alloc: Global, text: &str) -> Result<Vec<WorkedRow>> {
     let mut rows = Vec::new(alloc);

@@ -7,7 +7,6 @@ use std::alloc::{AllocError, Global};
 ///
 /// # Errors
 ///
-///
 /// Fails if a line is not an object, or not the object of a chronicle's line.
 pub fn again(alloc: Global, lines: &[u8]) -> Result<Vec<u8>> {
     let Ok(lines) = str::from_utf8(lines) else {

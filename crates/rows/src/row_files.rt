@@ -10,7 +10,6 @@ use std::rt::Files;
 ///
 /// # Errors
 ///
-///
 /// Fails if an item does not describe a file, or if a file of data/ cannot be read.
 pub fn shelf<R: Files + AllocGlobal>(rt: &R, items: &[Item]) -> Result<Shelf> {
     let mut shelf = Shelf::new(rt.alloc());

@@ -174,7 +174,6 @@ fn difference(state: &mut u64) -> u8 {
 ///
 /// # Errors
 ///
-///
 /// Fails with `AllocError` if the audit fails for another reason.
 fn is_refused(
     alloc: Global,

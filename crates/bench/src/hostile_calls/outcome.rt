@@ -50,7 +50,6 @@ pub enum Difference {
 ///
 /// # Errors
 ///
-///
 /// Fails if the second call did not succeed, or if both succeeded with different results.
 pub fn compared(first: CallAnswer, again: CallAnswer) -> Result<CallOutcome> {
     Ok(asked_again(first, again)?)
@@ -80,7 +79,6 @@ fn asked_again(
 /// whether memory ran out in one of the calls.
 ///
 /// # Errors
-///
 ///
 /// Fails if the two ends differ.
 pub fn led(is_refused: bool, first: &[u8], ample: &[u8]) -> Result<CallOutcome> {
