@@ -16,26 +16,26 @@ use tree::Tree;
 /// A workload that is timed.
 #[derive(Clone, Copy)]
 pub enum Workload<'a> {
-    /// Rank all labels.
+    /// Ranks all labels.
     Ranks(&'a [Label]),
-    /// Resolve one tree, each time the next one.
+    /// Resolves one tree, each time the next one.
     Tree(&'a [Tree], Rule),
-    /// Resolve all trees, one after another.
+    /// Resolves all trees, one after another.
     Turns(&'a [Tree]),
-    /// Resolve all trees in parallel.
+    /// Resolves all trees in parallel.
     Halves(&'a [Tree]),
-    /// Play a campaign from its scenario to its chronicle.
+    /// Plays a campaign from its scenario to its chronicle.
     Play(MessageKind, &'a Scenario),
-    /// Play a campaign from the text of its scenario to the text of its chronicle.
+    /// Plays a campaign from the text of its scenario to the text of its chronicle.
     Tell(MessageKind, &'a str),
-    /// Audit the text of a scenario's chronicle.
+    /// Audits the text of a scenario's chronicle.
     Audit(MessageKind, &'a Scenario, &'a str),
-    /// Play a campaign of signed messages, and take the time of its most expensive close only.
+    /// Plays a campaign of signed messages, of which only the most expensive close is timed.
     Close(&'a Scenario),
-    /// Play a campaign from its scenario to its chronicle, with a thread for each general through all rounds.
+    /// Plays a campaign from its scenario to its chronicle, with a thread for each general through all rounds.
     Muster(&'a Scenario),
-    /// Start threads that do nothing, one for each general in each round. The fields are the numbers of generals and of
-    /// rounds.
+    /// Starts threads that do nothing, one for each general in each round. The fields are the numbers of generals and
+    /// of rounds.
     Threads(u8, u8),
 }
 

@@ -34,13 +34,13 @@ const SHAPE: Shape = Shape {
 /// The work on a program that is timed.
 #[derive(Clone, Copy)]
 pub enum TimedWork {
-    /// Run the plain measure, which is a loop over the program's units.
+    /// Runs the plain measure, which is a loop over the program's units.
     Plain,
     Decode,
     Verify,
-    /// Start activations, which end at once.
+    /// Starts activations, which end at once.
     Start,
-    /// Run activations to their exit.
+    /// Runs activations to their exit.
     Run,
 }
 

@@ -36,7 +36,7 @@ const LATE: &[Event] = &[
     Event::Tick(0),
 ];
 
-/// Two rounds, with events before them and between them that are rejected because no general can act so.
+/// Two rounds, with events before, between and after them that are rejected.
 const WITH_STRANGERS: &[Step] = &[
     Step::Refused(STRANGE, EventError::NoGeneral),
     Step::Done(TICKS),
