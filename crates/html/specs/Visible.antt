@@ -10,7 +10,7 @@ is_control c = is_within 0 8 c || is_within 11 12 c || is_within 14 31 c || is_w
 -- Characters that change the order of others (UAX 9, Bidi_Control) or are not seen (UAX 44,
 -- Default_Ignorable_Code_Point, and the annotation marks U+FFF9 to U+FFFB). U+200C and U+200D, which join letters, and
 -- U+FE00 to U+FE0F, which choose their form, are left out. The three definitions cover the characters below U+2000,
--- those below U+10000, and those above.
+-- those from U+2000 to U+FFFF, and those above.
 abbrev pub is_ignored_below : ℕ → Bool
 is_ignored_below c =
     c == 0xAD || c == 0x34F || c == 0x61C || is_within 0x115F 0x1160 c || is_within 0x17B4 0x17B5 c

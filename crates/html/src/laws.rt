@@ -1,8 +1,8 @@
 //! Laws of HTML pages. Each function does nothing, and its contract is the law.
 ghost use Rattle.html.specs.Laws.{PagesAreElements, PartsAreContent, SectionsAreFitted, TextsAreText, TextsAreVisible};
 
-/// States that escaped text contains no markup: no `<`, no `>`, no double quotation mark, and no `&` except at the
-/// start of a reference.
+/// States that shown text contains no markup: no `<`, no `>`, no double quotation mark, and no `&` except at the start
+/// of a reference.
 pub fn texts_are_text()
     ensures { TextsAreText }
 {}
@@ -18,7 +18,7 @@ pub fn parts_are_content()
     ensures { PartsAreContent }
 {}
 
-/// States that a page with well-formed parts is a document type line followed by one XML element.
+/// States that a page with well-formed parts consists of a document type line, one XML element, and a line feed.
 pub fn pages_are_elements()
     ensures { PagesAreElements }
 {}

@@ -1,4 +1,5 @@
-//! The start and the end of an HTML page: its head, its style sheet and its title.
+//! The start and the end of an HTML page: its head, its style sheet and its title. Every function here that returns a
+//! `Result` fails only if memory runs out.
 ghost use Rattle.std.specs.Prelude.{◌≡◌, ◌++◌, string_bytes, IfOk, OnOk};
 ghost use Rattle.html.specs.Page.{head_end, head_middle, look, look_end, page_end, page_start, preamble, shown};
 
@@ -9,7 +10,7 @@ use std::alloc::{AllocError, Global};
 ///
 /// # Errors
 ///
-/// Fails if there is no memory for the text, as does every function of this file that appends.
+/// Fails if there is no memory for the text.
 pub fn start(alloc: Global, title: &str) -> Result<String, AllocError>
     ensures { IfOk result (λ text. string_bytes text ≡ page_start title.now) }
 {

@@ -1,4 +1,5 @@
-//! The parts of an HTML page: headings, paragraphs, preformatted lines, folds, pictures, lists and tables.
+//! The parts of an HTML page: headings, paragraphs, preformatted lines, folds, pictures, lists and tables. Every
+//! function here that returns a `Result` fails only if memory runs out.
 ghost use Rattle.std.specs.Prelude.{◌≡◌, ◌++◌, string_bytes, OnOk};
 ghost use Rattle.html.specs.Page.{begun_lines, cell, fold_end, fold_start, head, head_start, heading, item_end, item_start, lines, list_end, list_start, paragraph, picture, picture_end, picture_start, picture_tag, row_end, row_start, table_end, table_start, text_item};
 
@@ -9,7 +10,7 @@ use std::alloc::AllocError;
 ///
 /// # Errors
 ///
-/// Fails if there is no memory for the text, as does every function of this file that appends.
+/// Fails if there is no memory for the text.
 pub fn put_heading(out: &mut String, text: &str) -> Result<(), AllocError>
     ensures { OnOk result (string_bytes out.new ≡ string_bytes out.old ++ heading text.now) }
 {

@@ -11,7 +11,7 @@ pub struct Section {
     pub title: &'static str,
     /// The parts below the heading. If there are none, the section has no heading.
     pub told: String,
-    /// The number of bytes of the parts for which there is always room.
+    /// The number of bytes for which there is always room.
     pub room: usize,
     /// The parts that replace `told` if there is no room for it.
     pub instead: String,

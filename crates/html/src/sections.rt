@@ -1,4 +1,5 @@
-//! Writes the sections of an HTML page one after another, and decides which of them fit into its room.
+//! Writes the sections of an HTML page one after another, and decides which of them fit into its room. Every function
+//! here that returns a `Result` fails only if memory runs out.
 ghost use Rattle.std.specs.Prelude.{◌≡◌, ◌++◌, string_bytes, OnOk};
 ghost use Rattle.html.specs.Sections.{fitted_sections, left_by, section, sections_in};
 
@@ -10,7 +11,7 @@ use std::alloc::AllocError;
 ///
 /// # Errors
 ///
-/// Fails if there is no memory for the text, as does every function of this file that appends.
+/// Fails if there is no memory for the text.
 pub fn put_sections(out: &mut String, room: usize, sections: &[Section]) -> Result<(), AllocError>
     ensures { OnOk result (string_bytes out.new ≡ string_bytes out.old ++ sections_in room sections.now) }
 {

@@ -15,7 +15,7 @@ use Rattle.show_chains.specs.Foot.{foot}
 use Rattle.show_chains.specs.Strokes.{Drawn, bare, strokes_of, with_rows}
 use Rattle.show_chains.specs.Words.{several_words}
 
--- A description of a campaign, and the words that its messages are signed.
+-- A description of a campaign, which says that its messages are signed.
 abbrev pub signed_words : Scenario → List ℕ
 signed_words s = campaign_words s.generals s.bound s.commander s.order ++ codes "; signed messages"
 

@@ -1,4 +1,5 @@
-//! Filters lists of signed orders: by signer, by order, and by whether another list contains them.
+//! Filters lists of signed orders: by signer, by order, and by whether another list contains them. Every function here
+//! that returns a `Result` fails only if memory runs out.
 ghost use Rattle.std.specs.Prelude.{◌≡◌, ◌++◌, ◌∷◌, [], cond, not, filter, IfOk, OnOk};
 ghost use Rattle.label.specs.Labels.{on};
 ghost use Rattle.show_chains.specs.Owed.{is_among};
@@ -11,7 +12,7 @@ use std::alloc::{AllocError, Global};
 ///
 /// # Errors
 ///
-/// Fails with `AllocError` if memory runs out, as does every function of this file.
+/// Fails with `AllocError` if memory runs out.
 pub(crate) fn unsigned(
     alloc: Global,
     chains: &[SignedOrder],

@@ -1,4 +1,5 @@
-//! Sorts the strokes of a list into rows, and selects those that are drawn.
+//! Sorts the strokes of a list into rows, and selects those that are drawn. Every function here that returns a `Result`
+//! fails only if memory runs out.
 ghost use Rattle.std.specs.Prelude.{◌≡◌, ◌++◌, ◌∷◌, [], cond, IfOk, OnOk};
 ghost use Rattle.std.specs.List.{list_any};
 ghost use Rattle.show_diagram.specs.Lists.{has_row};
@@ -15,7 +16,7 @@ use std::alloc::{AllocError, Global};
 ///
 /// # Errors
 ///
-/// Fails if there is no memory for the list, as does every function of this file that returns a `Result`.
+/// Fails if there is no memory for the list.
 pub(crate) fn arranged(
     alloc: Global,
     list: Vec<ChainStroke>,

@@ -1,5 +1,5 @@
 //! Computes what a general sent another in a round, and what a loyal general in his place would have sent by algorithm
-//! SM(m).
+//! SM(m). Every function here that returns a `Result` fails only if memory runs out.
 ghost use Rattle.std.specs.Prelude.{◌≡◌, ◌<◌, ◌==◌, ◌++◌, cond, map, nat_le, suc, [], ◌∷◌, IfOk, OnOk};
 ghost use Rattle.std.specs.Int.{bit_at};
 ghost use Rattle.signed.specs.Accepted.{added};
@@ -18,7 +18,7 @@ use std::alloc::{AllocError, Global};
 ///
 /// # Errors
 ///
-/// Fails with `AllocError` if memory runs out, as does every function of this file that returns a `Result`.
+/// Fails with `AllocError` if memory runs out.
 pub(crate) fn sent_to(
     alloc: Global,
     chronicle: &SignedChronicle,
@@ -140,7 +140,7 @@ fn alone_if(
 }
 
 /// Returns what a loyal general would have signed in round `rounds + 2`. It is nothing if he is the commander, or if
-/// that round is past the last in which generals sign.
+/// that round is after the last one, `bound + 1`.
 #[tactic(auto, using(crate::proofs::OwedLemmas::later_commander, crate::proofs::OwedLemmas::later_none))]
 fn later(
     alloc: Global,

@@ -1,4 +1,5 @@
-//! A signed order: an order with the list of its signers, which need not be a valid chain.
+//! A signed order: an order with the list of its signers, which need not be a valid chain. Every function here that
+//! returns a `Result` fails only if memory runs out.
 ghost use Rattle.std.specs.Prelude.{◌≡◌, IfOk};
 ghost use Rattle.label.specs.Labels.{on};
 ghost use Rattle.signed.specs.Chains.{signed_alone, signed_also};
@@ -29,7 +30,7 @@ impl SignedOrder {
     ///
     /// # Errors
     ///
-    /// Fails with `AllocError` if memory runs out, as does every function of this type that returns a `Result`.
+    /// Fails with `AllocError` if memory runs out.
     pub(crate) fn alone(alloc: Global, order: u32, general: u8) -> Result<SignedOrder, AllocError>
         ensures { IfOk result (λ signed. signed ≡ signed_alone order general) }
     {

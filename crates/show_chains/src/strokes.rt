@@ -1,4 +1,5 @@
-//! Collects the strokes of a signed campaign.
+//! Collects the strokes of a signed campaign. Every function here that returns a `Result` fails only if memory runs
+//! out.
 ghost use Rattle.std.specs.Prelude.{◌≡◌, ◌<◌, ◌++◌, [], IfOk, OnOk};
 ghost use Rattle.label.specs.Labels.{on};
 ghost use Rattle.signed.specs.Accepted.{firsts};
@@ -20,7 +21,7 @@ use std::alloc::{AllocError, Global};
 ///
 /// # Errors
 ///
-/// Fails with `AllocError` if memory runs out, as does every function of this file that returns a `Result`.
+/// Fails with `AllocError` if memory runs out.
 #[tactic(auto, unfolding(crate::specs::Strokes::strokes_of))]
 pub(crate) fn strokes(
     alloc: Global,

@@ -126,7 +126,7 @@ fn put_campaign_of(out: &mut String, scenario: &Scenario) -> Result<(), AllocErr
     )
 }
 
-/// Appends a description of a campaign, and the words that its messages are signed.
+/// Appends a description of a campaign, which says that its messages are signed.
 ///
 /// # Errors
 ///

@@ -72,7 +72,7 @@ fn put_one_further(out: &mut String, chain: &SignedOrder) -> Result<(), AllocErr
     put_chain(out, chain)
 }
 
-/// Appends the words that one general sends another something.
+/// Appends `general G sends general P: `, which comes before the chains that were sent.
 #[tactic(auto, unfolding(crate::specs::Words::sends_words))]
 fn put_sends(out: &mut String, general: u8, receiver: u8) -> Result<(), AllocError>
     ensures { OnOk result (string_bytes out.new ≡ string_bytes out.old ++ sends_words general receiver) }
@@ -80,7 +80,7 @@ fn put_sends(out: &mut String, general: u8, receiver: u8) -> Result<(), AllocErr
     write!(out, "general {general} sends general {receiver}: ")
 }
 
-/// Appends the words that one general does not send another something.
+/// Appends `general G does not send general P: `, which comes before the chains that were withheld.
 #[tactic(auto, unfolding(crate::specs::Words::withholds_words))]
 fn put_withholds(out: &mut String, general: u8, receiver: u8) -> Result<(), AllocError>
     ensures { OnOk result (string_bytes out.new ≡ string_bytes out.old ++ withholds_words general receiver) }
@@ -88,7 +88,7 @@ fn put_withholds(out: &mut String, general: u8, receiver: u8) -> Result<(), Allo
     write!(out, "general {general} does not send general {receiver}: ")
 }
 
-/// Appends the words that one general sends another something, or that he does not.
+/// Appends the start of a stroke's words, which says that one general sends or does not send another its chains.
 fn put_lead(
     out: &mut String,
     general: u8,
@@ -152,7 +152,7 @@ fn put_several_of(out: &mut String, stroke: &ChainStroke) -> Result<(), AllocErr
     out.push_str(".")
 }
 
-/// Appends a chain in few words, for which a column has room.
+/// Appends a chain in a few words, for which a column has room.
 fn put_short(out: &mut String, chain: &SignedOrder) -> Result<(), AllocError>
     ensures { OnOk result (string_bytes out.new ≡ string_bytes out.old ++ short_words chain.now) }
 {
@@ -161,7 +161,7 @@ fn put_short(out: &mut String, chain: &SignedOrder) -> Result<(), AllocError>
     put_signers(out, chain.signers())
 }
 
-/// Appends the first of these chains in few words, if there is one.
+/// Appends the first of these chains in a few words, if there is one.
 fn put_first(out: &mut String, chains: &[SignedOrder]) -> Result<(), AllocError>
     ensures { OnOk result (string_bytes out.new ≡ string_bytes out.old ++ first_words chains.now) }
 {

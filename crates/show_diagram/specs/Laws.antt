@@ -39,8 +39,8 @@ IsDrawnHonest stroke = (stroke.differs ≡ false) × (kind stroke ≡ codes "tol
 abbrev pub BlamesTraitors : Scenario → MessageTable → Type 0
 BlamesTraitors s t = All (λ stroke. is_traitor s stroke.teller ≡ false → IsDrawnHonest stroke) (strokes_of t s.order)
 
--- In a finished campaign only strokes of traitors are red. A message does not differ exactly if it is as it should be:
--- the commander sends his order, and another general sends what he received.
+-- In a finished campaign only strokes of traitors are red. A message has `differs` false exactly if it is as it should
+-- be: the commander sends his order, and another general sends what he received.
 pub record OnlyTraitorsDiffer : Type 0 where
   pub drawn : (s : Scenario) (events : List Event) (t : MessageTable) → IsFinishedTable s events t →
       BlamesTraitors s t

@@ -18,7 +18,8 @@ is_past stroke = nat_le most_rows stroke.row
 abbrev pub is_cut : List Stroke → Bool
 is_cut strokes = list_any is_past strokes
 
--- The stroke to p in a round is not drawn, and the same for a stroke that differs from what a loyal general would send.
+-- The stroke belongs to the list of p for a round, and is not drawn. The second definition adds that it differs from
+-- what a loyal general would send.
 abbrev pub is_left : ℕ → ℕ → Stroke → Bool
 is_left round p stroke = is_past stroke && is_to round p stroke
 

@@ -93,7 +93,7 @@ shape_key marks =
     ++ said_if marks.square (codes " Square: a traitor.")
     ++ said_if marks.loyal (codes " Circle at a name: a loyal general.")
 
--- The meanings in a campaign with oral messages.
+-- The meanings of the marks in a campaign with oral messages.
 unfoldable pub told_meaning : List ℕ
 told_meaning = codes "told as an honest relay tells it"
 

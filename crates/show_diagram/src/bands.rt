@@ -1,4 +1,5 @@
-//! Draws the bands of a diagram, one for each round, with its accesses, its strokes and its lists.
+//! Draws the bands of a diagram, one for each round, with its accesses, its strokes and its lists. Every function here
+//! that returns a `Result` fails only if memory runs out.
 ghost use Rattle.std.specs.Prelude.{◌≡◌, ◌++◌, ◌+◌, ◌<◌, ◌≤◌, ◌^◌, codes, length, flat_map, string_bytes, OnOk};
 ghost use Rattle.std.specs.List.{range_with_len};
 ghost use Rattle.show_diagram.specs.Shapes.{text_at, title};
@@ -90,7 +91,7 @@ fn put_inside(
 ///
 /// # Errors
 ///
-/// Fails if there is no memory for the text, as does every function of this file.
+/// Fails if there is no memory for the text.
 pub fn put_round_text(out: &mut String, round: u32) -> Result<(), AllocError>
     ensures { OnOk result (string_bytes out.new ≡ string_bytes out.old
         ++ text_at (codes "round") 16 24 (round_words round)) }

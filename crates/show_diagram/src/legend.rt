@@ -1,4 +1,5 @@
-//! Draws the legend of a diagram, below its foot: a row for each mark that occurs in the diagram.
+//! Draws the legend of a diagram, below its foot: a row for each mark that occurs in the diagram. Every function here
+//! that returns a `Result` fails only if memory runs out.
 ghost use Rattle.std.specs.Prelude.{◌≡◌, ◌≤◌, ◌<◌, ◌^◌, ◌++◌, string_bytes, OnOk};
 ghost use Rattle.std.specs.List.{list_any};
 ghost use Rattle.show_diagram.specs.Legend.{differs_meaning, foot_height, has_circle, has_cross, has_diamond, legend, legend_of, marks_of, meaning_at, meaning_if, missing_meaning, one_if, rows, shape_at, shape_if, shape_key, shape_meanings, stroke_meanings, stroke_rows, told_meaning, wide_meaning};
@@ -110,7 +111,7 @@ pub fn foot_height(marks: DiagramMarks) -> u128
 ///
 /// # Errors
 ///
-/// Fails if there is no memory for the text, as does every function of this file that appends.
+/// Fails if there is no memory for the text.
 pub fn put_legend_of(
     out: &mut String,
     marks: DiagramMarks,

@@ -1,4 +1,5 @@
-//! Builds the lists of what a lieutenant received, one for each round, with a row for each stroke.
+//! Builds the lists of what a lieutenant received, one for each round, with a row for each stroke. Every function here
+//! that returns a `Result` fails only if memory runs out.
 ghost use Rattle.std.specs.Prelude.{ℕ, ◌≡◌, ◌+◌, ◌<◌, ◌^◌, ◌++◌, [], false, IfOk, OnOk, count_by, filter};
 ghost use Rattle.show_diagram.specs.Lists.{count_of, is_in, is_lie, is_same, lists_of, stroke_of, strokes_from, teller};
 ghost use Rattle.show_diagram.specs.Order.{arranged, firsts};
@@ -10,12 +11,12 @@ use crate::told_order::Telling;
 use std::alloc::{AllocError, Global};
 use std::collections::{HashMap, HashSet};
 
-/// Appends the strokes for what a lieutenant received in the first `rounds` rounds, sorted by round. Each round has one
-/// row for each general and order.
+/// Appends the strokes for what a lieutenant received in the first `rounds` rounds, sorted by round. The list of a
+/// round has one row for each different message.
 ///
 /// # Errors
 ///
-/// Fails if there is no memory, as does every function of this file that returns a `Result`.
+/// Fails if there is no memory.
 pub(crate) fn push_lists(
     alloc: Global,
     strokes: &mut Vec<Stroke>,

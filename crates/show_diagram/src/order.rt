@@ -1,4 +1,5 @@
-//! Sorts the rows of a list. A list that is too long to be drawn begins with the lies.
+//! Sorts the rows of a list. A list that is too long to be drawn begins with the lies. Every function here that returns
+//! a `Result` fails only if memory runs out.
 ghost use Rattle.std.specs.Prelude.{◌≡◌, ◌++◌, ◌∷◌, [], cond, filter, not, IfOk, OnOk};
 ghost use Rattle.std.specs.List.{list_any};
 ghost use Rattle.show_diagram.specs.Lists.{is_in, is_lie, teller};
@@ -15,7 +16,7 @@ pub const MOST: usize = 24;
 ///
 /// # Errors
 ///
-/// Fails if there is no memory for the list, as does every function of this file that returns a `Result`.
+/// Fails if there is no memory for the list.
 pub(crate) fn arranged(alloc: Global, list: Vec<Telling>) -> Result<Vec<Telling>, AllocError>
     ensures { IfOk result (λ rows. rows.items ≡ arranged is_lie teller list.items) }
 {

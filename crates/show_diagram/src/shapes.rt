@@ -1,4 +1,5 @@
-//! Writes the SVG elements of a diagram: texts, lines, strokes, groups, marks and titles.
+//! Writes the SVG elements of a diagram: texts, lines, strokes, groups, marks and titles. Every function here that
+//! returns a `Result` fails only if memory runs out.
 ghost use Rattle.std.specs.Prelude.{◌≡◌, ◌++◌, string_bytes, OnOk};
 ghost use Rattle.show_diagram.specs.Shapes.{group_end, group_start, line, mark, said_if, shape_of, sort_of, stroke_end, stroke_open, stroke_start, stroke_way, text_at, text_end, text_start, title_end, title_start};
 
@@ -8,7 +9,7 @@ use std::alloc::AllocError;
 ///
 /// # Errors
 ///
-/// Fails if there is no memory for the text, as does every function of this file that appends.
+/// Fails if there is no memory for the text.
 #[tactic(auto, unfolding(crate::specs::Shapes::text_start))]
 pub fn put_text_start(out: &mut String, class: &str, x: u128, y: u128) -> Result<(), AllocError>
     ensures { OnOk result (string_bytes out.new ≡ string_bytes out.old ++ text_start class.now x y) }

@@ -1,4 +1,5 @@
-//! Draws a campaign with oral messages in SVG.
+//! Draws a campaign with oral messages in SVG. Every function here that returns a `Result` fails only if memory runs
+//! out.
 ghost use Rattle.std.specs.Prelude.{◌≡◌, ◌<◌, ◌++◌, codes, flat_map, string_bytes, IfOk, OnOk};
 ghost use Rattle.std.specs.List.{range_with_len};
 ghost use Rattle.show_diagram.specs.Shapes.{text_at, title};
@@ -84,7 +85,7 @@ pub fn start() -> &'static str
 ///
 /// # Errors
 ///
-/// Fails if there is no memory for the text, as does every function of this file that appends.
+/// Fails if there is no memory for the text.
 #[tactic(auto, unfolding(crate::specs::Svg::box_words))]
 pub fn put_box(out: &mut String, width: u128, height: u128) -> Result<(), AllocError>
     ensures { OnOk result (string_bytes out.new ≡ string_bytes out.old ++ box_words width height) }

@@ -101,6 +101,8 @@ pub fn outline(stroke: &Stroke) -> &'static str
     outline_of(stroke.differs, stroke.told)
 }
 
+/// Returns the outline of a mark as path data: a circle if an honest relay would send the same, a diamond for another
+/// order, and a cross if no order was sent.
 pub(crate) fn outline_of(differs: bool, told: Option<u32>) -> &'static str
     ensures { result.now ≡ outline_of differs told }
 {

@@ -168,7 +168,7 @@ programs_roomed s told = record {
 abbrev pub programs_section : Scenario → Section
 programs_section s = programs_roomed s (programs_told (each_program room_for_sections s))
 
--- The diagram, and a hint how to get it as a file of its own. A wide diagram is printed on a wide sheet, because a
+-- The diagram, and a hint on how to get it as a file of its own. A wide diagram is printed on a wide sheet, because a
 -- narrow sheet would make its letters too small to be read.
 abbrev pub is_wide : Scenario → List Access → Bool
 is_wide s accesses = nat_lt narrow_sheet (width s.generals accesses)
@@ -194,8 +194,8 @@ unfoldable pub lieutenant_words : ℕ → Bool → ℕ → List ℕ
 lieutenant_words g is_traitor order =
     codes "Lieutenant " ++ (decimal g ++ (traitor_words is_traitor ++ (codes " decides " ++ decimal order)))
 
--- How to print the lists by which a lieutenant decides. In a campaign of five rounds he may have more than a thousand
--- lists, so a page leaves them out.
+-- The words that say how to print the lists by which a lieutenant decides. In a campaign of five rounds he may have
+-- more than a thousand lists, so a page leaves them out.
 unfoldable pub elsewhere_words : ℕ → List ℕ
 elsewhere_words g =
     codes "Of five rounds a page leaves out the lists by which he decides so: byzlab play, with --schedule as here, "

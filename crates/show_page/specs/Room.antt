@@ -41,7 +41,7 @@ room_for_accesses = 130000
 abbrev pub room_for_chronicle : ℕ
 room_for_chronicle = 400000
 
--- The bytes of HTML for each program if there is no room for all: one of `generals + 1` equal shares.
+-- The bytes of HTML for each program if there is no room for all: one of `generals + 1` equal shares of 145,000.
 abbrev pub share : ℕ → ℕ
 share generals = 145000 / (generals + 1)
 

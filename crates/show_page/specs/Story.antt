@@ -1,5 +1,4 @@
--- The story of a scenario, which is the comments and blank lines at its head, and the text after it (own; TOML 1.0,
--- "Comment").
+-- The story of a scenario, the comments and blank lines at its head, and the text after it (own; TOML 1.0, "Comment").
 use Rattle.std.specs.Prelude.{ℕ, ◌+◌, ◌==◌, Bool, false, ◌||◌, ◌&&◌, not, if◌then◌else◌, List, [], ◌∷◌, drop, take}
 use Rattle.label.specs.Labels.{on}
 

@@ -1,4 +1,5 @@
-//! Writes a campaign with oral messages as an HTML page.
+//! Writes a campaign with oral messages as an HTML page. Every function here that returns a `Result` fails only if
+//! memory runs out.
 ghost use Rattle.std.specs.Prelude.{◌≡◌, ◌++◌, encode_utf8, flat_map, option_map, string_bytes, IfOk, OnOk};
 ghost use Rattle.show_page.specs.Account.{accesses_section, chronicle_heading, chronicle_section, diagram_section, hinted, is_wide, page_text, parts, picture_heading, picture_hint, picture_name, picture_section, programs_section, title};
 ghost use Rattle.trace.specs.Text.{chronicle_text};
@@ -134,11 +135,11 @@ pub fn is_wide(alloc: Global, scenario: &Scenario, accesses: &[Access]) -> Resul
     Ok(width(alloc, scenario.generals(), accesses)? > NARROW_SHEET)
 }
 
-/// Returns the section with a diagram, and with a hint how to get the diagram as a file of its own.
+/// Returns the section with a diagram, and with a hint on how to get the diagram as a file of its own.
 ///
 /// # Errors
 ///
-/// Fails if there is no memory for the text, as does every function of this file that returns a `Result`.
+/// Fails if there is no memory for the text.
 pub fn picture_section(alloc: Global, is_wide: bool, svg: &str) -> Result<Section, AllocError>
     ensures { IfOk result (λ section. section ≡ picture_section is_wide svg.now) }
 {
@@ -153,7 +154,7 @@ pub fn picture_section(alloc: Global, is_wide: bool, svg: &str) -> Result<Sectio
     )
 }
 
-/// Appends a hint how to get this diagram as a file of its own, then the diagram.
+/// Appends a hint on how to get this diagram as a file of its own, then the diagram.
 fn put_hinted(out: &mut String, is_wide: bool, svg: &str) -> Result<(), AllocError>
     ensures { OnOk result (string_bytes out.new ≡ string_bytes out.old ++ hinted is_wide svg.now) }
 {
@@ -190,7 +191,7 @@ fn chronicle_text(alloc: Global, chronicle: &Chronicle) -> Result<Vec<u8>, Alloc
     }
 }
 
-/// Returns the text in which each of these bytes is the character with that number.
+/// Converts bytes to text: each byte becomes the character with that number.
 fn text_of(alloc: Global, bytes: &[u8]) -> Result<String, AllocError>
     ensures { IfOk result (λ text. string_bytes text ≡ flat_map encode_utf8 bytes.now) }
 {
@@ -232,7 +233,7 @@ fn picture_name() -> &'static str
     "Space-time diagram"
 }
 
-/// Returns the hint how to get the diagram as a file of its own.
+/// Returns the hint on how to get the diagram as a file of its own.
 #[tactic(auto, unfolding(crate::specs::Account::picture_hint))]
 fn picture_hint() -> &'static str
     ensures { result.now ≡ picture_hint }

@@ -1,8 +1,8 @@
 //! Laws of the pages of campaigns with oral messages. Each function does nothing, and its contract is the law.
 ghost use Rattle.show_page.specs.Laws.{CampaignPagesAreElements, CampaignPagesAreShort, FoldsHideNothing};
 
-/// States that a campaign's page is a document type line followed by one element, whatever the scenario's text, the
-/// table and the chronicle.
+/// States that a campaign's page consists of a document type line, one XML element, and a line feed, whatever the
+/// scenario's text, the table and the chronicle.
 pub fn campaign_pages_are_elements()
     ensures { CampaignPagesAreElements }
 {}

@@ -3,7 +3,7 @@
 ghost use Rattle.std.specs.Prelude.{◌≡◌};
 ghost use Rattle.show_page.specs.Printers.{accesses_printer, chronicle_printer, lieutenants_printer, picture_printer, programs_printer, scenario_printer, schedule_printer};
 
-/// Returns the hint where to find the scenario.
+/// Returns the hint that says where to find the scenario.
 #[tactic(auto, unfolding(crate::specs::Printers::scenario_printer))]
 pub(crate) fn scenario_printer() -> &'static str
     ensures { result.now ≡ scenario_printer }
@@ -11,7 +11,7 @@ pub(crate) fn scenario_printer() -> &'static str
     "it stands in the scenario's file, and in those that it names."
 }
 
-/// Returns the hint where to find the schedule.
+/// Returns the hint that says where to find the schedule.
 #[tactic(auto, unfolding(crate::specs::Printers::schedule_printer))]
 pub(crate) fn schedule_printer() -> &'static str
     ensures { result.now ≡ schedule_printer }
@@ -19,7 +19,7 @@ pub(crate) fn schedule_printer() -> &'static str
     "it is the file of --schedule."
 }
 
-/// Returns the hint how to print what is known of a program.
+/// Returns the hint that says how to print what is known of a program.
 #[tactic(auto, unfolding(crate::specs::Printers::programs_printer))]
 pub(crate) fn programs_printer() -> &'static str
     ensures { result.now ≡ programs_printer }
@@ -27,7 +27,7 @@ pub(crate) fn programs_printer() -> &'static str
     "byzlab check --explain, with --asm or --elf, tells what is known of a program in a file of its own."
 }
 
-/// Returns the hint how to print the diagram.
+/// Returns the hint that says how to print the diagram.
 #[tactic(auto, unfolding(crate::specs::Printers::picture_printer))]
 pub(crate) fn picture_printer() -> &'static str
     ensures { result.now ≡ picture_printer }
@@ -35,7 +35,7 @@ pub(crate) fn picture_printer() -> &'static str
     "byzlab draw writes it, with --schedule or --chronicle as here."
 }
 
-/// Returns the hint how to print why the lieutenants decide so.
+/// Returns the hint that says how to print why the lieutenants decide so.
 #[tactic(auto, unfolding(crate::specs::Printers::lieutenants_printer))]
 pub(crate) fn lieutenants_printer() -> &'static str
     ensures { result.now ≡ lieutenants_printer }
@@ -44,7 +44,7 @@ pub(crate) fn lieutenants_printer() -> &'static str
      decide so."
 }
 
-/// Returns the hint where to find the accesses.
+/// Returns the hint that says where to find the accesses.
 #[tactic(auto, unfolding(crate::specs::Printers::accesses_printer))]
 pub(crate) fn accesses_printer() -> &'static str
     ensures { result.now ≡ accesses_printer }
@@ -52,7 +52,7 @@ pub(crate) fn accesses_printer() -> &'static str
     "they stand in the chronicle, the file of --chronicle, or what byzlab play prints, with --schedule as here."
 }
 
-/// Returns the hint where to find the chronicle.
+/// Returns the hint that says where to find the chronicle.
 #[tactic(auto, unfolding(crate::specs::Printers::chronicle_printer))]
 pub(crate) fn chronicle_printer() -> &'static str
     ensures { result.now ≡ chronicle_printer }

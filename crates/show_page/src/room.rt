@@ -1,5 +1,5 @@
 //! Limits on the length of a page: the room of each section in bytes, and the text that replaces a section for which
-//! there is no room.
+//! there is no room. Every function here that returns a `Result` fails only if memory runs out.
 ghost use Rattle.std.specs.Prelude.{◌≡◌, ◌++◌, string_bytes, IfOk, OnOk};
 ghost use Rattle.show_page.specs.Room.{fitted, lines_told, over, over_words, roomed, share, units_words};
 
@@ -34,7 +34,8 @@ pub(crate) const ROOM_FOR_ACCESSES: usize = 130_000;
 /// The bytes of HTML for which there is always room in the chronicle's section.
 pub(crate) const ROOM_FOR_CHRONICLE: usize = 400_000;
 
-/// Returns the bytes of HTML for each program if there is no room for all: one of `generals + 1` equal shares.
+/// Returns the bytes of HTML for each program if there is no room for all: one of `generals + 1` equal shares of
+/// 145,000.
 pub(crate) fn share(generals: u8) -> usize
     ensures { result ≡ share generals }
 {
@@ -53,7 +54,7 @@ pub(crate) const NARROW_SHEET: u128 = 1300;
 ///
 /// # Errors
 ///
-/// Fails if there is no memory for the text, as does every function of this file that returns a `Result`.
+/// Fails if there is no memory for the text.
 pub(crate) fn roomed(
     alloc: Global,
     title: &'static str,

@@ -1,4 +1,5 @@
-//! The section of a page that shows the scenario of a campaign, with the story at its head.
+//! The section of a page that shows the scenario of a campaign, with the story at its head. Every function here that
+//! returns a `Result` fails only if memory runs out.
 ghost use Rattle.std.specs.Prelude.{◌≡◌, string_bytes, IfOk};
 ghost use Rattle.show_page.specs.Account.{scenario_heading, scenario_instead, scenario_section, scenario_told, story_told};
 
@@ -13,7 +14,7 @@ use std::alloc::{AllocError, Global};
 ///
 /// # Errors
 ///
-/// Fails if there is no memory for the text, as does every function of this file that returns a `Result`.
+/// Fails if there is no memory for the text.
 pub fn scenario_section(alloc: Global, text: &str) -> Result<Section, AllocError>
     ensures { IfOk result (λ section. section ≡ scenario_section text.now) }
 {

@@ -1,4 +1,5 @@
-//! The section of a page that shows the schedule of a campaign.
+//! The section of a page that shows the schedule of a campaign. Every function here that returns a `Result` fails only
+//! if memory runs out.
 ghost use Rattle.std.specs.Prelude.{◌≡◌, ◌==◌, length, option_map, string_bytes, IfOk};
 ghost use Rattle.std.specs.List.{list_all};
 ghost use Rattle.html.specs.Page.{paragraph};
@@ -16,7 +17,7 @@ use world::{Schedule, ScheduleLine};
 ///
 /// # Errors
 ///
-/// Fails if there is no memory for the text, as does every function of this file that returns a `Result`.
+/// Fails if there is no memory for the text.
 pub fn schedule_section(alloc: Global, schedule: Option<&Schedule>) -> Result<Section, AllocError>
     ensures { IfOk result (λ section. section ≡ schedule_section (option_map (λ s. s.now) schedule.entry)) }
 {

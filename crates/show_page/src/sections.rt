@@ -1,4 +1,5 @@
 //! The sections of a page with a part for each general: the traitors' programs, and what each lieutenant received.
+//! Every function here that returns a `Result` fails only if memory runs out.
 ghost use Rattle.std.specs.Prelude.{◌≡◌, ◌<◌, ◌++◌, string_bytes, IfOk, OnOk};
 ghost use Rattle.show_page.specs.Account.{each_lieutenant, each_program, elsewhere_words, explained_told, general_name, lieutenant_part, lieutenant_words, lieutenants_heading, lieutenants_roomed, lieutenants_section, no_programs, program_part, program_told, programs_heading, programs_section, programs_shared, programs_told, traitor_words, view_of, why_part};
 ghost use Rattle.show_page.specs.Room.{room_for_sections};
@@ -25,7 +26,7 @@ use world::Chronicle;
 ///
 /// # Errors
 ///
-/// Fails if there is no memory for the text, as does every function of this file that returns a `Result`.
+/// Fails if there is no memory for the text.
 pub fn programs_section(alloc: Global, scenario: &Scenario) -> Result<Section, AllocError>
     ensures { IfOk result (λ section. section ≡ programs_section scenario.now) }
 {
@@ -252,8 +253,8 @@ fn put_lieutenant_of<H: Heard>(
     put_fold_end(out)
 }
 
-/// Returns how much of a tree a page shows: two levels below the commander's, with equal labels folded. It includes the
-/// commander's order.
+/// Returns the view of a tree on a page: two levels below the commander's, with labels folded if the same was received
+/// for all. It includes the commander's order.
 fn view_of(scenario: &Scenario) -> View
     ensures { result ≡ view_of scenario.now }
 {
@@ -271,7 +272,8 @@ fn has(generals: &[u8], general: u8) -> bool
     generals.iter().any(|x| *x == general)
 }
 
-/// Appends how a lieutenant reaches his decision. For a campaign of five rounds, appends instead how to print it.
+/// Appends an explanation of how a lieutenant reaches his decision. For a campaign of five rounds, appends instead how
+/// to print it.
 fn put_why<H: Heard>(
     alloc: Global,
     out: &mut String,
@@ -290,7 +292,7 @@ fn put_why<H: Heard>(
     put_lines(out, why.as_str())
 }
 
-/// Returns the words that say how to print the way in which a lieutenant reaches his decision.
+/// Returns the words that say how to print the explanation of a lieutenant's decision.
 #[tactic(auto, unfolding(crate::specs::Account::elsewhere_words))]
 fn elsewhere_words(alloc: Global, general: u8) -> Result<String, AllocError>
     ensures { IfOk result (λ words. string_bytes words ≡ elsewhere_words general) }

@@ -1,8 +1,8 @@
 //! Laws of the pages of campaigns with signed messages. Each function does nothing, and its contract is the law.
 ghost use Rattle.show_page.specs.SignedLaws.{SignedPagesAreElements, SignedPagesAreShort};
 
-/// States that a signed campaign's page is a document type line followed by one element, whatever the scenario's text
-/// and the chronicle.
+/// States that a signed campaign's page consists of a document type line, one XML element, and a line feed, whatever
+/// the scenario's text and the chronicle.
 pub fn signed_pages_are_elements()
     ensures { SignedPagesAreElements }
 {}

@@ -34,7 +34,7 @@ abbrev pub is_same : Option ℕ → Option ℕ → Bool
 is_same None other = is_none other
 is_same (Some order) other = is_told order other
 
--- p received the same for w and from j about w, and the latter is no lie.
+-- p received the same for w as from j about w, and the latter is no lie.
 abbrev pub tells : MessageTable → List ℕ → List ℕ → ℕ → ℕ → Bool
 tells t traitors w j p =
     is_same (told t.messages (w ++ j ∷ []) p) (told t.messages w p) && is_honest (mark_at t traitors w j p)

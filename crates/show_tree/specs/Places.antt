@@ -10,7 +10,7 @@ use Rattle.show_tree.specs.declared.node.Branch.TheVariants.{Tee, Corner, Bar, G
 abbrev pub later_names : List ℕ → List ℕ
 later_names gs = flat_map (λ h. codes "." ++ decimal h) gs
 
--- No general who is not on the list is higher than j.
+-- Every general who is not on the list has a number of at most j.
 abbrev pub is_last : ℕ → List ℕ → ℕ → Bool
 is_last n w j = list_all (λ i. nat_le i j) (others n w)
 

@@ -92,7 +92,8 @@ fn is_same(one: Option<u32>, other: Option<u32>) -> bool
 }
 
 /// Returns whether the message of general `teller` about a label is known to be a lie. It is one if he is named as a
-/// traitor and sent the lieutenant another order than he received. The label `next` is `label` followed by `teller`.
+/// traitor and did not send the lieutenant the order that he received. The label `next` is `label` followed by
+/// `teller`.
 pub fn mark_at<H: Heard>(
     table: &H,
     traitors: &[u8],

@@ -34,10 +34,10 @@ pub enum Extent {
     Last,
     /// The labels below are shown.
     Open,
-    /// This number of labels below is folded. For each of them the same was received as for the label, and none of them
-    /// is a lie.
+    /// The labels below are folded, and this is their number. For each of them the same was received as for the label,
+    /// and none of them is a lie.
     Folded(u32),
-    /// This number of labels below is not shown, because they are deeper than the view.
+    /// The labels below are not shown, because they are deeper than the view. This is their number.
     Cut(u32),
 }
 
