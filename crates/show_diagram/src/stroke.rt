@@ -13,7 +13,7 @@ pub struct Stroke {
     pub told: Option<u32>,
     /// Whether an honest relay would have sent something else.
     pub differs: bool,
-    /// The number of labels for which it was sent.
+    /// The number of labels for which it was sent, or in a signed campaign the number of chains.
     pub labels: usize,
     /// The number of strokes of this round and receiver that come before it.
     pub row: usize,

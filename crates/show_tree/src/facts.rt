@@ -144,8 +144,8 @@ pub(crate) fn is_honest(mark: Trust) -> bool
     matches!(mark, Trust::Honest)
 }
 
-/// Checks whether the lieutenant received the same for all labels that extend this one within `relays` relays, and
-/// whether none of them is a lie.
+/// Checks whether the lieutenant received the same for this label and for all labels that extend it within `relays`
+/// relays, and whether none of these extensions is a lie.
 #[cycle(alike)]
 fn is_alike<H: Heard>(table: &H, traitors: &[u8], general: u8, label: &Label, relays: u8) -> bool
     requires place { is_place (H.seen table.now) label.now general ≡ true }
@@ -166,7 +166,7 @@ fn is_alike<H: Heard>(table: &H, traitors: &[u8], general: u8, label: &Label, re
 }
 
 /// Checks whether the lieutenant received the same for `label`, for `next`, and for all labels that extend `next`
-/// within `relays` relays, and whether none of them is a lie.
+/// within `relays` relays. Neither `next` nor one of these extensions may be a lie.
 #[cycle(alike)]
 fn is_alike_by<H: Heard>(
     table: &H,
