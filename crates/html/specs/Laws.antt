@@ -1,4 +1,4 @@
--- Laws of pages. Each is the contract of a function of this crate.
+-- Laws of HTML pages. Each is the contract of a function of this crate.
 use Rattle.std.specs.Prelude.{ℕ, ◌+◌, ◌≤◌, ◌<◌, ◌≡◌, ◌⊎◌, Bool, true, not, List, ◌∷◌, ◌++◌, codes, length}
 use Rattle.std.specs.List.{All, list_all}
 use Rattle.html.specs.Grammar.{IsContent, IsElement, IsText}
@@ -6,17 +6,17 @@ use Rattle.html.specs.Page.{begun_lines, cell, fold, head, heading, item, lines,
 use Rattle.html.specs.Sections.{Section, all_sections, bytes_of, heading_bytes, rooms, sections_in, standing_in, told_bytes}
 use Rattle.html.specs.Visible.{is_hidden, visible}
 
--- a text of others is text without tags: no < > and ", and no & but that of a reference
+-- Shown text is text without tags: it contains no `<`, `>` or `"`, and no `&` except that of a reference.
 abbrev pub TextsAreText : Type 0
 TextsAreText = (text : List ℕ) → IsText (shown text)
 
--- what is shown of a text has none of the characters that Visible lists; a text without them is shown as it is
+-- Visible text contains none of the characters that Visible lists. A text without such characters is shown unchanged.
 pub record TextsAreVisible : Type 0 where
   pub seen : (cs : List ℕ) → list_all (λ c. not (is_hidden c)) (visible cs) ≡ true
   pub same : (cs : List ℕ) → list_all (λ c. not (is_hidden c)) cs ≡ true → visible cs ≡ cs
 
--- parts are content, with content in them: folds, lists and their items, tables and their rows, and a picture that is
--- content
+-- All parts are content if what they contain is content. This covers folds, lists and their items, tables and their
+-- rows, and pictures.
 pub record PartsAreContent : Type 0 where
   pub heading : (text : List ℕ) → IsContent (heading text)
   pub paragraph : (text : List ℕ) → IsContent (paragraph text)
@@ -32,32 +32,32 @@ pub record PartsAreContent : Type 0 where
   pub cell : (text : List ℕ) → IsContent (cell text)
   pub picture : (is_wide : Bool) (name svg : List ℕ) → IsContent svg → IsContent (picture is_wide name svg)
 
--- a page with such parts is one element of XML, between the line that says that it is HTML and a line feed
+-- A page with such parts consists of the document type line, one XML element, and a line feed.
 abbrev pub PagesAreElements : Type 0
 PagesAreElements = (title parts : List ℕ) → IsContent parts →
     (text : List ℕ) × IsElement text × (page title parts ≡ codes "<!DOCTYPE html>\n" ++ text ++ codes "\n")
 
--- a text stands in another
+-- A text is a contiguous part of another text.
 abbrev pub StandsIn : List ℕ → List ℕ → Type 0
 StandsIn part whole = (before : List ℕ) × (after : List ℕ) × (whole ≡ before ++ part ++ after)
 
--- what stands in a section's place is within its own room
+-- The replacement of a section fits into the section's own room.
 abbrev pub IsRoomy : Section → Type 0
 IsRoomy s = length s.instead ≤ s.room
 
--- a section of content, and content in its place
+-- A section's parts are content, and so is its replacement.
 abbrev pub IsFilled : Section → Type 0
 IsFilled s = IsContent s.told × IsContent s.instead
 
--- what stands of a section, between these of the others, is what it tells, or what stands in its place, where it is
--- longer than what they leave
+-- What is written of a section is its full text. It may be the replacement only if the full text is longer than what
+-- the other sections leave.
 abbrev pub IsToldOrTooLong : ℕ → Section → List (List ℕ) → List ℕ → List (List ℕ) → Type 0
 IsToldOrTooLong room s ahead own behind =
     (own ≡ s.told) ⊎ ((own ≡ s.instead) × (room < bytes_of ahead + length s.told + bytes_of behind))
 
--- sections whose own rooms are there take the room and their headings at most; each within its own room is told, and
--- where the room suffices for all, so are all; one that is left out is longer than what the others leave; what stands
--- of each stands in the text; and they are content where each is
+-- Sections whose own rooms fit into the room take at most the room and their headings. A section within its own room is
+-- written in full, and so are all sections if the room suffices for all. A section that is left out is longer than what
+-- the others leave. Each section's text or its replacement is in the result, which is content if each section is.
 pub record SectionsAreFitted : Type 0 where
   pub short :
       (room : ℕ) (ss : List Section) → rooms ss ≤ room → All IsRoomy ss

@@ -1,22 +1,23 @@
--- A page of HTML (HTML Living Standard, section 13.1) that is one element of XML too, byte by byte. Texts of others are
--- made visible and escaped.
+-- An HTML page (HTML Living Standard, section 13.1), defined byte by byte. Apart from its first line it is also one XML
+-- element. Untrusted text is made visible and escaped.
 use Rattle.std.specs.Prelude.{ℕ, Bool, true, false, List, ◌++◌, codes}
 use Rattle.std.specs.Str.{chars, encode_utf8_all}
 use Rattle.html.specs.Escaped.{escaped}
 use Rattle.html.specs.Visible.{visible}
 
--- a text of others
+-- Untrusted text as a page shows it: made visible, then escaped.
 abbrev pub shown : List ℕ → List ℕ
 shown text = encode_utf8_all (escaped (visible (chars text)))
 
--- that it is HTML, in English, and what it may use: its own style, and pictures that stand in it
+-- The start of a page, up to its style sheet. It says that the page is HTML in English, and allows only its own style
+-- and embedded pictures.
 unfoldable pub preamble : List ℕ
 preamble =
     codes "<!DOCTYPE html>\n<html lang=\"en\">\n<head>\n<meta charset=\"utf-8\"/>\n"
     ++ codes "<meta http-equiv=\"Content-Security-Policy\" content=\"default-src 'none'; style-src 'unsafe-inline'; "
     ++ codes "img-src data:\"/>\n<meta name=\"viewport\" content=\"width=device-width, initial-scale=1\"/>\n<style>"
 
--- how it looks
+-- The style sheet.
 unfoldable pub look : List ℕ
 look =
     codes ":root{color-scheme:light dark}body{margin:0;background:#fff;color:#111;font:16px/1.5 sans-serif}"
@@ -52,7 +53,7 @@ page_start title = preamble ++ look ++ look_end ++ shown title ++ head_middle ++
 abbrev pub page_end : List ℕ
 page_end = codes "</main>\n</body>\n</html>\n"
 
--- a page of this title with these parts
+-- A page with the given title and parts.
 abbrev pub page : List ℕ → List ℕ → List ℕ
 page title parts = page_start title ++ parts ++ page_end
 
@@ -64,15 +65,15 @@ heading text = codes "<h2>" ++ shown text ++ codes "</h2>\n"
 abbrev pub paragraph : List ℕ → List ℕ
 paragraph text = codes "<p>" ++ shown text ++ codes "</p>\n"
 
--- a text whose lines stand as they are, behind a line feed, which is not shown
+-- A preformatted text, which keeps its lines. A browser does not show the line feed before it.
 abbrev pub lines : List ℕ → List ℕ
 lines text = codes "<pre>\n" ++ shown text ++ codes "</pre>\n"
 
--- a text of which each line stands behind a line feed, the first of which is not shown
+-- A preformatted text in which each line begins with a line feed. A browser does not show the first line feed.
 abbrev pub begun_lines : List ℕ → List ℕ
 begun_lines text = codes "<pre>" ++ shown text ++ codes "</pre>\n"
 
--- parts that are shown where a reader opens them, below a summary
+-- The start of a fold. Its summary is always shown, and its parts only if the reader opens it.
 abbrev pub fold_start : List ℕ → List ℕ
 fold_start summary = codes "<details>\n<summary>" ++ shown summary ++ codes "</summary>\n"
 
@@ -82,7 +83,8 @@ fold_end = codes "</details>\n"
 abbrev pub fold : List ℕ → List ℕ → List ℕ
 fold summary parts = fold_start summary ++ parts ++ fold_end
 
--- a picture as it stands, under this name; the keys reach it, and on paper a wide one has a sheet of its own
+-- A picture, unchanged, with an accessible name. It can be scrolled by keyboard, and a wide one has a sheet of its own
+-- on paper.
 unfoldable pub picture_tag : Bool → List ℕ
 picture_tag true = codes "<figure class=\"wide\" tabindex=\"0\" aria-label=\""
 picture_tag false = codes "<figure tabindex=\"0\" aria-label=\""
@@ -96,7 +98,7 @@ picture_end = codes "</figure>\n"
 abbrev pub picture : Bool → List ℕ → List ℕ → List ℕ
 picture is_wide name svg = picture_start is_wide name ++ svg ++ picture_end
 
--- items of a list: a text, or parts
+-- A list. Each of its items is a text or contains parts.
 abbrev pub list_start : List ℕ
 list_start = codes "<ul>\n"
 
@@ -118,7 +120,7 @@ item_end = codes "</li>\n"
 abbrev pub item : List ℕ → List ℕ
 item parts = item_start ++ parts ++ item_end
 
--- a table: rows of cells, of which some are the heads of columns
+-- A table, which consists of rows of cells. The cells of a header row are column headers.
 abbrev pub table_start : List ℕ
 table_start = codes "<table>\n"
 

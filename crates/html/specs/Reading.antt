@@ -1,7 +1,7 @@
--- What a reader of XML takes from a text without tags (XML 1.0, productions 14, 66 and 68).
+-- What an XML reader reads from a text without tags (XML 1.0, productions 14, 66 and 68).
 use Rattle.std.specs.Prelude.{ℕ, ◌==◌, if◌then◌else◌, List, [], ◌∷◌, ◌++◌, codes, bytes_eq, Option, None, Some, option_map}
 
--- the character that a reference of this name stands for, of those that are written here
+-- The character that a reference with this name denotes. Only the references that this crate writes are defined.
 abbrev pub meaning : List ℕ → Option ℕ
 meaning name =
     if bytes_eq name (codes "amp") then Some 38
@@ -14,13 +14,13 @@ meaning name =
     else if bytes_eq name (codes "#13") then Some 13
     else None
 
--- with one character before what else is read, if all can be read
+-- A character put before the rest of what is read, if both can be read.
 abbrev pub onto : Option ℕ → Option (List ℕ) → Option (List ℕ)
 onto None rest = None
 onto (Some c) rest = option_map (λ cs. c ∷ cs) rest
 
--- what is read: outside of references, or inside of one whose name has begun so; a reference ends with a semicolon, and
--- no tag is read
+-- The characters that are read. The state is `None` outside of references, and inside of one it is the name read so
+-- far. A reference ends with a semicolon. A tag cannot be read.
 abbrev pub read : Option (List ℕ) → List ℕ → Option (List ℕ)
 read None [] = Some []
 read (Some name) [] = None

@@ -1,35 +1,36 @@
--- Sections of a page, and for which of them there is room: each has a room of its own, and one that is longer stands
--- where what the others leave of the page's room suffices.
+-- Sections of an HTML page, and which of them fit into the page's room. Each section has a room of its own. A longer
+-- section is written in full if the other sections leave enough of the page's room.
 use Rattle.std.specs.Prelude.{ℕ, ◌+◌, ◌-◌, nat_le, if◌then◌else◌, List, [], ◌∷◌, ◌++◌, length}
 use Rattle.html.specs.Page.{heading}
 
--- what a section tells under its title, the bytes for which there is room in any case, and what stands in its place
--- where there is no room
+-- A section: its title, its text, the number of bytes for which there is always room, and the replacement for a text
+-- that does not fit.
 pub record Section : Type 0 where
   pub title : List ℕ
   pub told : List ℕ
   pub room : ℕ
   pub instead : List ℕ
 
--- what stands of it in any case
+-- The text for which there is room in any case: the section's own text if it fits, else its replacement.
 abbrev pub sure : Section → List ℕ
 sure s = if nat_le (length s.told) s.room then s.told else s.instead
 
--- how many bytes more it takes where it is told
+-- How many more bytes a section takes if it is written in full.
 abbrev pub more : Section → ℕ
 more s = length s.told - length (sure s)
 
--- what sections leave of so many bytes, if no more of them is told than is sure
+-- How many bytes of the room are left if each section takes only the bytes that it needs in any case.
 abbrev pub left_by : ℕ → List Section → ℕ
 left_by room [] = room
 left_by room (s ∷ ss) = left_by (room - length (sure s)) ss
 
--- a section that tells nothing has no heading
+-- A section with its heading. A section without text has no heading.
 abbrev pub section : List ℕ → List ℕ → List ℕ
 section title [] = []
 section title (c ∷ cs) = heading title ++ c ∷ cs
 
--- what stands of each where so many bytes are left: the first one that needs more has them first
+-- What is written of each section if `left` bytes remain for longer texts. The first section that needs more bytes gets
+-- them first.
 abbrev pub standing : ℕ → List Section → List (List ℕ)
 standing left [] = []
 standing left (s ∷ ss) =
@@ -37,24 +38,25 @@ standing left (s ∷ ss) =
     then s.told ∷ standing (left - more s) ss
     else s.instead ∷ standing left ss
 
--- and in so many bytes
+-- What is written of each section if all sections share `room` bytes.
 abbrev pub standing_in : ℕ → List Section → List (List ℕ)
 standing_in room ss = standing (left_by room ss) ss
 
--- what stands of each, under its title
+-- What is written of each section, under its title.
 abbrev pub titled : List Section → List (List ℕ) → List ℕ
 titled [] texts = []
 titled (s ∷ ss) [] = []
 titled (s ∷ ss) (text ∷ texts) = section s.title text ++ titled ss texts
 
--- sections where so many bytes are left, and in so many bytes
+-- The sections with their headings: first if `left` bytes remain for longer texts, then if all sections share `room`
+-- bytes.
 abbrev pub fitted_sections : ℕ → List Section → List ℕ
 fitted_sections left ss = titled ss (standing left ss)
 
 abbrev pub sections_in : ℕ → List Section → List ℕ
 sections_in room ss = titled ss (standing_in room ss)
 
--- and all of them, whether there is room or not
+-- All sections in full, whatever the room.
 abbrev pub all_sections : List Section → List ℕ
 all_sections [] = []
 all_sections (s ∷ ss) = section s.title s.told ++ all_sections ss

@@ -1,15 +1,16 @@
-//! Texts of others, so written that a reader of XML takes none of them for markup.
+//! Escapes untrusted text for XML and HTML, so that an XML reader never takes any of it for markup.
 ghost use Rattle.std.specs.Prelude.{◌≡◌, ◌++◌, string_bytes, OnOk, option_map};
 ghost use Rattle.std.specs.Str.{encode_utf8_all};
 ghost use Rattle.html.specs.Escaped.{is_character, reference, shown, written};
 
 use std::alloc::AllocError;
 
-/// Adds a character, escaped: so it may stand between tags, and in quotation marks as part of an attribute's value.
+/// Appends a character in escaped form. The result may be written between tags, and inside the quotation marks of an
+/// attribute value.
 ///
 /// # Errors
 ///
-/// No memory for the text.
+/// Fails if there is no memory for the text.
 pub fn put_character(out: &mut String, character: char) -> Result<(), AllocError>
     ensures { OnOk result (string_bytes out.new ≡ string_bytes out.old ++ encode_utf8_all (written character)) }
 {
@@ -19,7 +20,8 @@ pub fn put_character(out: &mut String, character: char) -> Result<(), AllocError
     }
 }
 
-/// The reference that stands for a character that is markup, or white space that a reader may change.
+/// Returns the reference for a character that is markup, or for white space that an XML reader may change. Returns
+/// `None` for any other character.
 fn reference(character: char) -> Option<&'static str>
     ensures { option_map (λ r. r.now) result ≡ reference character }
 {
@@ -36,7 +38,8 @@ fn reference(character: char) -> Option<&'static str>
     }
 }
 
-/// A character as it is shown: itself, and the replacement character for one that no document may have.
+/// Returns the character to show: the character itself, or the replacement character U+FFFD if XML does not allow it in
+/// a document.
 fn shown(character: char) -> char
     ensures { result ≡ shown character }
 {
@@ -47,7 +50,7 @@ fn shown(character: char) -> char
     }
 }
 
-/// Whether a document may have the character.
+/// Checks whether XML allows the character in a document.
 fn is_character(character: char) -> bool
     ensures { result ≡ is_character character }
 {

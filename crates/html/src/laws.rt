@@ -1,30 +1,35 @@
-//! Laws of pages: each function does nothing, and its contract is the law.
+//! Laws of HTML pages. Each function does nothing, and its contract is the law.
 ghost use Rattle.html.specs.Laws.{PagesAreElements, PartsAreContent, SectionsAreFitted, TextsAreText, TextsAreVisible};
 
-/// A text of others has no markup: no angle bracket, no quotation mark, and no ampersand but that of a reference.
+/// States that shown text contains no markup: no `<`, no `>`, no double quotation mark, and no `&` except at the start
+/// of a reference.
 pub fn texts_are_text()
     ensures { TextsAreText }
 {}
 
-/// Of a text of others no control but white space, no mark of direction and no character of no width is left, of those
-/// in specs/Visible.
+/// States that shown text contains none of the characters that specs/Visible lists: controls except white space, marks
+/// of direction, and characters of no width.
 pub fn texts_are_visible()
     ensures { TextsAreVisible }
 {}
 
-/// What is written of a part is content of an element, whatever its texts.
+/// States that every part of a page is well-formed XML content, whatever text it shows.
 pub fn parts_are_content()
     ensures { PartsAreContent }
 {}
 
-/// A page whose parts are content is a line that says what it is, and one element.
+/// States that a page with well-formed parts consists of a document type line, one XML element, and a line feed.
 pub fn pages_are_elements()
     ensures { PagesAreElements }
 {}
 
-/// Sections take no more than their room and their headings; each that its own room suffices for is told, and all are
-/// where the room suffices for all; one that is left out is longer than what the others leave; what stands of each
-/// stands in the text; and they are content where each is.
+/// States how sections share a page's room.
+///
+/// - All sections together take at most the room and their headings.
+/// - A section that fits in its own room is written in full, and so are all sections if the room suffices for all.
+/// - A section that is left out is longer than what the others leave.
+/// - Either the section's full text or its replacement is in the page, and the result is well-formed content if each
+///   section is.
 pub fn sections_are_fitted()
     ensures { SectionsAreFitted }
 {}

@@ -1,5 +1,5 @@
-//! Texts in XML, and so in SVG and XHTML: escapes; what attributes, tags and elements are.
-//! Pages of HTML that show texts of others: one file each, which needs nothing else and runs nothing.
+//! Escaped text for XML, SVG and XHTML, with a grammar of attributes, tags and elements. Also HTML pages that show
+//! untrusted text: each page is one file that loads nothing and runs no script.
 #![tactic(auto)]
 
 mod escapes;

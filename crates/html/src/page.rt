@@ -1,15 +1,16 @@
-//! Where a page begins and where it ends.
+//! The start and the end of an HTML page: its head, its style sheet and its title. Every function here that returns a
+//! `Result` fails only if memory runs out.
 ghost use Rattle.std.specs.Prelude.{◌≡◌, ◌++◌, string_bytes, IfOk, OnOk};
 ghost use Rattle.html.specs.Page.{head_end, head_middle, look, look_end, page_end, page_start, preamble, shown};
 
 use crate::visible_text::put_shown;
 use std::alloc::{AllocError, Global};
 
-/// What a page of this title begins with: its parts come behind it.
+/// Returns the start of a page with the given title. The parts of the page come after it.
 ///
 /// # Errors
 ///
-/// No memory for the text; so of every function here.
+/// Fails if there is no memory for the text.
 pub fn start(alloc: Global, title: &str) -> Result<String, AllocError>
     ensures { IfOk result (λ text. string_bytes text ≡ page_start title.now) }
 {
@@ -23,14 +24,15 @@ pub fn start(alloc: Global, title: &str) -> Result<String, AllocError>
     Ok(out)
 }
 
-/// Adds what a page ends in.
+/// Appends the end of a page.
 pub fn finish(out: &mut String) -> Result<(), AllocError>
     ensures { OnOk result (string_bytes out.new ≡ string_bytes out.old ++ page_end) }
 {
     out.push_str("</main>\n</body>\n</html>\n")
 }
 
-/// What stands before how the page looks: that it is HTML, in English, and uses its own style and pictures alone.
+/// Returns the text before the style sheet. It says that the page is HTML in English, and allows only its own style and
+/// embedded pictures.
 #[tactic(auto, unfolding(crate::specs::Page::preamble))]
 fn preamble() -> &'static str
     ensures { result.now ≡ preamble }
@@ -41,7 +43,8 @@ fn preamble() -> &'static str
      <meta name=\"viewport\" content=\"width=device-width, initial-scale=1\"/>\n<style>"
 }
 
-/// How the page looks: on a light ground and on a dark one, on a narrow screen, and on paper, where folds are open.
+/// Returns the style sheet of a page. It covers light and dark backgrounds, narrow screens, and paper, on which folds
+/// are open.
 #[tactic(auto, unfolding(crate::specs::Page::look))]
 fn look() -> &'static str
     ensures { result.now ≡ look }
@@ -65,21 +68,21 @@ fn look() -> &'static str
      details::details-content{content-visibility:visible;block-size:auto}}"
 }
 
-/// What stands between it and the title.
+/// Returns the text between the style sheet and the title of the window.
 fn look_end() -> &'static str
     ensures { result.now ≡ look_end }
 {
     "</style>\n<title>"
 }
 
-/// What stands between the title of the window and that of the page.
+/// Returns the text between the title of the window and the title on the page.
 fn head_middle() -> &'static str
     ensures { result.now ≡ head_middle }
 {
     "</title>\n</head>\n<body>\n<main>\n<h1>"
 }
 
-/// What stands behind the title.
+/// Returns the text after the title on the page.
 fn head_end() -> &'static str
     ensures { result.now ≡ head_end }
 {

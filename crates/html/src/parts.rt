@@ -1,15 +1,16 @@
-//! The parts of a page.
+//! The parts of an HTML page: headings, paragraphs, preformatted lines, folds, pictures, lists and tables. Every
+//! function here that returns a `Result` fails only if memory runs out.
 ghost use Rattle.std.specs.Prelude.{◌≡◌, ◌++◌, string_bytes, OnOk};
 ghost use Rattle.html.specs.Page.{begun_lines, cell, fold_end, fold_start, head, head_start, heading, item_end, item_start, lines, list_end, list_start, paragraph, picture, picture_end, picture_start, picture_tag, row_end, row_start, table_end, table_start, text_item};
 
 use crate::visible_text::put_shown;
 use std::alloc::AllocError;
 
-/// Adds a heading.
+/// Appends a heading.
 ///
 /// # Errors
 ///
-/// No memory for the text; so of every function here.
+/// Fails if there is no memory for the text.
 pub fn put_heading(out: &mut String, text: &str) -> Result<(), AllocError>
     ensures { OnOk result (string_bytes out.new ≡ string_bytes out.old ++ heading text.now) }
 {
@@ -18,7 +19,7 @@ pub fn put_heading(out: &mut String, text: &str) -> Result<(), AllocError>
     out.push_str("</h2>\n")
 }
 
-/// Adds a paragraph, whose lines are joined and broken where they fit.
+/// Appends a paragraph. A browser joins its lines and breaks them where they fit.
 pub fn put_paragraph(out: &mut String, text: &str) -> Result<(), AllocError>
     ensures { OnOk result (string_bytes out.new ≡ string_bytes out.old ++ paragraph text.now) }
 {
@@ -27,7 +28,7 @@ pub fn put_paragraph(out: &mut String, text: &str) -> Result<(), AllocError>
     out.push_str("</p>\n")
 }
 
-/// Adds a text whose lines stand as they are.
+/// Appends a preformatted text, which keeps its lines.
 pub fn put_lines(out: &mut String, text: &str) -> Result<(), AllocError>
     ensures { OnOk result (string_bytes out.new ≡ string_bytes out.old ++ lines text.now) }
 {
@@ -36,7 +37,7 @@ pub fn put_lines(out: &mut String, text: &str) -> Result<(), AllocError>
     out.push_str("</pre>\n")
 }
 
-/// Adds a text of which each line stands behind a line feed, as they are; the first line feed is not shown.
+/// Appends a preformatted text in which each line begins with a line feed. A browser does not show the first line feed.
 pub fn put_begun_lines(out: &mut String, text: &str) -> Result<(), AllocError>
     ensures { OnOk result (string_bytes out.new ≡ string_bytes out.old ++ begun_lines text.now) }
 {
@@ -45,8 +46,8 @@ pub fn put_begun_lines(out: &mut String, text: &str) -> Result<(), AllocError>
     out.push_str("</pre>\n")
 }
 
-/// Adds what begins a fold: the parts behind it, up to its end, are shown where a reader opens it, and this line
-/// always.
+/// Appends the start of a fold with its summary. The summary is always shown; the parts up to the end of the fold are
+/// shown only if the reader opens it.
 pub fn put_fold_start(out: &mut String, summary: &str) -> Result<(), AllocError>
     ensures { OnOk result (string_bytes out.new ≡ string_bytes out.old ++ fold_start summary.now) }
 {
@@ -55,15 +56,15 @@ pub fn put_fold_start(out: &mut String, summary: &str) -> Result<(), AllocError>
     out.push_str("</summary>\n")
 }
 
-/// Adds what ends a fold.
+/// Appends the end of a fold.
 pub fn put_fold_end(out: &mut String) -> Result<(), AllocError>
     ensures { OnOk result (string_bytes out.new ≡ string_bytes out.old ++ fold_end) }
 {
     out.push_str("</details>\n")
 }
 
-/// Adds a picture in SVG, as it stands, under this name; one that is too wide for its window is moved by the keys too,
-/// and a wide one has a sheet of its own on paper.
+/// Appends a picture in SVG, unchanged, with an accessible name. A picture that is too wide for its window can be
+/// scrolled by keyboard. If `is_wide`, it gets a sheet of its own on paper.
 pub fn put_picture(out: &mut String, is_wide: bool, name: &str, svg: &str) -> Result<(), AllocError>
     ensures { OnOk result (string_bytes out.new ≡ string_bytes out.old ++ picture is_wide name.now svg.now) }
 {
@@ -72,7 +73,7 @@ pub fn put_picture(out: &mut String, is_wide: bool, name: &str, svg: &str) -> Re
     put_picture_end(out)
 }
 
-/// Adds what begins a picture.
+/// Appends the start of a picture, with its accessible name.
 fn put_picture_start(out: &mut String, is_wide: bool, name: &str) -> Result<(), AllocError>
     ensures { OnOk result (string_bytes out.new ≡ string_bytes out.old ++ picture_start is_wide name.now) }
 {
@@ -81,7 +82,7 @@ fn put_picture_start(out: &mut String, is_wide: bool, name: &str) -> Result<(), 
     out.push_str("\">\n")
 }
 
-/// What stands before the name of a picture.
+/// Returns the part of a picture's tag that comes before its name.
 #[tactic(auto, unfolding(crate::specs::Page::picture_tag))]
 fn picture_tag(is_wide: bool) -> &'static str
     ensures { result.now ≡ picture_tag is_wide }
@@ -93,28 +94,28 @@ fn picture_tag(is_wide: bool) -> &'static str
     }
 }
 
-/// Adds what ends it.
+/// Appends the end of a picture.
 fn put_picture_end(out: &mut String) -> Result<(), AllocError>
     ensures { OnOk result (string_bytes out.new ≡ string_bytes out.old ++ picture_end) }
 {
     out.push_str("</figure>\n")
 }
 
-/// Adds what begins a list of items.
+/// Appends the start of a list of items.
 pub fn put_list_start(out: &mut String) -> Result<(), AllocError>
     ensures { OnOk result (string_bytes out.new ≡ string_bytes out.old ++ list_start) }
 {
     out.push_str("<ul>\n")
 }
 
-/// Adds what ends it.
+/// Appends the end of a list of items.
 pub fn put_list_end(out: &mut String) -> Result<(), AllocError>
     ensures { OnOk result (string_bytes out.new ≡ string_bytes out.old ++ list_end) }
 {
     out.push_str("</ul>\n")
 }
 
-/// Adds an item that is a text.
+/// Appends a list item that consists of a text.
 pub fn put_text_item(out: &mut String, text: &str) -> Result<(), AllocError>
     ensures { OnOk result (string_bytes out.new ≡ string_bytes out.old ++ text_item text.now) }
 {
@@ -123,49 +124,49 @@ pub fn put_text_item(out: &mut String, text: &str) -> Result<(), AllocError>
     out.push_str("</li>\n")
 }
 
-/// Adds what begins an item of parts.
+/// Appends the start of a list item that contains parts.
 pub fn put_item_start(out: &mut String) -> Result<(), AllocError>
     ensures { OnOk result (string_bytes out.new ≡ string_bytes out.old ++ item_start) }
 {
     out.push_str("<li>\n")
 }
 
-/// Adds what ends it.
+/// Appends the end of a list item that contains parts.
 pub fn put_item_end(out: &mut String) -> Result<(), AllocError>
     ensures { OnOk result (string_bytes out.new ≡ string_bytes out.old ++ item_end) }
 {
     out.push_str("</li>\n")
 }
 
-/// Adds what begins a table.
+/// Appends the start of a table.
 pub fn put_table_start(out: &mut String) -> Result<(), AllocError>
     ensures { OnOk result (string_bytes out.new ≡ string_bytes out.old ++ table_start) }
 {
     out.push_str("<table>\n")
 }
 
-/// Adds what ends it.
+/// Appends the end of a table.
 pub fn put_table_end(out: &mut String) -> Result<(), AllocError>
     ensures { OnOk result (string_bytes out.new ≡ string_bytes out.old ++ table_end) }
 {
     out.push_str("</table>\n")
 }
 
-/// Adds what begins a row of a table.
+/// Appends the start of a table row.
 pub fn put_row_start(out: &mut String) -> Result<(), AllocError>
     ensures { OnOk result (string_bytes out.new ≡ string_bytes out.old ++ row_start) }
 {
     out.push_str("<tr>")
 }
 
-/// Adds what ends it.
+/// Appends the end of a table row.
 pub fn put_row_end(out: &mut String) -> Result<(), AllocError>
     ensures { OnOk result (string_bytes out.new ≡ string_bytes out.old ++ row_end) }
 {
     out.push_str("</tr>\n")
 }
 
-/// Adds the head of a column.
+/// Appends the header cell of a column.
 pub fn put_head(out: &mut String, text: &str) -> Result<(), AllocError>
     ensures { OnOk result (string_bytes out.new ≡ string_bytes out.old ++ head text.now) }
 {
@@ -174,7 +175,7 @@ pub fn put_head(out: &mut String, text: &str) -> Result<(), AllocError>
     out.push_str("</th>")
 }
 
-/// What stands before the head of a column.
+/// Returns the start tag of a column's header cell.
 #[tactic(auto, unfolding(crate::specs::Page::head_start))]
 fn head_start() -> &'static str
     ensures { result.now ≡ head_start }
@@ -182,7 +183,7 @@ fn head_start() -> &'static str
     "<th scope=\"col\">"
 }
 
-/// Adds a cell.
+/// Appends a table cell.
 pub fn put_cell(out: &mut String, text: &str) -> Result<(), AllocError>
     ensures { OnOk result (string_bytes out.new ≡ string_bytes out.old ++ cell text.now) }
 {

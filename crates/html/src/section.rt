@@ -1,19 +1,19 @@
-//! A section of a page.
+//! A section of an HTML page, with a limit on its length.
 ghost use Rattle.std.specs.Prelude.{◌≡◌, length};
 ghost use Rattle.html.specs.Sections.{more, sure};
 
 use std::marker::Model;
 
-/// What a page tells under a heading, if there is room.
+/// A section: what a page shows under a heading if there is room for it.
 #[derive(Drop)]
 pub struct Section {
-    /// Its heading.
+    /// The heading of the section.
     pub title: &'static str,
-    /// The parts that stand below it; where there are none, it has no heading.
+    /// The parts below the heading. If there are none, the section has no heading.
     pub told: String,
-    /// For how many bytes of them there is room in any case.
+    /// The number of bytes for which there is always room.
     pub room: usize,
-    /// The parts that stand there where there is no room.
+    /// The parts that replace `told` if there is no room for it.
     pub instead: String,
 }
 
@@ -32,7 +32,7 @@ impl Model for Section {
 }
 
 impl Section {
-    /// How many bytes stand of it in any case.
+    /// Returns how many bytes of the section are written in any case, without its heading.
     pub(crate) fn sure(&self) -> usize
         ensures { result ≡ length (sure self.now) }
     {
@@ -43,7 +43,7 @@ impl Section {
         }
     }
 
-    /// How many bytes more it takes where it is told.
+    /// Returns how many more bytes the section takes if it is written in full.
     pub(crate) fn more(&self) -> usize
         ensures { result ≡ more self.now }
     {

@@ -1,4 +1,5 @@
-//! Sections of a page, one behind the other, and for which of them there is room.
+//! Writes the sections of an HTML page one after another, and decides which of them fit into its room. Every function
+//! here that returns a `Result` fails only if memory runs out.
 ghost use Rattle.std.specs.Prelude.{◌≡◌, ◌++◌, string_bytes, OnOk};
 ghost use Rattle.html.specs.Sections.{fitted_sections, left_by, section, sections_in};
 
@@ -6,18 +7,18 @@ use crate::parts::put_heading;
 use crate::section::Section;
 use std::alloc::AllocError;
 
-/// Adds sections, in so many bytes but for their headings.
+/// Appends sections, which share `room` bytes. Their headings do not count.
 ///
 /// # Errors
 ///
-/// No memory for the text; so of every function here.
+/// Fails if there is no memory for the text.
 pub fn put_sections(out: &mut String, room: usize, sections: &[Section]) -> Result<(), AllocError>
     ensures { OnOk result (string_bytes out.new ≡ string_bytes out.old ++ sections_in room sections.now) }
 {
     put_fitted(out, left_by(room, sections), sections)
 }
 
-/// What sections leave of so many bytes, if no more of them is told than is sure.
+/// Returns how many of `room` bytes are left if each section takes only the bytes that it needs in any case.
 fn left_by(room: usize, sections: &[Section]) -> usize
     ensures { result ≡ left_by room sections.now }
 {
@@ -28,7 +29,8 @@ fn left_by(room: usize, sections: &[Section]) -> usize
     left
 }
 
-/// Adds sections where so many bytes are left.
+/// Appends sections, of which the longer ones share the `left` bytes that remain. The first section that needs more
+/// bytes gets them first.
 fn put_fitted(out: &mut String, left: usize, sections: &[Section]) -> Result<(), AllocError>
     ensures { OnOk result (string_bytes out.new ≡ string_bytes out.old ++ fitted_sections left sections.now) }
 {
@@ -45,7 +47,7 @@ fn put_fitted(out: &mut String, left: usize, sections: &[Section]) -> Result<(),
     Ok(())
 }
 
-/// Adds a section, if it tells anything.
+/// Appends a section with its heading, or nothing if its text is empty.
 fn put_section(out: &mut String, title: &str, told: &str) -> Result<(), AllocError>
     ensures { OnOk result (string_bytes out.new ≡ string_bytes out.old ++ section title.now told.now) }
 {

@@ -1,4 +1,4 @@
-//! Texts of others, of which a reader sees each character.
+//! Makes hidden characters of untrusted text visible, so that a reader sees every character.
 ghost use Rattle.std.specs.Prelude.{◌≡◌, ◌<◌, ◌++◌, string_bytes, OnOk};
 ghost use Rattle.std.specs.Str.{encode_utf8_all};
 ghost use Rattle.html.specs.Escaped.{escaped};
@@ -8,11 +8,12 @@ ghost use Rattle.html.specs.Visible.{digit, fifth, is_control, is_hidden, is_ign
 use crate::escapes::put_character;
 use std::alloc::AllocError;
 
-/// Adds a text, escaped, with the number of each character in its place that is not seen or turns the order of others.
+/// Appends a text in escaped form. A character that is invisible, or that changes the order of other characters, is
+/// replaced by its number.
 ///
 /// # Errors
 ///
-/// No memory for the text.
+/// Fails if there is no memory for the text.
 pub(crate) fn put_shown(out: &mut String, text: &str) -> Result<(), AllocError>
     ensures { OnOk result (string_bytes out.new ≡ string_bytes out.old ++ shown text.now) }
 {
@@ -22,7 +23,8 @@ pub(crate) fn put_shown(out: &mut String, text: &str) -> Result<(), AllocError>
     Ok(())
 }
 
-/// Adds a character, escaped, or its number: most are written as they are, which is seen first.
+/// Appends a character in escaped form, or its number if it is hidden. Plain characters, which are the most frequent,
+/// are recognized first.
 #[tactic(auto, using(crate::proofs::PlainLemmas::plain_written))]
 fn put_visible(out: &mut String, character: char) -> Result<(), AllocError>
     ensures { OnOk result (string_bytes out.new ≡ string_bytes out.old
@@ -38,7 +40,7 @@ fn put_visible(out: &mut String, character: char) -> Result<(), AllocError>
     }
 }
 
-/// Adds the number of a character.
+/// Appends the Unicode number of a character in brackets, such as `[U+200B]`.
 #[tactic(auto, using(crate::proofs::NumberLemmas::number_written))]
 fn put_number(out: &mut String, number: u32) -> Result<(), AllocError>
     ensures { OnOk result (string_bytes out.new ≡ string_bytes out.old ++ encode_utf8_all (escaped (numbered number))) }
@@ -52,7 +54,7 @@ fn put_number(out: &mut String, number: u32) -> Result<(), AllocError>
     out.push_str("]")
 }
 
-/// Adds the fifth digit, if need be.
+/// Appends the fifth hexadecimal digit of a number, if it is at least 0x10000.
 #[tactic(auto, using(crate::proofs::NumberLemmas::one_written))]
 fn put_fifth(out: &mut String, number: u32) -> Result<(), AllocError>
     ensures { OnOk result (string_bytes out.new ≡ string_bytes out.old ++ encode_utf8_all (escaped (fifth number))) }
@@ -63,7 +65,7 @@ fn put_fifth(out: &mut String, number: u32) -> Result<(), AllocError>
     put_character(out, digit(number / 65536 % 16))
 }
 
-/// A digit to the base of 16.
+/// Returns the hexadecimal digit for a value below 16.
 fn digit(value: u32) -> char
     requires { value < 16 }
     ensures { result ≡ digit value }
@@ -75,7 +77,7 @@ fn digit(value: u32) -> char
     }
 }
 
-/// Whether a character is written as it is: what ASCII prints, but for markup.
+/// Checks whether a character is written unchanged: printable ASCII except markup.
 #[inline(always)]
 fn is_plain(character: char) -> bool
     ensures { result ≡ is_plain character }
@@ -83,7 +85,7 @@ fn is_plain(character: char) -> bool
     matches!(character, ' '..='!' | '#'..='%' | '('..=';' | '=' | '?'..='~')
 }
 
-/// Whether a character is not seen, or turns the order of others.
+/// Checks whether a character is invisible, or changes the order of other characters.
 fn is_hidden(character: char) -> bool
     ensures { result ≡ is_hidden character }
 {
@@ -93,7 +95,7 @@ fn is_hidden(character: char) -> bool
         || is_ignored_above(character)
 }
 
-/// Whether it is a control but the tab, the line feed and the carriage return.
+/// Checks whether a character is a control other than the tab, the line feed and the carriage return.
 fn is_control(character: char) -> bool
     ensures { result ≡ is_control character }
 {
@@ -103,7 +105,7 @@ fn is_control(character: char) -> bool
     )
 }
 
-/// Whether it is one of those below U+2000 that are not seen.
+/// Checks whether a character below U+2000 is invisible or changes the order of others, controls aside.
 fn is_ignored_below(character: char) -> bool
     ensures { result ≡ is_ignored_below character }
 {
@@ -118,7 +120,7 @@ fn is_ignored_below(character: char) -> bool
     )
 }
 
-/// Or of those below U+10000, or that turn the order of others.
+/// Checks whether a character from U+2000 to U+FFFF is invisible or changes the order of others.
 fn is_ignored(character: char) -> bool
     ensures { result ≡ is_ignored character }
 {
@@ -135,7 +137,7 @@ fn is_ignored(character: char) -> bool
     )
 }
 
-/// Or of those above.
+/// Checks whether a character from U+10000 on is invisible.
 fn is_ignored_above(character: char) -> bool
     ensures { result ≡ is_ignored_above character }
 {

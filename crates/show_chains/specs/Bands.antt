@@ -1,4 +1,4 @@
--- The bands of a picture, one for each round, with its accesses and the strokes of its chains.
+-- The bands of a signed campaign's diagram, one for each round, with its accesses and the strokes of its chains.
 use Rattle.std.specs.Prelude.{ℕ, ◌+◌, ◌*◌, ◌==◌, min, if◌then◌else◌, List, [], ◌++◌, flat_map, codes}
 use Rattle.std.specs.List.{range_with_len}
 use Rattle.board.specs.Board.{Access}
@@ -10,28 +10,29 @@ use Rattle.show_diagram.specs.declared.stroke.Stroke.{Stroke}
 use Rattle.show_chains.specs.Strokes.{Drawn}
 use Rattle.show_chains.specs.Words.{row_words, stroke_words}
 
--- a stroke from its sender to its receiver, as wide as it has chains, up to 5
+-- The line of a stroke from its sender to its receiver. Its width is its number of chains, up to 5.
 abbrev pub stroke_line : ℕ → ℕ → Drawn → List ℕ
 stroke_line n top x =
     let st = x.stroke in
     let end = top + 16 + 16 * n + 6 * min st.row 8 in
     stroke_at (kind st) (min st.labels 5) (column st.teller) top (column st.receiver) end (stroke_words x)
 
--- its row in its receiver's list
+-- The row of a stroke in its receiver's list.
 abbrev pub row : ℕ → Drawn → List ℕ
 row top x =
     let st = x.stroke in
     group_at (column st.receiver) (top + 12 + 18 * st.row)
     (title (stroke_words x) ++ mark (kind st) (outline st) ++ text_at (codes "small") 12 4 (row_words x))
 
--- both, where it is of this round; they begin at these heights
+-- The line and the row of a stroke, if it belongs to this round. The strokes begin at the height `top`, and the lists
+-- at `below`.
 abbrev pub drawn_at : ℕ → ℕ → ℕ → ℕ → Drawn → List ℕ
 drawn_at n top below round x = if x.stroke.round == round then stroke_line n top x ++ row below x else []
 
 abbrev pub drawn : ℕ → List Access → ℕ → Drawn → List ℕ
 drawn n accesses round x = drawn_at n (fan_top accesses round) (rows_top n accesses round) round x
 
--- what a round's band has, of this width and height
+-- The contents of a round's band, in a diagram of this width and a band of this height.
 abbrev pub inside : ℕ → List Drawn → List Access → ℕ → ℕ → ℕ → List ℕ
 inside n strokes accesses wide height round =
     line (codes "rule") 16 0 wide 0
@@ -40,7 +41,8 @@ inside n strokes accesses wide height round =
     ++ accesses_from n accesses round 0 accesses
     ++ flat_map (drawn n accesses round) strokes
 
--- its place, behind so many rounds; the heights are those of the strokes without their chains
+-- The band at its place after the first `before` rounds. `plain` are the strokes without their chains, from which the
+-- heights are computed.
 abbrev pub band : ℕ → List Drawn → List Stroke → List Access → ℕ → ℕ → List ℕ
 band n strokes plain accesses wide before =
     group_at 0 (top_of n plain accesses before)

@@ -1,5 +1,5 @@
--- What stands below the bands of a picture: the decisions and the verdict (TOPLAS 1982, IC1 and IC2), and what the
--- marks mean.
+-- The foot of a signed campaign's diagram, below its bands: the decisions and the verdict (TOPLAS 1982, IC1 and IC2),
+-- and the legend.
 use Rattle.std.specs.Prelude.{ℕ, Bool, true, false, List, ◌++◌, codes}
 use Rattle.world.specs.Chronicle.{Chronicle}
 use Rattle.world.specs.declared.verdict.Verdict.{Verdict}

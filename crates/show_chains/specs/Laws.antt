@@ -1,4 +1,4 @@
--- Laws of what is drawn. Each is the contract of a function of this crate.
+-- Laws of diagrams of signed campaigns. Each is the contract of a function of this crate.
 use Rattle.std.specs.Prelude.{ℕ, ◌+◌, ◌<◌, ◌≤◌, ◌≡◌, ◌==◌, ◌&&◌, ◌||◌, Bool, true, false, not, if◌then◌else◌, is_some, List, ◌++◌, codes, count_by, drop, filter, length, map, take}
 use Rattle.std.specs.Bool.{beq}
 use Rattle.std.specs.List.{All, list_any, range_with_len}
@@ -18,12 +18,13 @@ use Rattle.show_chains.specs.Owed.{is_among, owed_to, sent_to}
 use Rattle.show_chains.specs.Strokes.{Drawn, bare, between, grouped, is_lie, strokes_of, way, with_rows}
 use Rattle.show_chains.specs.Svg.{signed_svg}
 
--- each picture is one element of XML, and a line feed
+-- Each diagram is one XML element, followed by a line feed.
 abbrev pub SignedDiagramsAreElements : Type 0
 SignedDiagramsAreElements =
     (c : Chronicle) → (text : List ℕ) × IsElement text × (signed_svg c ≡ text ++ codes "\n")
 
--- in a finished campaign a loyal general sends each just what a loyal general owes, and so all his strokes are drawn
+-- In a finished campaign a loyal general sends each general exactly what a loyal general owes him, and all his strokes
+-- are drawn as honest.
 pub record OnlyTraitorsDiffer : Type 0 where
   pub owed : (s : Scenario) (events : List Event) (round g p : ℕ) → IsScenario s →
       IsFinished (played s events) → g < s.generals → p < s.generals → is_traitor s g ≡ false →
@@ -34,31 +35,31 @@ pub record OnlyTraitorsDiffer : Type 0 where
       between (signed_chronicle_of (played s events)) round p g
       ≡ grouped (way round p g true false) (sent_to (signed_chronicle_of (played s events)) round g p)
 
--- the list of what was sent to p, or withheld from him, in a round
+-- The list of what was sent to p, or withheld from him, in a round.
 abbrev pub list_in : Chronicle → ℕ → ℕ → List Drawn
 list_in c round p = filter (λ x. is_to round p x.stroke) (strokes_of c)
 
--- of which these are drawn
+-- The strokes of that list that are drawn.
 abbrev pub drawn_in : Chronicle → ℕ → ℕ → List Drawn
 drawn_in c round p = filter (λ x. is_to round p x.stroke) (with_rows (strokes_of c))
 
 abbrev pub is_lie_by : ℕ → Drawn → Bool
 is_lie_by g x = is_lie x && x.stroke.teller == g
 
--- what a stroke says of a chain: that it was sent, or was not; and that just one of its sender and a loyal general in
--- his place sends it
+-- What a stroke says of a chain is true. The stroke says whether the chain was sent. It differs if exactly one of two
+-- generals sends the chain: its sender, or a loyal general in his place.
 pub record IsTold (c : Chronicle) (stroke : Stroke) (ch : Chain) : Type 0 where
   pub sent : is_some stroke.told ≡ is_among (sent_to c stroke.round stroke.teller stroke.receiver) ch
   pub differs : stroke.differs
       ≡ not (beq (is_among (sent_to c stroke.round stroke.teller stroke.receiver) ch)
       (is_among (owed_to c stroke.round stroke.teller stroke.receiver) ch))
 
--- this stroke is of g's, and of this chain
+-- This stroke is one of g, and has this chain.
 abbrev pub tells_of : ℕ → Chain → Drawn → Bool
 tells_of g ch x = x.stroke.teller == g && is_among x.chains ch
 
--- of each chain that g sent p in a round, or owed him, there is one stroke, and none of another; each tells so of its
--- chains, and is as wide as they are many
+-- For each chain that g sent p in a round, or owed him, there is exactly one stroke, and for any other chain there is
+-- none. What each stroke says of its chains is true, and it has the number of its chains.
 pub record StrokesAreExact : Type 0 where
   pub once : (c : Chronicle) (round g p : ℕ) (ch : Chain) → g < c.scenario.generals → p < c.scenario.generals →
       0 < round → round ≤ c.scenario.bound + 1 →
@@ -67,8 +68,9 @@ pub record StrokesAreExact : Type 0 where
   pub wide : (c : Chronicle) → All (λ x. x.stroke.labels ≡ length x.chains) (strokes_of c)
   pub told : (c : Chronicle) → All (λ x. All (IsTold c x.stroke) x.chains) (strokes_of c)
 
--- the rows of each list are numbered, and the first are drawn; where a lie is not, no honest row is, and each liar has
--- a row; those that are drawn and those that are counted as left make all, and so of the lies
+-- The rows of each list are numbered, and the first are drawn. If a lie is left out, no honest row is drawn. Each liar
+-- has a row that is drawn. The strokes that are drawn and those that are counted as left out are all strokes, and the
+-- same holds for the lies.
 pub record RowsAreExact : Type 0 where
   pub numbered : (c : Chronicle) (round p : ℕ) → p < c.scenario.generals → 0 < round →
       round ≤ c.scenario.bound + 1 →

@@ -1,4 +1,4 @@
--- What the marks mean that stand in a picture of signed messages, below its foot.
+-- The legend of a signed campaign's diagram, below its foot: the meanings of the marks that occur.
 use Rattle.std.specs.Prelude.{ℕ, List, codes}
 use Rattle.show_diagram.specs.Legend.{legend_of}
 use Rattle.show_diagram.specs.declared.mark.DiagramMarks.{DiagramMarks}

@@ -1,4 +1,4 @@
-//! The bands of a picture, one for each round.
+//! Draws the bands of a signed campaign's diagram, one for each round, with its accesses and the strokes of its chains.
 ghost use Rattle.std.specs.Prelude.{◌≡◌, ◌++◌, ◌+◌, ◌<◌, ◌^◌, codes, flat_map, string_bytes, OnOk};
 ghost use Rattle.show_diagram.specs.Shapes.{text_at, title};
 ghost use Rattle.show_chains.specs.Bands.{band, bands, drawn, drawn_at, inside, row, stroke_line};
@@ -17,7 +17,8 @@ use show_diagram::shapes::{
 use show_diagram::words::{kind, outline};
 use std::alloc::AllocError;
 
-/// Adds the bands of so many rounds: the heights are those of the strokes without their chains.
+/// Appends the bands of the first `rounds` rounds. `plain` are the strokes without their chains, from which the heights
+/// are computed.
 pub(crate) fn put_bands(
     out: &mut String,
     generals: u8,
@@ -37,7 +38,7 @@ pub(crate) fn put_bands(
     Ok(())
 }
 
-/// Adds the band behind so many rounds.
+/// Appends the band of the round that follows the first `before` rounds.
 fn put_band(
     out: &mut String,
     generals: u8,
@@ -59,7 +60,7 @@ fn put_band(
     Ok(())
 }
 
-/// Adds what the band of a round has.
+/// Appends the contents of a round's band.
 fn put_inside(
     out: &mut String,
     generals: u8,
@@ -79,7 +80,7 @@ fn put_inside(
     put_strokes(out, generals, strokes, accesses, round)
 }
 
-/// Adds the strokes of a round.
+/// Appends the strokes of a round.
 fn put_strokes(
     out: &mut String,
     generals: u8,
@@ -98,7 +99,8 @@ fn put_strokes(
     Ok(())
 }
 
-/// Adds a stroke, where it is of this round, and its row in the receiver's list: they begin at these heights.
+/// Appends a stroke and its row in the receiver's list, if it belongs to this round. The strokes begin at the height
+/// `top`, and the lists at `below`.
 fn put_drawn(
     out: &mut String,
     generals: u8,
@@ -119,7 +121,7 @@ fn put_drawn(
     put_row(out, below, stroke)
 }
 
-/// Adds a stroke that begins at this height.
+/// Appends the line of a stroke, which begins at the height `top`. Its width is its number of chains, up to 5.
 fn put_stroke(
     out: &mut String,
     generals: u8,
@@ -143,7 +145,7 @@ fn put_stroke(
     put_stroke_end(out)
 }
 
-/// Adds what is told of a stroke to those who point at it.
+/// Appends the title of a stroke, which a reader sees by pointing at it.
 fn put_stroke_title(out: &mut String, stroke: &ChainStroke) -> Result<(), AllocError>
     ensures { OnOk result (string_bytes out.new ≡ string_bytes out.old ++ title (stroke_words stroke.now)) }
 {
@@ -152,7 +154,7 @@ fn put_stroke_title(out: &mut String, stroke: &ChainStroke) -> Result<(), AllocE
     put_title_end(out)
 }
 
-/// Adds what is written of a stroke in its receiver's list.
+/// Appends the text of a stroke's row in the receiver's list.
 fn put_row_text(out: &mut String, stroke: &ChainStroke) -> Result<(), AllocError>
     ensures { OnOk result (string_bytes out.new ≡ string_bytes out.old
         ++ text_at (codes "small") 12 4 (row_words stroke.now)) }
@@ -162,7 +164,7 @@ fn put_row_text(out: &mut String, stroke: &ChainStroke) -> Result<(), AllocError
     put_text_end(out)
 }
 
-/// Adds the row of a stroke, in a list that begins at this height.
+/// Appends the row of a stroke in the receiver's list, which begins at the height `top`.
 fn put_row(out: &mut String, top: u128, stroke: &ChainStroke) -> Result<(), AllocError>
     requires { top < 2 ^ 100 }
     ensures { OnOk result (string_bytes out.new ≡ string_bytes out.old ++ row top stroke.now) }

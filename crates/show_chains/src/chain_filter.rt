@@ -1,4 +1,5 @@
-//! Those of some chains that pass a test.
+//! Filters lists of signed orders: by signer, by order, and by whether another list contains them. Every function here
+//! that returns a `Result` fails only if memory runs out.
 ghost use Rattle.std.specs.Prelude.{◌≡◌, ◌++◌, ◌∷◌, [], cond, not, filter, IfOk, OnOk};
 ghost use Rattle.label.specs.Labels.{on};
 ghost use Rattle.show_chains.specs.Owed.{is_among};
@@ -7,11 +8,11 @@ ghost use Rattle.show_chains.specs.Strokes.{of_order};
 use crate::signed_order::SignedOrder;
 use std::alloc::{AllocError, Global};
 
-/// Those that the general has not signed.
+/// Returns the signed orders that the general has not signed.
 ///
 /// # Errors
 ///
-/// `AllocError` where memory is refused; so of every function here.
+/// Fails with `AllocError` if memory runs out.
 pub(crate) fn unsigned(
     alloc: Global,
     chains: &[SignedOrder],
@@ -26,7 +27,7 @@ pub(crate) fn unsigned(
     Ok(kept)
 }
 
-/// Those that are among the others.
+/// Returns the signed orders of `chains` that `others` contains.
 pub(crate) fn among(
     alloc: Global,
     chains: &[SignedOrder],
@@ -41,7 +42,7 @@ pub(crate) fn among(
     Ok(kept)
 }
 
-/// Those that are not.
+/// Returns the signed orders of `chains` that `others` does not contain.
 pub(crate) fn apart(
     alloc: Global,
     chains: &[SignedOrder],
@@ -56,7 +57,7 @@ pub(crate) fn apart(
     Ok(kept)
 }
 
-/// Those of an order.
+/// Returns the signed orders of `chains` that have the given order.
 pub(crate) fn of_order(
     alloc: Global,
     chains: &[SignedOrder],
@@ -71,7 +72,7 @@ pub(crate) fn of_order(
     Ok(kept)
 }
 
-/// Adds a chain, if it is wanted.
+/// Appends a copy of the signed order if it is wanted.
 fn push_if(
     alloc: Global,
     kept: &mut Vec<SignedOrder>,

@@ -1,4 +1,4 @@
-//! What stands below the bands of a picture: the decisions, the verdict, and what the marks mean.
+//! Draws the foot of a signed campaign's diagram, below its bands: the decisions, the verdict, and the legend.
 ghost use Rattle.std.specs.Prelude.{◌≡◌, ◌++◌, string_bytes, OnOk};
 ghost use Rattle.show_chains.specs.Foot.{bound_words, foot, verdict_lines};
 
@@ -12,7 +12,7 @@ use signed::SignedChronicle;
 use std::alloc::AllocError;
 use world::Verdict;
 
-/// Adds the decisions, the verdict and what these marks mean, at this height.
+/// Appends the decisions, the verdict and the meanings of these marks. The foot begins at the height `top`.
 pub(crate) fn put_foot(
     out: &mut String,
     chronicle: &SignedChronicle,
@@ -32,7 +32,7 @@ pub(crate) fn put_foot(
     put_group_end(out)
 }
 
-/// Adds the verdict, a line for each of its parts.
+/// Appends the verdict, with a line for each of its parts.
 fn put_verdict(out: &mut String, verdict: Verdict) -> Result<(), AllocError>
     ensures { OnOk result (string_bytes out.new ≡ string_bytes out.old ++ verdict_lines verdict) }
 {
@@ -41,7 +41,8 @@ fn put_verdict(out: &mut String, verdict: Verdict) -> Result<(), AllocError>
     put_words(out, "name", 120, 104, bound_words(verdict.bound))
 }
 
-/// Whether the loyal lieutenants had to agree.
+/// Returns the sentence that says whether the bound for signed messages holds, under which the algorithm promises
+/// agreement.
 pub fn bound_words(bound: bool) -> &'static str
     ensures { result.now ≡ bound_words bound }
 {

@@ -1,4 +1,4 @@
-//! What the marks of a picture of signed messages mean, below its foot.
+//! Draws the legend of a signed campaign's diagram, below its foot.
 ghost use Rattle.std.specs.Prelude.{◌≡◌, ◌++◌, string_bytes, OnOk};
 ghost use Rattle.show_chains.specs.Legend.{differs_meaning, legend, missing_meaning, sent_meaning, wide_meaning};
 
@@ -6,7 +6,7 @@ use show_diagram::DiagramMarks;
 use show_diagram::legend::put_legend_of;
 use std::alloc::AllocError;
 
-/// Adds what those of these marks mean that stand in the picture.
+/// Appends the meanings of those marks that occur in the diagram.
 pub(crate) fn put_legend(out: &mut String, marks: DiagramMarks) -> Result<(), AllocError>
     ensures { OnOk result (string_bytes out.new ≡ string_bytes out.old ++ legend marks) }
 {
@@ -20,7 +20,7 @@ pub(crate) fn put_legend(out: &mut String, marks: DiagramMarks) -> Result<(), Al
     )
 }
 
-/// Of what a loyal general would send too.
+/// Returns the meaning of a stroke that a loyal general would send too.
 #[tactic(auto, unfolding(crate::specs::Legend::sent_meaning))]
 fn sent_meaning() -> &'static str
     ensures { result.now ≡ sent_meaning }
@@ -28,7 +28,7 @@ fn sent_meaning() -> &'static str
     "sent as a loyal general would send it"
 }
 
-/// Of what he would not.
+/// Returns the meaning of a stroke that a loyal general would not send.
 #[tactic(auto, unfolding(crate::specs::Legend::differs_meaning))]
 fn differs_meaning() -> &'static str
     ensures { result.now ≡ differs_meaning }
@@ -36,7 +36,7 @@ fn differs_meaning() -> &'static str
     "sent, and a loyal general would not send it"
 }
 
-/// Of what he would, and was not sent.
+/// Returns the meaning of a stroke that was not sent, although a loyal general would send it.
 #[tactic(auto, unfolding(crate::specs::Legend::missing_meaning))]
 fn missing_meaning() -> &'static str
     ensures { result.now ≡ missing_meaning }
@@ -44,7 +44,7 @@ fn missing_meaning() -> &'static str
     "not sent, and a loyal general would send it"
 }
 
-/// What the width of a line tells.
+/// Returns the meaning of the width of a line.
 #[tactic(auto, unfolding(crate::specs::Legend::wide_meaning))]
 fn wide_meaning() -> &'static str
     ensures { result.now ≡ wide_meaning }

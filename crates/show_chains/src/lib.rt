@@ -1,5 +1,5 @@
-//! A campaign of signed messages as a picture in SVG, a space-time diagram: a column for each general and the board, a
-//! band for each round, the chains that each sends each.
+//! Draws a campaign with signed messages in SVG as a space-time diagram, with a column for each general and the board,
+//! a band for each round, and the chains that each general sends each other.
 #![tactic(auto)]
 
 mod bands;

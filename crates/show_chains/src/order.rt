@@ -1,4 +1,5 @@
-//! In which order the rows of a list stand, and which of them are drawn.
+//! Sorts the strokes of a list into rows, and selects those that are drawn. Every function here that returns a `Result`
+//! fails only if memory runs out.
 ghost use Rattle.std.specs.Prelude.{◌≡◌, ◌++◌, ◌∷◌, [], cond, IfOk, OnOk};
 ghost use Rattle.std.specs.List.{list_any};
 ghost use Rattle.show_diagram.specs.Lists.{has_row};
@@ -10,12 +11,12 @@ use show_diagram::order::MOST;
 use show_diagram::overflow::has_row;
 use std::alloc::{AllocError, Global};
 
-/// A list as its rows stand: by sender, or where not all are drawn, the first lie of each sender, then the other lies,
-/// then what is honest.
+/// Returns the list in the order of its rows. A list of at most `MOST` rows keeps its order. A longer one has the first
+/// lie of each sender, then the other lies, then the honest strokes.
 ///
 /// # Errors
 ///
-/// No memory for it; so of every function here.
+/// Fails if there is no memory for the list.
 pub(crate) fn arranged(
     alloc: Global,
     list: Vec<ChainStroke>,
@@ -28,7 +29,7 @@ pub(crate) fn arranged(
     lies_first(alloc, list)
 }
 
-/// The first lie of each sender, then the other lies, then what is honest.
+/// Returns the first lie of each sender, then the other lies, then the honest strokes.
 #[tactic(auto, unfolding(show_diagram::specs::Order::firsts, show_diagram::specs::Order::repeats))]
 fn lies_first(alloc: Global, list: Vec<ChainStroke>) -> Result<Vec<ChainStroke>, AllocError>
     ensures { IfOk result (λ rows. rows.items ≡ lies_first is_lie sender list.items) }
@@ -44,8 +45,8 @@ fn lies_first(alloc: Global, list: Vec<ChainStroke>) -> Result<Vec<ChainStroke>,
     Ok(rows)
 }
 
-/// Adds a stroke to the first lies, if it is one and no other of its sender is there; else to the other lies, or to
-/// what is honest.
+/// Appends a stroke to one of three lists: to `rows` if it is the first lie of its sender, to `others` if it is another
+/// lie, and else to `honest`.
 fn push_part(
     rows: &mut Vec<ChainStroke>,
     others: &mut Vec<ChainStroke>,
@@ -70,7 +71,7 @@ fn push_part(
     Ok(())
 }
 
-/// Whether one of these is of the sender of this one.
+/// Checks whether one of these strokes has the same sender as the given one.
 fn is_by_one_of(strokes: &[ChainStroke], stroke: &ChainStroke) -> bool
     ensures { result ≡ list_any (is_by_one sender stroke.now) strokes.now }
 {
@@ -78,7 +79,7 @@ fn is_by_one_of(strokes: &[ChainStroke], stroke: &ChainStroke) -> bool
     strokes.iter().any(|x| teller == x.stroke().teller)
 }
 
-/// Strokes one below another, from row 0 on.
+/// Returns the strokes with their rows numbered from 0.
 pub(crate) fn numbered(
     alloc: Global,
     list: Vec<ChainStroke>,
@@ -93,7 +94,7 @@ pub(crate) fn numbered(
     Ok(rows)
 }
 
-/// Those that are drawn.
+/// Returns the strokes that are drawn.
 pub(crate) fn with_rows(
     alloc: Global,
     list: Vec<ChainStroke>,
@@ -107,7 +108,7 @@ pub(crate) fn with_rows(
     Ok(drawn)
 }
 
-/// Adds a stroke, if it is drawn.
+/// Appends a stroke if it is drawn.
 fn push_drawn(drawn: &mut Vec<ChainStroke>, stroke: ChainStroke) -> Result<(), AllocError>
     ensures { OnOk result (drawn.new.items ≡ drawn.old.items ++ cond (has_row stroke.stroke) (stroke ∷ []) []) }
 {

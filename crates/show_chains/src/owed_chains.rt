@@ -1,4 +1,5 @@
-//! What a general sent another in a round, and what a loyal general in his place would have sent.
+//! Computes what a general sent another in a round, and what a loyal general in his place would have sent by algorithm
+//! SM(m). Every function here that returns a `Result` fails only if memory runs out.
 ghost use Rattle.std.specs.Prelude.{◌≡◌, ◌<◌, ◌==◌, ◌++◌, cond, map, nat_le, suc, [], ◌∷◌, IfOk, OnOk};
 ghost use Rattle.std.specs.Int.{bit_at};
 ghost use Rattle.signed.specs.Accepted.{added};
@@ -13,11 +14,11 @@ use crate::signed_order::SignedOrder;
 use signed::{Chain, SignedChronicle, bringing_in};
 use std::alloc::{AllocError, Global};
 
-/// What a general sent another in a round.
+/// Returns the chains that a general sent a receiver in a round.
 ///
 /// # Errors
 ///
-/// `AllocError` where memory is refused; so of every function here.
+/// Fails with `AllocError` if memory runs out.
 pub(crate) fn sent_to(
     alloc: Global,
     chronicle: &SignedChronicle,
@@ -31,7 +32,8 @@ pub(crate) fn sent_to(
     received(alloc, chronicle.sent(general, round), receiver)
 }
 
-/// Those of these chains, each with its receivers, that one receives.
+/// Returns those of the given chains that were sent to this receiver. Each chain is given with the set of its
+/// receivers, bit g for general g.
 fn received(
     alloc: Global,
     sending: &[(Chain, u16)],
@@ -47,7 +49,7 @@ fn received(
     Ok(came)
 }
 
-/// Adds what a chain says, if it is wanted.
+/// Appends the signed order of a chain if it is wanted.
 fn push_if(
     alloc: Global,
     came: &mut Vec<SignedOrder>,
@@ -62,7 +64,7 @@ fn push_if(
     Ok(())
 }
 
-/// Whether the general is in a set, bit g for general g.
+/// Checks whether a set contains the general, who is bit `general` of it.
 fn has(bits: u16, general: u8) -> bool
     requires { general < 16 }
     ensures { result ≡ (bit_at bits general == 1) }
@@ -70,7 +72,7 @@ fn has(bits: u16, general: u8) -> bool
     (bits >> general) & 1 == 1
 }
 
-/// What a loyal general in the place of the first would have sent the second.
+/// Returns what a loyal general in the place of `general` would have sent the receiver in a round.
 pub(crate) fn owed_to(
     alloc: Global,
     chronicle: &SignedChronicle,
@@ -85,7 +87,7 @@ pub(crate) fn owed_to(
     unsigned(alloc, owed.as_slice(), receiver)
 }
 
-/// What a loyal general in his place would have signed.
+/// Returns what a loyal general in the place of `general` would have signed in a round.
 #[tactic(auto, using(crate::proofs::OwedLemmas::owed_none))]
 fn owed(
     alloc: Global,
@@ -105,7 +107,8 @@ fn owed(
     later(alloc, chronicle, round - 2, general)
 }
 
-/// What he would have signed in the first round: his order, if he is the commander.
+/// Returns what a loyal general would have signed in the first round: his order if he is the commander, and nothing
+/// otherwise.
 fn begun(
     alloc: Global,
     chronicle: &SignedChronicle,
@@ -120,7 +123,7 @@ fn begun(
     alone_if(alloc, scenario.order(), commander, general == commander)
 }
 
-/// The order with the commander's signature, if it is wanted.
+/// Returns the order with only the commander's signature if it is wanted, and nothing otherwise.
 fn alone_if(
     alloc: Global,
     order: u32,
@@ -136,8 +139,8 @@ fn alone_if(
     Ok(signed)
 }
 
-/// What he would have signed in the second round behind these: nothing, if he is the commander, or if chains are
-/// prolonged no more.
+/// Returns what a loyal general would have signed in round `rounds + 2`. It is nothing if he is the commander, or if
+/// that round is after the last one, `bound + 1`.
 #[tactic(auto, using(crate::proofs::OwedLemmas::later_commander, crate::proofs::OwedLemmas::later_none))]
 fn later(
     alloc: Global,
@@ -163,7 +166,7 @@ fn later(
     prolonged(alloc, chronicle, rounds, general)
 }
 
-/// With his signature, the chains that bring a general the orders that he adds in the round behind these.
+/// Returns the chains by which the general accepts new orders in round `rounds + 1`, each with his signature added.
 fn prolonged(
     alloc: Global,
     chronicle: &SignedChronicle,
@@ -184,7 +187,7 @@ fn prolonged(
     signed_also(alloc, added, general)
 }
 
-/// Chains, each with his signature.
+/// Returns the signed orders of these chains, each with the general's signature added.
 fn signed_also(
     alloc: Global,
     chains: &[&Chain],

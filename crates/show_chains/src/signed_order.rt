@@ -1,3 +1,5 @@
+//! A signed order: an order with the list of its signers, which need not be a valid chain. Every function here that
+//! returns a `Result` fails only if memory runs out.
 ghost use Rattle.std.specs.Prelude.{◌≡◌, IfOk};
 ghost use Rattle.label.specs.Labels.{on};
 ghost use Rattle.signed.specs.Chains.{signed_alone, signed_also};
@@ -7,8 +9,8 @@ use signed::Chain;
 use std::alloc::{AllocError, Global};
 use std::marker::Model;
 
-/// An order, and whose signatures it bears, the first first: what a chain says, also one that nobody signed. It is no
-/// chain: it proves nothing to anybody.
+/// A signed order: an order, then its signers from the first to the last. It has the contents of a chain, but may have
+/// signatures that nobody gave. It is not a `Chain`, so it proves nothing to anybody.
 #[derive(Drop)]
 pub struct SignedOrder {
     order: u32,
@@ -24,11 +26,11 @@ impl Model for SignedOrder {
 }
 
 impl SignedOrder {
-    /// The order with one signature.
+    /// Returns the order with one signature.
     ///
     /// # Errors
     ///
-    /// `AllocError` where memory is refused; so of every function here.
+    /// Fails with `AllocError` if memory runs out.
     pub(crate) fn alone(alloc: Global, order: u32, general: u8) -> Result<SignedOrder, AllocError>
         ensures { IfOk result (λ signed. signed ≡ signed_alone order general) }
     {
@@ -37,7 +39,7 @@ impl SignedOrder {
         Ok(SignedOrder { order, signers })
     }
 
-    /// What a chain says.
+    /// Returns the order and the signers of a chain.
     pub(crate) fn of(alloc: Global, chain: &Chain) -> Result<SignedOrder, AllocError>
         ensures { IfOk result (λ signed. signed ≡ chain.now) }
     {
@@ -47,7 +49,7 @@ impl SignedOrder {
         })
     }
 
-    /// What it would say with one signature more.
+    /// Returns the order and the signers of a chain, with the general as one more signer.
     pub(crate) fn also(alloc: Global, chain: &Chain, general: u8) -> Result<SignedOrder, AllocError>
         ensures { IfOk result (λ signed. signed ≡ signed_also chain.now general) }
     {
@@ -59,7 +61,7 @@ impl SignedOrder {
         })
     }
 
-    /// The same once more.
+    /// Returns a copy of the signed order.
     pub(crate) fn copied(&self, alloc: Global) -> Result<SignedOrder, AllocError>
         ensures { IfOk result (λ signed. signed ≡ self.now) }
     {
@@ -69,35 +71,35 @@ impl SignedOrder {
         })
     }
 
-    /// The order.
+    /// Returns the order.
     pub(crate) fn order(&self) -> u32
         ensures { result ≡ self.now.order }
     {
         self.order
     }
 
-    /// Whose signatures it bears.
+    /// Returns the signers, from the first to the last.
     pub(crate) fn signers(&self) -> &[u8]
         ensures { result.now ≡ self.now.signers }
     {
         self.signers.as_slice()
     }
 
-    /// Whether the general's is among them.
+    /// Checks whether the general is one of the signers.
     pub(crate) fn has(&self, general: u8) -> bool
         ensures { result ≡ on self.now.signers general }
     {
         self.signers.as_slice().iter().any(|x| *x == general)
     }
 
-    /// Whether both say the same.
+    /// Checks whether both have the same order and the same signers in the same sequence.
     pub(crate) fn is_same(&self, other: &SignedOrder) -> bool
         ensures { result ≡ is_same self.now other.now }
     {
         self.order == other.order && self.signers() == other.signers()
     }
 
-    /// Whether one of these says the same.
+    /// Checks whether `others` contains the same signed order.
     pub(crate) fn is_among(&self, others: &[SignedOrder]) -> bool
         ensures { result ≡ is_among others.now self.now }
     {

@@ -1,4 +1,4 @@
-//! What a picture says of the chains of a round.
+//! A stroke of a signed campaign's diagram, with its chains.
 ghost use Rattle.std.specs.Prelude.{◌≡◌};
 ghost use Rattle.show_chains.specs.Strokes.{in_row};
 
@@ -6,23 +6,22 @@ use crate::signed_order::SignedOrder;
 use show_diagram::Stroke;
 use std::marker::Model;
 
-/// Who sends whom in which round, and how: what one stroke has beside its chains.
+/// A way: the round, the sender and the receiver of a stroke, whether it was sent, and whether it differs.
 #[derive(Clone, Copy, Drop)]
 pub struct Way {
-    /// The round, from 1.
+    /// The round, counted from 1.
     pub round: usize,
-    /// Who sends.
+    /// The general who sends.
     pub teller: u8,
-    /// Whom he sends.
+    /// The general who receives.
     pub receiver: u8,
-    /// Whether he does send it, and not only a loyal general in his place would.
+    /// Whether the general sends the chains. If not, only a loyal general in his place would send them.
     pub sent: bool,
     /// Whether a loyal general in his place would do otherwise.
     pub differs: bool,
 }
 
-/// A stroke, and the chains of which it is: all that one general sent another in a round for one order, or that he
-/// withheld.
+/// A stroke with its chains: the chains with one order that one general sent another in a round, or that he withheld.
 #[derive(Drop)]
 pub struct ChainStroke {
     pub(crate) stroke: Stroke,
@@ -38,14 +37,14 @@ impl Model for ChainStroke {
 }
 
 impl ChainStroke {
-    /// The stroke.
+    /// Returns a reference to the stroke without its chains.
     pub(crate) fn stroke(&self) -> &Stroke
         ensures { result.now ≡ self.now.stroke }
     {
         &self.stroke
     }
 
-    /// The same in this row.
+    /// Returns the stroke with the given row number.
     pub(crate) fn in_row(self, row: usize) -> ChainStroke
         ensures { result ≡ in_row self row }
     {
@@ -56,7 +55,7 @@ impl ChainStroke {
         }
     }
 
-    /// Its chains.
+    /// Returns the chains of the stroke.
     pub(crate) fn chains(&self) -> &[SignedOrder]
         ensures { result.now ≡ self.now.chains }
     {

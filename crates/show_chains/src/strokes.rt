@@ -1,4 +1,5 @@
-//! The strokes of a campaign.
+//! Collects the strokes of a signed campaign. Every function here that returns a `Result` fails only if memory runs
+//! out.
 ghost use Rattle.std.specs.Prelude.{◌≡◌, ◌<◌, ◌++◌, [], IfOk, OnOk};
 ghost use Rattle.label.specs.Labels.{on};
 ghost use Rattle.signed.specs.Accepted.{firsts};
@@ -15,12 +16,12 @@ use show_diagram::Stroke;
 use signed::SignedChronicle;
 use std::alloc::{AllocError, Global};
 
-/// The strokes of a campaign, by round and receiver; of a list that is not drawn whole the lies first, of others by
-/// sender.
+/// Returns the strokes of a campaign, by round and then by receiver. If a list is too long to be drawn, its lies come
+/// first; otherwise it is sorted by sender.
 ///
 /// # Errors
 ///
-/// `AllocError` where memory is refused; so of every function here.
+/// Fails with `AllocError` if memory runs out.
 #[tactic(auto, unfolding(crate::specs::Strokes::strokes_of))]
 pub(crate) fn strokes(
     alloc: Global,
@@ -35,7 +36,7 @@ pub(crate) fn strokes(
     Ok(strokes)
 }
 
-/// Adds those of a round.
+/// Appends the strokes of a round.
 fn push_round(
     alloc: Global,
     strokes: &mut Vec<ChainStroke>,
@@ -51,7 +52,7 @@ fn push_round(
     Ok(())
 }
 
-/// Those to one receiver, as their rows stand.
+/// Returns the strokes to one receiver in a round, with their rows in order.
 fn list_to(
     alloc: Global,
     chronicle: &SignedChronicle,
@@ -66,7 +67,7 @@ fn list_to(
     numbered(alloc, rows)
 }
 
-/// Those to one receiver, by sender.
+/// Returns the strokes to one receiver in a round, sorted by sender.
 fn told_to(
     alloc: Global,
     chronicle: &SignedChronicle,
@@ -83,7 +84,7 @@ fn told_to(
     Ok(list)
 }
 
-/// Adds those of one sender.
+/// Appends the strokes from one sender to one receiver in a round.
 fn push_between(
     alloc: Global,
     list: &mut Vec<ChainStroke>,
@@ -110,7 +111,8 @@ fn push_between(
     Ok(())
 }
 
-/// Adds those of what was sent, and of what was not and a loyal general would have sent.
+/// Appends the strokes of the chains that were sent, and of those that were not sent although a loyal general would
+/// have sent them. `owed` are the chains that a loyal general would have sent.
 fn push_told(
     alloc: Global,
     list: &mut Vec<ChainStroke>,
@@ -147,7 +149,7 @@ fn push_told(
     Ok(())
 }
 
-/// Adds a stroke for each order of these chains.
+/// Appends a stroke for each order of these chains.
 fn push_grouped(
     alloc: Global,
     list: &mut Vec<ChainStroke>,
@@ -164,7 +166,7 @@ fn push_grouped(
     Ok(())
 }
 
-/// The orders of these chains, each once, as they first come.
+/// Returns the orders of these chains without repetitions, in the order of their first occurrence.
 fn orders_of(alloc: Global, chains: &[SignedOrder]) -> Result<Vec<u32>, AllocError>
     ensures { IfOk result (λ found. found.items ≡ orders (firsts [] chains.now)) }
 {
@@ -175,7 +177,7 @@ fn orders_of(alloc: Global, chains: &[SignedOrder]) -> Result<Vec<u32>, AllocErr
     Ok(found)
 }
 
-/// Adds an order, where it is not among them.
+/// Appends an order if the list does not contain it.
 fn add_order(found: &mut Vec<u32>, order: u32) -> Result<(), AllocError>
     ensures { OnOk result (found.new.items ≡ added_also found.old.items order) }
 {
@@ -185,14 +187,14 @@ fn add_order(found: &mut Vec<u32>, order: u32) -> Result<(), AllocError>
     Ok(())
 }
 
-/// Whether the order is among these.
+/// Checks whether the list contains the order.
 fn is_there(orders: &[u32], order: u32) -> bool
     ensures { result ≡ on orders.now order }
 {
     orders.iter().any(|x| *x == order)
 }
 
-/// The stroke of those of these chains that have this order.
+/// Returns the stroke of those chains that have the given order.
 fn made(
     alloc: Global,
     way: Way,
@@ -208,7 +210,7 @@ fn made(
     })
 }
 
-/// The stroke of so many chains of an order, in the first row.
+/// Returns a stroke of `labels` chains with the given order, in row 0.
 fn plain(way: Way, order: u32, labels: usize) -> Stroke
     ensures { result ≡ plain way order labels }
 {
@@ -223,14 +225,14 @@ fn plain(way: Way, order: u32, labels: usize) -> Stroke
     }
 }
 
-/// What is told of an order.
+/// Returns the order if it was sent, and `None` otherwise.
 fn told_if(is_sent: bool, order: u32) -> Option<u32>
     ensures { result ≡ told_if is_sent order }
 {
     if is_sent { Some(order) } else { None }
 }
 
-/// These strokes, without their chains.
+/// Returns the strokes without their chains.
 pub(crate) fn bare(alloc: Global, strokes: &[ChainStroke]) -> Result<Vec<Stroke>, AllocError>
     ensures { IfOk result (λ plain. plain.items ≡ bare strokes.now) }
 {

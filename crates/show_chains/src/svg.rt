@@ -1,4 +1,4 @@
-//! A campaign of signed messages as a picture in SVG.
+//! Draws a campaign with signed messages in SVG.
 ghost use Rattle.std.specs.Prelude.{◌≡◌, ◌++◌, string_bytes, IfOk, OnOk};
 ghost use Rattle.show_diagram.specs.Shapes.{title};
 ghost use Rattle.show_diagram.specs.Svg.{campaign_words};
@@ -24,13 +24,13 @@ use show_diagram::words::put_copied;
 use signed::SignedChronicle;
 use std::alloc::{AllocError, Global};
 
-/// The campaign of signed messages of a chronicle, in SVG: who sent whom which chains in each round, which of them a
-/// loyal general would not have sent, and which he would that were not sent; the accesses to the board, the decisions
-/// and the verdict.
+/// Returns the signed campaign of a chronicle as a diagram in SVG. It shows the chains that each general sent each
+/// other in each round, and those that a loyal general would have sent or would not have sent. It also shows the
+/// accesses to the board, the decisions and the verdict.
 ///
 /// # Errors
 ///
-/// No memory for the text.
+/// Fails if there is no memory for the text.
 #[tactic(auto, unfolding(crate::specs::Svg::signed_svg))]
 pub fn signed_campaign_svg(alloc: Global, chronicle: &SignedChronicle) -> Result<String, AllocError>
     ensures { IfOk result (λ text. string_bytes text ≡ signed_svg chronicle.now) }
@@ -73,7 +73,7 @@ pub fn signed_campaign_svg(alloc: Global, chronicle: &SignedChronicle) -> Result
     Ok(text)
 }
 
-/// Adds what stands before the columns: which campaign it is, what the picture shows, and how it looks.
+/// Appends what comes before the columns: the title, the description, the style sheet and the headline.
 fn put_head(
     out: &mut String,
     scenario: &Scenario,
@@ -92,7 +92,7 @@ fn put_head(
     Ok(())
 }
 
-/// Adds which campaign it is, as the picture's title.
+/// Appends the title of the diagram, which describes the campaign.
 fn put_title_of(out: &mut String, scenario: &Scenario) -> Result<(), AllocError>
     ensures { OnOk result (string_bytes out.new ≡ string_bytes out.old ++ title (signed_words scenario.now)) }
 {
@@ -101,7 +101,7 @@ fn put_title_of(out: &mut String, scenario: &Scenario) -> Result<(), AllocError>
     put_title_end(out)
 }
 
-/// Adds the campaign's numbers and, beside the columns, that its messages are signed.
+/// Appends the headline, which describes the campaign, and to the left of the columns the words `signed messages`.
 fn put_headline(out: &mut String, scenario: &Scenario) -> Result<(), AllocError>
     ensures { OnOk result (string_bytes out.new ≡ string_bytes out.old ++ headline scenario.now) }
 {
@@ -112,7 +112,7 @@ fn put_headline(out: &mut String, scenario: &Scenario) -> Result<(), AllocError>
     put_words(out, "small", 16, 72, "messages")
 }
 
-/// Adds the campaign's numbers.
+/// Appends a description of the campaign: its number of generals, its bound, its commander and his order.
 fn put_campaign_of(out: &mut String, scenario: &Scenario) -> Result<(), AllocError>
     ensures { OnOk result (string_bytes out.new ≡ string_bytes out.old
         ++ campaign_words scenario.now.generals scenario.now.bound scenario.now.commander scenario.now.order) }
@@ -126,11 +126,11 @@ fn put_campaign_of(out: &mut String, scenario: &Scenario) -> Result<(), AllocErr
     )
 }
 
-/// Adds a campaign's numbers, and that its messages are signed, in words.
+/// Appends a description of a campaign, which says that its messages are signed.
 ///
 /// # Errors
 ///
-/// No memory for the text.
+/// Fails if there is no memory for the text.
 pub fn put_signed_words(out: &mut String, scenario: &Scenario) -> Result<(), AllocError>
     ensures { OnOk result (string_bytes out.new ≡ string_bytes out.old ++ signed_words scenario.now) }
 {
@@ -138,7 +138,8 @@ pub fn put_signed_words(out: &mut String, scenario: &Scenario) -> Result<(), All
     out.push_str("; signed messages")
 }
 
-/// Adds what is told of the picture to those who do not see it, and of strokes and accesses that it has no room for.
+/// Appends a description for readers who do not see the diagram. It includes the strokes and accesses for whose words
+/// the diagram has no room.
 fn put_description(
     out: &mut String,
     strokes: &[ChainStroke],
@@ -158,7 +159,7 @@ fn put_description(
     put_key_end(out)
 }
 
-/// What every description of such a picture begins with.
+/// Returns the start of a description, which explains columns, bands and lines.
 #[tactic(auto, unfolding(crate::specs::Svg::key_start))]
 fn key_start() -> &'static str
     ensures { result.now ≡ key_start }
@@ -168,7 +169,7 @@ fn key_start() -> &'static str
      the receiver what he was sent: the order, and who signed it, the commander first and the sender last."
 }
 
-/// Adds what the marks of strokes mean.
+/// Appends the meanings of the marks of strokes.
 fn put_stroke_key(out: &mut String, marks: DiagramMarks) -> Result<(), AllocError>
     ensures { OnOk result (string_bytes out.new ≡ string_bytes out.old ++ stroke_key marks) }
 {

@@ -1,4 +1,4 @@
-//! What a picture says, in words.
+//! The words of a signed campaign's diagram: for chains and for strokes.
 ghost use Rattle.std.specs.Prelude.{◌≡◌, ◌++◌, codes, flat_map, string_bytes, OnOk};
 ghost use Rattle.std.specs.Fmt.{decimal};
 ghost use Rattle.book.specs.Explained.{dotted};
@@ -8,7 +8,7 @@ use crate::signed_order::SignedOrder;
 use crate::stroke::ChainStroke;
 use std::alloc::AllocError;
 
-/// Adds generals, joined by dots.
+/// Appends generals, joined by dots.
 fn put_signers(out: &mut String, generals: &[u8]) -> Result<(), AllocError>
     ensures { OnOk result (string_bytes out.new ≡ string_bytes out.old ++ dotted generals.now) }
 {
@@ -21,7 +21,7 @@ fn put_signers(out: &mut String, generals: &[u8]) -> Result<(), AllocError>
     }
 }
 
-/// Adds generals, each behind a dot.
+/// Appends generals, each after a dot.
 fn put_further_signers(out: &mut String, generals: &[u8]) -> Result<(), AllocError>
     ensures { OnOk result (string_bytes out.new ≡ string_bytes out.old
         ++ flat_map (λ g. codes "." ++ decimal g) generals.now) }
@@ -32,7 +32,7 @@ fn put_further_signers(out: &mut String, generals: &[u8]) -> Result<(), AllocErr
     Ok(())
 }
 
-/// Adds a chain.
+/// Appends a chain: its order and its signers.
 fn put_chain(out: &mut String, chain: &SignedOrder) -> Result<(), AllocError>
     ensures { OnOk result (string_bytes out.new ≡ string_bytes out.old ++ chain_words chain.now) }
 {
@@ -41,7 +41,7 @@ fn put_chain(out: &mut String, chain: &SignedOrder) -> Result<(), AllocError>
     put_signers(out, chain.signers())
 }
 
-/// Adds chains, joined by commas.
+/// Appends chains, joined by commas.
 fn put_chains(out: &mut String, chains: &[SignedOrder]) -> Result<(), AllocError>
     ensures { OnOk result (string_bytes out.new ≡ string_bytes out.old ++ chains_words chains.now) }
 {
@@ -54,7 +54,7 @@ fn put_chains(out: &mut String, chains: &[SignedOrder]) -> Result<(), AllocError
     }
 }
 
-/// Adds chains, each behind a comma.
+/// Appends chains, each after a comma.
 fn put_further(out: &mut String, chains: &[SignedOrder]) -> Result<(), AllocError>
     ensures { OnOk result (string_bytes out.new ≡ string_bytes out.old ++ flat_map further_words chains.now) }
 {
@@ -64,7 +64,7 @@ fn put_further(out: &mut String, chains: &[SignedOrder]) -> Result<(), AllocErro
     Ok(())
 }
 
-/// Adds a chain behind a comma.
+/// Appends a chain after a comma.
 fn put_one_further(out: &mut String, chain: &SignedOrder) -> Result<(), AllocError>
     ensures { OnOk result (string_bytes out.new ≡ string_bytes out.old ++ further_words chain.now) }
 {
@@ -72,7 +72,7 @@ fn put_one_further(out: &mut String, chain: &SignedOrder) -> Result<(), AllocErr
     put_chain(out, chain)
 }
 
-/// Adds who sends whom.
+/// Appends `general G sends general P: `, which comes before the chains that were sent.
 #[tactic(auto, unfolding(crate::specs::Words::sends_words))]
 fn put_sends(out: &mut String, general: u8, receiver: u8) -> Result<(), AllocError>
     ensures { OnOk result (string_bytes out.new ≡ string_bytes out.old ++ sends_words general receiver) }
@@ -80,7 +80,7 @@ fn put_sends(out: &mut String, general: u8, receiver: u8) -> Result<(), AllocErr
     write!(out, "general {general} sends general {receiver}: ")
 }
 
-/// Adds who does not send whom.
+/// Appends `general G does not send general P: `, which comes before the chains that were withheld.
 #[tactic(auto, unfolding(crate::specs::Words::withholds_words))]
 fn put_withholds(out: &mut String, general: u8, receiver: u8) -> Result<(), AllocError>
     ensures { OnOk result (string_bytes out.new ≡ string_bytes out.old ++ withholds_words general receiver) }
@@ -88,7 +88,7 @@ fn put_withholds(out: &mut String, general: u8, receiver: u8) -> Result<(), Allo
     write!(out, "general {general} does not send general {receiver}: ")
 }
 
-/// Adds who sends whom, or does not.
+/// Appends the start of a stroke's words, which says that one general sends or does not send another its chains.
 fn put_lead(
     out: &mut String,
     general: u8,
@@ -103,7 +103,7 @@ fn put_lead(
     }
 }
 
-/// What a loyal general would do instead.
+/// Returns the words for what a loyal general would do instead, or nothing if he would do the same.
 fn differs_words(differs: bool, told: Option<u32>) -> &'static str
     ensures { result.now ≡ differs_words differs told }
 {
@@ -114,7 +114,8 @@ fn differs_words(differs: bool, told: Option<u32>) -> &'static str
     }
 }
 
-/// Adds what is said of a stroke.
+/// Appends the full words of a stroke: the sender, the receiver, all chains, and whether a loyal general would do
+/// otherwise.
 pub(crate) fn put_stroke_words(out: &mut String, stroke: &ChainStroke) -> Result<(), AllocError>
     ensures { OnOk result (string_bytes out.new ≡ string_bytes out.old ++ stroke_words stroke.now) }
 {
@@ -124,11 +125,11 @@ pub(crate) fn put_stroke_words(out: &mut String, stroke: &ChainStroke) -> Result
     out.push_str(differs_words(plain.differs, plain.told))
 }
 
-/// Adds what a picture has no room for: of each stroke of several chains, in a sentence, all of them.
+/// Appends the words for which the diagram has no room: a sentence with all chains of each stroke that has several.
 ///
 /// # Errors
 ///
-/// No memory for the text.
+/// Fails if there is no memory for the text.
 pub(crate) fn put_several(out: &mut String, strokes: &[ChainStroke]) -> Result<(), AllocError>
     ensures { OnOk result (string_bytes out.new ≡ string_bytes out.old ++ flat_map several_words strokes.now) }
 {
@@ -138,7 +139,7 @@ pub(crate) fn put_several(out: &mut String, strokes: &[ChainStroke]) -> Result<(
     Ok(())
 }
 
-/// Adds the chains of a stroke, if they are several.
+/// Appends a sentence with all chains of a stroke, if it has several.
 fn put_several_of(out: &mut String, stroke: &ChainStroke) -> Result<(), AllocError>
     ensures { OnOk result (string_bytes out.new ≡ string_bytes out.old ++ several_words stroke.now) }
 {
@@ -151,7 +152,7 @@ fn put_several_of(out: &mut String, stroke: &ChainStroke) -> Result<(), AllocErr
     out.push_str(".")
 }
 
-/// Adds a chain in few words, which a column has room for.
+/// Appends a chain in a few words, for which a column has room.
 fn put_short(out: &mut String, chain: &SignedOrder) -> Result<(), AllocError>
     ensures { OnOk result (string_bytes out.new ≡ string_bytes out.old ++ short_words chain.now) }
 {
@@ -160,7 +161,7 @@ fn put_short(out: &mut String, chain: &SignedOrder) -> Result<(), AllocError>
     put_signers(out, chain.signers())
 }
 
-/// Adds the first of these chains.
+/// Appends the first of these chains in a few words, if there is one.
 fn put_first(out: &mut String, chains: &[SignedOrder]) -> Result<(), AllocError>
     ensures { OnOk result (string_bytes out.new ≡ string_bytes out.old ++ first_words chains.now) }
 {
@@ -170,7 +171,7 @@ fn put_first(out: &mut String, chains: &[SignedOrder]) -> Result<(), AllocError>
     }
 }
 
-/// Adds a number of chains, if it is not one.
+/// Appends a number of chains in parentheses, or nothing if it is 1.
 fn put_count(out: &mut String, chains: usize) -> Result<(), AllocError>
     ensures { OnOk result (string_bytes out.new ≡ string_bytes out.old ++ count_words chains) }
 {
@@ -180,7 +181,7 @@ fn put_count(out: &mut String, chains: usize) -> Result<(), AllocError>
     write!(out, " ({chains})")
 }
 
-/// Adds what is written of a stroke in its receiver's column.
+/// Appends the words of a stroke in its receiver's column: the first chain, and the number of chains.
 pub(crate) fn put_row_words(out: &mut String, stroke: &ChainStroke) -> Result<(), AllocError>
     ensures { OnOk result (string_bytes out.new ≡ string_bytes out.old ++ row_words stroke.now) }
 {

@@ -1,5 +1,4 @@
--- What stands below the bands of a picture: the decisions and the verdict (TOPLAS 1982, IC1 and IC2), and what the
--- marks mean.
+-- The foot of a diagram, below its bands: the decisions and the verdict (TOPLAS 1982, IC1 and IC2), and the legend.
 use Rattle.std.specs.Prelude.{ℕ, ◌-◌, ◌==◌, nat_lt, Bool, true, false, if◌then◌else◌, List, [], ◌++◌, flat_map, codes, slice_get, Option, None, Some}
 use Rattle.std.specs.Fmt.{decimal}
 use Rattle.std.specs.List.{range_with_len}
@@ -18,7 +17,7 @@ abbrev pub decided_at : ℕ → Bool → ℕ → List ℕ
 decided_at g traitor order = group_at (column g) 24
     (mark (sort_of traitor) (shape_of traitor) ++ text_at (codes "name") 12 4 (decides_words order))
 
--- the place of a lieutenant's decision, under this commander
+-- The index of a lieutenant's decision in the list of decisions, which leaves out the commander.
 abbrev pub place_of : ℕ → ℕ → ℕ
 place_of c g = if nat_lt g c then g else g - 1
 
@@ -32,7 +31,8 @@ decided s ds g = if g == s.commander then [] else decided_if g (is_traitor s g) 
 abbrev pub decided_all : Scenario → List ℕ → List ℕ
 decided_all s ds = flat_map (decided s ds) (range_with_len 0 s.generals)
 
--- the sentences of a verdict, in pictures and on pages; of the bound those of pictures of oral messages
+-- The sentences of a verdict, in diagrams and on pages. The sentence about the bound is that of diagrams of oral
+-- messages.
 abbrev pub alike_words : Bool → List ℕ
 alike_words true = codes "The loyal lieutenants decide alike."
 alike_words false = codes "The loyal lieutenants do not decide alike."

@@ -1,4 +1,4 @@
--- Laws of what is drawn. Each is the contract of a function of this crate.
+-- Laws of diagrams. Each is the contract of a function of this crate.
 use Rattle.std.specs.Prelude.{ℕ, ◌+◌, ◌≡◌, ◌≢◌, ◌<◌, ◌≤◌, ◌↔◌, ◌==◌, ◌&&◌, Bool, true, false, if◌then◌else◌, List, [], ◌∷◌, ◌++◌, length, map, take, drop, count_by, codes, Some}
 use Rattle.std.specs.List.{All, list_any, range_with_len}
 use Rattle.label.specs.Oral.{taken}
@@ -20,27 +20,27 @@ use Rattle.show_diagram.specs.Order.{most_rows}
 use Rattle.show_diagram.specs.Svg.{svg_text}
 use Rattle.show_diagram.specs.Words.{kind}
 
--- each picture is one element of XML, and a line feed
+-- Each diagram is one XML element, followed by a line feed.
 abbrev pub DiagramsAreElements : Type 0
 DiagramsAreElements =
     (t : MessageTable) (c : Chronicle) → (text : List ℕ) × IsElement text × (svg_text t c ≡ text ++ codes "\n")
 
--- t is the table of the messages of a finished campaign of s, and tells them at all its places
+-- t is the message table of a finished campaign of s, and has its messages at all places.
 pub record IsFinishedTable (s : Scenario) (events : List Event) (t : MessageTable) : Type 0 where
   pub scenario : IsScenario s
   pub finished : IsFinished (run (opening s) events)
   pub table : IsTableOf (messages (run (opening s) events).closed) s.generals s.bound s.commander s.rule t
 
--- drawn as an honest relay's, and not in red
+-- The stroke is drawn as that of an honest relay, and not in red.
 abbrev pub IsDrawnHonest : Stroke → Type 0
 IsDrawnHonest stroke = (stroke.differs ≡ false) × (kind stroke ≡ codes "told")
 
--- all strokes of a loyal general are drawn so: in red is only what traitors tell
+-- All strokes of a loyal general are drawn as honest, so that only strokes of traitors are red.
 abbrev pub BlamesTraitors : Scenario → MessageTable → Type 0
 BlamesTraitors s t = All (λ stroke. is_traitor s stroke.teller ≡ false → IsDrawnHonest stroke) (strokes_of t s.order)
 
--- so it is there; and what does not differ is just what is told as it should be: by the commander his order, by another
--- what he took
+-- In a finished campaign only strokes of traitors are red. A message has `differs` false exactly if it is as it should
+-- be: the commander sends his order, and another general sends what he received.
 pub record OnlyTraitorsDiffer : Type 0 where
   pub drawn : (s : Scenario) (events : List Event) (t : MessageTable) → IsFinishedTable s events t →
       BlamesTraitors s t
@@ -50,19 +50,19 @@ pub record OnlyTraitorsDiffer : Type 0 where
       ((telling_at t w j p).differs ≡ false)
       ↔ (told t.messages (w ++ j ∷ []) p ≡ Some (taken (told t.messages) w j))
 
--- what a stroke tells of each of its labels, and that it is the one of what p was told
+-- The message that a stroke stands for at each of its labels, and whether a stroke is the one for a message to p.
 abbrev pub told_by : Stroke → Telling
 told_by stroke = record { round = stroke.round; teller = stroke.teller; told = stroke.told; differs = stroke.differs }
 
 abbrev pub is_of : ℕ → Telling → Stroke → Bool
 is_of p telling stroke = stroke.receiver == p && is_same telling (told_by stroke)
 
--- of how many labels the receiver was told so
+-- For how many labels the receiver was sent the message of a stroke.
 abbrev pub labels_told : MessageTable → ℕ → Stroke → ℕ
 labels_told t order stroke = labels_of (tellings_of t order stroke.receiver) (told_by stroke)
 
--- of all labels of a round of which one general told a lieutenant the same there is one stroke, and none of what he was
--- not told; each is as wide as it has labels
+-- There is exactly one stroke for all labels of a round for which one general sent a lieutenant the same, and none for
+-- what was not sent. The stroke's number of labels is the number for which it was sent.
 pub record StrokesAreExact : Type 0 where
   pub once : (t : MessageTable) (order p : ℕ) (telling : Telling) → p < t.generals → p ≢ t.commander →
       count_by (is_of p telling) (strokes_of t order)
@@ -70,11 +70,11 @@ pub record StrokesAreExact : Type 0 where
   pub wide : (t : MessageTable) (order : ℕ) →
       All (λ stroke. stroke.labels ≡ labels_told t order stroke) (strokes_of t order)
 
--- the list of what a lieutenant was told in a round
+-- The list of what a lieutenant received in a round.
 abbrev pub list_in : MessageTable → ℕ → ℕ → ℕ → List Stroke
 list_in t order round p = list_to round p (strokes_of t order)
 
--- of which these are drawn
+-- The strokes of a lieutenant's list of a round that are drawn.
 abbrev pub drawn_in : MessageTable → ℕ → ℕ → ℕ → List Stroke
 drawn_in t order round p = list_to round p (with_rows (strokes_of t order))
 
@@ -84,8 +84,9 @@ has_lied stroke = stroke.differs
 abbrev pub has_lied_as : ℕ → Stroke → Bool
 has_lied_as j stroke = stroke.differs && stroke.teller == j
 
--- the rows of a lieutenant's list are numbered, and the first are drawn; where a lie is not, no honest row is, and each
--- liar has a row; those that are drawn and those that are counted as left make all, and so of the lies
+-- The rows of a lieutenant's list are numbered, and the first are drawn. If a lie is left out, no honest row is drawn.
+-- Each liar has a row that is drawn. The strokes that are drawn and those that are counted as left out are all strokes,
+-- and the same holds for the lies.
 pub record RowsAreExact : Type 0 where
   pub numbered : (t : MessageTable) (order round p : ℕ) → p < t.generals → p ≢ t.commander →
       map (λ (stroke : Stroke). stroke.row) (list_in t order round p)

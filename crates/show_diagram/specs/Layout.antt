@@ -1,4 +1,4 @@
--- Where the parts of a picture stand, in units of it: a column for each general, and a band for each round.
+-- The positions of a diagram's parts, in units of SVG: a column for each general, and a band for each round.
 use Rattle.std.specs.Prelude.{ℕ, zero, suc, ◌+◌, ◌-◌, ◌*◌, ◌==◌, nat_lt, Bool, max, if◌then◌else◌, List, [], ◌∷◌, length, count_by}
 use Rattle.board.specs.Board.{Access}
 use Rattle.show_diagram.specs.declared.stroke.Stroke.{Stroke}
@@ -7,11 +7,11 @@ use Rattle.show_diagram.specs.Words.{shown_words}
 abbrev pub column : ℕ → ℕ
 column g = 120 + 208 * g
 
--- the board's column, beside those of so many generals
+-- The x coordinate of the board's column, to the right of the columns of n generals.
 abbrev pub board : ℕ → ℕ
 board n = 120 + 208 * n
 
--- how much room what is said of accesses takes beside the board: 7 for each byte
+-- The width of an access text to the right of the board: 28 units, and 7 for each byte.
 abbrev pub room : Access → ℕ
 room a = 28 + 7 * length (shown_words a)
 
@@ -19,7 +19,7 @@ abbrev pub widest : List Access → ℕ
 widest [] = 0
 widest (a ∷ accesses) = max (room a) (widest accesses)
 
--- how wide the picture is: at least so much that the words above and below its columns are not cut
+-- The width of a diagram, which is at least 760 units, so that the words above and below its columns are not cut.
 abbrev pub width : ℕ → List Access → ℕ
 width n accesses = max 760 (board n + widest accesses)
 
@@ -29,8 +29,8 @@ is_in round a = a.round == round
 abbrev pub is_earlier : ℕ → Access → Bool
 is_earlier round a = nat_lt a.round round
 
--- in a round's band: an access with this place among all, where strokes begin, and where the lists of what each was
--- told begin
+-- Heights in a round's band: of an access with the given place among all accesses, of the start of the strokes, and of
+-- the start of the lists of what each lieutenant received.
 abbrev pub access_top : List Access → ℕ → ℕ → ℕ
 access_top accesses round place = 16 + 20 * (place - count_by (is_earlier round) accesses)
 
@@ -40,7 +40,7 @@ fan_top accesses round = 24 + 20 * count_by (is_in round) accesses
 abbrev pub rows_top : ℕ → List Access → ℕ → ℕ
 rows_top n accesses round = fan_top accesses round + 72 + 16 * n
 
--- how long the longest list is
+-- The length of a round's longest list.
 abbrev pub reach : ℕ → Stroke → ℕ
 reach round stroke = if stroke.round == round then stroke.row + 1 else 0
 
@@ -48,7 +48,7 @@ abbrev pub most : ℕ → List Stroke → ℕ
 most round [] = 0
 most round (stroke ∷ strokes) = max (reach round stroke) (most round strokes)
 
--- how high the band is, and where the one behind so many rounds is
+-- The height of a round's band, and the y coordinate at which the band after the first `rounds` rounds begins.
 abbrev pub height : ℕ → List Stroke → List Access → ℕ → ℕ
 height n strokes accesses round = rows_top n accesses round + 20 + 18 * most round strokes
 

@@ -1,4 +1,4 @@
--- What a picture says, in words.
+-- The words of a diagram.
 use Rattle.std.specs.Prelude.{ℕ, ◌==◌, Bool, true, false, if◌then◌else◌, List, [], ◌++◌, flat_map, codes, slice_index_or, Option, None, Some}
 use Rattle.std.specs.Fmt.{decimal}
 use Rattle.semantics.specs.declared.request.Request.{Request}
@@ -20,7 +20,8 @@ differs_words false = []
 unfoldable pub tells_words : ℕ → ℕ → List ℕ
 tells_words teller p = codes "general " ++ (decimal teller ++ (codes " tells general " ++ (decimal p ++ codes ": ")))
 
--- who told whom what, of how many labels, and whether an honest relay would not
+-- The full words of a stroke: the sender, the receiver, the order, the number of labels, and whether an honest relay
+-- would send something else.
 abbrev pub stroke_words : Stroke → List ℕ
 stroke_words stroke = tells_words stroke.teller stroke.receiver ++ order_words stroke.told ++ labels_words stroke.labels
     ++ differs_words stroke.differs
@@ -28,12 +29,12 @@ stroke_words stroke = tells_words stroke.teller stroke.receiver ++ order_words s
 unfoldable pub from_words : ℕ → List ℕ
 from_words teller = codes "from " ++ (decimal teller ++ codes ": ")
 
--- the same, as it is written in the receiver's column
+-- The words of a stroke in the receiver's column: the sender, the order and the number of labels.
 abbrev pub row_words : Stroke → List ℕ
 row_words stroke = from_words stroke.teller ++ order_words stroke.told ++ labels_words stroke.labels
 
--- what was told as an honest relay would, a lie, or nothing where something was to be told: the class, and a circle, a
--- diamond and a cross
+-- The class and the outline of a stroke. It has a circle if an honest relay would send the same, a diamond if it is a
+-- lie, and a cross if nothing was sent where something should have been sent.
 abbrev pub kind_of : Bool → Option ℕ → List ℕ
 kind_of false told = codes "told"
 kind_of true (Some order) = codes "lie"
@@ -50,18 +51,18 @@ outline_of true None = codes "M-5-5L5 5M5-5L-5 5"
 abbrev pub outline : Stroke → List ℕ
 outline stroke = outline_of stroke.differs stroke.told
 
--- a piece of a sentence, and the number of its place
+-- A piece of a sentence, and the number whose place it names.
 abbrev pub piece_words : List ℕ → List ℕ × ℕ → List ℕ
 piece_words numbers piece = piece.0 ++ decimal (slice_index_or numbers piece.1 0)
 
--- what was asked of the board
+-- The request of an access to the board, as a sentence.
 abbrev pub asked_words : Request → List ℕ
 asked_words request = flat_map (piece_words (numbers_asked request)) (row_asked request).sentence
 
 abbrev pub word_words : ℕ → List ℕ
 word_words word = codes " " ++ decimal word
 
--- what the board answered
+-- The words of the board's answer.
 abbrev pub answered_words : List ℕ → List ℕ
 answered_words words = flat_map word_words words
 
@@ -71,22 +72,22 @@ answer_words words = codes "; answer" ++ answered_words words
 abbrev pub general_words : ℕ → List ℕ
 general_words g = codes "general " ++ decimal g
 
--- who asked what, and the answer
+-- The full words of an access: the general, his request and the answer.
 abbrev pub access_words : Access → List ℕ
 access_words a = general_words a.general ++ codes " " ++ asked_words a.request ++ answer_words a.reply
 
 unfoldable pub is_copy : Request → Bool
 is_copy request = (row_asked request).copies
 
--- what is written of an access beside the board: all but its general, and the words of a copy
+-- The words of an access next to the board. They leave out its general, and the answer of a request that copies words.
 abbrev pub shown_words : Access → List ℕ
 shown_words a = asked_words a.request ++ (if is_copy a.request then [] else answer_words a.reply)
 
--- what a picture has no room for, in a sentence of its description
+-- A sentence of the description with words for which the diagram has no room.
 abbrev pub in_full : List ℕ → List ℕ
 in_full words = codes " In full: " ++ words ++ codes "."
 
--- the words of a copy, and of another access nothing
+-- The sentence with the full words of an access that copies words, and nothing for any other access.
 abbrev pub copied_words : Access → List ℕ
 copied_words a = if is_copy a.request then in_full (access_words a) else []
 

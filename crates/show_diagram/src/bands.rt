@@ -1,4 +1,5 @@
-//! The bands of a picture, one for each round.
+//! Draws the bands of a diagram, one for each round, with its accesses, its strokes and its lists. Every function here
+//! that returns a `Result` fails only if memory runs out.
 ghost use Rattle.std.specs.Prelude.{◌≡◌, ◌++◌, ◌+◌, ◌<◌, ◌≤◌, ◌^◌, codes, length, flat_map, string_bytes, OnOk};
 ghost use Rattle.std.specs.List.{range_with_len};
 ghost use Rattle.show_diagram.specs.Shapes.{text_at, title};
@@ -17,7 +18,7 @@ use crate::words::{kind, outline, put_access_words, put_row_words, put_shown, pu
 use board::Access;
 use std::alloc::AllocError;
 
-/// Adds the bands of so many rounds.
+/// Appends the bands of the first `rounds` rounds.
 pub(crate) fn put_bands(
     out: &mut String,
     generals: u8,
@@ -36,7 +37,7 @@ pub(crate) fn put_bands(
     Ok(())
 }
 
-/// Adds the band behind so many rounds.
+/// Appends the band of the round that follows the first `before` rounds.
 fn put_band(
     out: &mut String,
     generals: u8,
@@ -62,7 +63,7 @@ fn put_band(
     Ok(())
 }
 
-/// Adds what the band of a round has.
+/// Appends the contents of a round's band.
 fn put_inside(
     out: &mut String,
     generals: u8,
@@ -86,11 +87,11 @@ fn put_inside(
     put_strokes(out, generals, strokes, accesses, round)
 }
 
-/// Adds the number of a round beside its band.
+/// Appends the number of a round, at the left of its band.
 ///
 /// # Errors
 ///
-/// No memory for the text; so of every function here.
+/// Fails if there is no memory for the text.
 pub fn put_round_text(out: &mut String, round: u32) -> Result<(), AllocError>
     ensures { OnOk result (string_bytes out.new ≡ string_bytes out.old
         ++ text_at (codes "round") 16 24 (round_words round)) }
@@ -100,7 +101,7 @@ pub fn put_round_text(out: &mut String, round: u32) -> Result<(), AllocError>
     put_text_end(out)
 }
 
-/// Adds the number of a round.
+/// Appends the number of a round in words.
 #[tactic(auto, unfolding(crate::specs::Bands::round_words))]
 fn put_round(out: &mut String, round: u32) -> Result<(), AllocError>
     ensures { OnOk result (string_bytes out.new ≡ string_bytes out.old ++ round_words round) }
@@ -108,7 +109,7 @@ fn put_round(out: &mut String, round: u32) -> Result<(), AllocError>
     write!(out, "round {round}")
 }
 
-/// Adds the line of each general, and of the board where there are accesses.
+/// Appends the vertical line of each general, and that of the board if there are accesses.
 pub fn put_lives(
     out: &mut String,
     generals: u8,
@@ -121,7 +122,7 @@ pub fn put_lives(
     put_general_lives(out, generals, height)
 }
 
-/// Adds the line of each general.
+/// Appends the vertical line of each general.
 fn put_general_lives(out: &mut String, generals: u8, height: u128) -> Result<(), AllocError>
     ensures { OnOk result (string_bytes out.new ≡ string_bytes out.old
         ++ flat_map (general_life height) (range_with_len 0 generals)) }
@@ -132,21 +133,21 @@ fn put_general_lives(out: &mut String, generals: u8, height: u128) -> Result<(),
     Ok(())
 }
 
-/// Adds the line of a general.
+/// Appends the vertical line of a general.
 fn put_general_life(out: &mut String, general: u8, height: u128) -> Result<(), AllocError>
     ensures { OnOk result (string_bytes out.new ≡ string_bytes out.old ++ general_life height general) }
 {
     put_life(out, column(u32::from(general)), height)
 }
 
-/// Adds a line through the band.
+/// Appends a vertical line through the band.
 fn put_life(out: &mut String, x: u128, height: u128) -> Result<(), AllocError>
     ensures { OnOk result (string_bytes out.new ≡ string_bytes out.old ++ life x height) }
 {
     put_line(out, "life", x, 0, x, height)
 }
 
-/// Adds the line of the board, where there are accesses.
+/// Appends the vertical line of the board, if there are accesses.
 fn put_board(
     out: &mut String,
     generals: u8,
@@ -161,7 +162,7 @@ fn put_board(
     }
 }
 
-/// Adds the accesses of a round, in the board's order.
+/// Appends the accesses of a round, in the order in which the board received them.
 pub fn put_accesses(
     out: &mut String,
     generals: u8,
@@ -178,7 +179,7 @@ pub fn put_accesses(
     Ok(())
 }
 
-/// Adds an access at a place of the band, where it is of this round.
+/// Appends an access at the height `top` of the band, if it belongs to this round.
 fn put_access(
     out: &mut String,
     generals: u8,
@@ -197,7 +198,8 @@ fn put_access(
     put_group_end(out)
 }
 
-/// Adds what stands there: the point, and a line to the board, which is so far to the right, with what is said of it.
+/// Appends the drawing of an access: its title, its point, the line to the board at distance `far` to the right, and
+/// the words next to the board.
 fn put_point(out: &mut String, far: u128, access: &Access) -> Result<(), AllocError>
     requires { far < 2 ^ 100 }
     ensures { OnOk result (string_bytes out.new ≡ string_bytes out.old ++ point far access.now) }
@@ -208,7 +210,7 @@ fn put_point(out: &mut String, far: u128, access: &Access) -> Result<(), AllocEr
     put_access_text(out, far + 12, access)
 }
 
-/// Adds what is told of an access to those who point at it.
+/// Appends the title of an access, which a reader sees by pointing at it.
 fn put_access_title(out: &mut String, access: &Access) -> Result<(), AllocError>
     ensures { OnOk result (string_bytes out.new ≡ string_bytes out.old ++ title (access_words access.now)) }
 {
@@ -217,7 +219,7 @@ fn put_access_title(out: &mut String, access: &Access) -> Result<(), AllocError>
     put_title_end(out)
 }
 
-/// Adds what is written of an access.
+/// Appends the words that are written next to the board for an access.
 fn put_access_text(out: &mut String, x: u128, access: &Access) -> Result<(), AllocError>
     ensures { OnOk result (string_bytes out.new ≡ string_bytes out.old
         ++ text_at (codes "small") x 4 (shown_words access.now)) }
@@ -227,7 +229,7 @@ fn put_access_text(out: &mut String, x: u128, access: &Access) -> Result<(), All
     put_text_end(out)
 }
 
-/// Adds the strokes of a round.
+/// Appends the strokes of a round.
 fn put_strokes(
     out: &mut String,
     generals: u8,
@@ -246,7 +248,8 @@ fn put_strokes(
     Ok(())
 }
 
-/// Adds a stroke, where it is of this round, and its row in the receiver's list: they begin at these heights.
+/// Appends a stroke and its row in the receiver's list, if it belongs to this round. The strokes begin at the height
+/// `top`, and the lists at `below`.
 fn put_drawn(
     out: &mut String,
     generals: u8,
@@ -267,7 +270,7 @@ fn put_drawn(
     put_row(out, below, stroke)
 }
 
-/// Adds a stroke that begins at this height.
+/// Appends the line of a stroke, which begins at the height `top`. Its width is its number of labels, up to 5.
 fn put_stroke(out: &mut String, generals: u8, top: u128, stroke: &Stroke) -> Result<(), AllocError>
     requires { top < 2 ^ 100 }
     ensures { OnOk result (string_bytes out.new ≡ string_bytes out.old ++ stroke_line generals top stroke.now) }
@@ -285,7 +288,7 @@ fn put_stroke(out: &mut String, generals: u8, top: u128, stroke: &Stroke) -> Res
     put_stroke_end(out)
 }
 
-/// Adds what is told of a stroke to those who point at it.
+/// Appends the title of a stroke, which a reader sees by pointing at it.
 fn put_stroke_title(out: &mut String, stroke: &Stroke) -> Result<(), AllocError>
     ensures { OnOk result (string_bytes out.new ≡ string_bytes out.old ++ title (stroke_words stroke.now)) }
 {
@@ -294,7 +297,7 @@ fn put_stroke_title(out: &mut String, stroke: &Stroke) -> Result<(), AllocError>
     put_title_end(out)
 }
 
-/// Adds what is written of a stroke in its receiver's list.
+/// Appends the text of a stroke's row in the receiver's list.
 fn put_row_text(out: &mut String, stroke: &Stroke) -> Result<(), AllocError>
     ensures { OnOk result (string_bytes out.new ≡ string_bytes out.old
         ++ text_at (codes "small") 12 4 (row_words stroke.now)) }
@@ -304,7 +307,7 @@ fn put_row_text(out: &mut String, stroke: &Stroke) -> Result<(), AllocError>
     put_text_end(out)
 }
 
-/// Adds the row of a stroke, in a list that begins at this height.
+/// Appends the row of a stroke in the receiver's list, which begins at the height `top`.
 fn put_row(out: &mut String, top: u128, stroke: &Stroke) -> Result<(), AllocError>
     requires { top < 2 ^ 100 }
     ensures { OnOk result (string_bytes out.new ≡ string_bytes out.old ++ row top stroke.now) }

@@ -1,4 +1,4 @@
-//! The strokes of a campaign, by the message table that its letters tell.
+//! Collects the strokes of a campaign from the message table of its letters.
 ghost use Rattle.std.specs.Prelude.{◌≡◌, ◌<◌, ◌+◌, ◌++◌, IfOk, OnOk};
 ghost use Rattle.show_diagram.specs.Facts.{strokes_of, tellings_of};
 ghost use Rattle.show_diagram.specs.Lists.{lists_to};
@@ -9,12 +9,13 @@ use crate::told_orders::tellings;
 use book::Heard;
 use std::alloc::{AllocError, Global};
 
-/// Who told whom what, where the commander was given this order: by receiver and round, what one general told him of
-/// several labels alike as one stroke; of a list that is not drawn whole the lies first, of others by labels.
+/// Returns the strokes of a campaign in which the commander was given `order`, by receiver and then by round. One
+/// stroke stands for all labels of a round for which one general sent the same. If a list is too long to be drawn, its
+/// lies come first; otherwise it is sorted by label.
 ///
 /// # Errors
 ///
-/// No memory for them.
+/// Fails if there is no memory for the strokes.
 #[tactic(auto, unfolding(crate::specs::Facts::strokes_of))]
 pub fn strokes<H: Heard>(alloc: Global, table: &H, order: u32) -> Result<Vec<Stroke>, AllocError>
     ensures { IfOk result (λ strokes. strokes.items ≡ strokes_of (H.seen table.now) order) }
@@ -26,7 +27,7 @@ pub fn strokes<H: Heard>(alloc: Global, table: &H, order: u32) -> Result<Vec<Str
     Ok(strokes)
 }
 
-/// Adds what a general was told, if he is a lieutenant.
+/// Appends the strokes to a general, if he is a lieutenant.
 fn push_received<H: Heard>(
     alloc: Global,
     strokes: &mut Vec<Stroke>,

@@ -1,4 +1,4 @@
-//! What stands below the bands of a picture: the decisions, the verdict, and what the marks mean.
+//! Draws the foot of a diagram, below its bands: the decisions, the verdict, and the legend.
 ghost use Rattle.std.specs.Prelude.{◌≡◌, ◌≤◌, ◌<◌, ◌++◌, flat_map, string_bytes, OnOk, slice_get};
 ghost use Rattle.std.specs.List.{range_with_len};
 ghost use Rattle.show_diagram.specs.Foot.{alike_words, bound_words, decided, decided_all, decided_at, decides_words, foot, obeyed_words, place_of, verdict_lines};
@@ -14,7 +14,7 @@ use round::Scenario;
 use std::alloc::AllocError;
 use world::{Chronicle, Verdict};
 
-/// Adds the decisions, the verdict and what these marks mean, at this height.
+/// Appends the decisions, the verdict and the meanings of these marks. The foot begins at the height `top`.
 pub(crate) fn put_foot(
     out: &mut String,
     chronicle: &Chronicle,
@@ -34,11 +34,11 @@ pub(crate) fn put_foot(
     put_group_end(out)
 }
 
-/// Adds what each lieutenant decides.
+/// Appends the decision of each lieutenant.
 ///
 /// # Errors
 ///
-/// No memory for the text.
+/// Fails if there is no memory for the text.
 pub fn put_decisions(
     out: &mut String,
     scenario: &Scenario,
@@ -52,7 +52,7 @@ pub fn put_decisions(
     Ok(())
 }
 
-/// Adds what a general decides, if he is a lieutenant.
+/// Appends the decision of a general, if he is a lieutenant.
 fn put_decided(
     out: &mut String,
     scenario: &Scenario,
@@ -72,7 +72,7 @@ fn put_decided(
     }
 }
 
-/// The place of a lieutenant's decision, under this commander.
+/// Returns the index of a lieutenant's decision in the list of decisions, which leaves out the commander.
 pub fn place_of(commander: u8, general: u8) -> usize
     ensures { result ≡ place_of commander general }
 {
@@ -83,7 +83,7 @@ pub fn place_of(commander: u8, general: u8) -> usize
     }
 }
 
-/// Adds a decision in the column of its general.
+/// Appends a decision in the column of its general.
 fn put_decided_at(
     out: &mut String,
     general: u8,
@@ -100,7 +100,7 @@ fn put_decided_at(
     put_group_end(out)
 }
 
-/// Adds the words of a decision.
+/// Appends the words of a decision.
 #[tactic(auto, unfolding(crate::specs::Foot::decides_words))]
 fn put_decides(out: &mut String, order: u32) -> Result<(), AllocError>
     ensures { OnOk result (string_bytes out.new ≡ string_bytes out.old ++ decides_words order) }
@@ -108,7 +108,7 @@ fn put_decides(out: &mut String, order: u32) -> Result<(), AllocError>
     write!(out, "decides {order}")
 }
 
-/// Adds the verdict, a line for each of its parts.
+/// Appends the verdict, with a line for each of its parts.
 fn put_verdict(out: &mut String, verdict: Verdict) -> Result<(), AllocError>
     ensures { OnOk result (string_bytes out.new ≡ string_bytes out.old ++ verdict_lines verdict) }
 {
@@ -117,7 +117,7 @@ fn put_verdict(out: &mut String, verdict: Verdict) -> Result<(), AllocError>
     put_words(out, "name", 120, 104, bound_words(verdict.bound))
 }
 
-/// Whether the loyal lieutenants decide alike.
+/// Returns the sentence that says whether the loyal lieutenants decide alike (IC1).
 pub fn alike_words(alike: bool) -> &'static str
     ensures { result.now ≡ alike_words alike }
 {
@@ -128,7 +128,8 @@ pub fn alike_words(alike: bool) -> &'static str
     }
 }
 
-/// Whether they obey a loyal commander.
+/// Returns the sentence that says whether the loyal lieutenants obey a loyal commander (IC2). `None` means that the
+/// commander is a traitor.
 pub fn obeyed_words(obeyed: Option<bool>) -> &'static str
     ensures { result.now ≡ obeyed_words obeyed }
 {
@@ -139,7 +140,8 @@ pub fn obeyed_words(obeyed: Option<bool>) -> &'static str
     }
 }
 
-/// Whether they had to, of oral messages.
+/// Returns the sentence that says whether the bound for oral messages holds, under which the algorithm promises
+/// agreement.
 pub fn bound_words(bound: bool) -> &'static str
     ensures { result.now ≡ bound_words bound }
 {

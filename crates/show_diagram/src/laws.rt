@@ -1,25 +1,25 @@
-//! Laws of what is drawn: each function does nothing, and its contract is the law.
+//! Laws of diagrams. Each function does nothing, and its contract is the law.
 ghost use Rattle.show_diagram.specs.Laws.{DiagramsAreElements, OnlyTraitorsDiffer, RowsAreExact, StrokesAreExact};
 
-/// A picture is one element of XML, whatever the table and the chronicle.
+/// States that a diagram is one XML element followed by a line feed, whatever the message table and the chronicle.
 pub fn diagrams_are_elements()
     ensures { DiagramsAreElements }
 {}
 
-/// In a finished campaign only traitors tell something else than an honest relay; in red is just what is not what its
-/// teller was to tell.
+/// States that in a finished campaign only strokes of traitors are drawn in red. A stroke differs exactly if its sender
+/// did not send the order that he was to send.
 pub fn only_traitors_differ()
     ensures { OnlyTraitorsDiffer }
 {}
 
-/// There is one stroke for each round, sender, receiver and order, and whether an honest relay would tell so, as wide
-/// as the labels of which it was told.
+/// States that there is one stroke for each round, sender, receiver and order, and for whether an honest relay would
+/// send that order. The stroke's number of labels is the number for which it was sent.
 pub fn strokes_are_exact()
     ensures { StrokesAreExact }
 {}
 
-/// The rows of a list are numbered from 0 on, and the first are drawn: no honest one while a lie is left, and of each
-/// liar one. Those that are counted as left are the others.
+/// States that the rows of a list are numbered from 0, and that the first rows are drawn. No honest row is drawn while
+/// a lie is left out, and each liar has a row. The rows that are counted as left out are the others.
 pub fn rows_are_exact()
     ensures { RowsAreExact }
 {}

@@ -1,4 +1,4 @@
-//! Where the parts of a picture stand, in units of it: a column for each general, and a band for each round.
+//! Computes the positions of a diagram's parts, in units of SVG: a column for each general, and a band for each round.
 ghost use Rattle.std.specs.Prelude.{◌≡◌, ◌<◌, ◌+◌, ◌-◌, ◌*◌, ◌^◌, count_by, IfOk};
 ghost use Rattle.show_diagram.specs.Layout.{board, column, fan_top, height, is_earlier, is_in, most, reach, rows_top, room, top_of, widest, width};
 
@@ -7,28 +7,28 @@ use crate::words::put_shown;
 use board::Access;
 use std::alloc::{AllocError, Global};
 
-/// How wide a picture is at least, so that the words above and below its columns are not cut.
+/// The least width of a diagram in units, at which the words above and below its columns are not cut.
 const LEAST: u128 = 760;
 
-/// Where the column of a general is: as far from the next as the longest row of a list is.
+/// Returns the x coordinate of a general's column. Columns are as far apart as the longest row of a list is wide.
 pub fn column(general: u32) -> u128
     ensures { result ≡ column general }
 {
     120 + 208 * u128::from(general)
 }
 
-/// Where the column of the board is, beside those of so many generals.
+/// Returns the x coordinate of the board's column, to the right of the columns of `generals` generals.
 pub(crate) fn board(generals: u8) -> u128
     ensures { result ≡ board generals }
 {
     120 + 208 * u128::from(generals)
 }
 
-/// How wide the picture is: with room beside the board for what is said of accesses.
+/// Returns the width of a diagram, with room to the right of the board for the words of its accesses.
 ///
 /// # Errors
 ///
-/// No memory for what is said of an access.
+/// Fails if there is no memory for the words of an access.
 pub fn width(alloc: Global, generals: u8, accesses: &[Access]) -> Result<u128, AllocError>
     ensures value { IfOk result (λ wide. wide ≡ width generals accesses.now) }
     ensures small { IfOk result (λ wide. wide < 2 ^ 101) }
@@ -36,7 +36,7 @@ pub fn width(alloc: Global, generals: u8, accesses: &[Access]) -> Result<u128, A
     Ok(LEAST.max(board(generals) + widest(alloc, accesses)?))
 }
 
-/// How much room what is said of accesses takes beside the board.
+/// Returns the width of the widest access text, to the right of the board.
 fn widest(alloc: Global, accesses: &[Access]) -> Result<u128, AllocError>
     ensures value { IfOk result (λ width. width ≡ widest accesses.now) }
     ensures small { IfOk result (λ width. width < 2 ^ 100) }
@@ -48,7 +48,7 @@ fn widest(alloc: Global, accesses: &[Access]) -> Result<u128, AllocError>
     Ok(widest)
 }
 
-/// How much room what is said of an access takes: 7 for each byte of it.
+/// Returns the width of an access text: 28 units, and 7 for each byte of it.
 fn room(alloc: Global, access: &Access) -> Result<u128, AllocError>
     ensures value { IfOk result (λ width. width ≡ room access.now) }
     ensures small { IfOk result (λ width. width < 2 ^ 100) }
@@ -58,28 +58,29 @@ fn room(alloc: Global, access: &Access) -> Result<u128, AllocError>
     Ok(28 + 7 * text.len() as u128)
 }
 
-/// How many accesses a round has.
+/// Returns the number of accesses in a round.
 fn accesses_in(accesses: &[Access], round: u32) -> usize
     ensures { result ≡ count_by (is_in round) accesses.now }
 {
     accesses.iter().filter(|x| x.round == round).count()
 }
 
-/// How many accesses the rounds before have.
+/// Returns the number of accesses in earlier rounds.
 pub(crate) fn accesses_before(accesses: &[Access], round: u32) -> usize
     ensures { result ≡ count_by (is_earlier round) accesses.now }
 {
     accesses.iter().filter(|x| x.round < round).count()
 }
 
-/// Where an access with this place among all is in the band of its round, before which so many are of others.
+/// Returns the height at which an access is drawn in the band of its round. `place` is its place among all accesses,
+/// and `before` is the number of accesses in earlier rounds.
 pub(crate) fn access_top(before: usize, place: usize) -> u128
     ensures { result ≡ 16 + 20 * (place - before) }
 {
     16 + 20 * place.saturating_sub(before) as u128
 }
 
-/// Where the strokes of a round begin in its band.
+/// Returns the height in a round's band at which its strokes begin.
 pub fn fan_top(accesses: &[Access], round: u32) -> u128
     ensures value { result ≡ fan_top accesses.now round }
     ensures small { result < 2 ^ 80 }
@@ -87,7 +88,7 @@ pub fn fan_top(accesses: &[Access], round: u32) -> u128
     24 + 20 * accesses_in(accesses, round) as u128
 }
 
-/// Where the lists of what each was told begin in the band.
+/// Returns the height in a round's band at which its lists begin, which say what each lieutenant received.
 pub fn rows_top(generals: u8, accesses: &[Access], round: u32) -> u128
     ensures value { result ≡ rows_top generals accesses.now round }
     ensures small { result < 2 ^ 81 }
@@ -95,7 +96,7 @@ pub fn rows_top(generals: u8, accesses: &[Access], round: u32) -> u128
     fan_top(accesses, round) + 72 + 16 * u128::from(generals)
 }
 
-/// How long the longest of these lists is.
+/// Returns the length of a round's longest list.
 fn most(strokes: &[Stroke], round: u32) -> u128
     ensures value { result ≡ most round strokes.now }
     ensures small { result < 2 ^ 65 }
@@ -107,7 +108,7 @@ fn most(strokes: &[Stroke], round: u32) -> u128
     most
 }
 
-/// How long the list of a stroke's receiver is at least.
+/// Returns the least length of the list that has this stroke as a row, or 0 if the stroke is not of this round.
 fn reach(stroke: &Stroke, round: u32) -> u128
     ensures value { result ≡ reach round stroke.now }
     ensures small { result < 2 ^ 65 }
@@ -119,7 +120,7 @@ fn reach(stroke: &Stroke, round: u32) -> u128
     }
 }
 
-/// How high the band is.
+/// Returns the height of a round's band.
 pub fn height(generals: u8, strokes: &[Stroke], accesses: &[Access], round: u32) -> u128
     ensures value { result ≡ height generals strokes.now accesses.now round }
     ensures small { result < 2 ^ 82 }
@@ -127,7 +128,7 @@ pub fn height(generals: u8, strokes: &[Stroke], accesses: &[Access], round: u32)
     rows_top(generals, accesses, round) + 20 + 18 * most(strokes, round)
 }
 
-/// Where the band behind so many rounds is.
+/// Returns the y coordinate at which the band after the first `rounds` rounds begins.
 #[tactic(auto, using(crate::proofs::LayoutLemmas::none_above, crate::proofs::LayoutLemmas::one_above))]
 pub fn top_of(generals: u8, strokes: &[Stroke], accesses: &[Access], rounds: u8) -> u128
     ensures value { result ≡ top_of generals strokes.now accesses.now rounds }

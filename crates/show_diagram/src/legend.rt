@@ -1,4 +1,5 @@
-//! What the marks of a picture mean, below its foot: a row for each mark that stands in it.
+//! Draws the legend of a diagram, below its foot: a row for each mark that occurs in the diagram. Every function here
+//! that returns a `Result` fails only if memory runs out.
 ghost use Rattle.std.specs.Prelude.{◌≡◌, ◌≤◌, ◌<◌, ◌^◌, ◌++◌, string_bytes, OnOk};
 ghost use Rattle.std.specs.List.{list_any};
 ghost use Rattle.show_diagram.specs.Legend.{differs_meaning, foot_height, has_circle, has_cross, has_diamond, legend, legend_of, marks_of, meaning_at, meaning_if, missing_meaning, one_if, rows, shape_at, shape_if, shape_key, shape_meanings, stroke_meanings, stroke_rows, told_meaning, wide_meaning};
@@ -16,7 +17,7 @@ use round::Scenario;
 use std::alloc::AllocError;
 use world::judgement::traitors;
 
-/// Which marks stand in the picture of these strokes and accesses.
+/// Returns which marks occur in the diagram of these strokes and accesses.
 pub fn marks(scenario: &Scenario, accesses: &[Access], strokes: &[Stroke]) -> DiagramMarks
     ensures { result ≡ marks_of scenario.now accesses.now strokes.now }
 {
@@ -31,49 +32,49 @@ pub fn marks(scenario: &Scenario, accesses: &[Access], strokes: &[Stroke]) -> Di
     }
 }
 
-/// Whether one of these strokes has a circle.
+/// Checks whether one of these strokes has a circle.
 fn any_circle(strokes: &[Stroke]) -> bool
     ensures { result ≡ list_any has_circle strokes.now }
 {
     strokes.iter().any(|stroke| has_circle(stroke))
 }
 
-/// Whether one of them has a diamond.
+/// Checks whether one of these strokes has a diamond.
 fn any_diamond(strokes: &[Stroke]) -> bool
     ensures { result ≡ list_any has_diamond strokes.now }
 {
     strokes.iter().any(|stroke| has_diamond(stroke))
 }
 
-/// Whether one of them has a cross.
+/// Checks whether one of these strokes has a cross.
 fn any_cross(strokes: &[Stroke]) -> bool
     ensures { result ≡ list_any has_cross strokes.now }
 {
     strokes.iter().any(|stroke| has_cross(stroke))
 }
 
-/// Whether what was told is what an honest relay tells.
+/// Checks whether a stroke has a circle: an honest relay would send the same.
 fn has_circle(stroke: &Stroke) -> bool
     ensures { result ≡ has_circle stroke.now }
 {
     !stroke.differs
 }
 
-/// Whether it is something else.
+/// Checks whether a stroke has a diamond: an order was sent, and an honest relay would send something else.
 fn has_diamond(stroke: &Stroke) -> bool
     ensures { result ≡ has_diamond stroke.now }
 {
     stroke.differs && stroke.told.is_some()
 }
 
-/// Whether nothing was told, where something was to be told.
+/// Checks whether a stroke has a cross: nothing was sent where something should have been sent.
 fn has_cross(stroke: &Stroke) -> bool
     ensures { result ≡ has_cross stroke.now }
 {
     stroke.differs && !stroke.told.is_some()
 }
 
-/// One, where this is so.
+/// Returns 1 if the condition holds, else 0.
 fn one_if(stands: bool) -> u128
     ensures value { result ≡ one_if stands }
     ensures few { result ≤ 1 }
@@ -81,7 +82,7 @@ fn one_if(stands: bool) -> u128
     if stands { 1 } else { 0 }
 }
 
-/// How many rows the marks of strokes have.
+/// Returns the number of legend rows for the marks of strokes, at most 3.
 fn stroke_rows(marks: DiagramMarks) -> u128
     ensures value { result ≡ stroke_rows marks }
     ensures few { result ≤ 3 }
@@ -89,7 +90,7 @@ fn stroke_rows(marks: DiagramMarks) -> u128
     one_if(marks.circle) + one_if(marks.diamond) + one_if(marks.cross)
 }
 
-/// How many rows there are.
+/// Returns the number of legend rows, at most 6.
 fn rows(marks: DiagramMarks) -> u128
     ensures value { result ≡ rows marks }
     ensures few { result ≤ 6 }
@@ -97,7 +98,7 @@ fn rows(marks: DiagramMarks) -> u128
     stroke_rows(marks) + one_if(marks.square) + one_if(marks.loyal) + one_if(marks.point)
 }
 
-/// How high the foot is, with what these marks mean.
+/// Returns the height of the foot with its legend, at most 272 units.
 pub fn foot_height(marks: DiagramMarks) -> u128
     ensures value { result ≡ foot_height marks }
     ensures few { result ≤ 272 }
@@ -105,12 +106,12 @@ pub fn foot_height(marks: DiagramMarks) -> u128
     152 + 20 * rows(marks)
 }
 
-/// Adds what those of these marks mean that stand in the picture: of what is told as it should be, of something else,
-/// of nothing in its place, of generals and accesses; and what the width of a line tells.
+/// Appends the meanings of those marks that occur in the diagram. `told`, `differs` and `missing` describe a stroke
+/// that is as it should be, one that differs, and one that is missing. `wide` describes the width of a line.
 ///
 /// # Errors
 ///
-/// No memory for the text; so of every function here.
+/// Fails if there is no memory for the text.
 pub fn put_legend_of(
     out: &mut String,
     marks: DiagramMarks,
@@ -130,7 +131,7 @@ pub fn put_legend_of(
     Ok(())
 }
 
-/// Adds what the marks of strokes mean.
+/// Appends the meanings of the marks of strokes.
 fn put_stroke_meanings(
     out: &mut String,
     marks: DiagramMarks,
@@ -152,7 +153,7 @@ fn put_stroke_meanings(
     Ok(())
 }
 
-/// Adds what the marks of generals and of accesses mean, in rows from this place on.
+/// Appends the meanings of the marks of generals and accesses. Their rows begin at the row number `place`.
 fn put_shape_meanings(out: &mut String, marks: DiagramMarks, place: u128) -> Result<(), AllocError>
     requires { place < 2 ^ 99 }
     ensures { OnOk result (string_bytes out.new ≡ string_bytes out.old ++ shape_meanings marks place) }
@@ -182,7 +183,7 @@ fn put_shape_meanings(out: &mut String, marks: DiagramMarks, place: u128) -> Res
     Ok(())
 }
 
-/// Adds a stroke, its mark and what they mean, where they stand in the picture, in the row with this place.
+/// Appends a sample stroke with its mark and its meaning in the row `place`, if the mark occurs in the diagram.
 fn put_meaning_if(
     out: &mut String,
     stands: bool,
@@ -202,7 +203,7 @@ fn put_meaning_if(
     }
 }
 
-/// Adds a mark alone and what it means, where it stands in the picture, in the row with this place.
+/// Appends a mark without a stroke and its meaning in the row `place`, if the mark occurs in the diagram.
 fn put_shape_if(
     out: &mut String,
     stands: bool,
@@ -222,7 +223,7 @@ fn put_shape_if(
     }
 }
 
-/// Adds a stroke and its mark, and what they mean.
+/// Appends a sample stroke with its mark and its meaning at the height `y`.
 fn put_meaning(
     out: &mut String,
     y: u128,
@@ -241,7 +242,7 @@ fn put_meaning(
     put_group_end(out)
 }
 
-/// Adds a mark alone, and what it means.
+/// Appends a mark without a stroke and its meaning at the height `y`.
 fn put_shape(
     out: &mut String,
     y: u128,
@@ -257,7 +258,7 @@ fn put_shape(
     put_group_end(out)
 }
 
-/// Adds a short stroke.
+/// Appends a short sample stroke with a title.
 fn put_sample(out: &mut String, kind: &str, words: &str) -> Result<(), AllocError>
     ensures { OnOk result (string_bytes out.new ≡ string_bytes out.old ++ stroke_at kind.now 2 0 0 36 0 words.now) }
 {
@@ -268,7 +269,7 @@ fn put_sample(out: &mut String, kind: &str, words: &str) -> Result<(), AllocErro
     put_stroke_end(out)
 }
 
-/// Adds what the marks of generals and accesses mean, for those who do not see the picture.
+/// Appends the meanings of the marks of generals and accesses, for readers who do not see the diagram.
 pub fn put_shape_key(out: &mut String, marks: DiagramMarks) -> Result<(), AllocError>
     ensures { OnOk result (string_bytes out.new ≡ string_bytes out.old ++ shape_key marks) }
 {
@@ -282,7 +283,7 @@ pub fn put_shape_key(out: &mut String, marks: DiagramMarks) -> Result<(), AllocE
     Ok(())
 }
 
-/// Adds what the marks of a campaign of oral messages mean.
+/// Appends the meanings of the marks of a campaign with oral messages.
 pub(crate) fn put_legend(out: &mut String, marks: DiagramMarks) -> Result<(), AllocError>
     ensures { OnOk result (string_bytes out.new ≡ string_bytes out.old ++ legend marks) }
 {
@@ -296,7 +297,7 @@ pub(crate) fn put_legend(out: &mut String, marks: DiagramMarks) -> Result<(), Al
     )
 }
 
-/// Of what is told as it should be.
+/// Returns the meaning of a stroke that an honest relay would send.
 #[tactic(auto, unfolding(crate::specs::Legend::told_meaning))]
 fn told_meaning() -> &'static str
     ensures { result.now ≡ told_meaning }
@@ -304,7 +305,7 @@ fn told_meaning() -> &'static str
     "told as an honest relay tells it"
 }
 
-/// Of something else.
+/// Returns the meaning of a stroke for which an honest relay would send something else.
 #[tactic(auto, unfolding(crate::specs::Legend::differs_meaning))]
 fn differs_meaning() -> &'static str
     ensures { result.now ≡ differs_meaning }
@@ -312,7 +313,7 @@ fn differs_meaning() -> &'static str
     "told, and an honest relay would tell something else"
 }
 
-/// Of nothing in its place.
+/// Returns the meaning of a stroke that is missing.
 #[tactic(auto, unfolding(crate::specs::Legend::missing_meaning))]
 fn missing_meaning() -> &'static str
     ensures { result.now ≡ missing_meaning }
@@ -320,7 +321,7 @@ fn missing_meaning() -> &'static str
     "nothing told, where something was to be told"
 }
 
-/// What the width of a line tells.
+/// Returns the meaning of the width of a line.
 #[tactic(auto, unfolding(crate::specs::Legend::wide_meaning))]
 fn wide_meaning() -> &'static str
     ensures { result.now ≡ wide_meaning }

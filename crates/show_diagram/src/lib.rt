@@ -1,5 +1,5 @@
-//! A campaign as a picture in SVG, a space-time diagram: a column for each general and the board, a band for each
-//! round. Its parts are public, for diagrams of other campaigns.
+//! Draws a campaign in SVG as a space-time diagram, with a column for each general and the board, and a band for each
+//! round. The parts of the diagram are public, so that other crates can draw other kinds of campaigns.
 #![tactic(auto)]
 
 pub mod bands;

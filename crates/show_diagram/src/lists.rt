@@ -1,4 +1,5 @@
-//! The lists of what a lieutenant was told, one for each round.
+//! Builds the lists of what a lieutenant received, one for each round, with a row for each stroke. Every function here
+//! that returns a `Result` fails only if memory runs out.
 ghost use Rattle.std.specs.Prelude.{ℕ, ◌≡◌, ◌+◌, ◌<◌, ◌^◌, ◌++◌, [], false, IfOk, OnOk, count_by, filter};
 ghost use Rattle.show_diagram.specs.Lists.{count_of, is_in, is_lie, is_same, lists_of, stroke_of, strokes_from, teller};
 ghost use Rattle.show_diagram.specs.Order.{arranged, firsts};
@@ -10,11 +11,12 @@ use crate::told_order::Telling;
 use std::alloc::{AllocError, Global};
 use std::collections::{HashMap, HashSet};
 
-/// Adds what a lieutenant was told of the labels of his tree in so many rounds: by rounds, a row for each thing.
+/// Appends the strokes for what a lieutenant received in the first `rounds` rounds, sorted by round. The list of a
+/// round has one row for each different message.
 ///
 /// # Errors
 ///
-/// No memory for it; so of every function here.
+/// Fails if there is no memory.
 pub(crate) fn push_lists(
     alloc: Global,
     strokes: &mut Vec<Stroke>,
@@ -33,7 +35,7 @@ pub(crate) fn push_lists(
     Ok(())
 }
 
-/// Adds the list of a round, of what was told of so many labels each.
+/// Appends the strokes of a round's list. `counts` says for how many labels each message was sent.
 fn push_list(
     alloc: Global,
     strokes: &mut Vec<Stroke>,
@@ -49,7 +51,7 @@ fn push_list(
     push_rows(strokes, receiver, counts, list.as_slice())
 }
 
-/// Adds a row for each of these.
+/// Appends a stroke for each of these messages, with rows numbered from 0.
 #[tactic(auto, unfolding(crate::specs::Lists::strokes_from))]
 fn push_rows(
     strokes: &mut Vec<Stroke>,
@@ -67,7 +69,7 @@ fn push_rows(
     Ok(())
 }
 
-/// The stroke of what was told of so many labels, with this row.
+/// Returns the stroke for a message that was sent for `labels` labels, in the given row.
 fn stroke_of(receiver: u8, telling: &Telling, labels: usize, row: usize) -> Stroke
     ensures { result ≡ stroke_of receiver telling.now labels row }
 {
@@ -82,7 +84,7 @@ fn stroke_of(receiver: u8, telling: &Telling, labels: usize, row: usize) -> Stro
     }
 }
 
-/// What was told, each thing once.
+/// Returns the messages without repetitions, in the order of their first occurrence.
 #[tactic(auto, unfolding(crate::specs::Order::firsts))]
 fn told_once(alloc: Global, tellings: &[Telling]) -> Result<Vec<Telling>, AllocError>
     ensures { IfOk result (λ things. things.items ≡ firsts is_same [] tellings.now) }
@@ -97,7 +99,7 @@ fn told_once(alloc: Global, tellings: &[Telling]) -> Result<Vec<Telling>, AllocE
     Ok(things)
 }
 
-/// Of how many labels each thing was told.
+/// Counts for how many labels each message was sent.
 fn counted(alloc: Global, tellings: &[Telling]) -> Result<HashMap<Telling, usize>, AllocError>
     ensures { IfOk result (λ counts. (q : Telling) → count_of counts q ≡ count_by (is_same q) tellings.now) }
 {
@@ -108,7 +110,7 @@ fn counted(alloc: Global, tellings: &[Telling]) -> Result<HashMap<Telling, usize
     Ok(counts)
 }
 
-/// Counts one label more of which this was told.
+/// Adds one to the number of labels for which a message was sent.
 fn count_one(counts: &mut HashMap<Telling, usize>, telling: &Telling) -> Result<(), AllocError>
     requires { count_of counts.old telling.now + 1 < 2 ^ 64 }
     ensures counted { OnOk result (count_of counts.new telling.now ≡ count_of counts.old telling.now + 1) }

@@ -1,18 +1,18 @@
-//! The marks of a picture.
+//! The marks that occur in a diagram, which its legend explains.
 
-/// Which marks stand in a picture.
+/// The marks that occur in a diagram.
 #[derive(Clone, Copy, Drop)]
 pub struct DiagramMarks {
-    /// A circle and a plain line: of what was told as it should be.
+    /// A circle and a plain line: the message is as it should be.
     pub circle: bool,
-    /// A diamond and dashes: of something else.
+    /// A diamond and dashes: an order was sent that should have been another.
     pub diamond: bool,
-    /// A cross and dots: of nothing, where something was to be told.
+    /// A cross and dots: nothing was sent where something should have been sent.
     pub cross: bool,
-    /// A square: of a traitor.
+    /// A square: the general is a traitor.
     pub square: bool,
-    /// A circle at a name: of a loyal general.
+    /// A circle at a name: the general is loyal.
     pub loyal: bool,
-    /// A point: of an access to the board.
+    /// A point: an access to the board.
     pub point: bool,
 }

@@ -1,4 +1,5 @@
-//! In which order the rows of a list stand.
+//! Sorts the rows of a list. A list that is too long to be drawn begins with the lies. Every function here that returns
+//! a `Result` fails only if memory runs out.
 ghost use Rattle.std.specs.Prelude.{◌≡◌, ◌++◌, ◌∷◌, [], cond, filter, not, IfOk, OnOk};
 ghost use Rattle.std.specs.List.{list_any};
 ghost use Rattle.show_diagram.specs.Lists.{is_in, is_lie, teller};
@@ -7,15 +8,15 @@ ghost use Rattle.show_diagram.specs.Order.{arranged, firsts, is_by_one, lies_fir
 use crate::told_order::Telling;
 use std::alloc::{AllocError, Global};
 
-/// How many rows of a list are drawn at most.
+/// The largest number of rows of a list that are drawn.
 pub const MOST: usize = 24;
 
-/// A list as its rows stand: by labels, or where not all are drawn, the first lie of each teller, then the other lies,
-/// then what is honest.
+/// Returns the list in the order of its rows. A list of at most `MOST` rows keeps its order. A longer one has the first
+/// lie of each sender, then the other lies, then the honest messages.
 ///
 /// # Errors
 ///
-/// No memory for it; so of every function here.
+/// Fails if there is no memory for the list.
 pub(crate) fn arranged(alloc: Global, list: Vec<Telling>) -> Result<Vec<Telling>, AllocError>
     ensures { IfOk result (λ rows. rows.items ≡ arranged is_lie teller list.items) }
 {
@@ -25,7 +26,7 @@ pub(crate) fn arranged(alloc: Global, list: Vec<Telling>) -> Result<Vec<Telling>
     lies_first(alloc, list.as_slice())
 }
 
-/// The first lie of each teller, then the other lies, then what is honest.
+/// Returns the first lie of each sender, then the other lies, then the honest messages.
 #[tactic(auto, unfolding(crate::specs::Order::firsts, crate::specs::Order::repeats))]
 fn lies_first(alloc: Global, list: &[Telling]) -> Result<Vec<Telling>, AllocError>
     ensures { IfOk result (λ rows. rows.items ≡ lies_first is_lie teller list.now) }
@@ -44,14 +45,14 @@ fn lies_first(alloc: Global, list: &[Telling]) -> Result<Vec<Telling>, AllocErro
     Ok(rows)
 }
 
-/// Whether the teller of one of these told this too.
+/// Checks whether one of these messages has the same sender as the given one.
 fn is_by_one_of(tellings: &[Telling], telling: &Telling) -> bool
     ensures { result ≡ list_any (is_by_one teller telling.now) tellings.now }
 {
     tellings.iter().any(|x| telling.teller == x.teller)
 }
 
-/// Those of a list that an honest relay would not tell.
+/// Returns the messages of a list that an honest relay would not send.
 fn lies(alloc: Global, list: &[Telling]) -> Result<Vec<Telling>, AllocError>
     ensures { IfOk result (λ kept. kept.items ≡ filter is_lie list.now) }
 {
@@ -62,7 +63,7 @@ fn lies(alloc: Global, list: &[Telling]) -> Result<Vec<Telling>, AllocError>
     Ok(kept)
 }
 
-/// Those that he would.
+/// Returns the messages of a list that an honest relay would send.
 fn honest(alloc: Global, list: &[Telling]) -> Result<Vec<Telling>, AllocError>
     ensures { IfOk result (λ kept. kept.items ≡ filter (λ x. not (is_lie x)) list.now) }
 {
@@ -73,7 +74,7 @@ fn honest(alloc: Global, list: &[Telling]) -> Result<Vec<Telling>, AllocError>
     Ok(kept)
 }
 
-/// Those that were told in a round.
+/// Returns the messages that were sent in a round.
 pub(crate) fn told_in(
     alloc: Global,
     tellings: &[Telling],
@@ -88,7 +89,7 @@ pub(crate) fn told_in(
     Ok(kept)
 }
 
-/// Adds what was told, if it is wanted.
+/// Appends the message if it is wanted.
 fn push_if(kept: &mut Vec<Telling>, telling: Telling, is_wanted: bool) -> Result<(), AllocError>
     ensures { OnOk result (kept.new.items ≡ kept.old.items ++ cond is_wanted (telling ∷ []) []) }
 {

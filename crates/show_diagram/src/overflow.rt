@@ -1,4 +1,4 @@
-//! The strokes that a picture has room for, and how many it has none for.
+//! Decides which strokes a diagram has room for, and writes how many are left out.
 ghost use Rattle.std.specs.Prelude.{◌≡◌, ◌<◌, ◌++◌, ◌∷◌, [], codes, cond, count_by, string_bytes, IfOk, OnOk};
 ghost use Rattle.std.specs.List.{list_any};
 ghost use Rattle.show_diagram.specs.Shapes.{said_if, text_at, title};
@@ -14,11 +14,11 @@ use crate::stroke::Stroke;
 use board::Access;
 use std::alloc::{AllocError, Global};
 
-/// Those that are drawn.
+/// Returns the strokes that are drawn.
 ///
 /// # Errors
 ///
-/// No memory for them.
+/// Fails if there is no memory for the strokes.
 pub(crate) fn with_rows(alloc: Global, strokes: &[Stroke]) -> Result<Vec<Stroke>, AllocError>
     ensures { IfOk result (λ drawn. drawn.items ≡ with_rows strokes.now) }
 {
@@ -29,28 +29,28 @@ pub(crate) fn with_rows(alloc: Global, strokes: &[Stroke]) -> Result<Vec<Stroke>
     Ok(drawn)
 }
 
-/// Whether a stroke has a row, and so is drawn.
+/// Checks whether a stroke has a row in its list, and so is drawn.
 pub fn has_row(stroke: &Stroke) -> bool
     ensures { result ≡ has_row stroke.now }
 {
     stroke.row < MOST
 }
 
-/// Whether one of these is not drawn.
+/// Checks whether one of these strokes is not drawn.
 pub fn is_cut(strokes: &[Stroke]) -> bool
     ensures { result ≡ is_cut strokes.now }
 {
     strokes.iter().any(|stroke| is_past(stroke))
 }
 
-/// Whether a stroke is not drawn.
+/// Checks whether a stroke is not drawn because its row is past the last that is drawn.
 fn is_past(stroke: &Stroke) -> bool
     ensures { result ≡ is_past stroke.now }
 {
     stroke.row >= MOST
 }
 
-/// Adds a stroke, if it is drawn.
+/// Appends the stroke if it is drawn.
 fn push_if(drawn: &mut Vec<Stroke>, stroke: Stroke, is_drawn: bool) -> Result<(), AllocError>
     ensures { OnOk result (drawn.new.items ≡ drawn.old.items ++ cond is_drawn (stroke ∷ []) []) }
 {
@@ -60,11 +60,11 @@ fn push_if(drawn: &mut Vec<Stroke>, stroke: Stroke, is_drawn: bool) -> Result<()
     Ok(())
 }
 
-/// Adds how many are not drawn, below the rows of each of so many bands.
+/// Appends how many strokes are left out, below the lists of each of the first `rounds` bands.
 ///
 /// # Errors
 ///
-/// No memory for the text.
+/// Fails if there is no memory for the text.
 pub fn put_mores(
     out: &mut String,
     generals: u8,
@@ -83,7 +83,7 @@ pub fn put_mores(
     Ok(())
 }
 
-/// Adds those of the band behind so many rounds.
+/// Appends how many strokes are left out of the band that follows the first `before` rounds.
 fn put_mores_in(
     out: &mut String,
     generals: u8,
@@ -106,7 +106,7 @@ fn put_mores_in(
     Ok(())
 }
 
-/// Where they stand.
+/// Returns the y coordinate of the text that says how many strokes are left out of a band.
 fn more_top(generals: u8, drawn: &[Stroke], accesses: &[Access], before: u8) -> u128
     requires { before < 255 }
     ensures { result ≡ more_top generals drawn.now accesses.now before }
@@ -116,7 +116,7 @@ fn more_top(generals: u8, drawn: &[Stroke], accesses: &[Access], before: u8) -> 
         + (12 + 18 * MOST as u128)
 }
 
-/// Adds those of a round to each general, at this height.
+/// Appends how many strokes of a round are left out for each general, at the height `top`.
 fn put_mores_of(
     out: &mut String,
     generals: u8,
@@ -132,7 +132,7 @@ fn put_mores_of(
     Ok(())
 }
 
-/// Adds those to a general.
+/// Appends how many strokes of a round are left out for a general.
 fn put_more_of(
     out: &mut String,
     strokes: &[Stroke],
@@ -147,7 +147,7 @@ fn put_more_of(
     put_more_at(out, top, round, general, left, lies)
 }
 
-/// How many strokes of a round to a general are not drawn.
+/// Returns how many strokes of a round to this receiver are not drawn.
 fn count_left(strokes: &[Stroke], round: usize, receiver: u8) -> usize
     ensures { result ≡ count_by (is_left round receiver) strokes.now }
 {
@@ -157,7 +157,7 @@ fn count_left(strokes: &[Stroke], round: usize, receiver: u8) -> usize
         .count()
 }
 
-/// Of how many of these a loyal general would do otherwise.
+/// Returns how many of the strokes that are not drawn differ from what a loyal general would send.
 fn count_left_lies(strokes: &[Stroke], round: usize, receiver: u8) -> usize
     ensures { result ≡ count_by (is_left_lie round receiver) strokes.now }
 {
@@ -167,7 +167,7 @@ fn count_left_lies(strokes: &[Stroke], round: usize, receiver: u8) -> usize
         .count()
 }
 
-/// Adds how many these are, where there are any.
+/// Appends how many strokes are left out, unless there are none.
 fn put_more_at(
     out: &mut String,
     top: u128,
@@ -186,7 +186,7 @@ fn put_more_at(
     put_group_end(out)
 }
 
-/// Adds it in words.
+/// Appends how many strokes are left out, as a title and as a text.
 fn put_more_told(
     out: &mut String,
     general: u8,
@@ -200,7 +200,7 @@ fn put_more_told(
     put_left_text(out, left, lies)
 }
 
-/// Adds it for those who point at it.
+/// Appends the title that says how many strokes are left out, which a reader sees by pointing at the text.
 fn put_left_title(
     out: &mut String,
     general: u8,
@@ -216,7 +216,7 @@ fn put_left_title(
     put_title_end(out)
 }
 
-/// Adds a sentence of it.
+/// Appends a full sentence that says how many strokes are left out.
 #[tactic(auto, unfolding(crate::specs::Left::left_in_full))]
 fn put_left_in_full(
     out: &mut String,
@@ -234,7 +234,7 @@ fn put_left_in_full(
     )
 }
 
-/// Adds it as it is written below the list.
+/// Appends the text below a list that says how many strokes are left out.
 fn put_left_text(out: &mut String, left: usize, lies: usize) -> Result<(), AllocError>
     ensures { OnOk result (string_bytes out.new ≡ string_bytes out.old
         ++ text_at (codes "small") 12 4 (left_words left lies)) }
@@ -244,7 +244,7 @@ fn put_left_text(out: &mut String, left: usize, lies: usize) -> Result<(), Alloc
     put_text_end(out)
 }
 
-/// Adds the numbers.
+/// Appends the numbers of strokes and of lies that are left out, in a few words.
 #[tactic(auto, unfolding(crate::specs::Left::left_words))]
 fn put_left_words(out: &mut String, left: usize, lies: usize) -> Result<(), AllocError>
     ensures { OnOk result (string_bytes out.new ≡ string_bytes out.old ++ left_words left lies) }
@@ -252,11 +252,11 @@ fn put_left_words(out: &mut String, left: usize, lies: usize) -> Result<(), Allo
     write!(out, "and {left} more, {lies} dishonest")
 }
 
-/// Adds for those who do not see the picture, where strokes are not drawn, that they are not.
+/// Appends a note for readers who do not see the diagram, if strokes are left out.
 ///
 /// # Errors
 ///
-/// No memory for the text.
+/// Fails if there is no memory for the text.
 #[tactic(auto, unfolding(crate::specs::Shapes::said_if))]
 pub fn put_cut(out: &mut String, is_cut: bool) -> Result<(), AllocError>
     ensures { OnOk result (string_bytes out.new ≡ string_bytes out.old ++ said_if is_cut cut_words) }
@@ -264,7 +264,7 @@ pub fn put_cut(out: &mut String, is_cut: bool) -> Result<(), AllocError>
     if is_cut { put_cut_words(out) } else { Ok(()) }
 }
 
-/// Adds it in words.
+/// Appends the note that a list has a largest number of rows, and which rows come first.
 #[tactic(auto, unfolding(crate::specs::Left::cut_words))]
 fn put_cut_words(out: &mut String) -> Result<(), AllocError>
     ensures { OnOk result (string_bytes out.new ≡ string_bytes out.old ++ cut_words) }

@@ -1,14 +1,15 @@
-//! The elements of a picture.
+//! Writes the SVG elements of a diagram: texts, lines, strokes, groups, marks and titles. Every function here that
+//! returns a `Result` fails only if memory runs out.
 ghost use Rattle.std.specs.Prelude.{◌≡◌, ◌++◌, string_bytes, OnOk};
 ghost use Rattle.show_diagram.specs.Shapes.{group_end, group_start, line, mark, said_if, shape_of, sort_of, stroke_end, stroke_open, stroke_start, stroke_way, text_at, text_end, text_start, title_end, title_start};
 
 use std::alloc::AllocError;
 
-/// Adds what a text at a place begins with.
+/// Appends the start of a text at the point (`x`, `y`).
 ///
 /// # Errors
 ///
-/// No memory for the text; so of every function here.
+/// Fails if there is no memory for the text.
 #[tactic(auto, unfolding(crate::specs::Shapes::text_start))]
 pub fn put_text_start(out: &mut String, class: &str, x: u128, y: u128) -> Result<(), AllocError>
     ensures { OnOk result (string_bytes out.new ≡ string_bytes out.old ++ text_start class.now x y) }
@@ -16,14 +17,14 @@ pub fn put_text_start(out: &mut String, class: &str, x: u128, y: u128) -> Result
     write!(out, "<text class=\"{class}\" x=\"{x}\" y=\"{y}\">")
 }
 
-/// Adds what it ends in.
+/// Appends the end of a text.
 pub fn put_text_end(out: &mut String) -> Result<(), AllocError>
     ensures { OnOk result (string_bytes out.new ≡ string_bytes out.old ++ text_end) }
 {
     out.push_str("</text>\n")
 }
 
-/// Adds words at a place.
+/// Appends words at the point (`x`, `y`).
 pub fn put_words(
     out: &mut String,
     class: &str,
@@ -38,7 +39,7 @@ pub fn put_words(
     put_text_end(out)
 }
 
-/// Adds a line from one place to another.
+/// Appends a line from (`x`, `y`) to (`u`, `v`).
 #[tactic(auto, unfolding(crate::specs::Shapes::line))]
 pub fn put_line(
     out: &mut String,
@@ -53,7 +54,7 @@ pub fn put_line(
     write!(out, "<path class=\"{class}\" d=\"M{x} {y}L{u} {v}\"/>\n")
 }
 
-/// Adds what a stroke from one place to another begins with.
+/// Appends the start of a stroke from (`x`, `y`) to (`u`, `v`).
 pub fn put_stroke_start(
     out: &mut String,
     kind: &str,
@@ -69,7 +70,7 @@ pub fn put_stroke_start(
     put_way(out, x, y, u, v)
 }
 
-/// Adds its class and its width.
+/// Appends the class and the width of a stroke.
 #[tactic(auto, unfolding(crate::specs::Shapes::stroke_open))]
 fn put_stroke_open(out: &mut String, kind: &str, width: u128) -> Result<(), AllocError>
     ensures { OnOk result (string_bytes out.new ≡ string_bytes out.old ++ stroke_open kind.now width) }
@@ -80,7 +81,7 @@ fn put_stroke_open(out: &mut String, kind: &str, width: u128) -> Result<(), Allo
     )
 }
 
-/// Adds its way, and ends its first tag.
+/// Appends the path of a stroke from (`x`, `y`) to (`u`, `v`), and ends its opening tag.
 #[tactic(auto, unfolding(crate::specs::Shapes::stroke_way))]
 fn put_way(out: &mut String, x: u128, y: u128, u: u128, v: u128) -> Result<(), AllocError>
     ensures { OnOk result (string_bytes out.new ≡ string_bytes out.old ++ stroke_way x y u v) }
@@ -88,14 +89,14 @@ fn put_way(out: &mut String, x: u128, y: u128, u: u128, v: u128) -> Result<(), A
     write!(out, "M{x} {y}L{u} {v}\">")
 }
 
-/// Adds what it ends in.
+/// Appends the end of a stroke.
 pub fn put_stroke_end(out: &mut String) -> Result<(), AllocError>
     ensures { OnOk result (string_bytes out.new ≡ string_bytes out.old ++ stroke_end) }
 {
     out.push_str("</path>\n")
 }
 
-/// Adds what a group at a place begins with.
+/// Appends the start of a group that is moved to the point (`x`, `y`).
 #[tactic(auto, unfolding(crate::specs::Shapes::group_start))]
 pub fn put_group_start(out: &mut String, x: u128, y: u128) -> Result<(), AllocError>
     ensures { OnOk result (string_bytes out.new ≡ string_bytes out.old ++ group_start x y) }
@@ -103,14 +104,14 @@ pub fn put_group_start(out: &mut String, x: u128, y: u128) -> Result<(), AllocEr
     write!(out, "<g transform=\"translate({x} {y})\">\n")
 }
 
-/// Adds what it ends in.
+/// Appends the end of a group.
 pub fn put_group_end(out: &mut String) -> Result<(), AllocError>
     ensures { OnOk result (string_bytes out.new ≡ string_bytes out.old ++ group_end) }
 {
     out.push_str("</g>\n")
 }
 
-/// Adds a mark of this outline.
+/// Appends a mark with the given outline, which is path data.
 #[tactic(auto, unfolding(crate::specs::Shapes::mark))]
 pub fn put_mark(out: &mut String, kind: &str, outline: &str) -> Result<(), AllocError>
     ensures { OnOk result (string_bytes out.new ≡ string_bytes out.old ++ mark kind.now outline.now) }
@@ -118,28 +119,28 @@ pub fn put_mark(out: &mut String, kind: &str, outline: &str) -> Result<(), Alloc
     write!(out, "<path class=\"mark {kind}\" d=\"{outline}\"/>\n")
 }
 
-/// Adds what a title begins with.
+/// Appends the start of a title.
 pub fn put_title_start(out: &mut String) -> Result<(), AllocError>
     ensures { OnOk result (string_bytes out.new ≡ string_bytes out.old ++ title_start) }
 {
     out.push_str("<title>")
 }
 
-/// Adds what it ends in.
+/// Appends the end of a title.
 pub fn put_title_end(out: &mut String) -> Result<(), AllocError>
     ensures { OnOk result (string_bytes out.new ≡ string_bytes out.old ++ title_end) }
 {
     out.push_str("</title>\n")
 }
 
-/// The class of a general's shape.
+/// Returns the CSS class of a general's shape.
 pub(crate) fn sort_of(is_traitor: bool) -> &'static str
     ensures { result.now ≡ sort_of is_traitor }
 {
     if is_traitor { "traitor" } else { "loyal" }
 }
 
-/// The outline of a general's shape: a square for a traitor, a circle for a loyal one.
+/// Returns the outline of a general's shape as path data: a square for a traitor, and a circle for a loyal general.
 pub(crate) fn shape_of(is_traitor: bool) -> &'static str
     ensures { result.now ≡ shape_of is_traitor }
 {
@@ -150,7 +151,7 @@ pub(crate) fn shape_of(is_traitor: bool) -> &'static str
     }
 }
 
-/// Adds these words, where this is so.
+/// Appends these words if the condition holds.
 #[tactic(auto, unfolding(crate::specs::Shapes::said_if))]
 pub fn put_if(out: &mut String, stands: bool, words: &str) -> Result<(), AllocError>
     ensures { OnOk result (string_bytes out.new ≡ string_bytes out.old ++ said_if stands words.now) }

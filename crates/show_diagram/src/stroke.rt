@@ -1,20 +1,20 @@
-//! What a picture says of the messages of a round.
+//! A stroke of a diagram: equal messages from one general to another in one round.
 
-/// What one general told another in a round of some labels: of all of which he told him the same.
+/// A stroke: what one general sent another in a round, for all labels for which he sent the same.
 #[derive(Clone, Copy, Drop)]
 pub struct Stroke {
-    /// The round, from 1.
+    /// The round, counted from 1.
     pub round: usize,
-    /// Who told it.
+    /// The general who sent it.
     pub teller: u8,
-    /// Whom he told it.
+    /// The general who received it.
     pub receiver: u8,
-    /// The order that he told, 0 for RETREAT, if any.
+    /// The order that was sent, if any. 0 is RETREAT.
     pub told: Option<u32>,
-    /// Whether an honest relay would have told something else.
+    /// Whether an honest relay would have sent something else.
     pub differs: bool,
-    /// Of how many labels.
+    /// The number of labels for which it was sent, or in a signed campaign the number of chains.
     pub labels: usize,
-    /// How many strokes of this round and receiver stand before it.
+    /// The number of strokes of this round and receiver that come before it.
     pub row: usize,
 }

@@ -1,4 +1,5 @@
-//! A campaign as a picture in SVG.
+//! Draws a campaign with oral messages in SVG. Every function here that returns a `Result` fails only if memory runs
+//! out.
 ghost use Rattle.std.specs.Prelude.{◌≡◌, ◌<◌, ◌++◌, codes, flat_map, string_bytes, IfOk, OnOk};
 ghost use Rattle.std.specs.List.{range_with_len};
 ghost use Rattle.show_diagram.specs.Shapes.{text_at, title};
@@ -24,11 +25,11 @@ use round::Scenario;
 use std::alloc::{AllocError, Global};
 use world::Chronicle;
 
-/// The campaign of a chronicle, whose letters tell this message table, in SVG.
+/// Returns the campaign of a chronicle as a diagram in SVG. `table` is the message table of the chronicle's letters.
 ///
 /// # Errors
 ///
-/// No memory for the text.
+/// Fails if there is no memory for the text.
 #[tactic(auto, unfolding(crate::specs::Svg::svg_text))]
 pub fn campaign_svg<H: Heard>(
     alloc: Global,
@@ -72,7 +73,7 @@ pub fn campaign_svg<H: Heard>(
     Ok(text)
 }
 
-/// What every picture begins with.
+/// Returns the text with which every diagram begins.
 #[tactic(auto, unfolding(crate::specs::Svg::start))]
 pub fn start() -> &'static str
     ensures { result.now ≡ start }
@@ -80,11 +81,11 @@ pub fn start() -> &'static str
     "<svg xmlns=\"http://www.w3.org/2000/svg\" role=\"graphics-document document\""
 }
 
-/// Adds the size of a picture, and its units, which are those of its size, and ends its first tag.
+/// Appends the size of a diagram and its view box, which has the same units, and ends the opening tag.
 ///
 /// # Errors
 ///
-/// No memory for the text; so of every function here.
+/// Fails if there is no memory for the text.
 #[tactic(auto, unfolding(crate::specs::Svg::box_words))]
 pub fn put_box(out: &mut String, width: u128, height: u128) -> Result<(), AllocError>
     ensures { OnOk result (string_bytes out.new ≡ string_bytes out.old ++ box_words width height) }
@@ -95,7 +96,7 @@ pub fn put_box(out: &mut String, width: u128, height: u128) -> Result<(), AllocE
     )
 }
 
-/// Adds what stands before the columns: which campaign it is, what the picture shows, and how it looks.
+/// Appends what comes before the columns: the title, the description, the style sheet and the headline.
 fn put_head(
     out: &mut String,
     scenario: &Scenario,
@@ -113,7 +114,7 @@ fn put_head(
     Ok(())
 }
 
-/// Adds which campaign it is, as the picture's title.
+/// Appends the title of the diagram, which describes the campaign.
 fn put_title_of(out: &mut String, scenario: &Scenario) -> Result<(), AllocError>
     ensures { OnOk result (string_bytes out.new ≡ string_bytes out.old
         ++ title (campaign_words scenario.now.generals scenario.now.bound scenario.now.commander scenario.now.order)) }
@@ -129,7 +130,7 @@ fn put_title_of(out: &mut String, scenario: &Scenario) -> Result<(), AllocError>
     put_title_end(out)
 }
 
-/// Adds it above the columns.
+/// Appends the headline above the columns, which describes the campaign.
 fn put_headline(out: &mut String, scenario: &Scenario) -> Result<(), AllocError>
     ensures { OnOk result (string_bytes out.new ≡ string_bytes out.old ++ text_at (codes "head") 16 28
         (campaign_words scenario.now.generals scenario.now.bound scenario.now.commander scenario.now.order)) }
@@ -145,7 +146,7 @@ fn put_headline(out: &mut String, scenario: &Scenario) -> Result<(), AllocError>
     put_text_end(out)
 }
 
-/// Adds a campaign's numbers, in words.
+/// Appends a description of a campaign: its number of generals, its bound, its commander and his order.
 #[tactic(auto, unfolding(crate::specs::Svg::campaign_words))]
 pub fn put_campaign(
     out: &mut String,
@@ -163,7 +164,8 @@ pub fn put_campaign(
     )
 }
 
-/// Adds what is told of the picture to those who do not see it, and of accesses whose words it has no room for.
+/// Appends a description for readers who do not see the diagram. It includes the accesses for whose words the diagram
+/// has no room.
 fn put_description(
     out: &mut String,
     accesses: &[Access],
@@ -180,14 +182,14 @@ fn put_description(
     put_key_end(out)
 }
 
-/// Adds what a description ends in.
+/// Appends the end of a description.
 pub fn put_key_end(out: &mut String) -> Result<(), AllocError>
     ensures { OnOk result (string_bytes out.new ≡ string_bytes out.old ++ key_end) }
 {
     out.push_str("</desc>\n")
 }
 
-/// What every description of such a picture begins with.
+/// Returns the start of a description, which explains columns, bands and lines.
 #[tactic(auto, unfolding(crate::specs::Svg::key_start))]
 fn key_start() -> &'static str
     ensures { result.now ≡ key_start }
@@ -197,7 +199,7 @@ fn key_start() -> &'static str
      of the receiver what he was told."
 }
 
-/// Adds what the marks of strokes mean.
+/// Appends the meanings of the marks of strokes.
 fn put_stroke_key(out: &mut String, marks: DiagramMarks) -> Result<(), AllocError>
     ensures { OnOk result (string_bytes out.new ≡ string_bytes out.old ++ stroke_key marks) }
 {
@@ -215,7 +217,7 @@ fn put_stroke_key(out: &mut String, marks: DiagramMarks) -> Result<(), AllocErro
     Ok(())
 }
 
-/// How it looks: on paper, and on a dark ground where one is wished for.
+/// Returns the style sheet of a diagram: for paper, and for a dark background if the reader prefers one.
 #[tactic(auto, unfolding(crate::specs::Svg::look))]
 pub fn look() -> &'static str
     ensures { result.now ≡ look }
@@ -234,7 +236,7 @@ pub fn look() -> &'static str
      .mark.traitor{fill:#ff8095}}</style>\n"
 }
 
-/// Adds who has which column.
+/// Appends the heads of the columns, which say to whom each belongs.
 pub fn put_heads(
     out: &mut String,
     scenario: &Scenario,
@@ -246,7 +248,7 @@ pub fn put_heads(
     put_general_heads(out, scenario)
 }
 
-/// Adds the head of each general's column.
+/// Appends the head of each general's column.
 fn put_general_heads(out: &mut String, scenario: &Scenario) -> Result<(), AllocError>
     ensures { OnOk result (string_bytes out.new ≡ string_bytes out.old
         ++ flat_map (head_of scenario.now) (range_with_len 0 scenario.now.generals)) }
@@ -257,7 +259,7 @@ fn put_general_heads(out: &mut String, scenario: &Scenario) -> Result<(), AllocE
     Ok(())
 }
 
-/// Adds the head of a general's column, in a campaign.
+/// Appends the head of a general's column, with his role in the scenario.
 fn put_head_of(out: &mut String, scenario: &Scenario, general: u8) -> Result<(), AllocError>
     requires { general < scenario.now.generals }
     ensures { OnOk result (string_bytes out.new ≡ string_bytes out.old ++ head_of scenario.now general) }
@@ -266,7 +268,7 @@ fn put_head_of(out: &mut String, scenario: &Scenario, general: u8) -> Result<(),
     put_general_head(out, general, is_commander, scenario.is_traitor(general))
 }
 
-/// Adds the head of the board's column, where there are accesses.
+/// Appends the head of the board's column, if there are accesses.
 fn put_board_head(out: &mut String, generals: u8, accesses: &[Access]) -> Result<(), AllocError>
     ensures { OnOk result (string_bytes out.new ≡ string_bytes out.old ++ board_head generals accesses.now) }
 {
@@ -276,7 +278,7 @@ fn put_board_head(out: &mut String, generals: u8, accesses: &[Access]) -> Result
     }
 }
 
-/// Adds the head of a general's column.
+/// Appends the head of a general's column: his shape, his name and his role.
 fn put_general_head(
     out: &mut String,
     general: u8,
@@ -293,7 +295,7 @@ fn put_general_head(
     put_group_end(out)
 }
 
-/// Adds a general's name beside his shape.
+/// Appends a general's name, to the right of his shape.
 fn put_name(out: &mut String, general: u8) -> Result<(), AllocError>
     ensures { OnOk result (string_bytes out.new ≡ string_bytes out.old
         ++ text_at (codes "name") 12 4 (general_words general)) }

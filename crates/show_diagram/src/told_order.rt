@@ -1,14 +1,15 @@
-//! What a lieutenant was told.
+//! A message that a lieutenant received for one label.
 
-/// What one general told another of a label, by which the next label has him behind it.
+/// A message: what one general sent another about a label. The message's own label is that label followed by the
+/// sender.
 #[derive(Clone, Copy, PartialEq, Eq, Hash, Drop)]
 pub struct Telling {
-    /// The round, from 1.
+    /// The round, counted from 1.
     pub round: usize,
-    /// Who told it.
+    /// The general who sent it.
     pub teller: u8,
-    /// The order that he told, 0 for RETREAT, if any.
+    /// The order that was sent, if any. 0 is RETREAT.
     pub told: Option<u32>,
-    /// Whether an honest relay would have told something else.
+    /// Whether an honest relay would have sent something else.
     pub differs: bool,
 }

@@ -1,4 +1,4 @@
-//! What a lieutenant was told of the labels of his tree.
+//! Collects the messages that a lieutenant received for the labels of his tree.
 ghost use Rattle.std.specs.Prelude.{◌≡◌, ◌≢◌, ◌<◌, ◌+◌, ◌++◌, ◌∷◌, [], length, true, IfOk, OnOk};
 ghost use Rattle.book.specs.Conditions.{is_told};
 ghost use Rattle.book.specs.Grammar.{is_place};
@@ -9,12 +9,12 @@ use book::Heard;
 use label::Label;
 use std::alloc::{AllocError, Global};
 
-/// What a lieutenant was told of each label of his tree, where the commander was given this order: of each label before
-/// those that go on from it.
+/// Returns the messages that a lieutenant received for each label of his tree, if the commander was given `order`. Each
+/// label comes before those that extend it.
 ///
 /// # Errors
 ///
-/// No memory for them.
+/// Fails if there is no memory for the messages.
 #[tactic(auto, unfolding(crate::specs::Facts::tellings_of))]
 pub(crate) fn tellings<H: Heard>(
     alloc: Global,
@@ -33,7 +33,7 @@ pub(crate) fn tellings<H: Heard>(
     Ok(tellings)
 }
 
-/// What the commander told the lieutenant, who was given this order.
+/// Returns the commander's message to the lieutenant. It differs if it is not the order that the commander was given.
 fn first<H: Heard>(table: &H, order: u32, general: u8, label: &Label) -> Telling
     requires label { label.now ≡ (H.seen table.now).commander ∷ [] }
     requires place { is_place (H.seen table.now) label.now general ≡ true }
@@ -48,7 +48,8 @@ fn first<H: Heard>(table: &H, order: u32, general: u8, label: &Label) -> Telling
     }
 }
 
-/// What a general told the lieutenant of a label: the next label has him behind it.
+/// Returns the message of general `teller` to the lieutenant about a label. The label `next` is `label` followed by
+/// `teller`.
 fn telling<H: Heard>(table: &H, general: u8, label: &Label, teller: u8, next: &Label) -> Telling
     requires next { next.now ≡ label.now ++ teller ∷ [] }
     requires place { is_place (H.seen table.now) next.now general ≡ true }
@@ -65,7 +66,7 @@ fn telling<H: Heard>(table: &H, general: u8, label: &Label, teller: u8, next: &L
     }
 }
 
-/// Whether this order was told.
+/// Checks whether the order received is this order.
 fn is_told(order: u32, told: Option<u32>) -> bool
     ensures { result ≡ is_told order told }
 {
@@ -75,7 +76,7 @@ fn is_told(order: u32, told: Option<u32>) -> bool
     }
 }
 
-/// Adds what the lieutenant was told of the labels that go on from this one, with so many relays left.
+/// Appends the messages that the lieutenant received for the labels that extend this one, with `relays` relays left.
 fn push_below<H: Heard>(
     tellings: &mut Vec<Telling>,
     table: &H,

@@ -1,4 +1,4 @@
-//! What a picture says, in words.
+//! The words of a diagram: for strokes, for accesses to the board, and for the roles of generals.
 ghost use Rattle.std.specs.Prelude.{◌≡◌, ◌++◌, decimal, flat_map, map, slice_index_or, string_bytes, OnOk};
 ghost use Rattle.semantics.specs.Replies.{words_in};
 ghost use Rattle.show_diagram.specs.Words.{answer_words, answered_words, access_words, asked_words, copied_words, differs_words, kind, labels_words, order_words, outline, from_words, general_words, is_copy, kind_of, outline_of, piece_words, role_words, row_words, shown_words, stroke_words, tells_words, word_words};
@@ -8,7 +8,7 @@ use board::{Access, numbers, worded};
 use semantics::{Reply, Request};
 use std::alloc::AllocError;
 
-/// Adds an order, or that nothing was told.
+/// Appends an order, or the word `nothing` if none was sent.
 fn put_order(out: &mut String, told: Option<u32>) -> Result<(), AllocError>
     ensures { OnOk result (string_bytes out.new ≡ string_bytes out.old ++ order_words told) }
 {
@@ -18,7 +18,7 @@ fn put_order(out: &mut String, told: Option<u32>) -> Result<(), AllocError>
     }
 }
 
-/// Adds a number of labels.
+/// Appends a number of labels, or nothing if it is 1.
 fn put_labels(out: &mut String, labels: usize) -> Result<(), AllocError>
     ensures { OnOk result (string_bytes out.new ≡ string_bytes out.old ++ labels_words labels) }
 {
@@ -29,7 +29,7 @@ fn put_labels(out: &mut String, labels: usize) -> Result<(), AllocError>
     }
 }
 
-/// What is said of a stroke that an honest relay would not make.
+/// Returns the words for a stroke that an honest relay would not send, or nothing for any other.
 fn differs_words(differs: bool) -> &'static str
     ensures { result.now ≡ differs_words differs }
 {
@@ -40,7 +40,8 @@ fn differs_words(differs: bool) -> &'static str
     }
 }
 
-/// Adds what is said of a stroke.
+/// Appends the full words of a stroke: the sender, the receiver, the order, the number of labels, and whether it
+/// differs.
 pub(crate) fn put_stroke_words(out: &mut String, stroke: &Stroke) -> Result<(), AllocError>
     ensures { OnOk result (string_bytes out.new ≡ string_bytes out.old ++ stroke_words stroke.now) }
 {
@@ -50,7 +51,7 @@ pub(crate) fn put_stroke_words(out: &mut String, stroke: &Stroke) -> Result<(), 
     out.push_str(differs_words(stroke.differs))
 }
 
-/// Adds who tells whom.
+/// Appends the sender and the receiver of a message.
 #[tactic(auto, unfolding(crate::specs::Words::tells_words))]
 fn put_tells(out: &mut String, teller: u8, receiver: u8) -> Result<(), AllocError>
     ensures { OnOk result (string_bytes out.new ≡ string_bytes out.old ++ tells_words teller receiver) }
@@ -58,7 +59,7 @@ fn put_tells(out: &mut String, teller: u8, receiver: u8) -> Result<(), AllocErro
     write!(out, "general {teller} tells general {receiver}: ")
 }
 
-/// Adds what is written of a stroke in its receiver's column.
+/// Appends the words of a stroke in its receiver's column: the sender, the order and the number of labels.
 pub(crate) fn put_row_words(out: &mut String, stroke: &Stroke) -> Result<(), AllocError>
     ensures { OnOk result (string_bytes out.new ≡ string_bytes out.old ++ row_words stroke.now) }
 {
@@ -67,7 +68,7 @@ pub(crate) fn put_row_words(out: &mut String, stroke: &Stroke) -> Result<(), All
     put_labels(out, stroke.labels)
 }
 
-/// Adds whom it is from.
+/// Appends the sender of a message.
 #[tactic(auto, unfolding(crate::specs::Words::from_words))]
 fn put_from(out: &mut String, teller: u8) -> Result<(), AllocError>
     ensures { OnOk result (string_bytes out.new ≡ string_bytes out.old ++ from_words teller) }
@@ -75,14 +76,14 @@ fn put_from(out: &mut String, teller: u8) -> Result<(), AllocError>
     write!(out, "from {teller}: ")
 }
 
-/// The class of what was told.
+/// Returns the CSS class of a stroke: `told`, `lie` or `none`.
 pub fn kind(stroke: &Stroke) -> &'static str
     ensures { result.now ≡ kind stroke.now }
 {
     kind_of(stroke.differs, stroke.told)
 }
 
-/// The class of an order that differs, or does not, from what an honest relay tells.
+/// Returns the CSS class for an order that differs, or does not differ, from what an honest relay sends.
 fn kind_of(differs: bool, told: Option<u32>) -> &'static str
     ensures { result.now ≡ kind_of differs told }
 {
@@ -93,13 +94,15 @@ fn kind_of(differs: bool, told: Option<u32>) -> &'static str
     }
 }
 
-/// Its outline: a circle, a diamond or a cross.
+/// Returns the outline of a stroke's mark as path data: a circle, a diamond or a cross.
 pub fn outline(stroke: &Stroke) -> &'static str
     ensures { result.now ≡ outline stroke.now }
 {
     outline_of(stroke.differs, stroke.told)
 }
 
+/// Returns the outline of a mark as path data: a circle if an honest relay would send the same, a diamond for another
+/// order, and a cross if no order was sent.
 pub(crate) fn outline_of(differs: bool, told: Option<u32>) -> &'static str
     ensures { result.now ≡ outline_of differs told }
 {
@@ -110,11 +113,11 @@ pub(crate) fn outline_of(differs: bool, told: Option<u32>) -> &'static str
     }
 }
 
-/// Adds what was asked of the board.
+/// Appends the request of an access to the board, as a sentence.
 ///
 /// # Errors
 ///
-/// No memory for the text.
+/// Fails if there is no memory for the text.
 pub fn put_asked(out: &mut String, request: &Request) -> Result<(), AllocError>
     ensures { OnOk result (string_bytes out.new ≡ string_bytes out.old ++ asked_words request.now) }
 {
@@ -122,7 +125,7 @@ pub fn put_asked(out: &mut String, request: &Request) -> Result<(), AllocError>
     put_sentence(out, worded(request).sentence, &numbers[..count])
 }
 
-/// Adds the pieces of a sentence, behind each the number of its place.
+/// Appends the pieces of a sentence. Each piece is followed by the number whose place it names.
 fn put_sentence(
     out: &mut String,
     sentence: &[(&'static str, usize)],
@@ -137,14 +140,14 @@ fn put_sentence(
     Ok(())
 }
 
-/// Adds a piece of a sentence and the number behind it.
+/// Appends a piece of a sentence, and the number after it.
 fn put_piece(out: &mut String, piece: &str, number: u64) -> Result<(), AllocError>
     ensures { OnOk result (string_bytes out.new ≡ string_bytes out.old ++ (piece.now ++ decimal number)) }
 {
     write!(out, "{piece}{number}")
 }
 
-/// The number of this place, or 0 where there is none.
+/// Returns the number at this place, or 0 if there is none.
 fn number_at(numbers: &[u64], place: usize) -> u64
     ensures { result ≡ slice_index_or numbers.now place 0 }
 {
@@ -154,7 +157,7 @@ fn number_at(numbers: &[u64], place: usize) -> u64
     }
 }
 
-/// Adds what the board answered.
+/// Appends the answer of the board.
 fn put_answer(out: &mut String, reply: &Reply) -> Result<(), AllocError>
     ensures { OnOk result (string_bytes out.new ≡ string_bytes out.old ++ answer_words (words_in reply.now)) }
 {
@@ -162,11 +165,11 @@ fn put_answer(out: &mut String, reply: &Reply) -> Result<(), AllocError>
     put_answered(out, reply)
 }
 
-/// Adds the words that the board answered, each behind a space.
+/// Appends the words of the board's answer, each after a space.
 ///
 /// # Errors
 ///
-/// No memory for the text.
+/// Fails if there is no memory for the text.
 pub fn put_answered(out: &mut String, reply: &Reply) -> Result<(), AllocError>
     ensures { OnOk result (string_bytes out.new ≡ string_bytes out.old ++ answered_words (words_in reply.now)) }
 {
@@ -176,14 +179,14 @@ pub fn put_answered(out: &mut String, reply: &Reply) -> Result<(), AllocError>
     }
 }
 
-/// Adds a word of the board, behind a space.
+/// Appends a word of the board, after a space.
 fn put_word(out: &mut String, word: u64) -> Result<(), AllocError>
     ensures { OnOk result (string_bytes out.new ≡ string_bytes out.old ++ word_words word) }
 {
     write!(out, " {word}")
 }
 
-/// Adds words of the board, each behind a space.
+/// Appends several words of the board, each after a space.
 fn put_all(out: &mut String, words: &[u64]) -> Result<(), AllocError>
     ensures { OnOk result (string_bytes out.new ≡ string_bytes out.old ++ answered_words words.now) }
 {
@@ -193,11 +196,11 @@ fn put_all(out: &mut String, words: &[u64]) -> Result<(), AllocError>
     Ok(())
 }
 
-/// Adds who asked what of the board, and its answer.
+/// Appends the full words of an access: the general, his request, and the board's answer.
 ///
 /// # Errors
 ///
-/// No memory for the text.
+/// Fails if there is no memory for the text.
 pub fn put_access_words(out: &mut String, access: &Access) -> Result<(), AllocError>
     ensures { OnOk result (string_bytes out.new ≡ string_bytes out.old ++ access_words access.now) }
 {
@@ -207,14 +210,15 @@ pub fn put_access_words(out: &mut String, access: &Access) -> Result<(), AllocEr
     put_answer(out, access.reply())
 }
 
-/// Adds a general's name.
+/// Appends a general's name.
 pub(crate) fn put_general(out: &mut String, general: u32) -> Result<(), AllocError>
     ensures { OnOk result (string_bytes out.new ≡ string_bytes out.old ++ general_words general) }
 {
     write!(out, "general {general}")
 }
 
-/// Adds what is written of an access beside the board: all but its general, and the words of a copy.
+/// Appends the words of an access next to the board. They leave out its general, and the answer of a request that
+/// copies words.
 pub(crate) fn put_shown(out: &mut String, access: &Access) -> Result<(), AllocError>
     ensures { OnOk result (string_bytes out.new ≡ string_bytes out.old ++ shown_words access.now) }
 {
@@ -225,7 +229,7 @@ pub(crate) fn put_shown(out: &mut String, access: &Access) -> Result<(), AllocEr
     put_answer(out, access.reply())
 }
 
-/// Whether words are copied.
+/// Checks whether a request copies words.
 #[tactic(auto, unfolding(crate::specs::Words::is_copy))]
 fn is_copy(request: &Request) -> bool
     ensures { result ≡ is_copy request.now }
@@ -233,11 +237,12 @@ fn is_copy(request: &Request) -> bool
     worded(request).copies
 }
 
-/// Adds what a picture has no room for: of each access that copies words, in a sentence, these words.
+/// Appends the words for which the diagram has no room: a sentence with the full words of each access that copies
+/// words.
 ///
 /// # Errors
 ///
-/// No memory for the text.
+/// Fails if there is no memory for the text.
 pub fn put_copied(out: &mut String, accesses: &[Access]) -> Result<(), AllocError>
     ensures { OnOk result (string_bytes out.new ≡ string_bytes out.old ++ flat_map copied_words accesses.now) }
 {
@@ -247,7 +252,7 @@ pub fn put_copied(out: &mut String, accesses: &[Access]) -> Result<(), AllocErro
     Ok(())
 }
 
-/// Adds the words that an access copies, if it does.
+/// Appends a sentence with the full words of an access, if it copies words.
 fn put_copied_by(out: &mut String, access: &Access) -> Result<(), AllocError>
     ensures { OnOk result (string_bytes out.new ≡ string_bytes out.old ++ copied_words access.now) }
 {
@@ -259,7 +264,7 @@ fn put_copied_by(out: &mut String, access: &Access) -> Result<(), AllocError>
     out.push_str(".")
 }
 
-/// What a general is.
+/// Returns a general's role, and whether he is loyal or a traitor.
 pub(crate) fn role_words(is_commander: bool, is_traitor: bool) -> &'static str
     ensures { result.now ≡ role_words is_commander is_traitor }
 {

@@ -1,4 +1,5 @@
--- What prints a part that a page has no room for, by the same schedule or of the same chronicle.
+-- Hints for the reader: where to find a part for which a page has no room, by the same schedule or in the same
+-- chronicle.
 use Rattle.std.specs.Prelude.{ℕ, List, ◌++◌, codes}
 
 unfoldable pub scenario_printer : List ℕ

@@ -1,22 +1,25 @@
--- How long a page may be: its sections' own rooms, and what stands in place of a section that there is no room for.
+-- Limits on the length of a page: the rooms of its sections, and the text that replaces a section for which there is no
+-- room.
 use Rattle.std.specs.Prelude.{ℕ, ◌+◌, ◌/◌, nat_lt, if◌then◌else◌, List, length, ◌++◌, codes}
 use Rattle.std.specs.Fmt.{decimal}
 use Rattle.html.specs.Page.{lines, paragraph}
 use Rattle.html.specs.Sections.{Section}
 
--- no page is longer, in bytes: the room of its sections, their headings, and what stands before and behind them
+-- The greatest length of a page in bytes: the room of its sections, their headings, and what comes before and after
+-- them.
 abbrev pub longest_page : ℕ
 longest_page = 2000000
 
--- what sections have together, their own rooms; what one leaves of it is for those that are longer than theirs
+-- The bytes that all sections share, which are the sum of their own rooms. What one section leaves can be used by
+-- longer ones.
 abbrev pub room_for_sections : ℕ
 room_for_sections = 1987000
 
--- for how many bytes of HTML there is room in any case
+-- The bytes of HTML for which there is always room in the scenario's section.
 abbrev pub room_for_scenario : ℕ
 room_for_scenario = 151000
 
--- for the story at its head, where there is none for the rest
+-- The bytes of HTML for the story at the head of the scenario, if there is no room for the rest of it.
 abbrev pub room_for_story : ℕ
 room_for_story = 20000
 
@@ -38,19 +41,20 @@ room_for_accesses = 130000
 abbrev pub room_for_chronicle : ℕ
 room_for_chronicle = 400000
 
--- and of each program, where not all are told: a share, of so many generals and one
+-- The bytes of HTML for each program if there is no room for all: one of `generals + 1` equal shares of 145,000.
 abbrev pub share : ℕ → ℕ
 share generals = 145000 / (generals + 1)
 
--- how many units of one program are explained
+-- The largest number of units of a program that a page explains.
 abbrev pub room_for_units : ℕ
 room_for_units = 256
 
--- the greatest width of what a picture has between its margins, 16 in all, that has a narrow sheet on paper
+-- The largest width of a diagram that is printed on a narrow sheet. It does not count the margins, which are 16 units
+-- in all.
 abbrev pub narrow_sheet : ℕ
 narrow_sheet = 1300
 
--- that a section, or a part of one, is longer than this room, its own, and who prints it
+-- The words that a section, or a part of one, is longer than its own room, and where to find it.
 unfoldable pub over_words : ℕ → List ℕ → List ℕ
 over_words room who =
     codes "Longer than its share of this page, " ++ (decimal room ++ (codes " bytes of HTML: " ++ who))
@@ -58,18 +62,18 @@ over_words room who =
 abbrev pub over : ℕ → List ℕ → List ℕ
 over room who = paragraph (over_words room who)
 
--- a section that says so in its place
+-- A section with the given text and room, whose replacement says that the text is too long.
 abbrev pub roomed : List ℕ → ℕ → List ℕ → List ℕ → Section
 roomed title room who told = record { title = title; told = told; room = room; instead = over room who }
 
--- a part of a section in a room of its own
+-- A part of a section, or that it is longer than `room` bytes.
 abbrev pub fitted : ℕ → List ℕ → List ℕ → List ℕ
 fitted room who told = if nat_lt room (length told) then over room who else told
 
--- the lines of a text; one that is longer than all sections together is not written first
+-- The lines of a text. If the text is longer than all sections together may be, it is replaced at once.
 abbrev pub lines_told : ℕ → List ℕ → List ℕ → List ℕ
 lines_told room who text = if nat_lt room_for_sections (length text) then over room who else lines text
 
--- so many units, more than are explained, and who tells of them
+-- The words that a program has `count` units, which are too many to be explained, and where to find an explanation.
 unfoldable pub units_words : ℕ → List ℕ → List ℕ
 units_words count who = decimal count ++ (codes " units, and a page explains programs of 256 at most: " ++ who)

@@ -1,4 +1,4 @@
--- A campaign of signed messages as a page of HTML, section by section.
+-- A campaign with signed messages as a page of HTML, section by section.
 use Rattle.std.specs.Prelude.{ℕ, ◌==◌, Bool, true, false, if◌then◌else◌, List, [], ◌∷◌, ◌++◌, flat_map, codes, slice_get, Option, None, Some}
 use Rattle.std.specs.Fmt.{decimal}
 use Rattle.std.specs.List.{range_with_len}
@@ -16,15 +16,15 @@ use Rattle.world.specs.declared.verdict.Verdict.{Verdict}
 use Rattle.show_page.specs.Account.{accesses_section, bound_told, chronicle_section, is_wide, lieutenant_words, lieutenants_roomed, picture_section, programs_section, scenario_section, schedule_section, verdict_told}
 use Rattle.show_page.specs.Room.{room_for_sections}
 
--- the picture
+-- The section with the diagram.
 abbrev pub diagram_section : Chronicle → Section
 diagram_section c = picture_section (is_wide c.scenario c.accesses) (signed_svg c)
 
--- which orders a lieutenant accepts, by which chains, and what he decides of them
+-- The section that says which orders a lieutenant accepts, by which chains, and what he decides.
 unfoldable pub lieutenants_heading : List ℕ
 lieutenants_heading = codes "What each lieutenant accepted, and why he decides so"
 
--- what he is called, and what he decides
+-- A lieutenant's name and his decision, if there is one.
 abbrev pub deciding_words : ℕ → Bool → Option ℕ → List ℕ
 deciding_words g is_traitor None = codes "Lieutenant " ++ decimal g
 deciding_words g is_traitor (Some order) = lieutenant_words g is_traitor order
@@ -45,22 +45,22 @@ each_lieutenant c = flat_map (lieutenant_part c) (range_with_len 0 c.scenario.ge
 abbrev pub lieutenants_section : Chronicle → Section
 lieutenants_section c = lieutenants_roomed lieutenants_heading (each_lieutenant c)
 
--- the verdict, and which promise holds (TOPLAS 1982, Theorem 2)
+-- The verdict, and the promise that holds (TOPLAS 1982, Theorem 2).
 abbrev pub verdict_part : Verdict → List ℕ
 verdict_part v = verdict_told v (bound_told v.bound (bound_words false))
 
--- all sections but the verdict, of a chronicle whose scenario this text tells, and which was played by this schedule,
--- if by one
+-- All sections except the verdict. `text` is the text of the chronicle's scenario, and `schedule` is the schedule by
+-- which the campaign was played, if any.
 abbrev pub sections : List ℕ → Option (List (List Repeat)) → Chronicle → List Section
 sections text schedule c =
     scenario_section text ∷ schedule_section schedule ∷ programs_section c.scenario ∷ diagram_section c
     ∷ lieutenants_section c ∷ accesses_section c.accesses ∷ chronicle_section (signed_text c) ∷ []
 
--- and in their room, with the verdict
+-- All sections in their room, and the verdict.
 unfoldable pub parts : List ℕ → Option (List (List Repeat)) → Chronicle → List ℕ
 parts text schedule c =
     sections_in room_for_sections (sections text schedule c) ++ verdict_part c.verdict
 
--- the page, under the campaign's numbers, as its picture has them
+-- The page, with the description of the campaign as its title, as the diagram has it.
 abbrev pub signed_page_text : List ℕ → Option (List (List Repeat)) → Chronicle → List ℕ
 signed_page_text text schedule c = page (signed_words c.scenario) (parts text schedule c)

@@ -1,4 +1,4 @@
--- Laws of such pages, each the contract of a function of this crate.
+-- Laws of the pages of campaigns with signed messages. Each is the contract of a function of this crate.
 use Rattle.std.specs.Prelude.{ℕ, ◌≡◌, ◌≤◌, List, ◌++◌, length, Option, codes}
 use Rattle.html.specs.Grammar.{IsElement}
 use Rattle.round.specs.Scenario.{IsScenario}
@@ -7,16 +7,15 @@ use Rattle.world.specs.declared.schedule.Repeat.{Repeat}
 use Rattle.show_page.specs.Room.{longest_page}
 use Rattle.show_page.specs.SignedAccount.{signed_page_text}
 
--- a page is one element of XML, between the line that says that it is HTML and a line feed, whatever stands in the
--- scenario
+-- A page consists of the document type line, one XML element, and a line feed, whatever the scenario's text contains.
 abbrev pub SignedPagesAreElements : Type 0
 SignedPagesAreElements =
     (scenario : List ℕ) (schedule : Option (List (List Repeat))) (c : Chronicle)
     → (text : List ℕ) × IsElement text
     × (signed_page_text scenario schedule c ≡ codes "<!DOCTYPE html>\n" ++ text ++ codes "\n")
 
--- no page of a campaign within its limits is longer than this, whatever stands in the scenario's text, and whatever the
--- schedule and the letters
+-- No page of a campaign within its limits is longer than `longest_page`, whatever the scenario's text, the schedule and
+-- the letters contain.
 abbrev pub SignedPagesAreShort : Type 0
 SignedPagesAreShort =
     (scenario : List ℕ) (schedule : Option (List (List Repeat))) (c : Chronicle)

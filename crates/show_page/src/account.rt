@@ -1,4 +1,5 @@
-//! A campaign as a page.
+//! Writes a campaign with oral messages as an HTML page. Every function here that returns a `Result` fails only if
+//! memory runs out.
 ghost use Rattle.std.specs.Prelude.{◌≡◌, ◌++◌, encode_utf8, flat_map, option_map, string_bytes, IfOk, OnOk};
 ghost use Rattle.show_page.specs.Account.{accesses_section, chronicle_heading, chronicle_section, diagram_section, hinted, is_wide, page_text, parts, picture_heading, picture_hint, picture_name, picture_section, programs_section, title};
 ghost use Rattle.trace.specs.Text.{chronicle_text};
@@ -23,12 +24,13 @@ use std::alloc::{AllocError, Global};
 use trace::{Latch, write_chronicle};
 use world::{Chronicle, Schedule};
 
-/// The campaign of a chronicle, whose letters tell this message table, whose scenario this text tells, and which was
-/// played by this schedule, if by one, as one page of HTML.
+/// Returns a campaign as one page of HTML. `table` is the message table of the chronicle's letters, and `scenario_text`
+/// is the text of its scenario. `schedule` is the schedule by which the campaign was played, or `None` if it comes from
+/// a chronicle.
 ///
 /// # Errors
 ///
-/// No memory for the text.
+/// Fails if there is no memory for the text.
 pub fn page_text<H: Heard>(
     alloc: Global,
     scenario_text: &str,
@@ -46,7 +48,7 @@ pub fn page_text<H: Heard>(
     Ok(out)
 }
 
-/// Adds all sections.
+/// Appends all sections, and the verdict.
 fn put_parts<H: Heard>(
     alloc: Global,
     out: &mut String,
@@ -79,21 +81,22 @@ fn put_parts<H: Heard>(
     Ok(())
 }
 
-/// The programs of its traitors.
+/// Returns the section with the programs of the campaign's traitors.
 fn programs_of(alloc: Global, chronicle: &Chronicle) -> Result<Section, AllocError>
     ensures { IfOk result (λ section. section ≡ programs_section chronicle.now.scenario) }
 {
     programs_section(alloc, chronicle.scenario())
 }
 
-/// Its accesses to the board.
+/// Returns the section with the campaign's accesses to the board.
 fn accesses_of(alloc: Global, chronicle: &Chronicle) -> Result<Section, AllocError>
     ensures { IfOk result (λ section. section ≡ accesses_section chronicle.now.accesses) }
 {
     accesses_section(alloc, chronicle.accesses())
 }
 
-/// The campaign's numbers.
+/// Returns the title of the page, which describes the campaign: its number of generals, its bound, its commander and
+/// his order.
 fn title(alloc: Global, scenario: &Scenario) -> Result<String, AllocError>
     ensures { IfOk result (λ text. string_bytes text ≡ title scenario.now) }
 {
@@ -108,7 +111,7 @@ fn title(alloc: Global, scenario: &Scenario) -> Result<String, AllocError>
     Ok(words)
 }
 
-/// The picture of a campaign.
+/// Returns the section with the diagram of a campaign.
 fn diagram_section<H: Heard>(
     alloc: Global,
     table: &H,
@@ -121,18 +124,22 @@ fn diagram_section<H: Heard>(
     picture_section(alloc, wide, svg.as_str())
 }
 
-/// Whether the picture of a campaign with these accesses has a wide sheet on paper.
+/// Checks whether the diagram of a campaign with these accesses is printed on a wide sheet.
+///
+/// # Errors
+///
+/// Fails if there is no memory for the words of an access.
 pub fn is_wide(alloc: Global, scenario: &Scenario, accesses: &[Access]) -> Result<bool, AllocError>
     ensures { IfOk result (λ wide. wide ≡ is_wide scenario.now accesses.now) }
 {
     Ok(width(alloc, scenario.generals(), accesses)? > NARROW_SHEET)
 }
 
-/// Where this picture is to be had alone, and the picture.
+/// Returns the section with a diagram, and with a hint on how to get the diagram as a file of its own.
 ///
 /// # Errors
 ///
-/// No memory for the text; so of every function here.
+/// Fails if there is no memory for the text.
 pub fn picture_section(alloc: Global, is_wide: bool, svg: &str) -> Result<Section, AllocError>
     ensures { IfOk result (λ section. section ≡ picture_section is_wide svg.now) }
 {
@@ -147,7 +154,7 @@ pub fn picture_section(alloc: Global, is_wide: bool, svg: &str) -> Result<Sectio
     )
 }
 
-/// Adds where this picture is to be had alone, and the picture.
+/// Appends a hint on how to get this diagram as a file of its own, then the diagram.
 fn put_hinted(out: &mut String, is_wide: bool, svg: &str) -> Result<(), AllocError>
     ensures { OnOk result (string_bytes out.new ≡ string_bytes out.old ++ hinted is_wide svg.now) }
 {
@@ -155,7 +162,7 @@ fn put_hinted(out: &mut String, is_wide: bool, svg: &str) -> Result<(), AllocErr
     put_picture(out, is_wide, picture_name(), svg)
 }
 
-/// The chronicle.
+/// Returns the section with the campaign's chronicle.
 fn section_of(alloc: Global, chronicle: &Chronicle) -> Result<Section, AllocError>
     ensures { IfOk result (λ section. section ≡ chronicle_section (chronicle_text chronicle.now)) }
 {
@@ -163,7 +170,7 @@ fn section_of(alloc: Global, chronicle: &Chronicle) -> Result<Section, AllocErro
     chronicle_section(alloc, text.as_slice())
 }
 
-/// A chronicle of this text.
+/// Returns the section with a chronicle that has the given text.
 pub fn chronicle_section(alloc: Global, text: &[u8]) -> Result<Section, AllocError>
     ensures { IfOk result (λ section. section ≡ chronicle_section text.now) }
 {
@@ -173,7 +180,7 @@ pub fn chronicle_section(alloc: Global, text: &[u8]) -> Result<Section, AllocErr
     roomed(alloc, chronicle_heading(), ROOM_FOR_CHRONICLE, who, told)
 }
 
-/// The text of a chronicle.
+/// Returns the text of a chronicle.
 fn chronicle_text(alloc: Global, chronicle: &Chronicle) -> Result<Vec<u8>, AllocError>
     ensures { IfOk result (λ text. text.items ≡ chronicle_text chronicle.now) }
 {
@@ -184,7 +191,7 @@ fn chronicle_text(alloc: Global, chronicle: &Chronicle) -> Result<Vec<u8>, Alloc
     }
 }
 
-/// The text whose characters have these numbers.
+/// Converts bytes to text: each byte becomes the character with that number.
 fn text_of(alloc: Global, bytes: &[u8]) -> Result<String, AllocError>
     ensures { IfOk result (λ text. string_bytes text ≡ flat_map encode_utf8 bytes.now) }
 {
@@ -195,14 +202,14 @@ fn text_of(alloc: Global, bytes: &[u8]) -> Result<String, AllocError>
     Ok(text)
 }
 
-/// Adds the character of this number.
+/// Appends the character with this number.
 fn put_byte(out: &mut String, byte: u8) -> Result<(), AllocError>
     ensures { OnOk result (string_bytes out.new ≡ string_bytes out.old ++ encode_utf8 byte) }
 {
     out.push(char::from(byte))
 }
 
-/// The heading of the picture.
+/// Returns the heading of the diagram.
 #[tactic(auto, unfolding(crate::specs::Account::picture_heading))]
 fn picture_heading() -> &'static str
     ensures { result.now ≡ picture_heading }
@@ -210,7 +217,7 @@ fn picture_heading() -> &'static str
     "Who told whom what"
 }
 
-/// The heading of the chronicle.
+/// Returns the heading of the chronicle.
 #[tactic(auto, unfolding(crate::specs::Account::chronicle_heading))]
 fn chronicle_heading() -> &'static str
     ensures { result.now ≡ chronicle_heading }
@@ -218,7 +225,7 @@ fn chronicle_heading() -> &'static str
     "Chronicle"
 }
 
-/// The name of the picture.
+/// Returns the accessible name of the diagram.
 #[tactic(auto, unfolding(crate::specs::Account::picture_name))]
 fn picture_name() -> &'static str
     ensures { result.now ≡ picture_name }
@@ -226,7 +233,7 @@ fn picture_name() -> &'static str
     "Space-time diagram"
 }
 
-/// Where the picture is to be had alone.
+/// Returns the hint on how to get the diagram as a file of its own.
 #[tactic(auto, unfolding(crate::specs::Account::picture_hint))]
 fn picture_hint() -> &'static str
     ensures { result.now ≡ picture_hint }

@@ -1,4 +1,4 @@
-//! The calls of a program, as the assembly writes them.
+//! Writes the helper calls of a program by name, as the assembly does.
 ghost use Rattle.std.specs.Prelude.{◌≡◌, [], IfOk, string_bytes};
 ghost use Rattle.explain.specs.Explained.{explained_at};
 ghost use Rattle.explain.specs.Units.{in_lists};
@@ -9,7 +9,7 @@ use helper::{Helper, helper_of};
 use insn::{Insn, Program};
 use std::alloc::{AllocError, Global};
 
-/// What the verifier knows of a program, in which helpers are called by name.
+/// Returns what the verifier knows at each unit of a program. Calls are written with the names of their helpers.
 pub(crate) fn explanation(alloc: Global, program: &Program) -> Result<String, AllocError>
     ensures { IfOk result (λ text. string_bytes text ≡ explained_at (named_calls program.now) program.now) }
 {
@@ -21,7 +21,7 @@ pub(crate) fn explanation(alloc: Global, program: &Program) -> Result<String, Al
     explanation_at(alloc, program, &written)
 }
 
-/// How each unit's call is written; an empty text of other instructions.
+/// Returns the text of the call at each unit of a program. The text is empty for units without a call.
 #[tactic(auto, using(crate::proofs::CallLemmas::naming))]
 fn statements(alloc: Global, program: &Program) -> Result<Vec<String>, AllocError>
     ensures { IfOk result (λ texts. in_lists [] texts.items ≡ named_calls program.now) }
@@ -34,7 +34,8 @@ fn statements(alloc: Global, program: &Program) -> Result<Vec<String>, AllocErro
     Ok(statements)
 }
 
-/// How the call of a unit is written, if an instruction starts there.
+/// Returns the text of an instruction if it is a call, and an empty text otherwise or if no instruction starts at the
+/// unit.
 fn call_if(alloc: Global, insn: Option<Insn>) -> Result<String, AllocError>
     ensures { IfOk result (λ text. string_bytes text ≡ call_if insn) }
 {
@@ -44,7 +45,7 @@ fn call_if(alloc: Global, insn: Option<Insn>) -> Result<String, AllocError>
     }
 }
 
-/// How a call is written.
+/// Returns the text of an instruction if it is a call of a helper, and an empty text otherwise.
 fn call_text(alloc: Global, insn: Insn) -> Result<String, AllocError>
     ensures { IfOk result (λ text. string_bytes text ≡ call_text insn) }
 {
@@ -54,7 +55,7 @@ fn call_text(alloc: Global, insn: Insn) -> Result<String, AllocError>
     }
 }
 
-/// How a call of the helper is written, if there is one.
+/// Returns the text of a call of the helper, or an empty text if there is no such helper.
 fn call_of(alloc: Global, helper: Option<Helper>) -> Result<String, AllocError>
     ensures { IfOk result (λ text. string_bytes text ≡ call_of helper) }
 {

@@ -1,4 +1,4 @@
-//! The page of a campaign, oral or signed, as HTML.
+//! Writes the HTML page of a campaign, with oral or with signed messages.
 #![tactic(auto)]
 
 mod accesses;

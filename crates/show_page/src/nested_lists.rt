@@ -1,4 +1,4 @@
-//! A lieutenant's tree as nested lists.
+//! Writes a lieutenant's tree as nested HTML lists, in which labels with labels below them are folds.
 ghost use Rattle.std.specs.Prelude.{◌≡◌, ◌≢◌, ◌<◌, ◌+◌, ◌++◌, length, true, string_bytes, IfOk, OnOk};
 ghost use Rattle.book.specs.Grammar.{is_place};
 ghost use Rattle.show_tree.specs.Shown.{deeper};
@@ -14,7 +14,7 @@ use label::Label;
 use show_tree::{Node, View, deeper, is_open, mark_at, node_at, put_said, root_node};
 use std::alloc::{AllocError, Global};
 
-/// Adds what a lieutenant was told, as far as it is shown, where these generals are named as traitors.
+/// Appends what a lieutenant received, as far as the view shows it. `traitors` are the generals named as traitors.
 #[tactic(auto, unfolding(crate::specs::Trees::tree_told))]
 pub(crate) fn put_tree<H: Heard>(
     alloc: Global,
@@ -52,7 +52,7 @@ pub(crate) fn put_tree<H: Heard>(
     put_list_end(out)
 }
 
-/// What is said of a label.
+/// Returns the name of a label and what is said of it.
 fn words(alloc: Global, node: &Node) -> Result<String, AllocError>
     ensures { IfOk result (λ words. string_bytes words ≡ said node.now) }
 {
@@ -61,7 +61,8 @@ fn words(alloc: Global, node: &Node) -> Result<String, AllocError>
     Ok(words)
 }
 
-/// Adds the item of a label, with those of the labels that go on from it, if they are shown, with so many relays left.
+/// Appends the list item of a label. If the labels that extend it are shown, their items are inside. `relays` relays
+/// are left.
 #[cycle(items)]
 fn put_item<H: Heard>(
     alloc: Global,
@@ -102,7 +103,7 @@ fn put_item<H: Heard>(
     Ok(())
 }
 
-/// Adds the items of the labels that go on from this one, with so many relays left.
+/// Appends the list items of the labels that extend this one, with `relays` relays left.
 #[cycle(items)]
 fn put_items<H: Heard>(
     alloc: Global,

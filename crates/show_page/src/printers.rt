@@ -1,8 +1,9 @@
-//! What prints a part that a page has no room for, by the same schedule or of the same chronicle.
+//! Hints for the reader: where to find a part for which a page has no room, by the same schedule or in the same
+//! chronicle.
 ghost use Rattle.std.specs.Prelude.{◌≡◌};
 ghost use Rattle.show_page.specs.Printers.{accesses_printer, chronicle_printer, lieutenants_printer, picture_printer, programs_printer, scenario_printer, schedule_printer};
 
-/// Of the scenario.
+/// Returns the hint that says where to find the scenario.
 #[tactic(auto, unfolding(crate::specs::Printers::scenario_printer))]
 pub(crate) fn scenario_printer() -> &'static str
     ensures { result.now ≡ scenario_printer }
@@ -10,7 +11,7 @@ pub(crate) fn scenario_printer() -> &'static str
     "it stands in the scenario's file, and in those that it names."
 }
 
-/// Of the schedule.
+/// Returns the hint that says where to find the schedule.
 #[tactic(auto, unfolding(crate::specs::Printers::schedule_printer))]
 pub(crate) fn schedule_printer() -> &'static str
     ensures { result.now ≡ schedule_printer }
@@ -18,7 +19,7 @@ pub(crate) fn schedule_printer() -> &'static str
     "it is the file of --schedule."
 }
 
-/// Of the programs.
+/// Returns the hint that says how to print what is known of a program.
 #[tactic(auto, unfolding(crate::specs::Printers::programs_printer))]
 pub(crate) fn programs_printer() -> &'static str
     ensures { result.now ≡ programs_printer }
@@ -26,7 +27,7 @@ pub(crate) fn programs_printer() -> &'static str
     "byzlab check --explain, with --asm or --elf, tells what is known of a program in a file of its own."
 }
 
-/// Of the picture.
+/// Returns the hint that says how to print the diagram.
 #[tactic(auto, unfolding(crate::specs::Printers::picture_printer))]
 pub(crate) fn picture_printer() -> &'static str
     ensures { result.now ≡ picture_printer }
@@ -34,7 +35,7 @@ pub(crate) fn picture_printer() -> &'static str
     "byzlab draw writes it, with --schedule or --chronicle as here."
 }
 
-/// Of the lieutenants.
+/// Returns the hint that says how to print why the lieutenants decide so.
 #[tactic(auto, unfolding(crate::specs::Printers::lieutenants_printer))]
 pub(crate) fn lieutenants_printer() -> &'static str
     ensures { result.now ≡ lieutenants_printer }
@@ -43,7 +44,7 @@ pub(crate) fn lieutenants_printer() -> &'static str
      decide so."
 }
 
-/// Of the accesses.
+/// Returns the hint that says where to find the accesses.
 #[tactic(auto, unfolding(crate::specs::Printers::accesses_printer))]
 pub(crate) fn accesses_printer() -> &'static str
     ensures { result.now ≡ accesses_printer }
@@ -51,7 +52,7 @@ pub(crate) fn accesses_printer() -> &'static str
     "they stand in the chronicle, the file of --chronicle, or what byzlab play prints, with --schedule as here."
 }
 
-/// Of the chronicle.
+/// Returns the hint that says where to find the chronicle.
 #[tactic(auto, unfolding(crate::specs::Printers::chronicle_printer))]
 pub(crate) fn chronicle_printer() -> &'static str
     ensures { result.now ≡ chronicle_printer }

@@ -1,55 +1,60 @@
-//! How long a page may be: its sections' own rooms, and what stands in place of a section that there is no room for.
+//! Limits on the length of a page: the room of each section in bytes, and the text that replaces a section for which
+//! there is no room. Every function here that returns a `Result` fails only if memory runs out.
 ghost use Rattle.std.specs.Prelude.{◌≡◌, ◌++◌, string_bytes, IfOk, OnOk};
 ghost use Rattle.show_page.specs.Room.{fitted, lines_told, over, over_words, roomed, share, units_words};
 
 use html::{Section, put_lines, put_paragraph};
 use std::alloc::{AllocError, Global};
 
-/// How many bytes of HTML sections have together: their own rooms. What one leaves of it is for those that are longer.
+/// The bytes of HTML that all sections share, which are the sum of their own rooms. What one section leaves can be used
+/// by longer ones.
 pub const ROOM_FOR_SECTIONS: usize = 1_987_000;
 
-/// For how many bytes of HTML of the scenario there is room in any case.
+/// The bytes of HTML for which there is always room in the scenario's section.
 pub(crate) const ROOM_FOR_SCENARIO: usize = 151_000;
 
-/// Of the story at its head, where there is none for the rest.
+/// The bytes of HTML for the story at the head of the scenario, if there is no room for the rest of it.
 pub(crate) const ROOM_FOR_STORY: usize = 20_000;
 
-/// Of the schedule.
+/// The bytes of HTML for which there is always room in the schedule's section.
 pub(crate) const ROOM_FOR_SCHEDULE: usize = 31_000;
 
-/// Of the traitors' programs.
+/// The bytes of HTML for which there is always room in the section of the traitors' programs.
 pub(crate) const ROOM_FOR_PROGRAMS: usize = 150_000;
 
-/// Of the picture.
+/// The bytes of HTML for which there is always room in the diagram's section.
 pub(crate) const ROOM_FOR_PICTURE: usize = 600_000;
 
-/// Of the lieutenants' trees and lists.
+/// The bytes of HTML for which there is always room in the section of the lieutenants' trees and lists.
 pub(crate) const ROOM_FOR_LIEUTENANTS: usize = 525_000;
 
-/// Of the table of accesses.
+/// The bytes of HTML for which there is always room in the section of accesses.
 pub(crate) const ROOM_FOR_ACCESSES: usize = 130_000;
 
-/// Of the chronicle.
+/// The bytes of HTML for which there is always room in the chronicle's section.
 pub(crate) const ROOM_FOR_CHRONICLE: usize = 400_000;
 
-/// And of each program, where not all are told: a share, of so many generals and one.
+/// Returns the bytes of HTML for each program if there is no room for all: one of `generals + 1` equal shares of
+/// 145,000.
 pub(crate) fn share(generals: u8) -> usize
     ensures { result ≡ share generals }
 {
     145_000 / (usize::from(generals) + 1)
 }
 
-/// How many units of one program are explained.
+/// The largest number of units of a program that a page explains.
 pub(crate) const ROOM_FOR_UNITS: usize = 256;
 
-/// The greatest width of what a picture has between its margins, 16 in all, that has a narrow sheet on paper.
+/// The largest width of a diagram that is printed on a narrow sheet. It does not count the margins, which are 16 units
+/// in all.
 pub(crate) const NARROW_SHEET: u128 = 1300;
 
-/// A section that says in its place that it is longer than its own room, and who prints it.
+/// Returns a section with the given text and room. If there is no room for the text, the section says that it is too
+/// long, and where to find it.
 ///
 /// # Errors
 ///
-/// No memory for the text; so of every function here.
+/// Fails if there is no memory for the text.
 pub(crate) fn roomed(
     alloc: Global,
     title: &'static str,
@@ -69,7 +74,8 @@ pub(crate) fn roomed(
     })
 }
 
-/// Adds a part of a section, or, if it is longer than a room of its own, that it is.
+/// Appends a part of a section. If the part is longer than `room` bytes, appends instead that it is, and where to find
+/// it.
 pub(crate) fn put_fitted(
     alloc: Global,
     out: &mut String,
@@ -85,7 +91,8 @@ pub(crate) fn put_fitted(
     out.push_str(told)
 }
 
-/// The lines of a text, or, if it is longer than all sections together, that it is longer than its own room.
+/// Returns a text as preformatted lines. If the text is longer than all sections together may be, returns instead that
+/// it is longer than `room`.
 pub(crate) fn lines_told(
     alloc: Global,
     room: usize,
@@ -103,7 +110,7 @@ pub(crate) fn lines_told(
     Ok(told)
 }
 
-/// Adds that a part is longer than so many bytes, its own room, and who prints it.
+/// Appends a paragraph that says that a part is longer than `room` bytes, and where to find it.
 pub(crate) fn put_over(
     alloc: Global,
     out: &mut String,
@@ -116,7 +123,7 @@ pub(crate) fn put_over(
     put_paragraph(out, words.as_str())
 }
 
-/// This in words.
+/// Returns the words that a part is longer than `room` bytes, and where to find it.
 #[tactic(auto, unfolding(crate::specs::Room::over_words))]
 fn over_words(alloc: Global, room: usize, who: &str) -> Result<String, AllocError>
     ensures { IfOk result (λ words. string_bytes words ≡ over_words room who.now) }
@@ -124,7 +131,8 @@ fn over_words(alloc: Global, room: usize, who: &str) -> Result<String, AllocErro
     format!(in alloc; "Longer than its share of this page, {room} bytes of HTML: {who}")
 }
 
-/// So many units, more than are explained, and who tells of them.
+/// Returns the words that a program has `count` units, which are too many to be explained, and where to find an
+/// explanation.
 #[tactic(auto, unfolding(crate::specs::Room::units_words))]
 pub(crate) fn units_words(alloc: Global, count: usize, who: &str) -> Result<String, AllocError>
     ensures { IfOk result (λ words. string_bytes words ≡ units_words count who.now) }

@@ -1,4 +1,5 @@
-//! The scenario of a campaign, with the story at its head.
+//! The section of a page that shows the scenario of a campaign, with the story at its head. Every function here that
+//! returns a `Result` fails only if memory runs out.
 ghost use Rattle.std.specs.Prelude.{◌≡◌, string_bytes, IfOk};
 ghost use Rattle.show_page.specs.Account.{scenario_heading, scenario_instead, scenario_section, scenario_told, story_told};
 
@@ -8,11 +9,12 @@ use crate::story::parted;
 use html::{Section, put_lines};
 use std::alloc::{AllocError, Global};
 
-/// The scenario's text, its story apart; or, where there is no room for it, the story.
+/// Returns the section with the scenario's text, in which the story is set apart. If there is no room for the text, the
+/// section has the story.
 ///
 /// # Errors
 ///
-/// No memory for the text; so of every function here.
+/// Fails if there is no memory for the text.
 pub fn scenario_section(alloc: Global, text: &str) -> Result<Section, AllocError>
     ensures { IfOk result (λ section. section ≡ scenario_section text.now) }
 {
@@ -27,7 +29,8 @@ pub fn scenario_section(alloc: Global, text: &str) -> Result<Section, AllocError
     })
 }
 
-/// The story, and the lines behind it; of a text that is longer than all sections together what stands in its place.
+/// Returns the story and the lines after it. If the text is longer than all sections together may be, returns the
+/// replacement.
 fn scenario_told(alloc: Global, text: &str) -> Result<String, AllocError>
     ensures { IfOk result (λ told. string_bytes told ≡ scenario_told text.now) }
 {
@@ -40,7 +43,8 @@ fn scenario_told(alloc: Global, text: &str) -> Result<String, AllocError>
     Ok(told)
 }
 
-/// The story, if there is room for it, and that there is none for the text.
+/// Returns the replacement of a scenario that is too long: the story, if there is room for it, and where to find the
+/// text.
 fn scenario_instead(alloc: Global, text: &str) -> Result<String, AllocError>
     ensures { IfOk result (λ told. string_bytes told ≡ scenario_instead text.now) }
 {
@@ -53,7 +57,7 @@ fn scenario_instead(alloc: Global, text: &str) -> Result<String, AllocError>
     Ok(told)
 }
 
-/// The lines of a story, if there is one.
+/// Returns the lines of a story, or an empty text if there is no story.
 fn story_told(alloc: Global, story: &str) -> Result<String, AllocError>
     ensures { IfOk result (λ told. string_bytes told ≡ story_told story.now) }
 {
@@ -65,7 +69,7 @@ fn story_told(alloc: Global, story: &str) -> Result<String, AllocError>
     Ok(told)
 }
 
-/// The heading of a scenario with this story, or without one.
+/// Returns the heading of a scenario with this story, which may be empty.
 #[tactic(auto, unfolding(crate::specs::Account::scenario_heading))]
 fn scenario_heading(story: &str) -> &'static str
     ensures { result.now ≡ scenario_heading story.now }

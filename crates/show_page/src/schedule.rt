@@ -1,4 +1,5 @@
-//! The schedule of a campaign.
+//! The section of a page that shows the schedule of a campaign. Every function here that returns a `Result` fails only
+//! if memory runs out.
 ghost use Rattle.std.specs.Prelude.{◌≡◌, ◌==◌, length, option_map, string_bytes, IfOk};
 ghost use Rattle.std.specs.List.{list_all};
 ghost use Rattle.html.specs.Page.{paragraph};
@@ -11,11 +12,12 @@ use html::{Section, put_paragraph};
 use std::alloc::{AllocError, Global};
 use world::{Schedule, ScheduleLine};
 
-/// The schedule by which the campaign was played, or that its course is a chronicle's.
+/// Returns the section with the schedule by which the campaign was played. If there is none, the section says that the
+/// campaign comes from a chronicle.
 ///
 /// # Errors
 ///
-/// No memory for the text; so of every function here.
+/// Fails if there is no memory for the text.
 pub fn schedule_section(alloc: Global, schedule: Option<&Schedule>) -> Result<Section, AllocError>
     ensures { IfOk result (λ section. section ≡ schedule_section (option_map (λ s. s.now) schedule.entry)) }
 {
@@ -29,7 +31,7 @@ pub fn schedule_section(alloc: Global, schedule: Option<&Schedule>) -> Result<Se
     )
 }
 
-/// What is told of the campaign's course.
+/// Returns the text of the section: the schedule, or that the campaign comes from a chronicle.
 fn course_told(alloc: Global, schedule: Option<&Schedule>) -> Result<String, AllocError>
     ensures { IfOk result (λ told. string_bytes told ≡ course_told (option_map (λ s. s.now) schedule.entry)) }
 {
@@ -39,7 +41,8 @@ fn course_told(alloc: Global, schedule: Option<&Schedule>) -> Result<String, All
     }
 }
 
-/// What is told of a schedule.
+/// Returns the text of a schedule, and what happens after each of its lines. If the schedule has no entries, returns a
+/// paragraph that says so.
 fn schedule_told(alloc: Global, schedule: &Schedule) -> Result<String, AllocError>
     ensures { IfOk result (λ told. string_bytes told ≡ schedule_told schedule.now) }
 {
@@ -52,21 +55,21 @@ fn schedule_told(alloc: Global, schedule: &Schedule) -> Result<String, AllocErro
     Ok(told)
 }
 
-/// Whether no line of a schedule has an entry.
+/// Checks whether no line of a schedule has an entry.
 fn is_silent(schedule: &Schedule) -> bool
     ensures { result ≡ list_all (λ line. length line == 0) schedule.now }
 {
     schedule.lines.iter().all(|line| is_empty(line))
 }
 
-/// Whether a line has no entry.
+/// Checks whether a line of a schedule has no entry.
 fn is_empty(line: &ScheduleLine) -> bool
     ensures { result ≡ (length line.now == 0) }
 {
     line.repeats.is_empty()
 }
 
-/// A paragraph of these words.
+/// Returns a paragraph of these words.
 fn said(alloc: Global, words: &str) -> Result<String, AllocError>
     ensures { IfOk result (λ told. string_bytes told ≡ paragraph words.now) }
 {
@@ -75,7 +78,7 @@ fn said(alloc: Global, words: &str) -> Result<String, AllocError>
     Ok(told)
 }
 
-/// The heading of the schedule.
+/// Returns the heading of the schedule.
 #[tactic(auto, unfolding(crate::specs::Account::schedule_heading))]
 fn schedule_heading() -> &'static str
     ensures { result.now ≡ schedule_heading }
@@ -83,7 +86,7 @@ fn schedule_heading() -> &'static str
     "Who acts when"
 }
 
-/// What is said where the campaign's course is a chronicle's.
+/// Returns the words for a campaign that comes from a chronicle.
 #[tactic(auto, unfolding(crate::specs::Account::recorded_words))]
 fn recorded_words() -> &'static str
     ensures { result.now ≡ recorded_words }
@@ -91,7 +94,7 @@ fn recorded_words() -> &'static str
     "As the chronicle tells: the accesses to the board are made in its order."
 }
 
-/// What is said of a round behind its line.
+/// Returns the words for what happens in a round after its line of the schedule.
 #[tactic(auto, unfolding(crate::specs::Account::behind_words))]
 fn behind_words() -> &'static str
     ensures { result.now ≡ behind_words }
@@ -100,7 +103,7 @@ fn behind_words() -> &'static str
      then each traitor acts up to his end, by their numbers."
 }
 
-/// What is said where no schedule was named, or one without entries.
+/// Returns the words for a campaign that was played by no schedule, or by one without entries.
 #[tactic(auto, unfolding(crate::specs::Account::unscheduled_words))]
 fn unscheduled_words() -> &'static str
     ensures { result.now ≡ unscheduled_words }

@@ -1,4 +1,5 @@
-//! Sections with a part for each general.
+//! The sections of a page with a part for each general: the traitors' programs, and what each lieutenant received.
+//! Every function here that returns a `Result` fails only if memory runs out.
 ghost use Rattle.std.specs.Prelude.{◌≡◌, ◌<◌, ◌++◌, string_bytes, IfOk, OnOk};
 ghost use Rattle.show_page.specs.Account.{each_lieutenant, each_program, elsewhere_words, explained_told, general_name, lieutenant_part, lieutenant_words, lieutenants_heading, lieutenants_roomed, lieutenants_section, no_programs, program_part, program_told, programs_heading, programs_section, programs_shared, programs_told, traitor_words, view_of, why_part};
 ghost use Rattle.show_page.specs.Room.{room_for_sections};
@@ -21,11 +22,11 @@ use show_tree::View;
 use std::alloc::{AllocError, Global};
 use world::Chronicle;
 
-/// The traitors' programs, each with what the verifier knows of it.
+/// Returns the section with the traitors' programs, and with what the verifier knows of each.
 ///
 /// # Errors
 ///
-/// No memory for the text; so of every function here.
+/// Fails if there is no memory for the text.
 pub fn programs_section(alloc: Global, scenario: &Scenario) -> Result<Section, AllocError>
     ensures { IfOk result (λ section. section ≡ programs_section scenario.now) }
 {
@@ -39,7 +40,7 @@ pub fn programs_section(alloc: Global, scenario: &Scenario) -> Result<Section, A
     })
 }
 
-/// What is told of each traitor's program, or that there is none.
+/// Returns the text for each traitor's program, or a paragraph that says that there is no traitor.
 fn programs_told(alloc: Global, scenario: &Scenario) -> Result<String, AllocError>
     ensures { IfOk result (λ told. string_bytes told ≡ programs_told (each_program room_for_sections scenario.now)) }
 {
@@ -49,7 +50,7 @@ fn programs_told(alloc: Global, scenario: &Scenario) -> Result<String, AllocErro
     Ok(told)
 }
 
-/// Adds these programs, or that there is none.
+/// Appends these programs, or a paragraph that says that there is no traitor.
 fn put_programs_told(out: &mut String, programs: &str) -> Result<(), AllocError>
     ensures { OnOk result (string_bytes out.new ≡ string_bytes out.old ++ programs_told programs.now) }
 {
@@ -59,7 +60,8 @@ fn put_programs_told(out: &mut String, programs: &str) -> Result<(), AllocError>
     out.push_str(programs)
 }
 
-/// What stands in place of so many bytes, if there is no room for all: each program has its share.
+/// Returns the replacement for programs that take `bytes` bytes, in which each program has its share of the room. It is
+/// empty if there is room for all of them.
 fn programs_shared(alloc: Global, scenario: &Scenario, bytes: usize) -> Result<String, AllocError>
     ensures { IfOk result (λ told. string_bytes told ≡ programs_shared scenario.now bytes) }
 {
@@ -69,7 +71,7 @@ fn programs_shared(alloc: Global, scenario: &Scenario, bytes: usize) -> Result<S
     each_program(alloc, scenario, share(scenario.generals()))
 }
 
-/// The programs of the traitors, each in a room of its own.
+/// Returns the text for each traitor's program, of which each may take `room` bytes.
 fn each_program(alloc: Global, scenario: &Scenario, room: usize) -> Result<String, AllocError>
     ensures { IfOk result (λ told. string_bytes told ≡ each_program room scenario.now) }
 {
@@ -78,7 +80,7 @@ fn each_program(alloc: Global, scenario: &Scenario, room: usize) -> Result<Strin
     Ok(told)
 }
 
-/// What is said where there is no traitor.
+/// Returns the words for a campaign without traitors.
 #[tactic(auto, unfolding(crate::specs::Account::no_programs))]
 fn no_programs() -> &'static str
     ensures { result.now ≡ no_programs }
@@ -86,7 +88,7 @@ fn no_programs() -> &'static str
     "None: all generals are loyal."
 }
 
-/// Adds that of each traitor.
+/// Appends the program of each traitor, of which each may take `room` bytes.
 fn put_each_program(
     alloc: Global,
     out: &mut String,
@@ -102,7 +104,7 @@ fn put_each_program(
     Ok(())
 }
 
-/// Adds that of a general, if he is a traitor.
+/// Appends the program of a general, if he is a traitor. It may take `room` bytes.
 fn put_program_of(
     alloc: Global,
     out: &mut String,
@@ -119,7 +121,7 @@ fn put_program_of(
     }
 }
 
-/// Adds a general's program.
+/// Appends the program of the given general. Its explanation may take `room` bytes.
 fn put_program(
     alloc: Global,
     out: &mut String,
@@ -136,7 +138,7 @@ fn put_program(
     put_fold_end(out)
 }
 
-/// What the verifier knows of a program, or how many units it has, if these are too many.
+/// Returns what the verifier knows of a program, or its number of units if they are too many.
 fn explained_told(alloc: Global, program: &Program) -> Result<String, AllocError>
     ensures { IfOk result (λ told. string_bytes told ≡ explained_told program.now) }
 {
@@ -145,7 +147,7 @@ fn explained_told(alloc: Global, program: &Program) -> Result<String, AllocError
     Ok(told)
 }
 
-/// Adds that.
+/// Appends what the verifier knows of a program, or its number of units if they are too many.
 fn put_explained(alloc: Global, out: &mut String, program: &Program) -> Result<(), AllocError>
     ensures { OnOk result (string_bytes out.new ≡ string_bytes out.old ++ explained_told program.now) }
 {
@@ -158,14 +160,14 @@ fn put_explained(alloc: Global, out: &mut String, program: &Program) -> Result<(
     put_begun_lines(out, told.as_str())
 }
 
-/// A general's name.
+/// Returns a general's name.
 fn general_name(alloc: Global, general: u8) -> Result<String, AllocError>
     ensures { IfOk result (λ name. string_bytes name ≡ general_name general) }
 {
     format!(in alloc; "General {general}")
 }
 
-/// What each lieutenant was told, and why he decides so.
+/// Returns the section that says what each lieutenant received, and why he decides so.
 pub(crate) fn lieutenants_section<H: Heard>(
     alloc: Global,
     table: &H,
@@ -177,7 +179,7 @@ pub(crate) fn lieutenants_section<H: Heard>(
     lieutenants_roomed(alloc, lieutenants_heading(), told)
 }
 
-/// Lieutenants of whom this is told, under a title.
+/// Returns the section of the lieutenants with this text, under a title.
 pub fn lieutenants_roomed(
     alloc: Global,
     title: &'static str,
@@ -194,7 +196,7 @@ pub fn lieutenants_roomed(
     )
 }
 
-/// The parts of each lieutenant.
+/// Returns the parts of all lieutenants.
 fn lieutenants<H: Heard>(
     alloc: Global,
     table: &H,
@@ -210,7 +212,7 @@ fn lieutenants<H: Heard>(
     Ok(told)
 }
 
-/// Adds that of each lieutenant.
+/// Appends the part of each lieutenant. `traitors` are the generals named as traitors.
 fn put_each_lieutenant<H: Heard>(
     alloc: Global,
     out: &mut String,
@@ -227,7 +229,7 @@ fn put_each_lieutenant<H: Heard>(
     Ok(())
 }
 
-/// Adds that of a general, if he is a lieutenant.
+/// Appends the part of a general, if he is a lieutenant: his name, his decision, his tree, and why he decides so.
 fn put_lieutenant_of<H: Heard>(
     alloc: Global,
     out: &mut String,
@@ -251,7 +253,8 @@ fn put_lieutenant_of<H: Heard>(
     put_fold_end(out)
 }
 
-/// How much of a tree is shown, and the commander's order.
+/// Returns the view of a tree on a page: two levels below the commander's, with labels folded if the same was received
+/// for all. It includes the commander's order.
 fn view_of(scenario: &Scenario) -> View
     ensures { result ≡ view_of scenario.now }
 {
@@ -262,14 +265,15 @@ fn view_of(scenario: &Scenario) -> View
     }
 }
 
-/// Whether the general is one of these.
+/// Checks whether the list contains the general.
 fn has(generals: &[u8], general: u8) -> bool
     ensures { result ≡ on generals.now general }
 {
     generals.iter().any(|x| *x == general)
 }
 
-/// Adds how a lieutenant's decision comes about, of five rounds who tells it.
+/// Appends an explanation of how a lieutenant reaches his decision. For a campaign of five rounds, appends instead how
+/// to print it.
 fn put_why<H: Heard>(
     alloc: Global,
     out: &mut String,
@@ -288,7 +292,7 @@ fn put_why<H: Heard>(
     put_lines(out, why.as_str())
 }
 
-/// Who tells how a lieutenant's decision comes about.
+/// Returns the words that say how to print the explanation of a lieutenant's decision.
 #[tactic(auto, unfolding(crate::specs::Account::elsewhere_words))]
 fn elsewhere_words(alloc: Global, general: u8) -> Result<String, AllocError>
     ensures { IfOk result (λ words. string_bytes words ≡ elsewhere_words general) }
@@ -299,7 +303,11 @@ fn elsewhere_words(alloc: Global, general: u8) -> Result<String, AllocError>
     )
 }
 
-/// A lieutenant's name, and what he decides.
+/// Returns a lieutenant's name and his decision.
+///
+/// # Errors
+///
+/// Fails if there is no memory for the text.
 #[tactic(auto, unfolding(crate::specs::Account::lieutenant_words))]
 pub fn lieutenant_name(
     alloc: Global,
@@ -313,14 +321,14 @@ pub fn lieutenant_name(
     format!(in alloc; "Lieutenant {general}{mark} decides {order}")
 }
 
-/// What marks a traitor.
+/// Returns the words that mark a traitor, or an empty text for a loyal general.
 fn traitor_words(is_traitor: bool) -> &'static str
     ensures { result.now ≡ traitor_words is_traitor }
 {
     if is_traitor { ", a traitor," } else { "" }
 }
 
-/// The heading of the programs.
+/// Returns the heading of the programs.
 #[tactic(auto, unfolding(crate::specs::Account::programs_heading))]
 fn programs_heading() -> &'static str
     ensures { result.now ≡ programs_heading }
@@ -328,7 +336,7 @@ fn programs_heading() -> &'static str
     "Programs of the traitors"
 }
 
-/// The heading of the lieutenants.
+/// Returns the heading of the lieutenants.
 #[tactic(auto, unfolding(crate::specs::Account::lieutenants_heading))]
 fn lieutenants_heading() -> &'static str
     ensures { result.now ≡ lieutenants_heading }

@@ -1,4 +1,4 @@
-//! A campaign of signed messages as a page.
+//! Writes a campaign with signed messages as an HTML page.
 ghost use Rattle.std.specs.Prelude.{◌≡◌, ◌++◌, codes, option_map, string_bytes, IfOk, OnOk};
 ghost use Rattle.show_page.specs.Account.{accesses_section, chronicle_section, programs_section};
 ghost use Rattle.show_chains.specs.Svg.{signed_words};
@@ -21,12 +21,12 @@ use std::alloc::{AllocError, Global};
 use trace::{Latch, write_signed};
 use world::Schedule;
 
-/// The signed campaign of a chronicle, whose scenario this text tells, and which was played by this schedule, if by
-/// one, as one page of HTML.
+/// Returns a signed campaign as one page of HTML. `scenario_text` is the text of the chronicle's scenario. `schedule`
+/// is the schedule by which the campaign was played, or `None` if it comes from a chronicle.
 ///
 /// # Errors
 ///
-/// No memory for the text.
+/// Fails if there is no memory for the text.
 pub fn signed_page_text(
     alloc: Global,
     scenario_text: &str,
@@ -43,7 +43,7 @@ pub fn signed_page_text(
     Ok(out)
 }
 
-/// Adds all sections.
+/// Appends all sections, and the verdict.
 fn put_parts(
     alloc: Global,
     out: &mut String,
@@ -75,21 +75,21 @@ fn put_parts(
     Ok(())
 }
 
-/// The programs of its traitors.
+/// Returns the section with the programs of the campaign's traitors.
 fn programs_of(alloc: Global, chronicle: &SignedChronicle) -> Result<Section, AllocError>
     ensures { IfOk result (λ section. section ≡ programs_section chronicle.now.scenario) }
 {
     programs_section(alloc, chronicle.scenario())
 }
 
-/// Its accesses to the board.
+/// Returns the section with the campaign's accesses to the board.
 fn accesses_of(alloc: Global, chronicle: &SignedChronicle) -> Result<Section, AllocError>
     ensures { IfOk result (λ section. section ≡ accesses_section chronicle.now.accesses) }
 {
     accesses_section(alloc, chronicle.accesses())
 }
 
-/// Adds the verdict.
+/// Appends the verdict of a chronicle.
 fn put_verdict_of(out: &mut String, chronicle: &SignedChronicle) -> Result<(), AllocError>
     ensures { OnOk result (string_bytes out.new ≡ string_bytes out.old
         ++ verdict_part chronicle.now.verdict) }
@@ -97,7 +97,7 @@ fn put_verdict_of(out: &mut String, chronicle: &SignedChronicle) -> Result<(), A
     put_verdict(out, chronicle.verdict())
 }
 
-/// The campaign's numbers, and that its messages are signed.
+/// Returns the title of the page, which describes the campaign and says that its messages are signed.
 fn signed_title(alloc: Global, scenario: &Scenario) -> Result<String, AllocError>
     ensures { IfOk result (λ text. string_bytes text ≡ signed_words scenario.now) }
 {
@@ -106,7 +106,7 @@ fn signed_title(alloc: Global, scenario: &Scenario) -> Result<String, AllocError
     Ok(words)
 }
 
-/// The picture.
+/// Returns the section with the diagram of a campaign.
 fn diagram_section(alloc: Global, chronicle: &SignedChronicle) -> Result<Section, AllocError>
     ensures { IfOk result (λ section. section ≡ diagram_section chronicle.now) }
 {
@@ -115,7 +115,7 @@ fn diagram_section(alloc: Global, chronicle: &SignedChronicle) -> Result<Section
     picture_section(alloc, wide, svg.as_str())
 }
 
-/// The chronicle.
+/// Returns the section with the campaign's chronicle.
 fn section_of(alloc: Global, chronicle: &SignedChronicle) -> Result<Section, AllocError>
     ensures { IfOk result (λ section. section ≡ chronicle_section (signed_text chronicle.now)) }
 {
@@ -123,7 +123,7 @@ fn section_of(alloc: Global, chronicle: &SignedChronicle) -> Result<Section, All
     chronicle_section(alloc, text.as_slice())
 }
 
-/// The text of a chronicle.
+/// Returns the text of a chronicle.
 fn chronicle_text(alloc: Global, chronicle: &SignedChronicle) -> Result<Vec<u8>, AllocError>
     ensures { IfOk result (λ text. text.items ≡ signed_text chronicle.now) }
 {

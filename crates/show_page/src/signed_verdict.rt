@@ -1,4 +1,4 @@
-//! The verdict on a signed campaign, and what was promised.
+//! The verdict on a signed campaign, and what the algorithm promised.
 ghost use Rattle.std.specs.Prelude.{◌≡◌, ◌++◌, string_bytes, OnOk};
 ghost use Rattle.show_page.specs.SignedAccount.{verdict_part};
 
@@ -7,7 +7,7 @@ use show_chains::bound_words;
 use std::alloc::AllocError;
 use world::Verdict;
 
-/// Adds the verdict, a paragraph for each of its parts, and which promise holds (TOPLAS 1982, Theorem 2).
+/// Appends the verdict, with a paragraph for each of its parts, and the promise that holds (TOPLAS 1982, Theorem 2).
 pub(crate) fn put_verdict(out: &mut String, verdict: Verdict) -> Result<(), AllocError>
     ensures { OnOk result (string_bytes out.new ≡ string_bytes out.old ++ verdict_part verdict) }
 {

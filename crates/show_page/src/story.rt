@@ -1,9 +1,9 @@
-//! The story of a scenario, the comments and blank lines at its head, and the text behind it.
+//! Splits the text of a scenario into its story, which is the comments and blank lines at its head, and the rest.
 ghost use Rattle.std.specs.Prelude.{◌≡◌, ◌≤◌, length};
 ghost use Rattle.show_page.specs.Story.{behind_story, head_bytes, is_blank, story, story_bytes};
 ghost use Rattle.label.specs.Labels.{on};
 
-/// The story of a scenario, and the text behind it.
+/// Returns the story of a scenario, and the text after it.
 pub(crate) fn parted(text: &str) -> (&str, &str)
     ensures story { result.0.now ≡ story text.now }
     ensures behind { result.1.now ≡ behind_story text.now }
@@ -12,7 +12,7 @@ pub(crate) fn parted(text: &str) -> (&str, &str)
     (&text[..end], &text[end..])
 }
 
-/// How many bytes of a text are its story: none, if no comment stands at its head.
+/// Returns the length in bytes of a text's story, which is 0 if there is no comment at its head.
 fn story_bytes(text: &[u8]) -> usize
     ensures { result ≡ story_bytes text.now }
 {
@@ -20,14 +20,14 @@ fn story_bytes(text: &[u8]) -> usize
     if has_comment(&text[..end]) { end } else { 0 }
 }
 
-/// Whether a comment stands in the head of a text.
+/// Checks whether the head of a text contains a comment.
 fn has_comment(head: &[u8]) -> bool
     ensures { result ≡ on head.now 35 }
 {
     head.iter().any(|byte| *byte == b'#')
 }
 
-/// How many bytes of a text are the comments and blank lines at its head.
+/// Returns the length in bytes of the comments and blank lines at the head of a text.
 fn head_bytes(text: &[u8]) -> usize
     ensures count { result ≡ head_bytes text.now }
     ensures within { result ≤ length text.now }
@@ -44,7 +44,7 @@ fn head_bytes(text: &[u8]) -> usize
     end
 }
 
-/// Whether a byte is a blank, a tab, or ends a line.
+/// Checks whether a byte is a space, a tab, or part of a line end.
 fn is_blank(byte: u8) -> bool
     ensures { result ≡ is_blank byte }
 {

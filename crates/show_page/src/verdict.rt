@@ -1,4 +1,4 @@
-//! The verdict on a campaign, and what was promised.
+//! The verdict on a campaign with oral messages, and what the algorithm promised.
 ghost use Rattle.std.specs.Prelude.{◌≡◌, ◌++◌, string_bytes, OnOk};
 ghost use Rattle.show_page.specs.Account.{bound_told, promise_words, verdict_heading, verdict_part, verdict_told};
 
@@ -7,7 +7,7 @@ use show_diagram::foot::{alike_words, bound_words, obeyed_words};
 use std::alloc::AllocError;
 use world::{Chronicle, Verdict};
 
-/// Adds the verdict, a paragraph for each of its parts.
+/// Appends the verdict, with a paragraph for each of its parts.
 pub(crate) fn put_verdict(out: &mut String, chronicle: &Chronicle) -> Result<(), AllocError>
     ensures { OnOk result (string_bytes out.new ≡ string_bytes out.old ++ verdict_part chronicle.now.verdict) }
 {
@@ -15,11 +15,11 @@ pub(crate) fn put_verdict(out: &mut String, chronicle: &Chronicle) -> Result<(),
     put_verdict_told(out, verdict, bound_told(verdict.bound, bound_words(false)))
 }
 
-/// Adds this verdict, and these words on its bound.
+/// Appends the given verdict, with these words about its bound.
 ///
 /// # Errors
 ///
-/// No memory for the text.
+/// Fails if there is no memory for the text.
 pub fn put_verdict_told(out: &mut String, verdict: Verdict, bound: &str) -> Result<(), AllocError>
     ensures { OnOk result (string_bytes out.new ≡ string_bytes out.old ++ verdict_told verdict bound.now) }
 {
@@ -29,14 +29,15 @@ pub fn put_verdict_told(out: &mut String, verdict: Verdict, bound: &str) -> Resu
     put_paragraph(out, bound)
 }
 
-/// What is promised (TOPLAS 1982, IC1 and IC2), or, where the bound does not hold, that nothing is.
+/// Returns the words for what the algorithm promises (TOPLAS 1982, IC1 and IC2), or `without` if the bound does not
+/// hold.
 pub fn bound_told(bound: bool, without: &'static str) -> &'static str
     ensures { result.now ≡ bound_told bound without.now }
 {
     if bound { promise_words() } else { without }
 }
 
-/// What is promised where the bound holds.
+/// Returns the words for what the algorithm promises if the bound holds.
 #[tactic(auto, unfolding(crate::specs::Account::promise_words))]
 fn promise_words() -> &'static str
     ensures { result.now ≡ promise_words }
@@ -45,7 +46,7 @@ fn promise_words() -> &'static str
      commander, whatever the traitors do."
 }
 
-/// The heading of the verdict.
+/// Returns the heading of the verdict.
 #[tactic(auto, unfolding(crate::specs::Account::verdict_heading))]
 fn verdict_heading() -> &'static str
     ensures { result.now ≡ verdict_heading }

@@ -1,4 +1,4 @@
--- Which chronicles have a table. The statement is the contract of a function of this crate.
+-- Which chronicles have a message table. The statement is the contract of a function of this crate.
 use Rattle.std.specs.Prelude.{List}
 use Rattle.round.specs.Scenario.{Scenario, IsScenario}
 use Rattle.world.specs.declared.event.Event.{Event}
@@ -7,7 +7,7 @@ use Rattle.world.specs.Lists.{IsComplete}
 use Rattle.world.specs.World.{opening, run}
 use Rattle.show_table.specs.Retold.{IsWhole}
 
--- the chronicle of a complete run is whole
+-- The chronicle of a complete run is whole.
 abbrev pub RunsAreWhole : Type 0
 RunsAreWhole = (s : Scenario) (events : List Event) → IsScenario s → IsComplete s events →
     IsWhole (chronicle_of (run (opening s) events))

@@ -1,4 +1,4 @@
--- The message table of a campaign, and how its decisions come about.
+-- The message table of a campaign, and the explanation of its decisions.
 use Rattle.std.specs.Prelude.{ℕ, suc, ◌≡◌, List, filter, length, Option, None, Some, Ok}
 use Rattle.label.specs.Labels.{generals}
 use Rattle.book.specs.Decisions.{decisions_of}
@@ -12,18 +12,18 @@ use Rattle.world.specs.Chronicle.{Chronicle, decisions}
 use Rattle.book.specs.Answers.{ExplainsOne, ExplainsTable}
 use Rattle.book.specs.Written.{table_text}
 
--- the table of a campaign's messages: of each label, the shorter ones first, for each receiver who is off it what its
--- last general told him of the rest by his letter, and no line where he told him nothing
+-- The table of a campaign's messages, with the shorter labels first. For each label and each receiver who is not on it,
+-- it has the order that the label's last general sent him about the rest. There is no line where he sent nothing.
 abbrev pub table_of : Chronicle → List ℕ
 table_of c = table_text (messages c.letters) c.scenario.generals c.scenario.bound c.scenario.commander c.scenario.rule
 
--- all rounds are told, each by letters of that round, and the decisions are those of their messages
+-- The chronicle contains all rounds, each with letters of that round, and the decisions follow from their messages.
 pub record IsWhole (c : Chronicle) : Type 0 where
   pub rounds : length c.letters ≡ suc c.scenario.bound
   pub letters : AreRoundsOf c.scenario c.letters
   pub decisions : c.decisions ≡ decisions c.scenario (messages c.letters)
 
--- the text is that table; it tells the campaign's numbers and rule, and what it decides is what the chronicle says
+-- The text is that table. It has the campaign's numbers and rule, and its decisions are those of the chronicle.
 pub record IsRetold (c : Chronicle) (text : List ℕ) : Type 0 where
   pub written : text ≡ table_of c
   pub table : MessageTable
@@ -34,20 +34,20 @@ pub record IsRetold (c : Chronicle) (text : List ℕ) : Type 0 where
   pub rule : table.rule ≡ c.scenario.rule
   pub decisions : decisions_of table ≡ c.decisions
 
--- the scenario's traitors, ascending
+-- The scenario's traitors in ascending order.
 abbrev pub traitors_of : Scenario → List ℕ
 traitors_of s = filter (is_traitor s) (generals s.generals)
 
--- what `book` says of a table where these are named as traitors: of all lieutenants, or of one general
+-- What `book` says of a table if these generals are named as traitors: for all lieutenants, or for one general.
 abbrev pub explained_of : MessageTable → List ℕ → Option ℕ → List ℕ
 explained_of t traitors None = explained t traitors
 explained_of t traitors (Some g) = explained_one t traitors g
 
--- the lines are those of `book` on a table's text
+-- The lines are what `book` says of a table's text.
 abbrev pub ExplainsAsked : List ℕ → List ℕ → Option ℕ → List ℕ → Type 0
 ExplainsAsked text traitors None lines = ExplainsTable text traitors lines
 ExplainsAsked text traitors (Some g) lines = ExplainsOne text traitors g lines
 
--- those on the campaign's table, where the scenario's traitors are named
+-- The lines are what `book` says of the campaign's table if the scenario's traitors are named.
 abbrev pub Explains : Chronicle → Option ℕ → List ℕ → Type 0
 Explains c general lines = ExplainsAsked (table_of c) (traitors_of c.scenario) general lines

@@ -1,4 +1,4 @@
-//! How the decisions of a campaign come about.
+//! Explains how the lieutenants of a campaign reach their decisions.
 ghost use Rattle.std.specs.Prelude.{◌≡◌, IfOk, string_bytes};
 ghost use Rattle.show_table.specs.Retold.{Explains, IsWhole, explained_of, traitors_of};
 
@@ -8,13 +8,13 @@ use round::Scenario;
 use std::alloc::{AllocError, Global};
 use world::Chronicle;
 
-/// How the lieutenants of a campaign come to their decisions, or this general alone to his: what `book` says of its
-/// message table, where the scenario's traitors are named. The table is not written: it is told by the lieutenants'
-/// trees.
+/// Returns the explanation of how the lieutenants of a campaign reach their decisions, or only of how `general` does.
+/// It is what `book` says of the campaign's message table if the scenario's traitors are named. The table is read from
+/// the lieutenants' trees and never written as text.
 ///
 /// # Errors
 ///
-/// `AllocError` where memory is refused.
+/// Fails with `AllocError` if memory runs out.
 pub fn explained(
     alloc: Global,
     chronicle: &Chronicle,
@@ -29,7 +29,8 @@ pub fn explained(
     asked(alloc, &table, traitors.as_slice(), general)
 }
 
-/// What `book` says of a table, of all lieutenants or of this general alone, where these are named as traitors.
+/// Returns what `book` says of a table, for all lieutenants or only for the given general. `traitors` are the generals
+/// named as traitors.
 fn asked(
     alloc: Global,
     table: &TreeTable<'_>,
@@ -44,11 +45,11 @@ fn asked(
     }
 }
 
-/// The scenario's traitors, ascending.
+/// Returns the scenario's traitors in ascending order.
 ///
 /// # Errors
 ///
-/// `AllocError` where memory is refused.
+/// Fails with `AllocError` if memory runs out.
 pub fn traitors(alloc: Global, scenario: &Scenario) -> Result<Vec<u8>, AllocError>
     ensures { IfOk result (λ traitors. traitors.items ≡ traitors_of scenario.now) }
 {

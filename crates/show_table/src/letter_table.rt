@@ -1,4 +1,4 @@
-//! The message table that a campaign's letters tell.
+//! Computes the message table of a campaign from its letters.
 ghost use Rattle.std.specs.Prelude.{suc, ◌≡◌, IfOk, Ok, length, string_bytes};
 ghost use Rattle.book.specs.Grammar.{table_told};
 ghost use Rattle.show_table.specs.Retold.{IsRetold, IsWhole, table_of};
@@ -10,12 +10,12 @@ use round::{Received, Round, Scenario};
 use std::alloc::{AllocError, Global};
 use world::Chronicle;
 
-/// The message table of a campaign: for each label, the shorter ones first, and each receiver a line where he was told
-/// anything. What a table with this text decides is what the chronicle says.
+/// Returns the text of a campaign's message table. It has a line for each label and receiver for which an order was
+/// received, the shorter labels first. A table with this text decides what the chronicle says.
 ///
 /// # Errors
 ///
-/// `AllocError` where memory is refused.
+/// Fails with `AllocError` if memory runs out.
 pub fn table(alloc: Global, chronicle: &Chronicle) -> Result<String, AllocError>
     requires { IsWhole chronicle.now }
     ensures { IfOk result (λ text. IsRetold chronicle.now (string_bytes text)) }
@@ -33,11 +33,11 @@ pub fn table(alloc: Global, chronicle: &Chronicle) -> Result<String, AllocError>
     )
 }
 
-/// What the letters of a campaign have told its lieutenants.
+/// Returns what the lieutenants of a campaign received in its letters.
 ///
 /// # Errors
 ///
-/// `AllocError` where memory is refused.
+/// Fails with `AllocError` if memory runs out.
 pub fn hearing(alloc: Global, chronicle: &Chronicle) -> Result<Received, AllocError>
     requires { IsWhole chronicle.now }
     ensures { IfOk result (WasTold chronicle.now.scenario chronicle.now.letters) }
@@ -45,7 +45,8 @@ pub fn hearing(alloc: Global, chronicle: &Chronicle) -> Result<Received, AllocEr
     hear(alloc, chronicle.scenario(), chronicle.letters())
 }
 
-/// The message table of a campaign, as what its lieutenants were told tells it: that which its text is read as.
+/// Returns the message table of a campaign, read from what its lieutenants received. It is the table that the text of
+/// `table` is read as.
 pub fn told_table<'a>(told: &'a Received, chronicle: &Chronicle) -> TreeTable<'a>
     requires whole { IsWhole chronicle.now }
     requires told { WasTold chronicle.now.scenario chronicle.now.letters told.now }
@@ -63,7 +64,7 @@ pub fn told_table<'a>(told: &'a Received, chronicle: &Chronicle) -> TreeTable<'a
     )
 }
 
-/// What the letters of all rounds have told the lieutenants.
+/// Returns what the lieutenants received in the letters of all rounds.
 fn hear(alloc: Global, scenario: &Scenario, letters: &[Round]) -> Result<Received, AllocError>
     requires rounds { length letters.now ≡ suc scenario.now.bound }
     requires letters { AreRoundsOf scenario.now letters.now }

@@ -1,4 +1,4 @@
-//! Campaigns as message tables, which show how their decisions come about.
+//! Turns a campaign into a message table, which explains how its decisions are reached.
 #![tactic(auto)]
 
 mod explanation;

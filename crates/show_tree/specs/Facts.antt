@@ -1,4 +1,4 @@
--- What a message table says of a label w to lieutenant p, with k relays left.
+-- What a picture says of a label w that lieutenant p received, by a message table, with k relays left.
 use Rattle.std.specs.Prelude.{ℕ, zero, suc, ◌+◌, ◌-◌, ◌*◌, ◌==◌, Bool, true, false, not, ◌&&◌, if◌then◌else◌, List, [], ◌∷◌, ◌++◌, length, is_none, Option, None, Some}
 use Rattle.std.specs.List.{list_all}
 use Rattle.combine.specs.declared.outcome.Outcome.{Outcome}
@@ -15,11 +15,11 @@ use Rattle.show_tree.specs.declared.node.Extent.TheVariants.{Last, Open, Folded,
 use Rattle.show_tree.specs.declared.node.View.{View}
 use Rattle.show_tree.specs.declared.node.Node.{Node}
 
--- what the list of a label comes to, if there is one
+-- The outcome of the list of a label, if it has a list.
 abbrev pub outcome_at : MessageTable → ℕ → List ℕ → ℕ → Option Outcome
 outcome_at t k w p = if k == 0 then None else Some (outcome_of t.rule (list_of t (k - 1) w p))
 
--- whether j lies, who tells p of w: he is named, and does not tell what he took
+-- Whether the message of j to p about w is a lie: j is named as a traitor, and does not send what he received.
 abbrev pub mark_at : MessageTable → List ℕ → List ℕ → ℕ → ℕ → Trust
 mark_at t traitors w j p =
     if on traitors j && not (is_told (taken (told t.messages) w j) (told t.messages (w ++ j ∷ []) p))
@@ -29,32 +29,35 @@ abbrev pub is_honest : Trust → Bool
 is_honest Honest = true
 is_honest _ = false
 
--- the same was told, or nothing both times
+-- Both orders received are the same, or both are missing.
 abbrev pub is_same : Option ℕ → Option ℕ → Bool
 is_same None other = is_none other
 is_same (Some order) other = is_told order other
 
--- p is told the same of w, and by j of w, and this is no lie
+-- p received the same for w as from j about w, and the latter is no lie.
 abbrev pub tells : MessageTable → List ℕ → List ℕ → ℕ → ℕ → Bool
 tells t traitors w j p =
     is_same (told t.messages (w ++ j ∷ []) p) (told t.messages w p) && is_honest (mark_at t traitors w j p)
 
--- so it is of all labels that go on from w
+-- p received the same for w and for all labels that extend w within k relays, and none of these extensions is a lie.
 unfoldable pub is_alike : MessageTable → List ℕ → ℕ → List ℕ → ℕ → Bool
 is_alike t traitors zero w p = true
 is_alike t traitors (suc k) w p =
     list_all (λ j. tells t traitors w j p && is_alike t traitors k (w ++ j ∷ []) p) (others t.generals (p ∷ w))
 
--- so it is of j, and of all labels that go on from w with him
+-- p received the same for w, for w extended by j, and for all labels that extend the latter within k relays. None of
+-- them except possibly w is a lie.
 abbrev pub is_alike_by : MessageTable → List ℕ → ℕ → List ℕ → ℕ → ℕ → Bool
 is_alike_by t traitors k w j p = tells t traitors w j p && is_alike t traitors k (w ++ j ∷ []) p
 
--- how many labels go on from one of this size: each general who is neither on it nor p makes one, and those below that
+-- How many labels without p extend a label of the given size. Each general who is neither on the label nor p extends it
+-- once, and each such label is extended again.
 unfoldable pub below : ℕ → ℕ → ℕ → ℕ
 below n size zero = 0
 below n size (suc k) = (n - 1 - size) * (1 + below n (size + 1) k)
 
--- whether the labels below w are shown: folded, where all were told the same as w, and else as deep as is asked for
+-- Whether the labels below w are shown. They are folded if the same was received for all of them. Otherwise they are
+-- shown as deep as the view says.
 abbrev pub extent_at : MessageTable → List ℕ → View → ℕ → List ℕ → ℕ → Extent
 extent_at t traitors view k w p =
     if k == 0 then Last
@@ -62,7 +65,7 @@ extent_at t traitors view k w p =
     else if view.depth == 0 then Cut (below t.generals (length w) k)
     else Open
 
--- all of it
+-- Everything that a picture says of a label.
 unfoldable pub node_at : MessageTable → List ℕ → View → Trust → ℕ → List ℕ → ℕ → Node
 node_at t traitors view mark k w p =
     record {

@@ -1,4 +1,4 @@
--- Laws of what is said and drawn. Each is the contract of a function of this crate.
+-- Laws of the trees that are drawn. Each is the contract of a function of this crate.
 use Rattle.std.specs.Prelude.{ℕ, suc, ◌≡◌, List, ◌++◌, codes, Some}
 use Rattle.combine.specs.Rule.{outcome_of}
 use Rattle.html.specs.Grammar.{IsElement}
@@ -8,12 +8,12 @@ use Rattle.show_tree.specs.declared.node.View.{View}
 use Rattle.show_tree.specs.Facts.{outcome_at}
 use Rattle.show_tree.specs.Svg.{svg_text}
 
--- what a label from which others go on comes to is what the list that is explained of it comes to
+-- The outcome of a label that other labels extend is the outcome of the list that `book` explains for it.
 abbrev pub OutcomesAreExplained : Type 0
 OutcomesAreExplained = (t : MessageTable) (k : ℕ) (w : List ℕ) (p : ℕ) →
     outcome_at t (suc k) w p ≡ Some (outcome_of t.rule (list_of t k w p))
 
--- each picture is one element of XML, and a line feed
+-- Each picture is one XML element, followed by a line feed.
 abbrev pub PicturesAreElements : Type 0
 PicturesAreElements = (t : MessageTable) (traitors : List ℕ) (view : View) (p : ℕ) →
     (text : List ℕ) × IsElement text × (svg_text t traitors view p ≡ text ++ codes "\n")

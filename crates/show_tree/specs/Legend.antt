@@ -1,4 +1,5 @@
--- What the marks of a picture mean: below its rows a row for each mark that stands in it, and for no other.
+-- The legend of an SVG tree. Below the rows of labels it has a row for each mark that occurs in the picture, and for no
+-- other.
 use Rattle.std.specs.Prelude.{ℕ, ◌+◌, Bool, true, false, ◌&&◌, if◌then◌else◌, List, [], ◌++◌, length, codes, Option, None, Some}
 use Rattle.std.specs.List.{list_any}
 use Rattle.combine.specs.declared.outcome.Outcome.{Outcome}
@@ -22,7 +23,7 @@ abbrev pub is_divided : Option Outcome → Bool
 is_divided (Some (Divided order)) = true
 is_divided _ = false
 
--- which labels have a circle, a square, a diamond, and dashes
+-- Which labels have a circle, a square, a diamond, and dashes.
 abbrev pub has_circle : Node → Bool
 has_circle node = is_honest node.mark
 
@@ -41,14 +42,15 @@ has_dashed_circle node = has_dashes node && has_circle node
 abbrev pub has_dashed_square : Node → Bool
 has_dashed_square node = has_dashes node && has_square node
 
--- which shape stands with dashes in the picture of these labels: a circle, if one does, else a square, else a diamond
+-- The shape that the legend draws with dashes: a circle if one of these labels has a dashed circle, else a square if
+-- one has a dashed square, else a diamond.
 abbrev pub dashed_shape : List Node → Trust
 dashed_shape nodes =
     if list_any has_dashed_circle nodes then Honest
     else if list_any has_dashed_square nodes then Traitor
     else Lie 0 0
 
--- the marks that stand in the picture of these labels
+-- The marks that occur in the picture of these labels.
 abbrev pub marks_of : List Node → DrawnMarks
 marks_of nodes = record {
   circle = list_any has_circle nodes;
@@ -63,7 +65,7 @@ one_if stands = if stands then 1 else 0
 abbrev pub count_of : DrawnMarks → ℕ
 count_of marks = one_if marks.circle + one_if marks.square + one_if marks.diamond + one_if marks.dashes
 
--- a row with a mark, and what it means
+-- A row of the legend: a mark and its meaning.
 unfoldable pub meaning_words : List ℕ → List ℕ
 meaning_words words = codes "<text x=\"14\" y=\"17\">" ++ (words ++ codes "</text>")
 
@@ -73,7 +75,8 @@ meaning place mark outcome words = row_start place ++ shape 0 mark outcome ++ me
 abbrev pub meaning_if : Bool → ℕ → Trust → Option Outcome → List ℕ → List ℕ
 meaning_if stands place mark outcome words = if stands then meaning place mark outcome words else []
 
--- those of these marks below each other, the first with this place; dashes are shown at a shape that has them
+-- The rows of those marks that occur, one below another. The first row has the number `place`. Dashes are shown at the
+-- shape `dashed`.
 abbrev pub meanings : DrawnMarks → Trust → ℕ → List ℕ
 meanings marks dashed place =
     meaning_if marks.circle place Honest None (codes "no lie is known")
@@ -84,13 +87,13 @@ meanings marks dashed place =
     (Some (Divided 0))
     (codes "no order has a majority")
 
--- a line below the rows
+-- The horizontal rule below the rows of labels.
 unfoldable pub rule : List ℕ
 rule = codes "<path class=\"line\" d=\"M0 12h240\"/>"
 
 abbrev pub rule_at : ℕ → List ℕ
 rule_at place = row_start place ++ rule ++ row_end
 
--- below these labels' rows
+-- The legend below the rows of these labels.
 abbrev pub legend : List Node → List ℕ
 legend nodes = rule_at (length nodes) ++ meanings (marks_of nodes) (dashed_shape nodes) (length nodes + 1)

@@ -1,4 +1,4 @@
--- The rows of a picture: lines, a shape and a text for each label.
+-- The rows of an SVG tree: lines, a shape and a text for each label.
 use Rattle.std.specs.Prelude.{ℕ, ◌+◌, ◌-◌, ◌*◌, max, List, [], ◌∷◌, ◌++◌, length, codes, Option, Some}
 use Rattle.std.specs.Fmt.{decimal}
 use Rattle.std.specs.List.{flat_map, range_with_len}
@@ -14,7 +14,7 @@ use Rattle.combine.specs.declared.outcome.Outcome.TheVariants.{Divided}
 use Rattle.show_tree.specs.Places.{branch_at}
 use Rattle.show_tree.specs.Words.{said}
 
--- how far a row reaches: 28 units a general of its label, and 8 a byte of its text
+-- The width of a row: 28 units for each general of its label, and 8 for each byte of its text.
 abbrev pub reach : Node → ℕ
 reach node = 28 * length node.label + 8 * length (said node)
 
@@ -22,7 +22,7 @@ abbrev pub widest : List Node → ℕ
 widest [] = 0
 widest (node ∷ nodes) = max (reach node) (widest nodes)
 
--- a way from a place at the top of the row
+-- Path data that begins at the top of the row.
 unfoldable pub way : ℕ → List ℕ → List ℕ
 way left steps = codes "M" ++ (decimal left ++ steps)
 
@@ -32,16 +32,16 @@ branch_way left Corner = way left (codes " 0v12h22")
 branch_way left Bar = way left (codes " 0v24")
 branch_way left Gap = []
 
--- the ways of the lines that lead to a label
+-- The path data of the branches that lead to a label.
 abbrev pub branch_ways : ℕ → ℕ → List ℕ → List ℕ
 branch_ways n p w = flat_map (λ i. branch_way (28 * i) (branch_at n p w i)) (range_with_len 0 (length w - 1))
 
--- the way of the beginning of the lines to the labels below
+-- The path data that begins the branches to the labels below, if they are shown.
 unfoldable pub stub : ℕ → Extent → List ℕ
 stub left Open = way left (codes " 18v6")
 stub left _ = []
 
--- a circle, a square or a diamond, with dashes where no order has a majority
+-- The shape of a label: a circle, a square or a diamond, with dashes if no order has a majority.
 abbrev pub kind : Trust → List ℕ
 kind Honest = codes "told"
 kind Traitor = codes "word"
@@ -60,11 +60,12 @@ unfoldable pub shape : ℕ → Trust → Option Outcome → List ℕ
 shape left mark outcome = codes "<path class=\""
     ++ (kind mark ++ (outcome_class outcome ++ (codes "\" d=\"M" ++ (decimal left ++ (outline mark ++ codes "\"/>")))))
 
--- what is said of a label, behind its shape
+-- The text of a label, to the right of its shape.
 unfoldable pub word_text : ℕ → Node → List ℕ
 word_text left node = codes "<text x=\"" ++ (decimal left ++ (codes "\" y=\"17\">" ++ (said node ++ codes "</text>")))
 
--- what a row begins with, so many below the first, and its lines; and what these end in, and it
+-- The start of the row that is `place` rows below the first, the start and the end of its lines, and the end of the
+-- row.
 unfoldable pub row_start : ℕ → List ℕ
 row_start place = codes "<g transform=\"translate(16 " ++ (decimal (36 + 24 * place) ++ codes ")\">")
 
@@ -77,7 +78,7 @@ lines_end = codes "\"/>"
 unfoldable pub row_end : List ℕ
 row_end = codes "</g>\n"
 
--- the row of a label
+-- The row of a label.
 abbrev pub row : ℕ → ℕ → ℕ → Node → List ℕ
 row n p place node =
     row_start place ++ lines_start ++ branch_ways n p node.label ++ stub (28 * (length node.label - 1)) node.extent
@@ -85,7 +86,7 @@ row n p place node =
     ++ shape (28 * (length node.label - 1)) node.mark node.outcome ++ word_text (28 * (length node.label - 1) + 14) node
     ++ row_end
 
--- rows below each other, the first of them so many below the first of all
+-- Rows one below another, of which the first is `place` rows below the top of the picture's rows.
 unfoldable pub rows_from : ℕ → ℕ → ℕ → List Node → List ℕ
 rows_from n p place [] = []
 rows_from n p place (node ∷ nodes) = row n p place node ++ rows_from n p (place + 1) nodes

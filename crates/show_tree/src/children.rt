@@ -1,4 +1,5 @@
-//! What a lieutenant was told of the labels that go on from one: they stand together in his tree.
+//! Reads the orders that a lieutenant received for the labels that extend a given label by one general. They are
+//! contiguous in his tree.
 ghost use Rattle.std.specs.Prelude.{◌≡◌, ◌≤◌, ◌+◌, ◌*◌, [], ◌∷◌, ◌++◌, length, map, true, slice_range};
 ghost use Rattle.label.specs.Labels.{others};
 ghost use Rattle.label.specs.Oral.{order_of};
@@ -10,7 +11,8 @@ use arrayvec::ArrayVec;
 use book::Heard;
 use label::{Label, rank};
 
-/// The list that the lieutenant combines at a label that only the longest go on from.
+/// Returns the list that the lieutenant combines at a label which only labels of full length extend. At his own place
+/// the list has the order that he received for the label itself.
 pub(crate) fn last_orders<H: Heard>(table: &H, general: u8, label: &Label) -> ArrayVec<u32, 13>
     requires place { is_place (H.seen table.now) label.now general ≡ true }
     requires room { length label.now ≤ (H.seen table.now).bound }
@@ -30,8 +32,8 @@ pub(crate) fn last_orders<H: Heard>(table: &H, general: u8, label: &Label) -> Ar
     orders
 }
 
-/// The order that the lieutenant was told of each label that has one general more, by that general: RETREAT where none
-/// was.
+/// Returns the orders that the lieutenant received for the labels that extend this one by one general. They are in the
+/// order of that general, with RETREAT (0) where he received none.
 fn told_children<'a, H: Heard>(table: &'a H, general: u8, label: &Label) -> &'a [u32]
     requires place { is_place (H.seen table.now) label.now general ≡ true }
     requires room { length label.now ≤ (H.seen table.now).bound }
@@ -48,7 +50,8 @@ fn told_children<'a, H: Heard>(table: &'a H, general: u8, label: &Label) -> &'a 
     }
 }
 
-/// The part of a level that belongs to a rank of the level above, of this width.
+/// Returns the entries of a level that extend the label with the given rank on the level above, which are `width`
+/// entries.
 fn part(level: &[u32], width: usize, rank: usize) -> &[u32]
     requires { rank * width + width ≤ length level.now }
     ensures { result.now ≡ slice_range level.now (rank * width) (rank * width + width) }

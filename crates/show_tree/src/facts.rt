@@ -1,4 +1,5 @@
-//! What a message table says of a label, to one lieutenant.
+//! Computes what a picture says of a label: the order received, the outcome of its list, whether it is a lie, and
+//! whether the labels below it are shown.
 ghost use Rattle.std.specs.Prelude.{◌≡◌, ◌≤◌, ◌<◌, ◌+◌, ◌*◌, ◌^◌, ◌∷◌, ◌++◌, [], suc, length, true};
 ghost use Rattle.label.specs.Labels.{on};
 ghost use Rattle.book.specs.Conditions.{is_told};
@@ -13,8 +14,8 @@ use book::Heard;
 use combine::{Combine, Outcome};
 use label::Label;
 
-/// What the lieutenant holds of a label, with so many relays left: what he was told or, above the longest labels, what
-/// his list comes to.
+/// Returns the lieutenant's value for a label, with `relays` relays left. For a label of full length it is the order
+/// that he received, if any. Otherwise it is the outcome of his list for the label.
 #[cycle(lists)]
 fn held<H: Heard>(table: &H, general: u8, label: &Label, relays: u8) -> Option<u32>
     requires place { is_place (H.seen table.now) label.now general ≡ true }
@@ -28,7 +29,7 @@ fn held<H: Heard>(table: &H, general: u8, label: &Label, relays: u8) -> Option<u
     Some(table.rule().combine(orders.as_slice()))
 }
 
-/// The list that the lieutenant combines at a label, with so many relays left behind the next general.
+/// Returns the list that the lieutenant combines at a label, with `relays` relays left after the next general.
 #[cycle(lists)]
 fn orders<H: Heard>(table: &H, general: u8, label: &Label, relays: u8) -> ArrayVec<u32, 13>
     requires place { is_place (H.seen table.now) label.now general ≡ true }
@@ -49,7 +50,8 @@ fn orders<H: Heard>(table: &H, general: u8, label: &Label, relays: u8) -> ArrayV
     orders
 }
 
-/// What the list of a label comes to, with so many relays left, if there is one.
+/// Returns the outcome of the lieutenant's list for a label, with `relays` relays left. Returns `None` if no relay is
+/// left, since such a label has no list.
 fn outcome<H: Heard>(table: &H, general: u8, label: &Label, relays: u8) -> Option<Outcome>
     requires place { is_place (H.seen table.now) label.now general ≡ true }
     requires relays { length label.now + relays ≡ (H.seen table.now).bound + 1 }
@@ -62,14 +64,14 @@ fn outcome<H: Heard>(table: &H, general: u8, label: &Label, relays: u8) -> Optio
     Some(table.rule().outcome(orders.as_slice()))
 }
 
-/// Whether the general is named.
+/// Checks whether the general is among those named as traitors.
 pub(crate) fn is_named(traitors: &[u8], general: u8) -> bool
     ensures { result ≡ on traitors.now general }
 {
     traitors.iter().any(|x| *x == general)
 }
 
-/// Whether this order was told.
+/// Checks whether the order received is this order.
 pub(crate) fn is_told(order: u32, told: Option<u32>) -> bool
     ensures { result ≡ is_told order told }
 {
@@ -79,7 +81,7 @@ pub(crate) fn is_told(order: u32, told: Option<u32>) -> bool
     }
 }
 
-/// Whether the same was told, or nothing both times.
+/// Checks whether both orders received are the same, or both are missing.
 fn is_same(one: Option<u32>, other: Option<u32>) -> bool
     ensures { result ≡ is_same one other }
 {
@@ -89,8 +91,9 @@ fn is_same(one: Option<u32>, other: Option<u32>) -> bool
     }
 }
 
-/// How far the word of this general is to be trusted, who tells the lieutenant of a label: the next label has him
-/// behind it.
+/// Returns whether the message of general `teller` about a label is known to be a lie. It is one if he is named as a
+/// traitor and did not send the lieutenant the order that he received. The label `next` is `label` followed by
+/// `teller`.
 pub fn mark_at<H: Heard>(
     table: &H,
     traitors: &[u8],
@@ -115,7 +118,8 @@ pub fn mark_at<H: Heard>(
     }
 }
 
-/// Whether the lieutenant is told the same of a label and of the next one, and this is no lie.
+/// Checks whether the lieutenant received the same for `next` as for `label`, and whether the message of `teller` is
+/// not known to be a lie. The label `next` is `label` followed by `teller`.
 fn tells<H: Heard>(
     table: &H,
     traitors: &[u8],
@@ -133,15 +137,15 @@ fn tells<H: Heard>(
         && is_honest(mark_at(table, traitors, general, label, teller, next))
 }
 
-/// Whether it is no lie.
+/// Checks whether the mark says that no lie is known.
 pub(crate) fn is_honest(mark: Trust) -> bool
     ensures { result ≡ is_honest mark }
 {
     matches!(mark, Trust::Honest)
 }
 
-/// Whether the lieutenant is told the same of a label and of all that go on from it, with so many relays left, and none
-/// of these is a lie.
+/// Checks whether the lieutenant received the same for this label and for all labels that extend it within `relays`
+/// relays, and whether none of these extensions is a lie.
 #[cycle(alike)]
 fn is_alike<H: Heard>(table: &H, traitors: &[u8], general: u8, label: &Label, relays: u8) -> bool
     requires place { is_place (H.seen table.now) label.now general ≡ true }
@@ -161,7 +165,8 @@ fn is_alike<H: Heard>(table: &H, traitors: &[u8], general: u8, label: &Label, re
     is_so
 }
 
-/// The same of a label, the next one, and all that go on from that.
+/// Checks whether the lieutenant received the same for `label`, for `next`, and for all labels that extend `next`
+/// within `relays` relays. Neither `next` nor one of these extensions may be a lie.
 #[cycle(alike)]
 fn is_alike_by<H: Heard>(
     table: &H,
@@ -181,7 +186,7 @@ fn is_alike_by<H: Heard>(
         && is_alike(table, traitors, general, next, relays)
 }
 
-/// How many labels go on from one of this size and lack the lieutenant, with so many relays left.
+/// Returns how many labels without the lieutenant extend a label of `size` generals within `relays` relays.
 fn below(generals: u8, size: u8, relays: u8) -> u32
     requires few { generals ≤ 13 }
     requires rounds { relays ≤ 4 }
@@ -196,7 +201,7 @@ fn below(generals: u8, size: u8, relays: u8) -> u32
     children * (1 + below(generals, size + 1, relays - 1))
 }
 
-/// Whether the labels below a label are shown.
+/// Returns whether the labels below a label are shown, folded, or cut off by the depth of the view.
 fn extent<H: Heard>(
     table: &H,
     traitors: &[u8],
@@ -222,7 +227,7 @@ fn extent<H: Heard>(
     }
 }
 
-/// What is said of a label, with so many relays left.
+/// Returns what a picture says of a label, with `relays` relays left.
 #[tactic(auto, unfolding(crate::specs::Facts::node_at))]
 pub fn node_at<H: Heard>(
     table: &H,

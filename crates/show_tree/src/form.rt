@@ -1,12 +1,13 @@
+//! The output forms of a lieutenant's tree: lines of text, a Graphviz graph, or SVG.
 use crate::node::Style;
 
-/// In which form a lieutenant's tree is drawn.
+/// The form in which a lieutenant's tree is drawn.
 #[derive(Clone, Copy, Drop)]
 pub enum TreeForm {
-    /// As lines of text.
+    /// Lines of text.
     Lines(Style),
-    /// As a graph, for the program dot of Graphviz.
+    /// A graph for the program `dot` of Graphviz.
     Graph,
-    /// As a picture in SVG.
+    /// A picture in SVG.
     Svg,
 }

@@ -1,4 +1,4 @@
-//! A lieutenant's tree as a graph, for the program dot of Graphviz.
+//! Draws a lieutenant's tree as a graph for the program `dot` of Graphviz.
 ghost use Rattle.std.specs.Prelude.{◌≡◌, ◌≢◌, ◌<◌, ◌++◌, string_bytes, IfOk, OnOk};
 ghost use Rattle.show_tree.specs.Graph.{edge, extent_style, graph_box, graph_head, graph_node, graph_nodes, graph_start, graph_styles, graph_text, graph_title, mark_style, outcome_style};
 
@@ -10,13 +10,13 @@ use book::{Heard, decision};
 use combine::Outcome;
 use std::alloc::{AllocError, Global};
 
-/// The tree of what a lieutenant was told, as a graph: a box for each label that is shown, an octagon for a lie and for
-/// the word of a commander who is named as a traitor, with dashes where no order has a majority, and doubled where
-/// labels below are not shown.
+/// Returns the tree of what a lieutenant received, as a graph for Graphviz. Each label that is shown is a box. A lie is
+/// an octagon, and so is the message of a commander who is named as a traitor. The outline is dashed if no order has a
+/// majority, and doubled if labels below are not shown.
 ///
 /// # Errors
 ///
-/// No memory for the text.
+/// Fails if there is no memory for the text.
 #[tactic(auto, unfolding(crate::specs::Graph::graph_text))]
 pub fn tree_graph<H: Heard>(
     alloc: Global,
@@ -37,7 +37,7 @@ pub fn tree_graph<H: Heard>(
     Ok(text)
 }
 
-/// Adds what stands before the labels.
+/// Appends the start of the graph, up to its labels.
 fn put_head(out: &mut String, general: u8, order: u32) -> Result<(), AllocError>
     ensures { OnOk result (string_bytes out.new ≡ string_bytes out.old ++ graph_head general order) }
 {
@@ -45,7 +45,7 @@ fn put_head(out: &mut String, general: u8, order: u32) -> Result<(), AllocError>
     put_title(out, general, order)
 }
 
-/// What every graph begins with.
+/// Returns the text with which every graph begins.
 #[tactic(auto, unfolding(crate::specs::Graph::graph_start))]
 fn start() -> &'static str
     ensures { result.now ≡ graph_start }
@@ -53,7 +53,7 @@ fn start() -> &'static str
     "digraph tree {\n  rankdir=LR;\n  ordering=out;\n  labelloc=t;\n  node [shape=box];\n"
 }
 
-/// Adds whose tree it is, and what he decides.
+/// Appends the title: the lieutenant and his decision.
 #[tactic(auto, unfolding(crate::specs::Graph::graph_title))]
 fn put_title(out: &mut String, general: u8, order: u32) -> Result<(), AllocError>
     ensures { OnOk result (string_bytes out.new ≡ string_bytes out.old ++ graph_title general order) }
@@ -61,7 +61,7 @@ fn put_title(out: &mut String, general: u8, order: u32) -> Result<(), AllocError
     write!(out, "  label=\"lieutenant {general} decides {order}\";\n")
 }
 
-/// Adds these labels.
+/// Appends the given labels with their edges.
 fn put_nodes(out: &mut String, nodes: &[Node]) -> Result<(), AllocError>
     ensures { OnOk result (string_bytes out.new ≡ string_bytes out.old ++ graph_nodes nodes.now) }
 {
@@ -71,7 +71,7 @@ fn put_nodes(out: &mut String, nodes: &[Node]) -> Result<(), AllocError>
     Ok(())
 }
 
-/// Adds a label, and the edge that leads to it.
+/// Appends a label, and the edge that leads to it.
 fn put_node(out: &mut String, node: &Node) -> Result<(), AllocError>
     ensures { OnOk result (string_bytes out.new ≡ string_bytes out.old ++ graph_node node.now) }
 {
@@ -81,7 +81,7 @@ fn put_node(out: &mut String, node: &Node) -> Result<(), AllocError>
     put_edge(out, node.label.generals())
 }
 
-/// Adds the box of a label: its name, and what stands in it.
+/// Appends the start of a label's box: its name and the words in it.
 fn put_box(out: &mut String, node: &Node) -> Result<(), AllocError>
     ensures { OnOk result (string_bytes out.new ≡ string_bytes out.old ++ graph_box node.now) }
 {
@@ -93,7 +93,7 @@ fn put_box(out: &mut String, node: &Node) -> Result<(), AllocError>
     put_words(out, "\\n", node)
 }
 
-/// Adds how a label is drawn.
+/// Appends the attributes of a label's box.
 fn put_styles(out: &mut String, node: &Node) -> Result<(), AllocError>
     ensures { OnOk result (string_bytes out.new ≡ string_bytes out.old ++ graph_styles node.now) }
 {
@@ -103,7 +103,7 @@ fn put_styles(out: &mut String, node: &Node) -> Result<(), AllocError>
     write!(out, "\"{mark}{outcome}{extent}")
 }
 
-/// Adds the edge from the label that this one goes on from, if there is one.
+/// Appends the edge that leads to a label from the label that it extends, if there is one.
 fn put_edge(out: &mut String, label: &[u8]) -> Result<(), AllocError>
     ensures { OnOk result (string_bytes out.new ≡ string_bytes out.old ++ edge label.now) }
 {
@@ -117,7 +117,7 @@ fn put_edge(out: &mut String, label: &[u8]) -> Result<(), AllocError>
     out.push_str("\";\n")
 }
 
-/// How a label is drawn by whose word it is.
+/// Returns the attributes that show whether a label's message is a lie.
 fn mark_style(mark: Trust) -> &'static str
     ensures { result.now ≡ mark_style mark }
 {
@@ -128,7 +128,7 @@ fn mark_style(mark: Trust) -> &'static str
     }
 }
 
-/// How it is drawn by what its list comes to.
+/// Returns the attribute that shows whether an order has a majority in a label's list.
 fn outcome_style(outcome: Option<Outcome>) -> &'static str
     ensures { result.now ≡ outcome_style outcome }
 {
@@ -138,7 +138,7 @@ fn outcome_style(outcome: Option<Outcome>) -> &'static str
     }
 }
 
-/// How it is drawn by what is shown below.
+/// Returns the attribute that shows whether labels below a label are left out.
 fn extent_style(extent: Extent) -> &'static str
     ensures { result.now ≡ extent_style extent }
 {

@@ -1,4 +1,4 @@
-//! What the marks of a picture mean, below its rows.
+//! Draws the legend of an SVG tree: below its rows, a row for each mark that occurs in the picture.
 ghost use Rattle.std.specs.Prelude.{◌≡◌, ◌≤◌, ◌<◌, ◌^◌, ◌++◌, string_bytes, None, OnOk};
 ghost use Rattle.std.specs.List.{list_any};
 ghost use Rattle.show_tree.specs.Legend.{count_of, dashed_shape, has_circle, has_dashed_circle, has_dashed_square, has_dashes, has_diamond, has_square, legend, marks_of, meaning, meaning_if, meaning_words, meanings, one_if, rule, rule_at};
@@ -9,7 +9,7 @@ use crate::rows::{put_shape, put_start, row_end};
 use combine::Outcome;
 use std::alloc::AllocError;
 
-/// Which marks stand in the picture of these labels.
+/// Returns which marks occur in the picture of these labels.
 pub(crate) fn marks(nodes: &[Node]) -> DrawnMarks
     ensures { result ≡ marks_of nodes.now }
 {
@@ -21,35 +21,36 @@ pub(crate) fn marks(nodes: &[Node]) -> DrawnMarks
     }
 }
 
-/// Whether one of these labels has a circle.
+/// Checks whether one of these labels has a circle.
 fn any_circle(nodes: &[Node]) -> bool
     ensures { result ≡ list_any has_circle nodes.now }
 {
     nodes.iter().any(|node| has_circle(node))
 }
 
-/// Whether one of them has a square.
+/// Checks whether one of these labels has a square.
 fn any_square(nodes: &[Node]) -> bool
     ensures { result ≡ list_any has_square nodes.now }
 {
     nodes.iter().any(|node| has_square(node))
 }
 
-/// Whether one of them has a diamond.
+/// Checks whether one of these labels has a diamond.
 fn any_diamond(nodes: &[Node]) -> bool
     ensures { result ≡ list_any has_diamond nodes.now }
 {
     nodes.iter().any(|node| has_diamond(node))
 }
 
-/// Whether one of them has dashes.
+/// Checks whether one of these labels has a dashed outline.
 fn any_dashes(nodes: &[Node]) -> bool
     ensures { result ≡ list_any has_dashes nodes.now }
 {
     nodes.iter().any(|node| has_dashes(node))
 }
 
-/// Which shape stands with dashes in their picture: a circle, if one does, else a square, else a diamond.
+/// Returns the shape that the legend draws with dashes: a circle if one of these labels has a dashed circle, else a
+/// square if one has a dashed square, else a diamond.
 fn dashed_shape(nodes: &[Node]) -> Trust
     ensures { result ≡ dashed_shape nodes.now }
 {
@@ -62,63 +63,63 @@ fn dashed_shape(nodes: &[Node]) -> Trust
     }
 }
 
-/// Whether one of them has a circle with dashes.
+/// Checks whether one of these labels has a dashed circle.
 fn any_dashed_circle(nodes: &[Node]) -> bool
     ensures { result ≡ list_any has_dashed_circle nodes.now }
 {
     nodes.iter().any(|node| has_dashed_circle(node))
 }
 
-/// Whether one of them has a square with dashes.
+/// Checks whether one of these labels has a dashed square.
 fn any_dashed_square(nodes: &[Node]) -> bool
     ensures { result ≡ list_any has_dashed_square nodes.now }
 {
     nodes.iter().any(|node| has_dashed_square(node))
 }
 
-/// Whether a label has a circle with dashes.
+/// Checks whether a label has a dashed circle.
 fn has_dashed_circle(node: &Node) -> bool
     ensures { result ≡ has_dashed_circle node.now }
 {
     has_dashes(node) && has_circle(node)
 }
 
-/// Whether it has a square with dashes.
+/// Checks whether a label has a dashed square.
 fn has_dashed_square(node: &Node) -> bool
     ensures { result ≡ has_dashed_square node.now }
 {
     has_dashes(node) && has_square(node)
 }
 
-/// Whether no lie is known of a label.
+/// Checks whether a label is drawn as a circle: no lie is known of it.
 fn has_circle(node: &Node) -> bool
     ensures { result ≡ has_circle node.now }
 {
     is_honest(node.mark)
 }
 
-/// Whether a label's word is that of a commander who is named as a traitor.
+/// Checks whether a label is drawn as a square: its message is that of a commander who is named as a traitor.
 fn has_square(node: &Node) -> bool
     ensures { result ≡ has_square node.now }
 {
     matches!(node.mark, Trust::Traitor)
 }
 
-/// Whether it is a lie.
+/// Checks whether a label is drawn as a diamond: its message is a lie.
 fn has_diamond(node: &Node) -> bool
     ensures { result ≡ has_diamond node.now }
 {
     matches!(node.mark, Trust::Lie(_, _))
 }
 
-/// Whether in a label's list no order has a majority.
+/// Checks whether a label is drawn with dashes: in its list no order has a majority.
 fn has_dashes(node: &Node) -> bool
     ensures { result ≡ has_dashes node.now }
 {
     matches!(node.outcome, Some(Outcome::Divided(_)))
 }
 
-/// How many marks these are.
+/// Returns how many marks occur, at most four.
 pub(crate) fn count(marks: DrawnMarks) -> u128
     ensures value { result ≡ count_of marks }
     ensures few { result ≤ 4 }
@@ -126,7 +127,7 @@ pub(crate) fn count(marks: DrawnMarks) -> u128
     one_if(marks.circle) + one_if(marks.square) + one_if(marks.diamond) + one_if(marks.dashes)
 }
 
-/// One, where this is so.
+/// Returns 1 if the condition holds, else 0.
 fn one_if(stands: bool) -> u128
     ensures value { result ≡ one_if stands }
     ensures few { result ≤ 1 }
@@ -134,11 +135,11 @@ fn one_if(stands: bool) -> u128
     if stands { 1 } else { 0 }
 }
 
-/// Adds a line, and below it what the marks mean that stand in the picture of these labels.
+/// Appends a horizontal rule, and below it the meaning of each mark that occurs in the picture of these labels.
 ///
 /// # Errors
 ///
-/// No memory for the text.
+/// Fails if there is no memory for the text.
 pub(crate) fn put_legend(out: &mut String, nodes: &[Node]) -> Result<(), AllocError>
     ensures { OnOk result (string_bytes out.new ≡ string_bytes out.old ++ legend nodes.now) }
 {
@@ -151,7 +152,7 @@ pub(crate) fn put_legend(out: &mut String, nodes: &[Node]) -> Result<(), AllocEr
     )
 }
 
-/// Adds a line with this place.
+/// Appends a row that consists of a horizontal rule. The number of the row is `place`.
 fn put_rule(out: &mut String, place: u128) -> Result<(), AllocError>
     requires { place < 2 ^ 100 }
     ensures { OnOk result (string_bytes out.new ≡ string_bytes out.old ++ rule_at place) }
@@ -161,7 +162,7 @@ fn put_rule(out: &mut String, place: u128) -> Result<(), AllocError>
     out.push_str(row_end())
 }
 
-/// A line below the rows.
+/// Returns the horizontal rule below the rows of labels.
 #[tactic(auto, unfolding(crate::specs::Legend::rule))]
 fn rule() -> &'static str
     ensures { result.now ≡ rule }
@@ -169,7 +170,8 @@ fn rule() -> &'static str
     "<path class=\"line\" d=\"M0 12h240\"/>"
 }
 
-/// Adds what these marks mean, a row for each, the first with this place; dashes at a shape that has them.
+/// Appends the meanings of these marks, one row each. The number of the first row is `place`. Dashes are shown at the
+/// shape `dashed`.
 fn put_meanings(
     out: &mut String,
     marks: DrawnMarks,
@@ -208,7 +210,7 @@ fn put_meanings(
     Ok(())
 }
 
-/// Adds what a shape without dashes means, where it stands in the picture.
+/// Appends the meaning of a shape without dashes, if the shape occurs in the picture.
 fn put_shape_if(
     out: &mut String,
     stands: bool,
@@ -223,7 +225,7 @@ fn put_shape_if(
     put_meaning_if(out, stands, place, mark, None, words)
 }
 
-/// Adds what a mark means, where it stands in the picture.
+/// Appends the meaning of a mark, if the mark occurs in the picture.
 fn put_meaning_if(
     out: &mut String,
     stands: bool,
@@ -243,7 +245,7 @@ fn put_meaning_if(
     }
 }
 
-/// Adds a mark in a row with this place, and what it means.
+/// Appends a row with a mark and its meaning. The number of the row is `place`.
 fn put_meaning(
     out: &mut String,
     place: u128,
@@ -260,7 +262,7 @@ fn put_meaning(
     out.push_str(row_end())
 }
 
-/// Adds what it means, beside it.
+/// Appends the meaning of a mark, to the right of the mark.
 #[tactic(auto, unfolding(crate::specs::Legend::meaning_words))]
 fn put_meaning_words(out: &mut String, words: &str) -> Result<(), AllocError>
     ensures { OnOk result (string_bytes out.new ≡ string_bytes out.old ++ meaning_words words.now) }

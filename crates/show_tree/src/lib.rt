@@ -1,4 +1,4 @@
-//! Pictures of what a lieutenant was told: his tree of messages (Lynch, Distributed Algorithms, section 6.2), as lines
+//! Pictures of the messages that a lieutenant received: his tree (Lynch, Distributed Algorithms, section 6.2), as lines
 //! of text, as a graph for Graphviz, and as SVG.
 #![tactic(auto)]
 

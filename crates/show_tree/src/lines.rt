@@ -1,4 +1,4 @@
-//! A lieutenant's tree as lines of text.
+//! Draws a lieutenant's tree as indented lines of text.
 ghost use Rattle.std.specs.Prelude.{◌≡◌, ◌≢◌, ◌<◌, ◌++◌, string_bytes, IfOk, OnOk};
 ghost use Rattle.book.specs.Explained.{decision_line, mark};
 ghost use Rattle.show_tree.specs.Lines.{branch_text, branches_text, node_line, node_lines, tree_text};
@@ -11,13 +11,13 @@ use crate::words::put_said;
 use book::{Heard, decision};
 use std::alloc::{AllocError, Global};
 
-/// The tree of what a lieutenant was told: a line for each label that is shown, below the label that it goes on from,
-/// with what he was told, what his list comes to, and whether it is a lie of one who is named as a traitor; then his
-/// decision.
+/// Returns the tree of what a lieutenant received, as text. Each label that is shown has a line below the label that it
+/// extends, and the last line is his decision. A label's line says what he received, the outcome of his list, and
+/// whether it is a lie of a general named as a traitor.
 ///
 /// # Errors
 ///
-/// No memory for the text.
+/// Fails if there is no memory for the text.
 #[tactic(auto, unfolding(crate::specs::Lines::tree_text))]
 pub fn tree_text<H: Heard>(
     alloc: Global,
@@ -49,7 +49,7 @@ pub fn tree_text<H: Heard>(
     Ok(text)
 }
 
-/// Adds the lines of these labels.
+/// Appends the lines of these labels.
 fn put_nodes(
     out: &mut String,
     style: Style,
@@ -65,7 +65,7 @@ fn put_nodes(
     Ok(())
 }
 
-/// Adds the line of a label.
+/// Appends the line of a label.
 fn put_node(
     out: &mut String,
     style: Style,
@@ -80,7 +80,7 @@ fn put_node(
     out.push_str("\n")
 }
 
-/// Adds the lines that lead to a label.
+/// Appends the branches that lead to a label.
 fn put_branches(
     out: &mut String,
     style: Style,
@@ -97,7 +97,7 @@ fn put_branches(
     Ok(())
 }
 
-/// A line between labels, as it is drawn.
+/// Returns the four characters that draw a branch in this style.
 fn branch_text(style: Style, branch: Branch) -> &'static str
     ensures { result.now ≡ branch_text style branch }
 {
@@ -112,7 +112,7 @@ fn branch_text(style: Style, branch: Branch) -> &'static str
     }
 }
 
-/// Adds the line of the decision.
+/// Appends the line with the lieutenant's decision.
 fn put_decision(out: &mut String, general: u8, is_named: bool, order: u32) -> Result<(), AllocError>
     ensures { OnOk result (string_bytes out.new ≡ string_bytes out.old ++ decision_line general is_named order) }
 {
@@ -120,7 +120,7 @@ fn put_decision(out: &mut String, general: u8, is_named: bool, order: u32) -> Re
     write!(out, "decision {general}{mark}{order}\n")
 }
 
-/// What marks the decision of one who is named.
+/// Returns the word that marks the decision of a lieutenant who is named as a traitor, or a space.
 fn mark(named: bool) -> &'static str
     ensures { result.now ≡ mark named }
 {

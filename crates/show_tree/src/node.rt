@@ -1,87 +1,89 @@
-//! What a picture says of a label.
+//! The types of a drawn tree: what is said of each label, how much is shown, and how its branches are drawn.
 use combine::Outcome;
 use label::Label;
 
-/// Which marks stand in a picture.
+/// The marks that occur in a picture.
 #[derive(Clone, Copy, Drop)]
 pub struct DrawnMarks {
-    /// A circle: of a label no lie is known.
+    /// Some label has a circle: no lie is known of it.
     pub circle: bool,
-    /// A square: the word of a commander who is named as a traitor.
+    /// Some label has a square: its message is that of a commander who is named as a traitor.
     pub square: bool,
-    /// A diamond: a lie.
+    /// Some label has a diamond: its message is a lie.
     pub diamond: bool,
-    /// Dashes: in a label's list no order has a majority.
+    /// Some label has dashes: in its list no order has a majority.
     pub dashes: bool,
 }
 
-/// How far the word of a label's last general is to be trusted.
+/// Whether the message of a label's last general is known to be a lie.
 #[derive(Clone, Copy, Drop)]
 pub enum Trust {
-    /// He is not named as a traitor, or told what he took: the commander, his order.
+    /// No lie is known. The general is not named as a traitor, or sent what he received. A commander sent his order.
     Honest,
-    /// He is the commander, and named as a traitor, and his order is not known.
+    /// The general is the commander, he is named as a traitor, and his order is not known.
     Traitor,
-    /// This general is named as a traitor, and took this order, but told another one, or nothing.
+    /// The message is a lie. The first field is the general who sent it; he is named as a traitor. The second field is
+    /// the order that he received, or that he was to send as commander. He sent another one, or nothing.
     Lie(u8, u32),
 }
 
-/// Whether labels below a label are shown.
+/// Whether the labels below a label are shown.
 #[derive(Clone, Copy, Drop)]
 pub enum Extent {
-    /// There are none.
+    /// There are no labels below.
     Last,
-    /// They are.
+    /// The labels below are shown.
     Open,
-    /// They are not: so many were told the same as the label, and none of them is a lie.
+    /// The labels below are folded, and this is their number. For each of them the same was received as for the label,
+    /// and none of them is a lie.
     Folded(u32),
-    /// They are not, since so many are deeper than was asked for.
+    /// The labels below are not shown, because they are deeper than the view. This is their number.
     Cut(u32),
 }
 
-/// How much of a tree is shown, and what is known of the commander.
+/// How much of a tree is shown, and what is known of the commander's order.
 #[derive(Clone, Copy, Drop)]
 pub struct View {
-    /// How many levels below the commander's, of 0 to 4.
+    /// How many levels below the commander's are shown, from 0 to 4.
     pub depth: u8,
-    /// Whether labels are folded into one above them, where all tell the same.
+    /// Whether labels are folded into a label above them if the same was received for all.
     pub folds: bool,
-    /// The order that he was to tell, where it is known.
+    /// The order that the commander was to send, if it is known.
     pub order: Option<u32>,
 }
 
-/// How the lines between labels are drawn in a text.
+/// The characters that draw the branches between labels in a text.
 #[derive(Clone, Copy, PartialEq, Eq, Drop)]
 pub enum Style {
-    /// By characters of ASCII.
+    /// ASCII characters.
     Ascii,
-    /// By box-drawing characters, in UTF-8.
+    /// Box-drawing characters, in UTF-8.
     Boxes,
 }
 
-/// The line between labels that a row has below one of its label's generals.
+/// The branch that is drawn in a label's row below one of the label's generals.
 #[derive(Clone, Copy, PartialEq, Eq, Drop)]
 pub enum Branch {
-    /// To this row, and on.
+    /// The branch leads to this row, and continues below it.
     Tee,
-    /// To this row, the last.
+    /// The branch leads to this row and ends there.
     Corner,
-    /// Past this row.
+    /// The branch passes this row.
     Bar,
-    /// None: the last has been.
+    /// There is no branch, because it ended further up.
     Gap,
 }
 
-/// What is said of a label.
+/// A label of a drawn tree, with everything that a picture says of it.
 #[derive(Drop)]
 pub struct Node {
-    /// Whom the order came through.
+    /// The label: the generals through whom the order came.
     pub label: Label,
-    /// What the lieutenant was told, 0 for RETREAT, if anything.
+    /// The order that the lieutenant received for the label, if any. 0 is RETREAT.
     pub told: Option<u32>,
-    /// What his list of the label comes to; nothing where no relay is left, so that what was told counts.
+    /// The outcome of his list for the label. It is `None` if no relay is left, since the order received counts then.
     pub outcome: Option<Outcome>,
-    /// Whether what was told is a lie.
+    /// Whether the message is known to be a lie.
     pub mark: Trust,
     /// Whether the labels below are shown.
     pub extent: Extent,

@@ -1,4 +1,4 @@
-//! Where a label stands in a tree: its name, and the lines that lead to it.
+//! The position of a label in a drawn tree: its name, and the branches that lead to it.
 ghost use Rattle.std.specs.Prelude.{◌≡◌, ◌<◌, ◌+◌, ◌++◌, ◌∷◌, length, string_bytes, OnOk};
 ghost use Rattle.label.specs.Labels.{on};
 ghost use Rattle.book.specs.Explained.{dotted};
@@ -7,7 +7,7 @@ ghost use Rattle.show_tree.specs.Places.{branch_at, branch_of, is_last, later_na
 use crate::node::Branch;
 use std::alloc::AllocError;
 
-/// Adds a label as it is written: its generals, joined by dots.
+/// Appends the name of a label: its generals, joined by dots.
 pub(crate) fn put_label(out: &mut String, label: &[u8]) -> Result<(), AllocError>
     ensures { OnOk result (string_bytes out.new ≡ string_bytes out.old ++ dotted label.now) }
 {
@@ -20,7 +20,7 @@ pub(crate) fn put_label(out: &mut String, label: &[u8]) -> Result<(), AllocError
     }
 }
 
-/// Adds generals, each behind a dot.
+/// Appends generals, each after a dot.
 fn put_rest(out: &mut String, rest: &[u8]) -> Result<(), AllocError>
     ensures { OnOk result (string_bytes out.new ≡ string_bytes out.old ++ later_names rest.now) }
 {
@@ -30,7 +30,8 @@ fn put_rest(out: &mut String, rest: &[u8]) -> Result<(), AllocError>
     Ok(())
 }
 
-/// Whether no other label with the same generals before comes behind this general's.
+/// Checks whether `teller` is the highest of the generals that may come next. Those are the generals other than the
+/// lieutenant `general` and the label `before`.
 fn is_last(generals: u8, general: u8, before: &[u8], teller: u8) -> bool
     ensures { result ≡ is_last generals (general ∷ before.now) teller }
 {
@@ -43,15 +44,15 @@ fn is_last(generals: u8, general: u8, before: &[u8], teller: u8) -> bool
     is_last
 }
 
-/// Whether the general stands in the list.
+/// Checks whether the list contains the general.
 fn has(generals: &[u8], general: u8) -> bool
     ensures { result ≡ on generals.now general }
 {
     generals.iter().any(|x| *x == general)
 }
 
-/// The line that a row has below the general at this place of its label: whether the next one is the last below him,
-/// and whether the row is his.
+/// Returns the branch that a label's row has below the general at `place` in the label. It depends on whether the next
+/// general is the last below him, and on whether the row is that general's own.
 pub(crate) fn branch_at(generals: u8, general: u8, label: &[u8], place: usize) -> Branch
     requires { place + 1 < length label.now }
     ensures { result ≡ branch_at generals general label.now place }
@@ -60,7 +61,8 @@ pub(crate) fn branch_at(generals: u8, general: u8, label: &[u8], place: usize) -
     branch_of(is_last, place + 2 == label.len())
 }
 
-/// The same, where it is known whether it leads to the row.
+/// Returns the branch of a row. `is_last` says that it leads to the last label below a general, `is_here` that it leads
+/// to this row.
 fn branch_of(is_last: bool, is_here: bool) -> Branch
     ensures { result ≡ branch_of is_last is_here }
 {

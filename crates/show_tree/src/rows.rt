@@ -1,4 +1,5 @@
-//! The rows of a picture, each 24 units high, with 28 units between a label and one that goes on from it.
+//! Draws the rows of an SVG tree. Each row is 24 units high, and a label is 28 units to the right of the label that it
+//! extends.
 ghost use Rattle.std.specs.Prelude.{◌≡◌, ◌≤◌, ◌<◌, ◌^◌, ◌++◌, length, string_bytes, IfOk, OnOk};
 ghost use Rattle.show_tree.specs.Rows.{branch_way, branch_ways, kind, lines_end, lines_start, outcome_class, outline, reach, row, row_end, row_start, rows_from, shape, stub, way, widest, word_text};
 
@@ -8,7 +9,11 @@ use crate::words::put_said;
 use combine::Outcome;
 use std::alloc::{AllocError, Global};
 
-/// How far the widest row reaches to the right of the first label's place.
+/// Returns the width of the widest row, in units from the place of the first label.
+///
+/// # Errors
+///
+/// Fails if there is no memory for the text of a row.
 pub(crate) fn widest(alloc: Global, nodes: &[Node]) -> Result<u128, AllocError>
     ensures width { IfOk result (λ width. width ≡ widest nodes.now) }
     ensures small { IfOk result (λ width. width < 2 ^ 100) }
@@ -20,7 +25,7 @@ pub(crate) fn widest(alloc: Global, nodes: &[Node]) -> Result<u128, AllocError>
     Ok(widest)
 }
 
-/// How far a row reaches: 28 units for each general of its label, and 8 for each byte of its text.
+/// Returns the width of a row: 28 units for each general of its label, and 8 for each byte of its text.
 fn reach(alloc: Global, node: &Node) -> Result<u128, AllocError>
     ensures width { IfOk result (λ width. width ≡ reach node.now) }
     ensures small { IfOk result (λ width. width < 2 ^ 100) }
@@ -30,7 +35,7 @@ fn reach(alloc: Global, node: &Node) -> Result<u128, AllocError>
     Ok(28 * node.label.len() as u128 + 8 * text.len() as u128)
 }
 
-/// Adds the rows of these labels.
+/// Appends the rows of these labels.
 pub(crate) fn put_rows(
     out: &mut String,
     generals: u8,
@@ -45,7 +50,7 @@ pub(crate) fn put_rows(
     Ok(())
 }
 
-/// Adds the row of a label, so many below the first.
+/// Appends the row of a label, `place` rows below the first.
 fn put_row(
     out: &mut String,
     generals: u8,
@@ -68,7 +73,7 @@ fn put_row(
     Ok(())
 }
 
-/// Adds what a row begins with.
+/// Appends the start of the row that is `place` rows below the first.
 #[tactic(auto, unfolding(crate::specs::Rows::row_start))]
 pub(crate) fn put_start(out: &mut String, place: u128) -> Result<(), AllocError>
     requires { place < 2 ^ 100 }
@@ -78,7 +83,7 @@ pub(crate) fn put_start(out: &mut String, place: u128) -> Result<(), AllocError>
     write!(out, "<g transform=\"translate(16 {top})\">")
 }
 
-/// What its lines begin with.
+/// Returns the start of the path that draws a row's lines.
 #[tactic(auto, unfolding(crate::specs::Rows::lines_start))]
 fn lines_start() -> &'static str
     ensures { result.now ≡ lines_start }
@@ -86,7 +91,7 @@ fn lines_start() -> &'static str
     "<path class=\"line\" d=\""
 }
 
-/// What its lines end in.
+/// Returns the end of the path that draws a row's lines.
 #[tactic(auto, unfolding(crate::specs::Rows::lines_end))]
 fn lines_end() -> &'static str
     ensures { result.now ≡ lines_end }
@@ -94,7 +99,7 @@ fn lines_end() -> &'static str
     "\"/>"
 }
 
-/// What a row ends in.
+/// Returns the end of a row.
 #[tactic(auto, unfolding(crate::specs::Rows::row_end))]
 pub(crate) fn row_end() -> &'static str
     ensures { result.now ≡ row_end }
@@ -102,7 +107,7 @@ pub(crate) fn row_end() -> &'static str
     "</g>\n"
 }
 
-/// Adds what is said of a label.
+/// Appends the text of a label, `left` units from the left.
 #[tactic(auto, unfolding(crate::specs::Rows::word_text))]
 fn put_word(out: &mut String, left: usize, node: &Node) -> Result<(), AllocError>
     ensures { OnOk result (string_bytes out.new ≡ string_bytes out.old ++ word_text left node.now) }
@@ -113,7 +118,7 @@ fn put_word(out: &mut String, left: usize, node: &Node) -> Result<(), AllocError
     Ok(())
 }
 
-/// Adds the ways of the lines that lead to a label.
+/// Appends the path data of the branches that lead to a label.
 fn put_branches(out: &mut String, generals: u8, general: u8, label: &[u8]) -> Result<(), AllocError>
     requires { length label.now ≤ 13 }
     ensures { OnOk result (string_bytes out.new ≡ string_bytes out.old ++ branch_ways generals general label.now) }
@@ -124,7 +129,7 @@ fn put_branches(out: &mut String, generals: u8, general: u8, label: &[u8]) -> Re
     Ok(())
 }
 
-/// Adds the way of a line between labels.
+/// Appends the path data of one branch, `left` units from the left.
 fn put_branch(out: &mut String, left: usize, branch: Branch) -> Result<(), AllocError>
     ensures { OnOk result (string_bytes out.new ≡ string_bytes out.old ++ branch_way left branch) }
 {
@@ -136,7 +141,7 @@ fn put_branch(out: &mut String, left: usize, branch: Branch) -> Result<(), Alloc
     }
 }
 
-/// Adds a way from a place at the top of the row.
+/// Appends path data that begins at the top of the row, `left` units from the left.
 #[tactic(auto, unfolding(crate::specs::Rows::way))]
 fn put_way(out: &mut String, left: usize, steps: &str) -> Result<(), AllocError>
     ensures { OnOk result (string_bytes out.new ≡ string_bytes out.old ++ way left steps.now) }
@@ -144,7 +149,7 @@ fn put_way(out: &mut String, left: usize, steps: &str) -> Result<(), AllocError>
     write!(out, "M{left}{steps}")
 }
 
-/// Adds the way of the beginning of the lines to the labels below.
+/// Appends the path data that begins the branches to the labels below, if they are shown.
 #[tactic(auto, unfolding(crate::specs::Rows::stub))]
 fn put_stub(out: &mut String, left: usize, extent: Extent) -> Result<(), AllocError>
     ensures { OnOk result (string_bytes out.new ≡ string_bytes out.old ++ stub left extent) }
@@ -155,7 +160,7 @@ fn put_stub(out: &mut String, left: usize, extent: Extent) -> Result<(), AllocEr
     }
 }
 
-/// Adds the shape of a label.
+/// Appends the shape of a label.
 #[tactic(auto, unfolding(crate::specs::Rows::shape))]
 pub(crate) fn put_shape(
     out: &mut String,
@@ -174,7 +179,7 @@ pub(crate) fn put_shape(
     )
 }
 
-/// The class of a shape.
+/// Returns the CSS class of a shape: whether its message is a lie.
 fn kind(mark: Trust) -> &'static str
     ensures { result.now ≡ kind mark }
 {
@@ -185,7 +190,7 @@ fn kind(mark: Trust) -> &'static str
     }
 }
 
-/// Its further class.
+/// Returns the second CSS class of a shape, if no order has a majority in its label's list.
 fn outcome_class(outcome: Option<Outcome>) -> &'static str
     ensures { result.now ≡ outcome_class outcome }
 {
@@ -195,7 +200,7 @@ fn outcome_class(outcome: Option<Outcome>) -> &'static str
     }
 }
 
-/// Its outline: a circle, a square or a diamond.
+/// Returns the outline of a shape as path data: a circle, a square or a diamond.
 fn outline(mark: Trust) -> &'static str
     ensures { result.now ≡ outline mark }
 {

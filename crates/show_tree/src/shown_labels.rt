@@ -1,4 +1,4 @@
-//! The labels of a lieutenant's tree that are shown, each before those that go on from it.
+//! Lists the labels of a lieutenant's tree that are shown, each before those that extend it.
 ghost use Rattle.std.specs.Prelude.{◌≡◌, ◌≢◌, ◌≤◌, ◌<◌, ◌+◌, ◌++◌, length, true, IfOk, OnOk};
 ghost use Rattle.book.specs.Grammar.{is_place};
 ghost use Rattle.show_tree.specs.Shown.{deeper, is_open, nodes_below, nodes_of, ordered, root_mark, root_node, with_those};
@@ -9,12 +9,12 @@ use book::Heard;
 use label::Label;
 use std::alloc::{AllocError, Global};
 
-/// What is said of the labels of a lieutenant's tree, as far as they are shown, where these generals are named as
-/// traitors: each label before those that go on from it, and these by their next general.
+/// Returns the labels of a lieutenant's tree that are shown, with what is said of each. `traitors` are the generals
+/// named as traitors. Each label comes before those that extend it, and these are sorted by their next general.
 ///
 /// # Errors
 ///
-/// No memory for them.
+/// Fails if there is no memory for the labels.
 #[tactic(auto, unfolding(crate::specs::Shown::nodes_of))]
 pub fn nodes<H: Heard>(
     alloc: Global,
@@ -38,7 +38,7 @@ pub fn nodes<H: Heard>(
     Ok(nodes)
 }
 
-/// What is said of the commander's own word to a lieutenant, where these generals are named as traitors.
+/// Returns what is said of the commander's own message to a lieutenant. `traitors` are the generals named as traitors.
 pub fn root_node<H: Heard>(table: &H, traitors: &[u8], view: View, general: u8) -> Node
     requires general { general < (H.seen table.now).generals }
     requires lieutenant { general ≢ (H.seen table.now).commander }
@@ -58,7 +58,8 @@ pub fn root_node<H: Heard>(table: &H, traitors: &[u8], view: View, general: u8) 
     )
 }
 
-/// The mark of what the commander told, where these generals are named as traitors, and his order may be known.
+/// Returns whether the commander's own message is known to be a lie. `order` is the order that he was to send, if it is
+/// known.
 fn root_mark(traitors: &[u8], order: Option<u32>, commander: u8, told: Option<u32>) -> Trust
     ensures { result ≡ root_mark traitors.now order commander told }
 {
@@ -77,7 +78,7 @@ fn root_mark(traitors: &[u8], order: Option<u32>, commander: u8, told: Option<u3
     }
 }
 
-/// The view of a campaign in which the commander was to tell this order.
+/// Returns the view with the order that the commander was to send.
 pub fn ordered(order: u32, view: View) -> View
     ensures { result ≡ ordered order view }
 {
@@ -88,14 +89,14 @@ pub fn ordered(order: u32, view: View) -> View
     }
 }
 
-/// Whether the labels below are shown.
+/// Checks whether the labels below a label are shown.
 pub fn is_open(extent: Extent) -> bool
     ensures { result ≡ is_open extent }
 {
     matches!(extent, Extent::Open)
 }
 
-/// The view one level deeper.
+/// Returns the view for the labels one level further down.
 pub fn deeper(view: View) -> View
     ensures { result ≡ deeper view }
 {
@@ -106,7 +107,7 @@ pub fn deeper(view: View) -> View
     }
 }
 
-/// Adds a label, and where they are shown those that go on from it, with so many relays left.
+/// Appends a label, and the labels below it if they are shown, with `relays` relays left.
 #[cycle(pushes)]
 fn push_with<H: Heard>(
     nodes: &mut Vec<Node>,
@@ -131,7 +132,7 @@ fn push_with<H: Heard>(
     Ok(())
 }
 
-/// Adds the labels that go on from this one, with so many relays left.
+/// Appends the labels that extend this one, with `relays` relays left.
 #[cycle(pushes)]
 fn push_below<H: Heard>(
     nodes: &mut Vec<Node>,

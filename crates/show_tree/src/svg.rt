@@ -1,4 +1,4 @@
-//! A lieutenant's tree as a picture in SVG: a row for each label, below that of the label that it goes on from.
+//! Draws a lieutenant's tree in SVG: a row for each label, below the row of the label that it extends.
 ghost use Rattle.std.specs.Prelude.{◌≡◌, ◌≢◌, ◌<◌, ◌^◌, ◌++◌, string_bytes, IfOk, OnOk};
 ghost use Rattle.show_tree.specs.Svg.{head, heading, inside, key, key_start, look, said_if, shape_words, size, start, svg_text, title, view_box};
 
@@ -9,15 +9,16 @@ use crate::shown_labels::nodes;
 use book::{Heard, decision};
 use std::alloc::{AllocError, Global};
 
-/// How wide a picture is at least, so that neither its heading nor what its shapes mean is cut.
+/// The least width of a picture in units, at which neither its heading nor its legend is cut.
 const LEAST: u128 = 300;
 
-/// The tree of what a lieutenant was told, in SVG: a circle for each label that is shown, a square for the word of a
-/// commander who is named as a traitor, a diamond for a lie, and dashes where no order has a majority.
+/// Returns the tree of what a lieutenant received, in SVG. Each label that is shown is a circle. A square is the
+/// message of a commander who is named as a traitor, and a diamond is a lie. The outline is dashed if no order has a
+/// majority.
 ///
 /// # Errors
 ///
-/// No memory for the text.
+/// Fails if there is no memory for the text.
 #[tactic(auto, unfolding(crate::specs::Svg::svg_text))]
 pub fn tree_svg<H: Heard>(
     alloc: Global,
@@ -43,7 +44,7 @@ pub fn tree_svg<H: Heard>(
     Ok(text)
 }
 
-/// What every picture begins with.
+/// Returns the text with which every picture begins.
 #[tactic(auto, unfolding(crate::specs::Svg::start))]
 fn start() -> &'static str
     ensures { result.now ≡ start }
@@ -51,7 +52,7 @@ fn start() -> &'static str
     "<svg xmlns=\"http://www.w3.org/2000/svg\" role=\"graphics-document document\""
 }
 
-/// Adds the size of a picture.
+/// Appends the width and height of a picture.
 #[tactic(auto, unfolding(crate::specs::Svg::size))]
 fn put_size(out: &mut String, width: u128, height: u128) -> Result<(), AllocError>
     ensures { OnOk result (string_bytes out.new ≡ string_bytes out.old ++ size width height) }
@@ -59,7 +60,7 @@ fn put_size(out: &mut String, width: u128, height: u128) -> Result<(), AllocErro
     write!(out, " width=\"{width}\" height=\"{height}\"")
 }
 
-/// Adds its units, which are those of its size, and ends its first tag.
+/// Appends the view box of a picture, which has the same units as its size, and ends the opening tag.
 #[tactic(auto, unfolding(crate::specs::Svg::view_box))]
 fn put_view_box(out: &mut String, width: u128, height: u128) -> Result<(), AllocError>
     ensures { OnOk result (string_bytes out.new ≡ string_bytes out.old ++ view_box width height) }
@@ -67,7 +68,7 @@ fn put_view_box(out: &mut String, width: u128, height: u128) -> Result<(), Alloc
     write!(out, " viewBox=\"0 0 {width} {height}\">")
 }
 
-/// Adds what stands before the rows: whose tree it is, what it shows, and how it looks.
+/// Appends what comes before the rows: the title, the description, the style sheet and the heading.
 fn put_head(out: &mut String, marks: DrawnMarks, general: u8, order: u32) -> Result<(), AllocError>
     ensures { OnOk result (string_bytes out.new ≡ string_bytes out.old ++ head marks general order) }
 {
@@ -77,7 +78,7 @@ fn put_head(out: &mut String, marks: DrawnMarks, general: u8, order: u32) -> Res
     put_heading(out, general, order)
 }
 
-/// Adds the title.
+/// Appends the title: the lieutenant and his decision.
 #[tactic(auto, unfolding(crate::specs::Svg::title))]
 fn put_title(out: &mut String, general: u8, order: u32) -> Result<(), AllocError>
     ensures { OnOk result (string_bytes out.new ≡ string_bytes out.old ++ title general order) }
@@ -85,7 +86,7 @@ fn put_title(out: &mut String, general: u8, order: u32) -> Result<(), AllocError
     write!(out, "<title>lieutenant {general} decides {order}</title>")
 }
 
-/// Adds the same, as a line above the rows.
+/// Appends the heading, a line above the rows with the lieutenant and his decision.
 #[tactic(auto, unfolding(crate::specs::Svg::heading))]
 fn put_heading(out: &mut String, general: u8, order: u32) -> Result<(), AllocError>
     ensures { OnOk result (string_bytes out.new ≡ string_bytes out.old ++ heading general order) }
@@ -96,7 +97,7 @@ fn put_heading(out: &mut String, general: u8, order: u32) -> Result<(), AllocErr
     )
 }
 
-/// Adds what is told of the shapes to those who do not see them, of each that stands in the picture.
+/// Appends a description for readers who do not see the shapes. It explains each mark that occurs in the picture.
 fn put_key(out: &mut String, marks: DrawnMarks) -> Result<(), AllocError>
     ensures { OnOk result (string_bytes out.new ≡ string_bytes out.old ++ key marks) }
 {
@@ -105,7 +106,7 @@ fn put_key(out: &mut String, marks: DrawnMarks) -> Result<(), AllocError>
     out.push_str("</desc>\n")
 }
 
-/// Adds what each of these shapes means.
+/// Appends the meaning of each mark that occurs in the picture.
 fn put_shape_words(out: &mut String, marks: DrawnMarks) -> Result<(), AllocError>
     ensures { OnOk result (string_bytes out.new ≡ string_bytes out.old ++ shape_words marks) }
 {
@@ -124,7 +125,7 @@ fn put_shape_words(out: &mut String, marks: DrawnMarks) -> Result<(), AllocError
     Ok(())
 }
 
-/// What it begins with: what the rows are.
+/// Returns the start of the description, which explains the rows.
 #[tactic(auto, unfolding(crate::specs::Svg::key_start))]
 fn key_start() -> &'static str
     ensures { result.now ≡ key_start }
@@ -132,7 +133,7 @@ fn key_start() -> &'static str
     "<desc>Each row is a label, below the label that it goes on from, with what he was told of it."
 }
 
-/// Adds these words, where this is so.
+/// Appends these words if the condition holds.
 #[tactic(auto, unfolding(crate::specs::Svg::said_if))]
 fn put_if(out: &mut String, stands: bool, words: &str) -> Result<(), AllocError>
     ensures { OnOk result (string_bytes out.new ≡ string_bytes out.old ++ said_if stands words.now) }
@@ -140,7 +141,7 @@ fn put_if(out: &mut String, stands: bool, words: &str) -> Result<(), AllocError>
     if stands { out.push_str(words) } else { Ok(()) }
 }
 
-/// What the shapes look like: on paper, and on a dark ground where one is wished for.
+/// Returns the style sheet of the shapes: for paper, and for a dark background if the reader prefers one.
 #[tactic(auto, unfolding(crate::specs::Svg::look))]
 fn look() -> &'static str
     ensures { result.now ≡ look }
@@ -151,7 +152,7 @@ fn look() -> &'static str
      .told,.word,.lie{stroke:#eee}.told{fill:#111}}</style>\n"
 }
 
-/// Adds the rows, and what their shapes mean.
+/// Appends the rows and the legend.
 fn put_inside(out: &mut String, generals: u8, general: u8, nodes: &[Node]) -> Result<(), AllocError>
     ensures { OnOk result (string_bytes out.new ≡ string_bytes out.old ++ inside generals general nodes.now) }
 {

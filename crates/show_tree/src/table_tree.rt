@@ -1,4 +1,4 @@
-//! A general's tree by the text of a message table.
+//! Draws the tree of a lieutenant from the text of a message table.
 ghost use Rattle.std.specs.Prelude.{◌≡◌, ◌≢◌, IfErr, IfOk, Err, string_bytes};
 ghost use Rattle.book.specs.Grammar.{table_told};
 ghost use Rattle.book.specs.declared.fault.TableError.TheVariants.{Memory};
@@ -12,12 +12,12 @@ use crate::svg::tree_svg;
 use book::{Heard, TableError, read_table};
 use std::alloc::{AllocError, Global};
 
-/// What this general was told by the message table, in this form, where these are named as traitors; nothing where he
-/// is no lieutenant of the table.
+/// Returns what a general received by the message table in `text`, drawn in the given form. `traitors` are the generals
+/// named as traitors. The result is empty if the general is not a lieutenant of the table.
 ///
 /// # Errors
 ///
-/// What the table refuses, or want of memory.
+/// Fails with the error of the table if its text is rejected, or with `Memory` if memory runs out.
 pub fn drawn(
     alloc: Global,
     text: &str,
@@ -33,11 +33,12 @@ pub fn drawn(
     Ok(tree_drawn(alloc, &table, traitors, view, form, general)?)
 }
 
-/// The same of a table.
+/// Returns what a general received by a message table, drawn in the given form. `traitors` are the generals named as
+/// traitors. The result is empty if the general is not a lieutenant of the table.
 ///
 /// # Errors
 ///
-/// No memory for the text.
+/// Fails if there is no memory for the text.
 pub fn tree_drawn<H: Heard>(
     alloc: Global,
     table: &H,

@@ -1,4 +1,4 @@
-//! What is said of a label, in words.
+//! Describes a label of a tree in words.
 ghost use Rattle.std.specs.Prelude.{◌≡◌, ◌++◌, string_bytes, OnOk};
 ghost use Rattle.show_tree.specs.Words.{counted_words, extent_words, mark_words, outcome_words, said, told_words, words};
 
@@ -7,11 +7,11 @@ use crate::places::put_label;
 use combine::Outcome;
 use std::alloc::AllocError;
 
-/// Adds a label, and what is said of it.
+/// Appends the name of a label, and what is said of it.
 ///
 /// # Errors
 ///
-/// No memory for the text.
+/// Fails if there is no memory for the text.
 pub fn put_said(out: &mut String, node: &Node) -> Result<(), AllocError>
     ensures { OnOk result (string_bytes out.new ≡ string_bytes out.old ++ said node.now) }
 {
@@ -20,7 +20,7 @@ pub fn put_said(out: &mut String, node: &Node) -> Result<(), AllocError>
     put_words(out, "; ", node)
 }
 
-/// Adds what is said of a label, each phrase but the first behind this stop.
+/// Appends what is said of a label. `stop` separates the phrases.
 pub(crate) fn put_words(out: &mut String, stop: &str, node: &Node) -> Result<(), AllocError>
     ensures { OnOk result (string_bytes out.new ≡ string_bytes out.old ++ words stop.now node.now) }
 {
@@ -31,7 +31,7 @@ pub(crate) fn put_words(out: &mut String, stop: &str, node: &Node) -> Result<(),
     put_extent(out, stop, node.extent)
 }
 
-/// Adds what was told.
+/// Appends the order that was received, if any.
 fn put_told(out: &mut String, told: Option<u32>) -> Result<(), AllocError>
     ensures { OnOk result (string_bytes out.new ≡ string_bytes out.old ++ told_words told) }
 {
@@ -41,7 +41,7 @@ fn put_told(out: &mut String, told: Option<u32>) -> Result<(), AllocError>
     }
 }
 
-/// Adds how nothing counts, where there is no list.
+/// Appends that a missing order counts as 0, if the label has no list.
 fn put_counted(
     out: &mut String,
     outcome: Option<Outcome>,
@@ -55,7 +55,7 @@ fn put_counted(
     }
 }
 
-/// Adds what the list comes to, if there is one.
+/// Appends the outcome of the list, if there is one.
 fn put_outcome(out: &mut String, stop: &str, outcome: Option<Outcome>) -> Result<(), AllocError>
     ensures { OnOk result (string_bytes out.new ≡ string_bytes out.old ++ outcome_words stop.now outcome) }
 {
@@ -67,7 +67,7 @@ fn put_outcome(out: &mut String, stop: &str, outcome: Option<Outcome>) -> Result
     write!(out, "{stop}{head}{order}")
 }
 
-/// Adds whose word it is, where he is named as a traitor, and lies or is the commander.
+/// Appends that the message is a lie or that of a commander named as a traitor, if it is one.
 fn put_mark(out: &mut String, stop: &str, mark: Trust) -> Result<(), AllocError>
     ensures { OnOk result (string_bytes out.new ≡ string_bytes out.old ++ mark_words stop.now mark) }
 {
@@ -78,7 +78,7 @@ fn put_mark(out: &mut String, stop: &str, mark: Trust) -> Result<(), AllocError>
     }
 }
 
-/// Adds how many labels below are not shown, and why.
+/// Appends how many labels below are not shown and why, if there are any.
 fn put_extent(out: &mut String, stop: &str, extent: Extent) -> Result<(), AllocError>
     ensures { OnOk result (string_bytes out.new ≡ string_bytes out.old ++ extent_words stop.now extent) }
 {
