@@ -1,4 +1,4 @@
--- The words of a reply.
+-- Defines the words of a reply: the one word, or the words of a copy.
 use Rattle.std.specs.Prelude.{ℕ, List, [], ◌∷◌}
 use Rattle.semantics.specs.declared.reply.Reply.{Reply}
 use Rattle.semantics.specs.declared.reply.Reply.TheVariants.{Word, Words}
