@@ -1,4 +1,4 @@
--- A word that tells which of 64 blocks hold a pointer.
+-- Defines a word that says which of 64 blocks hold a pointer.
 use Rattle.std.specs.Prelude.{ℕ, ◌^◌, ◌<◌, ◌≡◌, Bool, true, false, if◌then◌else◌, List, length}
 use Rattle.std.specs.Int.{bit_at}
 use Rattle.absmem.specs.declared.spill.Spill.{Spill}
@@ -9,7 +9,7 @@ abbrev pub holds_pointer : Spill → Bool
 holds_pointer Free = false
 holds_pointer (Whole shift region offset) = true
 
--- there are 64 blocks, and bit b of the word is set where block b holds a pointer
+-- There are 64 blocks, and bit b of the word is set exactly if block b holds a pointer.
 pub record IsHolding (word : ℕ) (spills : List Spill) : Type 0 where
   pub small : word < 2 ^ 64
   pub blocks : length spills ≡ 64
