@@ -1,4 +1,4 @@
--- The registers that an instruction reads (RFC 9669, sections 4 and 5; of a call those that its helper takes).
+-- Defines the registers that an instruction reads (RFC 9669, sections 4 and 5; of a call those that its helper takes).
 use Rattle.std.specs.Prelude.{ℕ, List, [], ◌∷◌, Option, Some, None}
 use Rattle.word.specs.declared.Operation.{Operation}
 use Rattle.word.specs.declared.Operation.TheVariants.{Move}
@@ -15,7 +15,7 @@ abbrev pub of_operand : Operand → Option ℕ
 of_operand (Register r) = Some r
 of_operand (Immediate n) = None
 
--- a move reads nothing of dst
+-- A move does not read dst.
 abbrev pub of_first : Operation → ℕ → Option ℕ
 of_first Move dst = None
 of_first _ dst = Some dst
@@ -32,7 +32,7 @@ abbrev pub of_helper : Option Helper → List (Option ℕ)
 of_helper None = None ∷ None ∷ None ∷ []
 of_helper (Some helper) = of_arguments (arguments_of helper)
 
--- up to three of them, in the order in which they are looked at
+-- The registers that an instruction reads, at most three, in the order in which the verifier checks them.
 abbrev pub read_by : Insn → List (Option ℕ)
 read_by (Arithmetic w operation dst operand) = of_first operation dst ∷ of_operand operand ∷ None ∷ []
 read_by (Negate w dst) = Some dst ∷ None ∷ None ∷ []
