@@ -1,4 +1,4 @@
--- What is said of a fault.
+-- Defines the texts of the verifier's errors.
 use Rattle.std.specs.Prelude.{ℕ, List, ◌++◌, codes}
 use Rattle.std.specs.Fmt.{decimal}
 use Rattle.verify.specs.declared.error.VerifyError.{VerifyError}
@@ -21,7 +21,7 @@ code_of Helper = codes "V11"
 code_of Argument = codes "V12"
 code_of ExitPointer = codes "V13"
 
--- the code, and the unit
+-- The text of an error: the code of the reason and the unit, or that memory ran out.
 abbrev pub told : VerifyError → List ℕ
 told (At reason unit) = code_of reason ++ codes " unit " ++ decimal unit
 told Memory = codes "out of memory"
