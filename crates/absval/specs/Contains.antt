@@ -9,11 +9,13 @@ use Rattle.absval.specs.NumberSets.{Has}
 use Rattle.absval.specs.declared.value.AbsVal.{AbsVal}
 use Rattle.absval.specs.declared.value.AbsVal.TheVariants.{Unset, Number, Pointer}
 
+-- The value is a number of the set.
 abbrev pub IsNumberOf : NumberSet → Value → Type 0
 IsNumberOf numbers value.Unset = ⊥
 IsNumberOf numbers (value.Number n) = Has numbers n
 IsNumberOf numbers (value.Pointer region offset) = ⊥
 
+-- The value is a pointer into the region, with an offset from `low` to `high`.
 abbrev pub IsPointerIn : Region → ℤ → ℤ → Value → Type 0
 IsPointerIn region low high value.Unset = ⊥
 IsPointerIn region low high (value.Number n) = ⊥

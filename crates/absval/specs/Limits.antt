@@ -5,6 +5,7 @@ use Rattle.std.specs.Prelude.{ℤ, pos, negsuc, Bool, ◌≤ℤ◌, int_le, ◌&
 abbrev pub is_near : ℤ → Bool
 is_near offset = int_le (negsuc 65535) offset && int_le offset (pos 65536)
 
+-- The offset is from -65,536 to 65,536.
 pub record IsOffset (offset : ℤ) : Type 0 where
   pub low : negsuc 65535 ≤ℤ offset
   pub high : offset ≤ℤ pos 65536

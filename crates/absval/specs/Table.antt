@@ -20,6 +20,7 @@ use Rattle.absval.specs.declared.value.AbsVal.TheVariants.{Unset, Number, Pointe
 
 -- ---- Where two paths meet
 
+-- Returns the offsets from the least of both to the greatest of both.
 abbrev pub joined_offsets : ℤ × ℤ → ℤ × ℤ → ℤ × ℤ
 joined_offsets m n = (int_min m.0 n.0, int_max m.1 n.1)
 
@@ -39,12 +40,15 @@ in_a_row n =
     if nat_lt n.1 (2 ^ 63) then Some (pos n.0, pos n.1)
     else (if nat_le (2 ^ 63) n.0 then Some (pos n.0 -ℤ pos (2 ^ 64), pos n.1 -ℤ pos (2 ^ 64)) else None)
 
+-- Returns the offsets if both ends are within the limit.
 abbrev pub near : ℤ × ℤ → Option (ℤ × ℤ)
 near o = if is_near o.0 && is_near o.1 then Some o else None
 
+-- The offsets after numbers are added. There are none if they exceed the limit.
 abbrev pub raised : ℤ × ℤ → ℤ × ℤ → Option (ℤ × ℤ)
 raised o by = near (o.0 +ℤ by.0, o.1 +ℤ by.1)
 
+-- The offsets after numbers are subtracted. There are none if they exceed the limit.
 abbrev pub lowered : ℤ × ℤ → ℤ × ℤ → Option (ℤ × ℤ)
 lowered o by = near (o.0 -ℤ by.1, o.1 -ℤ by.0)
 
@@ -55,6 +59,7 @@ displaced W64 Add o by = raised o by
 displaced W64 Sub o by = lowered o by
 displaced _ _ o by = None
 
+-- The abstract pointer after a number is added or subtracted, if that is allowed.
 abbrev pub shifted : Width → Operation → Region → ℤ × ℤ → NumberSet → Option AbsVal
 shifted w operation region o n =
     option_map (Pointer region) (option_and_then (displaced w operation o) (in_a_row n.range))
@@ -68,6 +73,7 @@ moved w (Number n) = Some (Number (copies w n))
 moved W64 (Pointer region o) = Some (Pointer region o)
 moved _ (Pointer region o) = None
 
+-- The abstract result of an operation that reads both values, if there is one.
 abbrev pub combined : Width → Operation → AbsVal → AbsVal → Option AbsVal
 combined w operation (Number m) (Number n) = Some (Number (table w operation m n))
 combined w operation (Pointer region o) (Number n) = shifted w operation region o n
@@ -85,12 +91,15 @@ abbrev pub mapped : (NumberSet → NumberSet) → AbsVal → Option AbsVal
 mapped f (Number n) = Some (Number (f n))
 mapped f _ = None
 
+-- The abstract result of negating a value, if it is a number.
 abbrev pub negated_known : Width → AbsVal → Option AbsVal
 negated_known w a = mapped (negations w) a
 
+-- The abstract result of sign-extending the low bits of a value, if it is a number.
 abbrev pub extended_known : Width → Narrow → AbsVal → Option AbsVal
 extended_known w part a = mapped (extensions w part) a
 
+-- The abstract result of putting the low bytes of a value in an order, if it is a number.
 abbrev pub swapped_known : ByteOrder → SwapSize → AbsVal → Option AbsVal
 swapped_known order size a = mapped (swaps order size) a
 

@@ -34,7 +34,7 @@ pub enum Argument {
     Orders,
     /// The place of a chain that the general holds, 0 to 383.
     Held,
-    /// A set of receivers as a number from 0 to 8191. Bit g stands for general g.
+    /// A set of receivers as a number from 0 to 8191. Bit g is set if general g is a receiver.
     Receivers,
     /// A pointer to cells of the stack, which the helper writes.
     StackPointer,

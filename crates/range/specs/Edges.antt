@@ -8,6 +8,7 @@ use Rattle.word.specs.declared.Condition.TheVariants.{Equal, Above, AtLeast, Any
 use Rattle.range.specs.Interval.{IsIn}
 use Rattle.range.specs.Table.{sign_limit}
 
+-- Two intervals, each given by its ends.
 abbrev pub Pair : Type 0
 Pair = (ℕ × ℕ) × (ℕ × ℕ)
 
@@ -27,16 +28,19 @@ without p q =
     then (if p.0 == q.0 then (p.0 + 1, p.1) else (if p.1 == q.0 then (p.0, p.1 - 1) else p))
     else p
 
--- The edges on which the first number equals the second, differs from it, is above it, and is at least it.
+-- Returns what remains where the first number equals the second.
 abbrev pub equal : ℕ × ℕ → ℕ × ℕ → Option Pair
 equal p q = both (max p.0 q.0, min p.1 q.1) (max p.0 q.0, min p.1 q.1)
 
+-- Returns what remains where the first number differs from the second.
 abbrev pub different : ℕ × ℕ → ℕ × ℕ → Option Pair
 different p q = both (without p q) (without q p)
 
+-- Returns what remains where the first number is above the second.
 abbrev pub above : ℕ × ℕ → ℕ × ℕ → Option Pair
 above p q = both (max p.0 (q.0 + 1), p.1) (q.0, min q.1 (p.1 - 1))
 
+-- Returns what remains where the first number is at least the second.
 abbrev pub at_least : ℕ × ℕ → ℕ × ℕ → Option Pair
 at_least p q = both (max p.0 q.0, p.1) (q.0, min q.1 p.1)
 
@@ -99,6 +103,7 @@ edge_limit w Below = 2 ^ bits_of w
 edge_limit w AtMost = 2 ^ bits_of w
 edge_limit w AnyBit = 2 ^ bits_of w
 
+-- Returns what remains on the edge where a condition holds, or on the other edge.
 abbrev pub edge_taken : Condition → Bool → ℕ × ℕ → ℕ × ℕ → Option Pair
 edge_taken condition true p q = edge condition p q
 edge_taken condition false p q = edge (opposite condition) p q

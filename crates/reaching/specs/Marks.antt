@@ -10,8 +10,8 @@ use Rattle.reaching.specs.declared.mark.UnitMark.TheVariants.{Closed, Open, Sets
 use Rattle.reaching.specs.declared.subject.Subject.{Subject}
 use Rattle.reaching.specs.Setting.{sets}
 
--- What is known at each unit. The outer None means that the pass does not come there, because of a structural fault or
--- a fault at an earlier unit. The inner None means that no path leads there.
+-- What is known at each unit. The outer None means that the pass does not reach the unit, because of a structural fault
+-- or a fault at an earlier unit. The inner None means that no path leads there.
 abbrev pub KnownByUnit : Type 0
 KnownByUnit = ℕ → Option (Option AbsState)
 

@@ -26,7 +26,8 @@ grown (Instead operation dst operand) = 0
 grown (Moved None number pointer) = 1
 grown (Moved (Some mask) number pointer) = 2
 
--- The distance of a jump, increased by `more` if the jump leads over the place of the edit.
+-- The distance of a jump, increased by `more` if the jump leads over the place of the edit. A distance of 4,096 units
+-- or more, which no program allows, is left as it is.
 abbrev pub longer : ℕ → ℕ → ℕ → ℤ → ℤ
 longer more place unit distance =
     if int_lt (pos place) (pos (unit + 1) +ℤ distance) && int_lt distance (pos most_units) then distance +ℤ pos more

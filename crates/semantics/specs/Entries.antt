@@ -18,6 +18,7 @@ may_send Oral shape entry = false
 may_send (Signed held) shape (Sign order receivers) = shape.general == shape.commander
 may_send (Signed held) shape (Pass place receivers) = is_unsigned shape.general (slice_get held place)
 
+-- Checks whether the general of a relay may send an entry.
 abbrev pub is_sendable : Relay → Entry → Bool
 is_sendable relay entry = may_send relay.kind relay.shape entry
 

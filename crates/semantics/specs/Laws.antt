@@ -16,7 +16,7 @@ use Rattle.semantics.specs.Safety.{IsSafe}
 use Rattle.semantics.specs.Reached.{Reached}
 use Rattle.semantics.specs.Whole.{IsWhole, HasWords, Each, CountsOnce}
 
--- Each step adds one to the step counter.
+-- Each step adds one to the step counter, unless it traps.
 abbrev pub StepsAreCounted : Type 0
 StepsAreCounted =
     (program : List Insn) (context : List ℕ) (relay : Relay) (s : State) → CountsOnce s (step program context relay s)

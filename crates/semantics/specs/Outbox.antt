@@ -32,6 +32,7 @@ empty_outbox r = map (λ row. map (λ place. None) row) (places r)
 abbrev pub Choice : Type 0
 Choice = Place → Option ℕ
 
+-- Returns the later order if there is one, otherwise the earlier one.
 abbrev pub newer : Option ℕ → Option ℕ → Option ℕ
 newer (Some order) old = Some order
 newer None old = old

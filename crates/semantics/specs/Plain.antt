@@ -15,10 +15,12 @@ abbrev pub IsIn : {A : Type 0} → A → List A → Type 0
 IsIn x [] = ⊥
 IsIn x (y ∷ ys) = (x ≡ y) ⊎ IsIn x ys
 
+-- Returns the registers that an operand reads.
 abbrev pub operand_reads : Operand → List ℕ
 operand_reads (Register r) = r ∷ []
 operand_reads (Immediate n) = []
 
+-- Returns the registers that an operation reads as its first operand. MOV reads none.
 abbrev pub first_reads : Operation → ℕ → List ℕ
 first_reads Move dst = []
 first_reads _ dst = dst ∷ []
@@ -69,11 +71,14 @@ pub data Unwritten (program : List Insn) (r : ℕ) : ℕ → Type 0 where
 abbrev pub IsStart : List Insn → ℤ → Type 0
 IsStart program z = (unit : ℕ) × (z ≡ pos unit) × IsSome (instruction_at program unit)
 
+-- The last instruction is the exit.
 abbrev pub EndsWithExit : List Insn → Type 0
 EndsWithExit [] = ⊥
 EndsWithExit (i ∷ []) = i ≡ Exit
 EndsWithExit (i ∷ j ∷ is) = EndsWithExit (j ∷ is)
 
+-- The program is plain. It ends with the exit, uses neither memory nor helpers, and jumps only forward to instructions.
+-- It sets each register before it is read, and never writes r10.
 pub record IsPlain (program : List Insn) : Type 0 where
   pub exit_last : EndsWithExit program
   pub numbers : (unit : ℕ) (i : Insn) → instruction_at program unit ≡ Some i → IsOfNumbers i

@@ -1,7 +1,7 @@
 //! Entries: the signed orders and chains that a program asks to send in a campaign with signatures.
 ghost use Rattle.std.specs.Prelude.{◌≡◌};
 
-/// A message that a program sends where orders are signed. Bit g of `receivers` stands for general g.
+/// A message that a program sends where orders are signed. Bit g of `receivers` is set if general g is a receiver.
 #[derive(Clone, Copy)]
 pub enum Entry {
     /// An order that the program's general signs and sends to `receivers`.

@@ -3,7 +3,7 @@ ghost use Rattle.semantics.specs.Examples.{SomeArePlainAndSound};
 ghost use Rattle.semantics.specs.Outbox.{FewPlacesAreSet, RangesAreKept, RelaysAreFew};
 ghost use Rattle.semantics.specs.Laws.{EntriesAreFew, StepsAreCounted, StatesStayWhole, RunsStayOver, ReachedIsRun, SoundIsSafeAtEntry, ReachedIsSafe};
 
-/// States that each step adds one to the step counter.
+/// States that each step adds one to the step counter, unless it traps.
 pub fn steps_are_counted()
     ensures { StepsAreCounted }
 {}
@@ -29,8 +29,8 @@ pub fn sound_is_safe_at_entry()
     ensures { SoundIsSafeAtEntry }
 {}
 
-/// States that every state which a sound program reaches is safe, and that its run ends within as many steps as the
-/// program has instructions.
+/// States that every state which a sound program reaches is safe for the remaining steps, and has taken fewer steps
+/// than the program has instructions.
 pub fn reached_is_safe()
     ensures { ReachedIsSafe }
 {}
@@ -46,12 +46,13 @@ pub fn relays_are_few()
     ensures { RelaysAreFew }
 {}
 
-/// States that a helper sets at most as many places as it has orders, or at most one place in every label.
+/// States that `send` sets at most one place, `send_row` at most one for each order, and `sway` and `honest` at most
+/// one in every label relayed.
 pub fn few_places_are_set()
     ensures { FewPlacesAreSet }
 {}
 
-/// States that the helpers which fill the outbox return numbers within their ranges.
+/// States that `send_row` returns at most 13, and `sway` and `honest` at most 1,016.
 pub fn ranges_are_kept()
     ensures { RangesAreKept }
 {}

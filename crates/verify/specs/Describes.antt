@@ -17,7 +17,7 @@ pub record Describes (a : AbsState) (s : State) : Type 0 where
   pub stack : StackDescribes a.stack s.cells
   pub size : length s.cells ≡ 512
 
--- The pass comes to the unit, a path leads there, and what is known there describes the state.
+-- The pass reaches the unit, a path leads there, and what is known there describes the state.
 abbrev pub IsAsKnown : Option (Option AbsState) → State → Type 0
 IsAsKnown (Some (Some a)) s = Describes a s
 IsAsKnown (Some None) s = ⊥

@@ -16,8 +16,8 @@ use Rattle.verify.specs.Judgement.{judged}
 use Rattle.verify.specs.KnownAtUnits.{known_before}
 use Rattle.verify.specs.Describes.{IsAsKnown}
 
--- The pass over a program without a structural fault agrees with `judged`. It never both comes to the end and stops at
--- a first fault, and it never has two different first faults.
+-- The pass over a program without a structural fault agrees with `judged`. It never both reaches the end and stops at a
+-- first fault, and it never has two different first faults.
 pub record PassesAgree : Type 0 where
   pub through : (program : List Insn) → structural_fault program ≡ None → ComesThrough program → judged program ≡ None
   pub stopped : (program : List Insn) (fault : VerifyError) → structural_fault program ≡ None →

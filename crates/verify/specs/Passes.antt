@@ -1,4 +1,4 @@
--- Defines the pass over a whole program by the functions of Judgement: whether it comes to the end, the first
+-- Defines the pass over a whole program by the functions of Judgement: whether it reaches the end, the first
 -- instruction that may not run, and which results of the code agree with it (own).
 use Rattle.std.specs.Prelude.{ℕ, ◌≡◌, List, Option, Some, None, Box, Result, Ok, Err, length}
 use Rattle.std.specs.declared.alloc.Global.{Global}
@@ -37,7 +37,7 @@ Answers wanted (Err fault) = wanted ≡ Some fault
 
 -- ---- A program
 
--- The pass comes to the end, so each instruction to which a path leads may run.
+-- The pass reaches the end, so each instruction to which a path leads may run.
 abbrev pub ComesThrough : List Insn → Type 0
 ComesThrough program = (reached : KnownSoFar) × (passed_to program (length (slots_of program)) ≡ Ok reached)
 
@@ -47,7 +47,7 @@ reason_at None known = None
 reason_at (Some i) None = None
 reason_at (Some i) (Some a) = reason_of i a
 
--- The pass comes to an instruction that may not run for this reason.
+-- The pass reaches an instruction that may not run for this reason.
 pub record IsStopped (program : List Insn) (unit : ℕ) (reason : Reason) : Type 0 where
   pub reached : KnownSoFar
   pub comes : passed_to program unit ≡ Ok reached

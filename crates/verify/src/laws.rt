@@ -1,8 +1,8 @@
 //! Laws of the verifier. Each function does nothing, and its contract is the law.
 ghost use Rattle.verify.specs.Laws.{PassesAgree, PlainIsAccepted, AcceptedIsSound, StatesAreAsKnown};
 
-/// States that the pass over a program without a structural fault either comes to its end or is stopped by one first
-/// fault, and that `judged` is that result.
+/// States that the pass over a program without a structural fault agrees with `judged`. It never both reaches the end
+/// and stops at a first fault, and it never has two different first faults.
 pub fn passes_agree()
     ensures { PassesAgree }
 {}

@@ -15,8 +15,8 @@ use std::alloc::{AllocError, Global};
 /// What the pass knows of a program at each unit, up to the first fault.
 #[derive(Drop)]
 pub struct KnownStates {
-    /// What is known at each unit that the pass reaches. If there is a fault, its unit is the last. An entry is `None`
-    /// if no path leads to its unit.
+    /// What is known at each unit that the pass reaches. If the pass finds a fault, the fault's unit is the last. An
+    /// entry is `None` if no path leads to its unit.
     pub states: Vec<Option<AbsState>>,
     /// The error for which the program is rejected, if it is.
     pub fault: Option<VerifyError>,

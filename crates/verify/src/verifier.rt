@@ -52,7 +52,7 @@ pub fn verify(alloc: Global, program: Program) -> Result<Verified, Refused>
     ensures unstructural { structural_fault program ≡ None → IfErr result (λ r. IsOwnFault program r.fault) }
 
     // Without a structural fault, the error is that of the first instruction that may not run, or out of memory. The
-    // pass comes to the end of every accepted program.
+    // pass reaches the end of every accepted program.
     ensures first { structural_fault program ≡ None →
         IfErr result (λ r. (r.fault ≡ VerifyError.Memory) ⊎ IsFirstFault program r.fault) }
     ensures passed { IfOk result (λ v. ComesThrough v) }
