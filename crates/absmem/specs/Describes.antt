@@ -7,15 +7,18 @@ use Rattle.absmem.specs.declared.spill.Spill.{Spill}
 use Rattle.absmem.specs.declared.spill.Spill.TheVariants.{Free, Whole}
 use Rattle.absmem.specs.Known.{Known, byte_at, spill_at}
 
+-- The cell holds a byte.
 abbrev pub IsByte : Cell → Type 0
 IsByte Empty = ⊥
 IsByte (Byte b) = b < 256
 IsByte (Piece i region offset) = ⊥
 
+-- The cell holds a byte, if that is known of it.
 abbrev pub IsByteIf : Bool → Cell → Type 0
 IsByteIf true cell = IsByte cell
 IsByteIf false cell = Unit {0}
 
+-- Returns the cell at a place. It is empty outside the stack.
 abbrev pub cell_at : List Cell → ℕ → Cell
 cell_at cells k = slice_index_or cells k Empty
 

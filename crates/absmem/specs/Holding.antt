@@ -5,6 +5,7 @@ use Rattle.absmem.specs.declared.spill.Spill.{Spill}
 use Rattle.absmem.specs.declared.spill.Spill.TheVariants.{Free, Whole}
 use Rattle.absmem.specs.Known.{spill_at}
 
+-- Checks whether a block holds a pointer.
 abbrev pub holds_pointer : Spill → Bool
 holds_pointer Free = false
 holds_pointer (Whole shift region offset) = true

@@ -14,9 +14,11 @@ pub record Known : Type 0 where
   pub bytes : List Bool
   pub spills : List Spill
 
+-- Checks whether a cell is known to be a byte.
 abbrev pub byte_at : List Bool → ℕ → Bool
 byte_at bytes k = slice_index_or bytes k false
 
+-- Returns what is known of the pointer that begins in a block.
 abbrev pub spill_at : List Spill → ℕ → Spill
 spill_at spills b = slice_index_or spills b Free
 
@@ -31,6 +33,7 @@ abbrev pub IsFiled : ℕ → Spill → Type 0
 IsFiled b Free = Unit {0}
 IsFiled b (Whole shift region offset) = (shift < 8) × (8 * b + shift + 8 ≤ stack_size) × IsOffset offset
 
+-- The abstract stack has 512 cells and 64 blocks, and each pointer is in its block and on the stack.
 pub record IsKnownStack (bytes : List Bool) (spills : List Spill) : Type 0 where
   pub cells : length bytes ≡ stack_size
   pub blocks : length spills ≡ 64

@@ -5,9 +5,11 @@ use Rattle.std.specs.List.{range_with_len}
 use Rattle.std.specs.Simd.Lanes.{mask_l}
 use Rattle.semantics.specs.Limits.{stack_size}
 
+-- Returns the word with a number.
 abbrev pub word_at : List ℕ → ℕ → ℕ
 word_at words number = slice_index_or words number 0
 
+-- Checks whether cell `k` belongs to the set.
 abbrev pub is_member : List ℕ → ℕ → Bool
 is_member words k = bit_at (word_at words (k / 64)) (k % 64) == 1
 

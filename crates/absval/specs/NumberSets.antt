@@ -94,7 +94,7 @@ swaps order size a = settled (range.swaps order size a.range.0 a.range.1) (unkno
 
 -- ---- Edges of a conditional jump
 
--- Returns both sets, if neither edge is a contradiction.
+-- Returns both sets, if there are both.
 abbrev pub both : Option NumberSet → Option NumberSet → Option (NumberSet × NumberSet)
 both None b = None
 both (Some a) None = None

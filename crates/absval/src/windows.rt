@@ -47,6 +47,7 @@ fn place_of(region: Region, at: i64) -> Option<usize>
     }
 }
 
+/// Returns the place at an offset of the stack, from -512 to 0.
 fn stack_place(at: i64) -> Option<usize>
     ensures place { IfSome result (λ n. pos n ≡ at +ℤ pos 512) }
     ensures none { IfNone result ((n : ℕ) → n ≤ 512 → pos n ≢ at +ℤ pos 512) }
@@ -58,6 +59,7 @@ fn stack_place(at: i64) -> Option<usize>
     Some((at + 512) as usize)
 }
 
+/// Returns the place at an offset of the context, from 0 to 4,096.
 fn context_place(at: i64) -> Option<usize>
     ensures place { IfSome result (λ n. pos n ≡ at +ℤ pos 0) }
     ensures none { IfNone result ((n : ℕ) → n ≤ 4096 → pos n ≢ at +ℤ pos 0) }

@@ -11,6 +11,7 @@ use Rattle.semantics.specs.Call.{helper_of}
 use Rattle.helper.specs.declared.argument.Argument.{Argument}
 use Rattle.helper.specs.Table.{arguments_of}
 
+-- Returns the register that an operand reads, if it is one.
 abbrev pub of_operand : Operand → Option ℕ
 of_operand (Register r) = Some r
 of_operand (Immediate n) = None
@@ -20,14 +21,17 @@ abbrev pub of_first : Operation → ℕ → Option ℕ
 of_first Move dst = None
 of_first _ dst = Some dst
 
+-- Returns the register of an argument, if the helper takes one there.
 abbrev pub of_argument : ℕ → Option Argument → Option ℕ
 of_argument r None = None
 of_argument r (Some argument) = Some r
 
+-- Returns the registers among r1, r2 and r3 that three arguments take.
 abbrev pub of_arguments : List (Option Argument) → List (Option ℕ)
 of_arguments (first ∷ second ∷ third ∷ []) = of_argument 1 first ∷ of_argument 2 second ∷ of_argument 3 third ∷ []
 of_arguments _ = None ∷ None ∷ None ∷ []
 
+-- Returns the registers in which a helper takes its arguments.
 abbrev pub of_helper : Option Helper → List (Option ℕ)
 of_helper None = None ∷ None ∷ None ∷ []
 of_helper (Some helper) = of_arguments (arguments_of helper)

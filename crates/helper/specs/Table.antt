@@ -23,6 +23,7 @@ bound_of Receivers = Some receiver_sets
 bound_of StackPointer = None
 bound_of ReadablePointer = None
 
+-- Returns the arguments that a helper takes in r1, r2 and r3.
 abbrev pub arguments_of : Helper → List (Option Argument)
 arguments_of BoardGet = Some Slot ∷ None ∷ None ∷ []
 arguments_of BoardSwap = Some Slot ∷ Some Word ∷ None ∷ []
@@ -61,11 +62,12 @@ abbrev pub test_of : Option ℕ → Value → Option Cause
 test_of (Some bound) v = refusal (below bound v)
 test_of None v = refusal (pointer v)
 
--- Returns the cause for the first argument that is rejected, in the registers from `r` on.
+-- Returns the first cause if there is one, otherwise the second.
 abbrev pub or_else : Option Cause → Option Cause → Option Cause
 or_else (Some cause) other = Some cause
 or_else None other = other
 
+-- Returns the cause for the first argument that is rejected, in the registers from `r` on.
 abbrev pub refused : List (Option Argument) → ℕ → List Value → Option Cause
 refused [] r registers = None
 refused (None ∷ arguments) r registers = refused arguments (r + 1) registers

@@ -35,6 +35,7 @@ stack_behind (Some (Store size base offset source)) (Some a) = Some (left (Store
 stack_behind (Some (Call number)) (Some a) = Some (left (Call number) a).stack
 stack_behind i known = None
 
+-- For each of the first `n` units, the abstract stack after a store or a call.
 abbrev pub stacks_behind : List Insn → KnownByUnit → ℕ → List (Option Known)
 stacks_behind program survey n =
     of_units (λ unit. stack_behind (instruction_at program unit) (known_by (survey unit))) n
@@ -59,6 +60,7 @@ abbrev pub IsColumn : List Insn → KnownByUnit → ℕ → Column → Type 0
 IsColumn program survey cell column =
     column.changed.items ≡ setting program survey (Cell cell) (length (slots_of program))
 
+-- The columns are those of the 512 cells of the stack, in their order.
 pub record AreColumns (program : List Insn) (survey : KnownByUnit) (columns : List Column) : Type 0 where
   pub all : length columns ≡ 512
   pub each : (cell : ℕ) (column : Column) → slice_get columns cell ≡ Some column → IsColumn program survey cell column

@@ -20,6 +20,7 @@ abbrev pub pointer_over : Known → ℕ → ℕ → Option (Region × ℤ)
 pointer_over known place zero = None
 pointer_over known place (suc n) = option_or (pointer_from known place) (pointer_over known (place - 1) n)
 
+-- Returns a piece of a pointer, if there is a pointer.
 abbrev pub piece_of : Option (Region × ℤ) → CellContent
 piece_of None = Unset
 piece_of (Some pointer) = Piece pointer.0 pointer.1
@@ -28,9 +29,11 @@ piece_of (Some pointer) = Piece pointer.0 pointer.1
 abbrev pub content_in : Known → ℕ → CellContent
 content_in known place = if byte_at known.bytes place then Byte else piece_of (pointer_over known place 8)
 
+-- What is known of a cell. Nothing is known of cells outside the stack.
 abbrev pub held_at : Known → ℕ → CellContent
 held_at known place = if nat_lt place stack_size then content_in known place else Unset
 
+-- Checks whether two contents are equal.
 abbrev pub same_content : CellContent → CellContent → Bool
 same_content Unset Unset = true
 same_content Byte Byte = true

@@ -29,10 +29,12 @@ copied_to_stack (Pointer Stack at) (Number counts) known =
     if nat_le (greatest counts) board_words then copied (Pointer Stack at) (Number counts) known else known
 copied_to_stack target counts known = known
 
+-- The abstract stack after a call. Only the helper that copies words of the board writes to it.
 abbrev pub behind_call : Option Helper → AbsVal → AbsVal → Known → Known
 behind_call (Some BoardCopy) target counts known = copied_to_stack target counts known
 behind_call helper target counts known = known
 
+-- What is known after an instruction, if it may run.
 abbrev pub left : Insn → AbsState → AbsState
 left (Store size base offset source) a =
     record {

@@ -20,10 +20,12 @@ abbrev pub known_by : Option (Option AbsState) → Option AbsState
 known_by None = None
 known_by (Some known) = known
 
+-- Checks whether a mark is open.
 abbrev pub is_open : Option UnitMark → Bool
 is_open (Some Open) = true
 is_open _ = false
 
+-- Checks whether the unit with a number is open.
 abbrev pub open_at : List UnitMark → ℤ → Bool
 open_at marks (pos unit) = is_open (slice_get marks unit)
 open_at marks (negsuc n) = false

@@ -33,6 +33,7 @@ longer more place unit distance =
     if int_lt (pos place) (pos (unit + 1) +ℤ distance) && int_lt distance (pos most_units) then distance +ℤ pos more
     else distance
 
+-- An instruction with its distance increased by `more`, if it is a jump over the place of the edit.
 abbrev pub stretched : ℕ → ℕ → ℕ → Insn → Insn
 stretched more place unit (Jump distance) = Jump (longer more place unit distance)
 stretched more place unit (LongJump distance) = LongJump (longer more place unit distance)
@@ -40,9 +41,11 @@ stretched more place unit (Branch w condition dst operand distance) =
     Branch w condition dst operand (longer more place unit distance)
 stretched more place unit i = i
 
+-- A 64-bit operation as an instruction.
 abbrev pub wide : Operation → ℕ → Operand → Insn
 wide operation dst operand = Arithmetic W64 operation dst operand
 
+-- The instruction that masks a number, if there is a mask.
 abbrev pub masked : Option ℤ → ℕ → List Insn
 masked None number = []
 masked (Some mask) number = wide And number (Immediate mask) ∷ []
@@ -85,5 +88,6 @@ tried_with program unit =
     if nat_lt 0 (length (slots_of program)) && nat_le (length (slots_of program)) most_units
     then comes unit (judged program) else Refused
 
+-- How far the verifier comes in a program with an edit at a place.
 abbrev pub tried : Edit → ℕ → List Insn → ℕ → Trial
 tried edit place program unit = tried_with (mended edit place 0 program) unit

@@ -8,6 +8,7 @@ use Rattle.reaching.specs.declared.subject.Subject.TheVariants.{Register, Cell}
 use Rattle.reaching.specs.Contents.{held_at, same_content}
 use Rattle.reaching.specs.Left.{left, result_of}
 
+-- Checks whether a register is the one that a result is written to.
 abbrev pub is_result : ℕ → Option ℕ → Bool
 is_result r None = false
 is_result r (Some dst) = dst == r

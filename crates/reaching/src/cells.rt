@@ -67,6 +67,7 @@ pub fn held_at(stack: &AbsStack, place: usize) -> CellContent
     content_in(stack, place)
 }
 
+/// Checks whether two regions are equal.
 fn is_same_region(a: Region, b: Region) -> bool
     ensures { result ≡ is_same_region a b }
 {

@@ -61,6 +61,7 @@ IsBelow bound Unset = ⊥
 IsBelow bound (Number numbers) = greatest numbers < bound
 IsBelow bound (Pointer region offsets) = ⊥
 
+-- The value is a pointer.
 abbrev pub IsPointer : AbsVal → Type 0
 IsPointer Unset = ⊥
 IsPointer (Number numbers) = ⊥
@@ -90,6 +91,7 @@ row_reason known (Pointer region offsets) (Number counts) =
     source_reason known region (window_from region offsets (4 * greatest counts))
 row_reason known _ _ = None
 
+-- Returns why the cells at a helper's pointer are rejected, if it makes an access there.
 abbrev pub window_reason : Helper → AbsState → Option Reason
 window_reason BoardCopy a = copy_reason (known_at a.registers 1) (known_at a.registers 2) (known_at a.registers 3)
 window_reason SendRow a = row_reason a.stack (known_at a.registers 2) (known_at a.registers 3)
@@ -97,6 +99,7 @@ window_reason _ a = None
 
 -- ---- Calls
 
+-- Returns why a call of a helper is rejected. A number without a helper is rejected.
 abbrev pub helper_reason : Option Helper → AbsState → Option Reason
 helper_reason None a = Some reason.Helper
 helper_reason (Some helper) a =

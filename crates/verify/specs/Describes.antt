@@ -8,6 +8,7 @@ use Rattle.absval.specs.Contains.{Contains}
 use Rattle.absmem.specs.Describes.{Describes as StackDescribes}
 use Rattle.verify.specs.declared.state.AbsState.{AbsState}
 
+-- What is known of each register contains its value.
 abbrev pub RegistersDescribe : List AbsVal → List Value → Type 0
 RegistersDescribe known registers = AllZip Contains known registers
 

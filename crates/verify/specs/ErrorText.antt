@@ -6,6 +6,7 @@ use Rattle.verify.specs.declared.error.VerifyError.TheVariants.{At, Memory}
 use Rattle.verify.specs.declared.reason.Reason.{Reason}
 use Rattle.verify.specs.declared.reason.Reason.TheVariants.{BackJump, JumpOut, JumpInWide, LastNotExit, Unset, FrameWrite, PointerUse, Bounds, StackUnset, ContextWrite, Helper, Argument, ExitPointer}
 
+-- The code of a reason, V1 to V13.
 abbrev pub code_of : Reason → List ℕ
 code_of BackJump = codes "V1"
 code_of JumpOut = codes "V2"

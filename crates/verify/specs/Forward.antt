@@ -8,5 +8,6 @@ use Rattle.semantics.specs.Plain.{IsIn, leads_to, IsStart}
 abbrev pub LeadsForward : List Insn → ℕ → Insn → Type 0
 LeadsForward program unit i = (z : ℤ) → IsIn z (leads_to i unit) → (pos unit <ℤ z) × IsStart program z
 
+-- Each edge of the program leads forward to an instruction.
 pub record IsForward (program : List Insn) : Type 0 where
   pub edges : (unit : ℕ) (i : Insn) → instruction_at program unit ≡ Some i → LeadsForward program unit i

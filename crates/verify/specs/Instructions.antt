@@ -18,6 +18,7 @@ IsStraight (Branch width condition dst operand distance) = ⊥
 IsStraight Exit = ⊥
 IsStraight _ = Unit {0}
 
+-- Returns the reason why an instruction that continues with the following one may not run, if there is one.
 abbrev pub straight_reason : Insn → AbsState → Option Reason
 straight_reason (Arithmetic w operation dst operand) a =
     first_reason (arithmetic_checks a.registers w operation dst operand)

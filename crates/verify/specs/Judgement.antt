@@ -15,6 +15,7 @@ use Rattle.verify.specs.Transfer.{Edge, edges}
 abbrev pub KnownSoFar : Type 0
 KnownSoFar = List (Option AbsState)
 
+-- Returns what is known so far at a unit.
 abbrev pub reached_at : KnownSoFar → ℕ → Option AbsState
 reached_at reached unit = slice_index_or reached unit None
 
@@ -23,10 +24,12 @@ abbrev pub joined_with : Option AbsState → AbsState → AbsState
 joined_with None a = a
 joined_with (Some before) a = met a before
 
+-- Adds what is known along an edge to what is known at the unit where it leads.
 abbrev pub along : Edge → KnownSoFar → KnownSoFar
 along (pos unit, a) reached = slice_set reached unit (Some (joined_with (reached_at reached unit) a))
 along (negsuc n, a) reached = reached
 
+-- Adds what is known along each edge of a list, in its order.
 abbrev pub along_all : List Edge → KnownSoFar → KnownSoFar
 along_all [] reached = reached
 along_all (e ∷ es) reached = along_all es (along e reached)
@@ -47,6 +50,7 @@ passed_at unit None known reached = Ok reached
 passed_at unit (Some i) None reached = Ok reached
 passed_at unit (Some i) (Some a) reached = followed unit i a (slice_set reached unit None)
 
+-- Passes the instruction at a unit, unless a fault has been found before.
 abbrev pub passed_on : List Insn → ℕ → Result KnownSoFar VerifyError → Result KnownSoFar VerifyError
 passed_on program unit (Err fault) = Err fault
 passed_on program unit (Ok reached) = passed_at unit (instruction_at program unit) (reached_at reached unit) reached

@@ -15,6 +15,7 @@ pub record KeptStates : Type 0 where
   pub items : KnownSoFar
   pub places : ℕ
 
+-- Returns what is kept for each unit, without the boxes.
 abbrev pub all_unboxed : List (Option (Box AbsState Global)) → KnownSoFar
 all_unboxed states = map unboxed states
 

@@ -25,6 +25,7 @@ use Rattle.verify.specs.Registers.{known_at, operand_known}
 use Rattle.verify.specs.Reasons.{unless}
 use Rattle.absval.specs.declared.value.AbsVal.TheVariants.{Unset, Number, Pointer}
 
+-- Returns the region and offsets of a base, or why it is rejected: it must be a pointer.
 abbrev pub pointer_in : AbsVal → Result (Region × Offsets) Reason
 pointer_in (Pointer region offsets) = Ok (region, offsets)
 pointer_in _ = Err PointerUse
@@ -54,13 +55,16 @@ spilled known Byte w = None
 spilled known Half w = None
 spilled known Word w = None
 
+-- Returns the pointer that a load finds if there is one, otherwise the number.
 abbrev pub pointer_or : Option AbsVal → Result AbsVal Reason → Result AbsVal Reason
 pointer_or (Some pointer) number = Ok pointer
 pointer_or None number = number
 
+-- Returns the result of a load from a window of the stack, or why it is rejected.
 abbrev pub stack_given : Known → Size → Window → Result AbsVal Reason
 stack_given known size w = pointer_or (spilled known size w) (unless (unset_in known Stack w) (loaded_known size))
 
+-- Returns the result of a load from a window of a region, or why it is rejected.
 abbrev pub load_from : Known → Size → Region → Option Window → Result AbsVal Reason
 load_from known size region None = Err Bounds
 load_from known size Context (Some w) = Ok (loaded_known size)
@@ -77,6 +81,7 @@ load_given known size (Pointer region at) distance =
 abbrev pub all_numbers : AbsVal
 all_numbers = Number any
 
+-- Returns the result of a sign-extended load from a window of a region, or why it is rejected.
 abbrev pub signed_from : Known → Region → Option Window → Result AbsVal Reason
 signed_from known region None = Err Bounds
 signed_from known region (Some w) = unless (unset_in known region w) all_numbers
@@ -98,11 +103,13 @@ is_storable Byte at stored = false
 is_storable Half at stored = false
 is_storable Word at stored = false
 
+-- Returns why a window may not be written: it is in the context, or it may leave the stack.
 abbrev pub write_refused : Region → Option Window → Option Reason
 write_refused Context w = Some ContextWrite
 write_refused Stack None = Some Bounds
 write_refused Stack (Some w) = None
 
+-- Returns why a pointer may not be stored, if there is a reason.
 abbrev pub pointer_refused : Size → Region → ℤ × ℤ → ℤ → ℤ × ℤ → Option Reason
 pointer_refused size region at distance stored =
     if is_storable size at stored then write_refused region (window_known region at.0 at.1 distance 8)
@@ -120,24 +127,29 @@ store_refused size (Pointer region at) distance (Pointer other stored) = pointer
 -- ---- The checks of instructions, in their order. What is read must be set, r10 may not be written, and then come the
 -- checks above.
 
+-- Returns that a value may be unset, or otherwise the next reason.
 abbrev pub unset_or : AbsVal → Option Reason → Option Reason
 unset_or Unset next = Some reason.Unset
 unset_or (Number n) next = next
 unset_or (Pointer region at) next = next
 
+-- Returns that r10 is written, or otherwise the next reason.
 abbrev pub frame_or : ℕ → Option Reason → Option Reason
 frame_or dst next = if dst == 10 then Some FrameWrite else next
 
+-- Returns why a load may not run, if there is a reason.
 abbrev pub load_reason : AbsState → Size → ℕ → ℕ → ℤ → Option Reason
 load_reason state size dst base offset =
     unset_or (known_at state.registers base)
     (frame_or dst (result_err (load_given state.stack size (known_at state.registers base) offset)))
 
+-- Returns why a sign-extended load may not run, if there is a reason.
 abbrev pub signed_load_reason : AbsState → Narrow → ℕ → ℕ → ℤ → Option Reason
 signed_load_reason state part dst base offset =
     unset_or (known_at state.registers base)
     (frame_or dst (result_err (signed_load_given state.stack part (known_at state.registers base) offset)))
 
+-- Returns why a store may not run, if there is a reason.
 abbrev pub store_reason : AbsState → Size → ℕ → ℤ → Operand → Option Reason
 store_reason state size base offset source =
     unset_or (known_at state.registers base) (unset_or (operand_known state.registers source)

@@ -20,11 +20,13 @@ abbrev pub first_reason : List Check → Option Reason
 first_reason [] = None
 first_reason (check ∷ checks) = if check.0 then Some check.1 else first_reason checks
 
+-- Checks whether a value may be unset.
 abbrev pub is_unset : AbsVal → Bool
 is_unset Unset = true
 is_unset (Number n) = false
 is_unset (Pointer region o) = false
 
+-- Checks whether a value is a pointer.
 abbrev pub is_pointer : AbsVal → Bool
 is_pointer Unset = false
 is_pointer (Number n) = false
@@ -35,12 +37,14 @@ is_pointer (Pointer region o) = true
 abbrev pub made_checks : ℕ → AbsVal → Option AbsVal → List Check
 made_checks dst value made = (is_unset value, reason.Unset) ∷ (dst == 10, FrameWrite) ∷ (is_none made, PointerUse) ∷ []
 
+-- The checks of an operation on a register and an operand.
 abbrev pub arithmetic_checks : List AbsVal → Width → Operation → ℕ → Operand → List Check
 arithmetic_checks known w operation dst operand =
     (is_unset (first_known known operation dst), reason.Unset)
     ∷ made_checks dst (operand_known known operand)
     (computed w operation (first_known known operation dst) (operand_known known operand))
 
+-- The check that the register that is written is not the frame pointer.
 abbrev pub write_checks : ℕ → List Check
 write_checks dst = (dst == 10, FrameWrite) ∷ []
 

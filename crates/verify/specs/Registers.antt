@@ -20,6 +20,7 @@ use Rattle.absval.specs.declared.value.AbsVal.TheVariants.{Unset, Number, Pointe
 abbrev pub known_at : List AbsVal → ℕ → AbsVal
 known_at known r = slice_index_or known r Unset
 
+-- Returns what is known of an operand.
 abbrev pub operand_known : List AbsVal → Operand → AbsVal
 operand_known known (Register r) = known_at known r
 operand_known known (Immediate n) = immediate_known n
@@ -60,6 +61,7 @@ register_edge w condition way known dst src =
     else option_map (λ e. slice_set (slice_set known dst e.0) src e.1)
     (refined_known w condition way (known_at known dst) (known_at known src))
 
+-- Refines a register that is compared with an operand, along an edge.
 abbrev pub edge_by : Width → Condition → Bool → List AbsVal → ℕ → Operand → Option (List AbsVal)
 edge_by w condition way known dst (Register src) = register_edge w condition way known dst src
 edge_by w condition way known dst (Immediate n) = number_edge w condition way known dst (cast_unsigned w64 n)

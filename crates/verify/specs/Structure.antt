@@ -47,6 +47,7 @@ checks_at program unit [] index = []
 checks_at program unit (i ∷ is) zero = jump_checks program unit i
 checks_at program unit (i ∷ is) (suc index) = checks_at program (unit + units_of i) is index
 
+-- Checks whether an instruction is the exit.
 abbrev pub is_exit : Insn → Bool
 is_exit Exit = true
 is_exit _ = false

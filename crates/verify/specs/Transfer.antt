@@ -42,10 +42,12 @@ number_stored size None known = known
 number_stored size (Some w) known =
     if w.size == size then put_bytes w.place w.size known else spread_bytes w.place w.size known
 
+-- What is known of the stack after a pointer is stored.
 abbrev pub pointer_stored : Region → ℤ → Option Window → Known → Known
 pointer_stored region offset None known = known
 pointer_stored region offset (Some w) known = put_pointer w.place region offset known
 
+-- What is known of the stack after a value is stored.
 abbrev pub stored : Size → AbsVal → ℤ → AbsVal → Known → Known
 stored size (Pointer region at) distance (Number n) known =
     number_stored (bytes_of size) (window_known region at.0 at.1 distance (bytes_of size)) known
@@ -61,6 +63,7 @@ written certain None known = known
 written true (Some w) known = put_bytes w.place w.size known
 written false (Some w) known = spread_bytes w.place w.size known
 
+-- What is known of the stack after words of the board are copied to a pointer.
 abbrev pub copied : AbsVal → AbsVal → Known → Known
 copied (Pointer region offsets) (Number counts) known =
     written (is_certain offsets counts) (window_from region offsets (8 * greatest counts)) known
@@ -71,6 +74,7 @@ abbrev pub stack_behind : Helper → AbsState → Known
 stack_behind BoardCopy a = copied (known_at a.registers 2) (known_at a.registers 3) a.stack
 stack_behind helper a = a.stack
 
+-- What is known after a call of a helper.
 abbrev pub called : Option Helper → AbsState → AbsState
 called None a = a
 called (Some helper) a =
@@ -111,6 +115,7 @@ narrowed c taken a =
 abbrev pub Edge : Type 0
 Edge = ℤ × AbsState
 
+-- Returns the edge to a unit, if it may be taken.
 abbrev pub edge_to : ℤ → Option AbsState → List Edge
 edge_to unit None = []
 edge_to unit (Some a) = (unit, a) ∷ []
