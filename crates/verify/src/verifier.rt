@@ -32,8 +32,11 @@ fn check(alloc: Global, program: &Program, codes: &mut Vec<Ready>) -> Result<(),
     pass(alloc, program, codes)
 }
 
-/// Returns the program as a verified one if it is accepted. Otherwise returns the first fault, and the program. Only
-/// the pass allocates memory.
+/// Returns the program as a verified one if it is accepted. Only the pass allocates memory.
+///
+/// # Errors
+///
+/// Returns the program with its first fault if it is rejected, or with `Memory` if memory runs out.
 pub fn verify(alloc: Global, program: Program) -> Result<Verified, Refused>
     // Unless memory runs out, the result is that of one function from programs to faults.
     ensures accepted { IfOk result (λ v. judged v ≡ None) }
