@@ -1,4 +1,5 @@
--- The words of a set are found again from its cells: a proof, which the Model of `CellSet` cites and nobody need read.
+-- Proves that the words of a set can be recomputed from its cells. The Model of `CellSet` cites this proof, and no
+-- reader needs it.
 use Rattle.std.proofs.Common.{◌≡◌, ℕ, zero, suc, ◌+◌, ◌-◌, ◌*◌, ◌/◌, ◌%◌, ◌^◌, ◌<◌, ◌≤◌, List, length, take, drop, Bool, false, refl, sym, ap, ◌∙◌, arith, get_or, cond}
 use Rattle.std.specs.Prelude.{◌==◌, slice_range}
 use Rattle.std.specs.Int.{bit_at}
@@ -17,13 +18,13 @@ pub member_at : (words : List ℕ) (k : ℕ) → k < 512 → get_or (members wor
 unfolding members
 member_at words k lt = get_or-map-range_with_len (is_member words) 0 512 k k false lt (omega arith)
 
--- a bit is its own test
+-- Testing whether a bit is 1, and turning the answer into 1 or 0, gives the bit again.
 pub bit_of_test : (bit : ℕ) → bit < 2 → cond {A = ℕ} (bit == 1) 1 0 ≡ bit
 bit_of_test zero lt = refl
 bit_of_test (suc zero) lt = refl
 bit_of_test (suc (suc n)) lt = absurd (omega arith)
 
--- the cells of one word
+-- The cells of one word.
 abbrev cells_of : List ℕ → ℕ → List Bool
 cells_of words number = slice_range (members words) (64 * number) (64 * number + 64)
 

@@ -1,4 +1,4 @@
--- What is known of a stack that is written or joined, as functions of what was known (own).
+-- Defines what is known of a stack after a store or a join, as functions of what was known (own).
 use Rattle.std.specs.Prelude.{ℕ, ℤ, ◌+◌, ◌/◌, ◌%◌, ◌==◌, ◌&&◌, Bool, true, false, nat_le, nat_lt, if◌then◌else◌}
 use Rattle.semantics.specs.Limits.{stack_size}
 use Rattle.semantics.specs.declared.value.Region.{Region}
@@ -7,38 +7,41 @@ use Rattle.absmem.specs.declared.spill.Spill.TheVariants.{Free, Whole}
 use Rattle.absmem.specs.Known.{Known, byte_at, spill_at, left_of, joined_spill}
 use Rattle.absmem.specs.Tables.{table}
 
--- a stack, told cell by cell and block by block
+-- The abstract stack with the given facts for each cell and each block.
 abbrev pub stack_of : (ℕ → Bool) → (ℕ → Spill) → Known
 stack_of byte spill = record { bytes = table stack_size byte; spills = table 64 spill }
 
--- nothing is known
+-- The abstract stack of which nothing is known.
 abbrev pub unknown_stack : Known
 unknown_stack = stack_of (λ k. false) (λ b. Free)
 
--- what is known of a cell once those from one place up to another have become so
+-- Whether cell `k` is known to be a byte after the cells from `place` up to but not including `end` have become
+-- `value`.
 abbrev pub byte_behind : Bool → ℕ → ℕ → Known → ℕ → Bool
 byte_behind value place end known k = if nat_le place k && nat_lt k end then value else byte_at known.bytes k
 
--- each pointer of which a cell is written is forgotten
+-- What is known of block `b` after the cells from `place` up to but not including `end` are written. A pointer that has
+-- one of these cells is forgotten.
 abbrev pub spill_behind : ℕ → ℕ → Known → ℕ → Spill
 spill_behind place end known b = left_of place end b (spill_at known.spills b)
 
--- so many bytes stand from the place on
+-- The abstract stack after `size` bytes are stored at the place.
 abbrev pub put_bytes : ℕ → ℕ → Known → Known
 put_bytes place size known =
     stack_of (byte_behind true place (place + size) known) (spill_behind place (place + size) known)
 
--- bytes stand somewhere among so many cells from the place on: what was a byte is one
+-- The abstract stack after bytes are stored somewhere among the `size` cells from the place on. Cells known to be bytes
+-- still are, and no others become known.
 abbrev pub spread_bytes : ℕ → ℕ → Known → Known
 spread_bytes place size known = stack_of (byte_at known.bytes) (spill_behind place (place + size) known)
 
--- the pieces of a pointer stand at the place
+-- The abstract stack after a pointer is stored at the place.
 abbrev pub put_pointer : ℕ → Region → ℤ → Known → Known
 put_pointer place region offset known =
     stack_of (byte_behind false place (place + 8) known)
     (λ b. if b == place / 8 then Whole (place % 8) region offset else spill_behind place (place + 8) known b)
 
--- what both know
+-- The join of two abstract stacks: the facts that hold in both.
 abbrev pub joined_stack : Known → Known → Known
 joined_stack one other =
     stack_of (λ k. byte_at one.bytes k && byte_at other.bytes k)

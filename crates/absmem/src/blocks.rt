@@ -1,3 +1,4 @@
+//! Blocks of eight cells of the stack, each with the stored pointer that is known to begin in it.
 ghost use Rattle.std.specs.Prelude.{◌≡◌, ◌<◌, ◌↔◌, ℕ, IsTrue, length, replicate, slice_set};
 ghost use Rattle.absmem.specs.Known.{spill_at};
 ghost use Rattle.absmem.specs.Holding.{holds_pointer};
@@ -6,7 +7,7 @@ use crate::mask;
 use crate::spill::Spill;
 use std::marker::Model;
 
-/// Where whole pointers stand, by blocks of eight cells, with a word that tells which of the 64 blocks hold one.
+/// The stored pointers that are known, by blocks of eight cells. A word says which of the 64 blocks hold one.
 #[derive(Drop)]
 pub(crate) struct Blocks {
     holding: u64,
@@ -26,7 +27,7 @@ impl Model for Blocks {
 }
 
 impl Blocks {
-    /// No pointer.
+    /// Returns blocks that hold no pointer.
     pub(crate) fn free() -> Blocks
         ensures { result ≡ replicate 64 Spill.Free }
     {
@@ -36,7 +37,7 @@ impl Blocks {
         }
     }
 
-    /// Whether no block holds a pointer.
+    /// Checks whether no block holds a pointer.
     pub(crate) fn is_free(&self) -> bool
         ensures free { IsTrue result ↔ ((b : ℕ) → b < 64 → spill_at self.now b ≡ Spill.Free) }
         ensures size { length self.now ≡ 64 }
@@ -44,7 +45,7 @@ impl Blocks {
         self.holding == 0
     }
 
-    /// What is known of a block.
+    /// Returns what is known of a block.
     pub(crate) fn at(&self, b: usize) -> Spill
         requires { b < 64 }
         ensures known { result ≡ spill_at self.now b }
@@ -53,7 +54,7 @@ impl Blocks {
         self.spills[b]
     }
 
-    /// Something else is known of a block.
+    /// Replaces what is known of a block.
     pub(crate) fn set(&mut self, b: usize, spill: Spill)
         requires { b < 64 }
         ensures { self.new ≡ slice_set self.old b spill }
@@ -62,7 +63,7 @@ impl Blocks {
         self.spills[b] = spill;
     }
 
-    /// The same once more.
+    /// Returns a copy of the blocks.
     pub(crate) fn copy(&self) -> Blocks
         ensures { result ≡ self.now }
     {
@@ -72,7 +73,7 @@ impl Blocks {
         }
     }
 
-    /// Becomes the same as the other. Where neither holds a pointer, the blocks are not copied.
+    /// Makes the blocks equal to `other`. If neither holds a pointer, nothing is copied.
     pub(crate) fn assign(&mut self, other: &Blocks)
         ensures { self.new ≡ other.now }
     {
@@ -83,7 +84,7 @@ impl Blocks {
     }
 }
 
-/// Whether a block of which this is known holds a pointer.
+/// Checks whether a block holds a pointer.
 fn holds(spill: Spill) -> bool
     ensures { result ≡ holds_pointer spill }
 {

@@ -1,3 +1,4 @@
+//! Sets of cells of the stack, one bit for each cell.
 ghost use Rattle.std.specs.Prelude.{◌≡◌, ◌<◌, ◌≤◌, ◌&&◌, ◌↔◌, ℕ, IsTrue, true, false, length, replicate};
 ghost use Rattle.absmem.specs.Known.{byte_at, IsSetTo};
 
@@ -27,14 +28,15 @@ impl Model for CellSet {
 }
 
 impl CellSet {
-    /// No cell.
+    /// Returns the empty set.
     pub(crate) fn none() -> CellSet
         ensures { result ≡ replicate 512 false }
     {
         CellSet { words: [0; 8] }
     }
 
-    /// The cells of the window are taken in or out. Most windows lie in one word.
+    /// Adds the cells from `place` up to but not including `end`, or removes them if `value` is false. Most windows lie
+    /// in one word.
     pub(crate) fn set(&mut self, place: usize, end: usize, value: bool)
         requires ordered { place ≤ end }
         requires within { end ≤ 512 }
@@ -50,7 +52,7 @@ impl CellSet {
         self.set_across(place, end, value);
     }
 
-    /// The same, word by word.
+    /// Adds or removes the cells of a window word by word. The window may cross words.
     #[inline(never)]
     fn set_across(&mut self, place: usize, end: usize, value: bool)
         requires ordered { place ≤ end }
@@ -64,7 +66,8 @@ impl CellSet {
         }
     }
 
-    /// Whether each cell of the window belongs to the set. Most windows lie in one word.
+    /// Checks whether each cell from `place` up to but not including `end` belongs to the set. Most windows lie in one
+    /// word.
     pub(crate) fn has(&self, place: usize, end: usize) -> bool
         requires ordered { place ≤ end }
         requires within { end ≤ 512 }
@@ -76,7 +79,7 @@ impl CellSet {
         self.has_across(place, end)
     }
 
-    /// The same, word by word.
+    /// Checks word by word whether each cell of a window belongs to the set. The window may cross words.
     #[inline(never)]
     fn has_across(&self, place: usize, end: usize) -> bool
         requires ordered { place ≤ end }
@@ -91,7 +94,7 @@ impl CellSet {
         true
     }
 
-    /// Keeps the cells that belong to both.
+    /// Keeps the cells that belong to both sets.
     pub(crate) fn intersect(&mut self, other: &CellSet)
         ensures size { length self.new ≡ 512 }
         ensures both { (k : ℕ) → byte_at self.new k ≡ (byte_at self.old k && byte_at other.now k) }

@@ -1,4 +1,5 @@
-//! What the verifier knows of a stack: which cells are bytes, and where whole pointers stand.
+//! Abstract stacks, which say what the verifier knows of a stack: which cells are bytes, and where whole pointers are
+//! stored.
 #![tactic(auto)]
 
 mod blocks;

@@ -1,4 +1,4 @@
-//! Where whole pointers stand.
+//! Pointers stored whole on the stack: which of them stores overwrite, and which remain where two paths meet.
 ghost use Rattle.std.specs.Prelude.{◌≡◌, ◌+◌, ◌/◌, ◌%◌, ◌<◌, ◌≤◌, ℕ, length, slice_set, if◌then◌else◌};
 ghost use Rattle.semantics.specs.Memory.{is_same_region};
 ghost use Rattle.absmem.specs.Known.{IsFiled, spill_at, left_of, joined_spill};
@@ -7,7 +7,7 @@ use crate::blocks::Blocks;
 use crate::spill::Spill;
 use semantics::Region;
 
-/// Forgets each pointer of which a cell lies in the window.
+/// Forgets each pointer that has a cell in the window.
 pub(crate) fn clear(spills: &mut Blocks, place: usize, end: usize)
     requires ordered { place ≤ end }
     requires within { end ≤ 512 }
@@ -21,7 +21,7 @@ pub(crate) fn clear(spills: &mut Blocks, place: usize, end: usize)
     clear_each(spills, place, end);
 }
 
-/// The same, block by block.
+/// Forgets each pointer that has a cell in the window, block by block.
 #[inline(never)]
 fn clear_each(spills: &mut Blocks, place: usize, end: usize)
     requires long { length spills.old ≡ 64 }
@@ -38,7 +38,7 @@ fn clear_each(spills: &mut Blocks, place: usize, end: usize)
     }
 }
 
-/// Notes the pointer that is stored at the place.
+/// Records the pointer that is stored at the place.
 pub(crate) fn put(spills: &mut Blocks, place: usize, region: Region, offset: i32)
     requires { place + 8 ≤ 512 }
     ensures { spills.new ≡ slice_set spills.old (place / 8) (Spill.Whole (place % 8) region offset) }
@@ -46,7 +46,7 @@ pub(crate) fn put(spills: &mut Blocks, place: usize, region: Region, offset: i32
     spills.set(place / 8, whole(place, region, offset));
 }
 
-/// A pointer that stands at the place.
+/// Returns the record of a pointer stored at the place.
 fn whole(place: usize, region: Region, offset: i32) -> Spill
     ensures { result ≡ Spill.Whole (place % 8) region offset }
 {
@@ -58,7 +58,8 @@ fn whole(place: usize, region: Region, offset: i32) -> Spill
     }
 }
 
-/// What is left of the pointer of a block.
+/// Returns what is known of a block after the cells of the window are written. A pointer that has a cell in the window
+/// is forgotten.
 fn left(spill: Spill, b: usize, place: usize, end: usize) -> Spill
     requires { b < 64 }
     ensures { result ≡ left_of place end b spill }
@@ -73,7 +74,7 @@ fn left(spill: Spill, b: usize, place: usize, end: usize) -> Spill
     spill
 }
 
-/// Keeps what both know.
+/// Joins the pointers of two stacks: keeps those that both have at the same place.
 pub(crate) fn join(spills: &mut Blocks, other: &Blocks)
     ensures size { length spills.new ≡ 64 }
     ensures each { (b : ℕ) → b < 64 →
@@ -87,7 +88,8 @@ pub(crate) fn join(spills: &mut Blocks, other: &Blocks)
     }
 }
 
-/// Keeps of a block what both know. Most blocks stay as they are, and are not written.
+/// Joins a block with another: keeps its pointer only if both have the same one. Most blocks stay as they are and are
+/// not written.
 fn settle(spills: &mut Blocks, b: usize, other: Spill)
     requires { b < 64 }
     ensures { spills.new ≡ slice_set spills.old b (joined_spill (spill_at spills.old b) other) }
@@ -97,7 +99,7 @@ fn settle(spills: &mut Blocks, b: usize, other: Spill)
     }
 }
 
-/// Whether what is known of a block stays when it is joined with another.
+/// Checks whether a block stays as it is when it is joined with another.
 fn stays(a: Spill, b: Spill) -> bool
     ensures { joined_spill a b ≡ (if result then a else Spill.Free) }
 {
@@ -120,7 +122,7 @@ fn stays(a: Spill, b: Spill) -> bool
     shift == other_shift && same_region(region, other_region) && offset == other_offset
 }
 
-/// Whether two regions are the same.
+/// Checks whether two regions are equal.
 fn same_region(a: Region, b: Region) -> bool
     ensures { result ≡ is_same_region a b }
 {

@@ -1,3 +1,4 @@
+//! Abstract stacks: what stores, loads and joins of paths do to what is known of a stack.
 ghost use Rattle.std.specs.Prelude.{◌≡◌, ◌+◌, ◌/◌, ◌%◌, ◌<◌, ◌≤◌, ◌↔◌, ℕ, true, List, IsTrue, IfSome, length, slice_range};
 ghost use Rattle.semantics.specs.declared.value.Cell.{Cell};
 ghost use Rattle.semantics.specs.Memory.{overwritten, pieces_of};
@@ -13,7 +14,7 @@ use absval::Offset;
 use semantics::Region;
 use std::marker::Model;
 
-/// What is known of a stack of 512 cells.
+/// An abstract stack: what is known of a stack of 512 cells.
 #[derive(Drop)]
 pub struct AbsStack {
     bytes: CellSet,
@@ -31,7 +32,7 @@ impl Model for AbsStack {
 }
 
 impl AbsStack {
-    /// Nothing is known.
+    /// Returns the abstract stack of which nothing is known.
     pub fn unknown() -> AbsStack
         ensures exact { result ≡ unknown_stack }
         ensures holds { (cells : List Cell) → Describes result cells }
@@ -42,7 +43,7 @@ impl AbsStack {
         }
     }
 
-    /// The same once more.
+    /// Returns a copy of the abstract stack.
     pub fn copy(&self) -> AbsStack
         ensures { result ≡ self.now }
     {
@@ -52,7 +53,7 @@ impl AbsStack {
         }
     }
 
-    /// Becomes the same as the other.
+    /// Makes the abstract stack equal to `other`.
     pub fn assign(&mut self, other: &AbsStack)
         ensures { self.new ≡ other.now }
     {
@@ -60,7 +61,7 @@ impl AbsStack {
         self.spills.assign(&other.spills);
     }
 
-    /// Bytes are stored at the place.
+    /// Records a store of `size` bytes at the place.
     pub fn put_bytes(&mut self, place: usize, size: usize)
         requires within { place + size ≤ 512 }
         ensures exact { self.new ≡ put_bytes place size self.old }
@@ -73,7 +74,8 @@ impl AbsStack {
         self.bytes.set(place, end, true);
     }
 
-    /// Bytes are stored somewhere in the window.
+    /// Records a store of bytes somewhere among the `size` cells from the place on. No further cell becomes known to be
+    /// a byte.
     pub fn spread_bytes(&mut self, place: usize, size: usize)
         requires within { place + size ≤ 512 }
         ensures exact { self.new ≡ spread_bytes place size self.old }
@@ -84,7 +86,7 @@ impl AbsStack {
         pointers::clear(&mut self.spills, place, place + size);
     }
 
-    /// A pointer is stored at the place.
+    /// Records a store of a pointer at the place.
     pub fn put_pointer(&mut self, place: usize, region: Region, offset: Offset)
         requires within { place + 8 ≤ 512 }
         ensures exact { self.new ≡ put_pointer place region offset self.old }
@@ -96,7 +98,7 @@ impl AbsStack {
         pointers::put(&mut self.spills, place, region, offset.at);
     }
 
-    /// Whether each cell of the window is known to be a byte.
+    /// Checks whether each of the `size` cells from the place on is known to be a byte.
     pub fn has_bytes(&self, place: usize, size: usize) -> bool
         requires within { place + size ≤ 512 }
         ensures known { IsTrue result ↔ ((k : ℕ) → place ≤ k → k < place + size → byte_at self.now.bytes k ≡ true) }
@@ -107,7 +109,7 @@ impl AbsStack {
         self.bytes.has(place, place + size)
     }
 
-    /// The pointer that is known to stand whole at the place.
+    /// Returns the whole pointer that is known to be stored at the place, if there is one.
     pub fn pointer_at(&self, place: usize) -> Option<(Region, Offset)>
         requires within { place + 8 ≤ 512 }
         ensures known { result ≡ pointer_of (place % 8) (spill_at self.now.spills (place / 8)) }
@@ -129,7 +131,7 @@ impl AbsStack {
         None
     }
 
-    /// Keeps what both know.
+    /// Joins two abstract stacks: keeps the facts that hold in both.
     pub fn join(&mut self, other: &AbsStack)
         ensures exact { self.new ≡ joined_stack self.old other.now }
         ensures left { (cells : List Cell) → Describes self.old cells → Describes self.new cells }

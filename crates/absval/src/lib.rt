@@ -1,5 +1,5 @@
-//! What the verifier knows of a value: nothing, a number in a range with known bits, or a pointer with its offsets in a
-//! range.
+//! Abstract values, which say what the verifier knows of a value: nothing, a number in a range with known bits, or a
+//! pointer with its offsets in a range.
 #![tactic(auto)]
 
 mod joins;

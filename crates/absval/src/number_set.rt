@@ -1,4 +1,4 @@
-//! What is known of a number: the range that it lies in, and bits that it has.
+//! Sets of numbers, which say what is known of a number: a range that it lies in, and known bits.
 ghost use Rattle.std.specs.Prelude.{◌≡◌, ◌≤◌, ◌<◌, ◌^◌, ℕ, IsTrue, IsSomeAnd, false};
 ghost use Rattle.word.specs.Arithmetic.{arithmetic, bits_of, taken, negated, sign_extended, swapped, compared};
 ghost use Rattle.range.specs.Interval.{IsIn};
@@ -12,7 +12,7 @@ use range::{Range, edges, operations as ranges, unary_operations, width as width
 use std::marker::Model;
 use word::{ByteOrder, Condition, Narrow, Operation, SwapSize, Width};
 
-/// The numbers of a range that have these bits.
+/// The numbers of a range that have certain known bits.
 #[derive(Clone, Copy)]
 pub struct NumberSet {
     range: Range,
@@ -30,7 +30,7 @@ impl Model for NumberSet {
 }
 
 impl NumberSet {
-    /// One number.
+    /// Returns the set of one number.
     pub fn exactly(n: u64) -> NumberSet
         ensures exact { result ≡ single n }
         ensures holds { Has result n }
@@ -41,7 +41,7 @@ impl NumberSet {
         }
     }
 
-    /// The numbers of a range, whatever their bits.
+    /// Returns the set of all numbers of a range. None of their bits is known.
     pub fn within(range: Range) -> NumberSet
         ensures exact { result ≡ within range }
         ensures holds { (x : ℕ) → IsIn range.0 range.1 x → Has result x }
@@ -53,7 +53,7 @@ impl NumberSet {
         }
     }
 
-    /// All words.
+    /// Returns the set of all words.
     pub fn any() -> NumberSet
         ensures exact { result ≡ any }
         ensures holds { (x : ℕ) → x < 2 ^ 64 → Has result x }
@@ -64,7 +64,7 @@ impl NumberSet {
         }
     }
 
-    /// The range that they lie in.
+    /// Returns the range that the numbers lie in.
     pub fn range(self) -> Range
         ensures exact { result ≡ self.range }
         ensures holds { (x : ℕ) → Has self x → IsIn result.0 result.1 x }
@@ -72,7 +72,7 @@ impl NumberSet {
         self.range
     }
 
-    /// The bits that they have.
+    /// Returns the known bits of the numbers.
     pub fn bits(self) -> Bits
         ensures exact { result ≡ self.bits }
         ensures holds { (x : ℕ) → Has self x → HasBits result x }
@@ -80,7 +80,7 @@ impl NumberSet {
         self.bits
     }
 
-    /// The greatest number of its range.
+    /// Returns the greatest number of the range.
     pub fn greatest(self) -> u64
         ensures exact { result ≡ greatest self }
         ensures holds { (x : ℕ) → Has self x → x ≤ result }
@@ -88,7 +88,7 @@ impl NumberSet {
         self.range.hi
     }
 
-    /// Whether its range is one number.
+    /// Checks whether the range has only one number.
     pub fn is_one(self) -> bool
         ensures exact { result ≡ is_one self }
         ensures holds { (x : ℕ) → IsTrue result → Has self x → x ≡ greatest self }
@@ -96,7 +96,8 @@ impl NumberSet {
         self.range.is_single()
     }
 
-    /// The ends of its range read as signed, where all numbers between are below 2^63, or none is.
+    /// Returns the ends of the range as signed numbers, if all its numbers are below 2^63 or none is. Otherwise returns
+    /// `None`.
     pub fn as_signed(self) -> Option<(i64, i64)>
         ensures { result ≡ in_a_row self.range }
     {
@@ -104,7 +105,7 @@ impl NumberSet {
         Some((row.low, row.high))
     }
 
-    /// The numbers of either, and those that look like them.
+    /// Joins two sets: the ranges and the known bits are joined separately, so the result may have further numbers.
     pub fn join(self, other: NumberSet) -> NumberSet
         ensures exact { result ≡ joined self other }
         ensures left { (x : ℕ) → Has self x → Has result x }
@@ -116,7 +117,7 @@ impl NumberSet {
         }
     }
 
-    /// What an operation makes of a number of these and one of those.
+    /// Returns the set of an operation's results for a number of `a` and one of `b`.
     #[inline(always)]
     pub fn operate(width: Width, operation: Operation, a: NumberSet, b: NumberSet) -> NumberSet
         ensures exact { result ≡ table width operation a b }
@@ -130,7 +131,7 @@ impl NumberSet {
         settle(range, bits)
     }
 
-    /// The numbers' low bits.
+    /// Returns the set of the low bits that operations of a width use.
     pub fn low_bits(self, width: Width) -> NumberSet
         ensures exact { result ≡ copies width self }
         ensures holds { (x : ℕ) → Has self x → Has result (taken width x) }
@@ -141,7 +142,7 @@ impl NumberSet {
         )
     }
 
-    /// The negated numbers.
+    /// Returns the set of the negated numbers.
     pub fn negate(self, width: Width) -> NumberSet
         ensures exact { result ≡ negations width self }
         ensures holds { (x : ℕ) → Has self x → Has result (negated width x) }
@@ -150,7 +151,7 @@ impl NumberSet {
         whatever_bits(width, range)
     }
 
-    /// The numbers whose low bits are extended by their sign.
+    /// Returns the set of the numbers after their low 8, 16 or 32 bits are sign-extended.
     pub fn sign_extend(self, width: Width, part: Narrow) -> NumberSet
         ensures exact { result ≡ extensions width part self }
         ensures holds { (x : ℕ) → Has self x → Has result (sign_extended width part x) }
@@ -159,7 +160,7 @@ impl NumberSet {
         whatever_bits(width, range)
     }
 
-    /// The numbers whose low bytes are put in an order.
+    /// Returns the set of the numbers after their low 2, 4 or 8 bytes are put in an order.
     pub fn swap(self, order: ByteOrder, size: SwapSize) -> NumberSet
         ensures exact { result ≡ swaps order size self }
         ensures holds { (x : ℕ) → Has self x → Has result (swapped order size x) }
@@ -168,8 +169,8 @@ impl NumberSet {
         whatever_bits(Width::W64, range)
     }
 
-    /// What is left of two sets where a jump on a condition is taken, or is not taken; None where no pair of
-    /// their numbers goes that way.
+    /// Returns what remains of two sets if a jump on a condition is taken, or is not taken. Returns `None` if no pair
+    /// of their numbers takes that edge.
     #[inline(always)]
     pub fn refine(
         width: Width,
@@ -191,8 +192,9 @@ impl NumberSet {
     }
 }
 
-/// The numbers of a range that have these bits, once: the bits of one number are known, and the ends lie
-/// within what the bits allow. None where there is no such number.
+/// Returns the numbers of a range that have certain known bits, with each refined once by the other. If the range has
+/// one number, all bits are known. Otherwise the ends are cut to the least and the greatest number that the bits allow.
+/// Returns `None` if there is no such number.
 #[inline(always)]
 fn reduce(range: Range, bits: Bits) -> Option<NumberSet>
     ensures exact { result ≡ reduced range bits }
@@ -212,7 +214,7 @@ fn reduce(range: Range, bits: Bits) -> Option<NumberSet>
     })
 }
 
-/// The only number of a range, if it has these bits.
+/// Returns the only number of a range, if it has the known bits.
 #[inline(always)]
 fn single_with(range: Range, bits: Bits) -> Option<NumberSet>
     requires { range.0 ≡ range.1 }
@@ -228,7 +230,8 @@ fn single_with(range: Range, bits: Bits) -> Option<NumberSet>
     })
 }
 
-/// Whether the bits of an operation's results are told by those of its operands; of any other nothing is known.
+/// Checks whether an operation computes known bits of its results from those of its operands. For the others, all bits
+/// of the width are unknown.
 #[inline(always)]
 fn goes_bit_by_bit(operation: Operation) -> bool
     ensures { result ≡ false → (w : Width) (a b : ℕ × ℕ) → row w operation a b ≡ unknown w }
@@ -241,7 +244,7 @@ fn goes_bit_by_bit(operation: Operation) -> bool
     }
 }
 
-/// The same of results of a width of whose bits nothing else is known: these never contradict the range.
+/// Returns the set of an operation's results if no bit of the width is known. Such bits never contradict the range.
 #[inline(always)]
 fn whatever_bits(width: Width, range: Range) -> NumberSet
     requires { range.1 < 2 ^ bits_of width }
@@ -257,8 +260,8 @@ fn whatever_bits(width: Width, range: Range) -> NumberSet
     }
 }
 
-/// The same of an operation's results, of which there is one: where range and bits contradict each other,
-/// the range alone.
+/// Returns the set of an operation's results from their range and known bits. If the two contradict each other, only
+/// the range is used.
 fn settle(range: Range, bits: Bits) -> NumberSet
     ensures exact { result ≡ settled range bits }
     ensures holds { (x : ℕ) → IsIn range.0 range.1 x → HasBits bits x → Has result x }

@@ -1,3 +1,4 @@
+//! Operations on abstract values: arithmetic on numbers and pointers, negation, sign extension and byte swaps.
 ghost use Rattle.std.specs.Prelude.{◌≡◌, ◌≢◌, ◌≤ℤ◌, ℕ, ℤ, IfSome};
 ghost use Rattle.word.specs.Arithmetic.{negated, sign_extended, swapped};
 ghost use Rattle.semantics.specs.declared.value.Value.{Value};
@@ -12,7 +13,8 @@ use crate::value::{AbsVal, Offsets};
 use semantics::Region;
 use word::{ByteOrder, Narrow, Operation, SwapSize, Width};
 
-/// What an operation on two values gives: nothing where it is none that pointers admit.
+/// Returns the abstract result of an operation on two abstract values. Returns `None` if an operand may be unset, or if
+/// the operation does not allow a pointer there.
 #[inline(always)]
 pub fn arithmetic(width: Width, operation: Operation, a: AbsVal, b: AbsVal) -> Option<AbsVal>
     ensures holds { IfSome result (λ r. (x y : Value) → Contains a x → Contains b y →
@@ -25,7 +27,7 @@ pub fn arithmetic(width: Width, operation: Operation, a: AbsVal, b: AbsVal) -> O
     combined(width, operation, a, b)
 }
 
-/// What a move gives: it reads the second value alone.
+/// Returns the abstract result of a move, which reads only the second value.
 #[inline(always)]
 fn moved(width: Width, b: AbsVal) -> Option<AbsVal>
     ensures holds { IfSome result (λ r. (x y : Value) → Contains b y → Gives r (result_of width Operation.Move x y)) }
@@ -41,7 +43,7 @@ fn moved(width: Width, b: AbsVal) -> Option<AbsVal>
     }
 }
 
-/// What an operation that reads both values gives.
+/// Returns the abstract result of an operation that reads both values.
 #[inline(always)]
 fn combined(width: Width, operation: Operation, a: AbsVal, b: AbsVal) -> Option<AbsVal>
     requires { operation ≢ Operation.Move }
@@ -59,7 +61,8 @@ fn combined(width: Width, operation: Operation, a: AbsVal, b: AbsVal) -> Option<
     }
 }
 
-/// What adding a number to a pointer gives, or taking it away; no other operation admits a pointer.
+/// Returns the abstract pointer after a number is added to it or subtracted from it. No other operation allows a
+/// pointer as its first operand.
 fn shifted(
     width: Width,
     operation: Operation,
@@ -83,7 +86,7 @@ fn shifted(
     }
 }
 
-/// What negating a value gives: nothing of a pointer.
+/// Returns the abstract result of negating a value, or `None` if the value may not be a number.
 pub fn negate(width: Width, a: AbsVal) -> Option<AbsVal>
     ensures holds { IfSome result (λ r. (x : Value) → Contains a x → Gives r (mapped (negated width) x)) }
     ensures exact { result ≡ negated_known width a }
@@ -94,7 +97,7 @@ pub fn negate(width: Width, a: AbsVal) -> Option<AbsVal>
     }
 }
 
-/// What extending the low bits of a value by their sign gives: nothing of a pointer.
+/// Returns the abstract result of sign-extending the low bits of a value, or `None` if the value may not be a number.
 pub fn sign_extend(width: Width, part: Narrow, a: AbsVal) -> Option<AbsVal>
     ensures holds { IfSome result (λ r. (x : Value) → Contains a x → Gives r (mapped (sign_extended width part) x)) }
     ensures exact { result ≡ extended_known width part a }
@@ -105,7 +108,8 @@ pub fn sign_extend(width: Width, part: Narrow, a: AbsVal) -> Option<AbsVal>
     }
 }
 
-/// What putting the low bytes of a value in order gives: nothing of a pointer.
+/// Returns the abstract result of putting the low bytes of a value in an order, or `None` if the value may not be a
+/// number.
 pub fn swap(order: ByteOrder, size: SwapSize, a: AbsVal) -> Option<AbsVal>
     ensures holds { IfSome result (λ r. (x : Value) → Contains a x → Gives r (mapped (swapped order size) x)) }
     ensures exact { result ≡ swapped_known order size a }

@@ -1,4 +1,4 @@
-//! Numbers added to pointers and taken from them.
+//! Pointer arithmetic: the offsets of a pointer after a range of numbers is added or subtracted.
 ghost use Rattle.std.specs.Prelude.{pos, negsuc, ◌≡◌, ◌≤◌, ◌+ℤ◌, ◌-ℤ◌, ◌≤ℤ◌, ℕ, ℤ, IfSome, Some, None, if◌then◌else◌};
 ghost use Rattle.std.specs.Int.{w64, cast_signed};
 ghost use Rattle.absval.specs.Limits.{is_near, IsOffset};
@@ -8,7 +8,7 @@ use crate::value::{LIMIT, Offsets};
 use range::Range;
 use std::marker::Model;
 
-/// A range of numbers read as signed.
+/// A range of numbers, read as signed.
 #[derive(Clone, Copy)]
 pub(crate) struct SignedRange {
     pub(crate) low: i64,
@@ -27,7 +27,7 @@ impl Model for SignedRange {
     ghost inverse = { λ v. record { low = v.0; high = v.1 } };
 }
 
-/// The numbers of the range as signed, where they are in a row.
+/// Returns the numbers of a range as signed, if they are consecutive as signed numbers too. Otherwise returns `None`.
 pub(crate) fn as_signed(range: Range) -> Option<SignedRange>
     ensures holds { IfSome result (λ s. (n : ℕ) → range.0 ≤ n → n ≤ range.1 →
         (s.0 ≤ℤ cast_signed w64 n) × (cast_signed w64 n ≤ℤ s.1)) }
@@ -41,7 +41,7 @@ pub(crate) fn as_signed(range: Range) -> Option<SignedRange>
     Some(SignedRange { low, high })
 }
 
-/// The offsets once the numbers are added, where none leaves the limit.
+/// Returns the offsets after the numbers are added, or `None` if an offset may leave the limit.
 pub(crate) fn raised(offsets: Offsets, by: SignedRange) -> Option<Offsets>
     ensures holds { IfSome result (λ r. (o z : ℤ) → offsets.0 ≤ℤ o → o ≤ℤ offsets.1 → by.0 ≤ℤ z → z ≤ℤ by.1 →
         (r.0 ≤ℤ (o +ℤ z)) × ((o +ℤ z) ≤ℤ r.1)) }
@@ -52,7 +52,7 @@ pub(crate) fn raised(offsets: Offsets, by: SignedRange) -> Option<Offsets>
     Some(Offsets { low, high })
 }
 
-/// The offsets once the numbers are taken away, where none leaves the limit.
+/// Returns the offsets after the numbers are subtracted, or `None` if an offset may leave the limit.
 pub(crate) fn lowered(offsets: Offsets, by: SignedRange) -> Option<Offsets>
     ensures holds { IfSome result (λ r. (o z : ℤ) → offsets.0 ≤ℤ o → o ≤ℤ offsets.1 → by.0 ≤ℤ z → z ≤ℤ by.1 →
         (r.0 ≤ℤ (o -ℤ z)) × ((o -ℤ z) ≤ℤ r.1)) }
@@ -63,7 +63,7 @@ pub(crate) fn lowered(offsets: Offsets, by: SignedRange) -> Option<Offsets>
     Some(Offsets { low, high })
 }
 
-/// An offset and a number, where the sum is within the limit.
+/// Adds a number to an offset. Returns `None` if the sum exceeds the limit.
 fn sum(offset: i32, by: i64) -> Option<i32>
     ensures same { IfSome result (λ r. r ≡ offset +ℤ by) }
     ensures limits { IfSome result IsOffset }
@@ -72,7 +72,7 @@ fn sum(offset: i32, by: i64) -> Option<i32>
     within(i64::from(offset).checked_add(by)?)
 }
 
-/// An offset less a number, where the difference is within the limit.
+/// Subtracts a number from an offset. Returns `None` if the difference exceeds the limit.
 fn difference(offset: i32, by: i64) -> Option<i32>
     ensures same { IfSome result (λ r. r ≡ offset -ℤ by) }
     ensures limits { IfSome result IsOffset }
@@ -81,7 +81,7 @@ fn difference(offset: i32, by: i64) -> Option<i32>
     within(i64::from(offset).checked_sub(by)?)
 }
 
-/// The offset, where it is within the limit.
+/// Returns the offset, or `None` if it exceeds the limit.
 fn within(offset: i64) -> Option<i32>
     ensures same { IfSome result (λ r. r ≡ offset) }
     ensures limits { IfSome result IsOffset }

@@ -1,4 +1,4 @@
-//! What is known of a value.
+//! Abstract values, and the offsets that an abstract pointer may have.
 ghost use Rattle.std.specs.Prelude.{◌≡◌};
 ghost use Rattle.std.specs.Ordering.{int_eq};
 
@@ -6,10 +6,10 @@ use crate::number_set::NumberSet;
 use semantics::Region;
 use std::marker::Model;
 
-/// The greatest distance of an offset from 0.
+/// The greatest distance of an offset from 0, in bytes.
 pub(crate) const LIMIT: i32 = 65_536;
 
-/// An offset that a pointer may have: within the limit.
+/// An offset that a pointer may have, from -65,536 to 65,536.
 #[derive(Clone, Copy)]
 pub struct Offset {
     pub at: i32,
@@ -28,7 +28,7 @@ impl Model for Offset {
     ghost inverse = { λ v. record { at = v } };
 }
 
-/// From which to which offset a pointer may point, both among them and within the limit.
+/// The offsets that a pointer may have, from `low` to `high`, including both. Both are within the limit.
 #[derive(Clone, Copy, PartialEq, Eq)]
 pub struct Offsets {
     pub low: i32,
@@ -49,7 +49,7 @@ impl Model for Offsets {
 }
 
 impl Offsets {
-    /// One offset.
+    /// Returns the offsets that consist of only one offset.
     pub fn exactly(offset: Offset) -> Offsets
         ensures { result ≡ (offset, offset) }
     {
@@ -59,7 +59,7 @@ impl Offsets {
         }
     }
 
-    /// The least of them.
+    /// Returns the least of the offsets.
     pub fn least(self) -> Offset
         ensures { result ≡ self.0 }
     {
@@ -67,7 +67,7 @@ impl Offsets {
         Offset { at: self.low }
     }
 
-    /// Whether it is one offset.
+    /// Checks whether there is only one offset.
     pub fn is_one(self) -> bool
         ensures { result ≡ int_eq self.0 self.1 }
     {
@@ -75,13 +75,13 @@ impl Offsets {
     }
 }
 
-/// What is known of a value.
+/// An abstract value: what the verifier knows of a value.
 #[derive(Clone, Copy)]
 pub enum AbsVal {
-    /// Nothing: it may be unset, a number or a pointer.
+    /// Nothing is known. The value may be unset, a number or a pointer.
     Unset,
-    /// It is a number of the set.
+    /// The value is a number of the set.
     Number(NumberSet),
-    /// It is a pointer into the region, at one of the offsets.
+    /// The value is a pointer into the region, at one of the offsets.
     Pointer(Region, Offsets),
 }

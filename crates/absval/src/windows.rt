@@ -1,3 +1,4 @@
+//! Windows: the cells of the stack or context that an access by an abstract pointer may touch.
 ghost use Rattle.std.specs.Prelude.{pos, ◌≡◌, ◌≢◌, ◌+◌, ◌≤◌, ◌≤ℤ◌, ◌+ℤ◌, ℕ, ℤ, IfSome, IfNone};
 ghost use Rattle.semantics.specs.declared.value.Region.{Region};
 ghost use Rattle.semantics.specs.Memory.{window as window_at, room_of};
@@ -6,16 +7,16 @@ ghost use Rattle.absval.specs.Windows.{base_of, LiesIn, window_known};
 use crate::value::Offsets;
 use semantics::Region;
 
-/// The cells that an access may touch.
+/// A window: the consecutive cells that an access may touch.
 #[derive(Clone, Copy)]
 pub struct Window {
-    /// The place of the first.
+    /// The place of the first cell.
     pub place: usize,
-    /// How many they are.
+    /// The number of cells.
     pub size: usize,
 }
 
-/// How many cells a region has.
+/// Returns the number of cells of a region.
 fn room(region: Region) -> usize
     ensures room { result ≡ room_of region }
     ensures few { result ≤ 4096 }
@@ -26,14 +27,15 @@ fn room(region: Region) -> usize
     }
 }
 
-/// An offset, a distance on.
+/// Returns the sum of an offset and a distance.
 fn sum(offset: i32, distance: i16) -> i64
     ensures { result ≡ offset +ℤ distance }
 {
     i64::from(offset) + i64::from(distance)
 }
 
-/// The cell at an offset, or the place behind the last one.
+/// Returns the place of the cell at an offset. The offset directly after the last cell has a place too. Returns `None`
+/// for any other offset outside the region.
 fn place_of(region: Region, at: i64) -> Option<usize>
     ensures place { IfSome result (λ n. pos n ≡ at +ℤ pos (base_of region)) }
     ensures none { IfNone result ((n : ℕ) → n ≤ room_of region → pos n ≢ at +ℤ pos (base_of region)) }
@@ -45,6 +47,7 @@ fn place_of(region: Region, at: i64) -> Option<usize>
     }
 }
 
+/// Returns the place at an offset of the stack, from -512 to 0.
 fn stack_place(at: i64) -> Option<usize>
     ensures place { IfSome result (λ n. pos n ≡ at +ℤ pos 512) }
     ensures none { IfNone result ((n : ℕ) → n ≤ 512 → pos n ≢ at +ℤ pos 512) }
@@ -56,6 +59,7 @@ fn stack_place(at: i64) -> Option<usize>
     Some((at + 512) as usize)
 }
 
+/// Returns the place at an offset of the context, from 0 to 4,096.
 fn context_place(at: i64) -> Option<usize>
     ensures place { IfSome result (λ n. pos n ≡ at +ℤ pos 0) }
     ensures none { IfNone result ((n : ℕ) → n ≤ 4096 → pos n ≢ at +ℤ pos 0) }
@@ -67,7 +71,8 @@ fn context_place(at: i64) -> Option<usize>
     Some(at as usize)
 }
 
-/// The cell a distance from an offset, or the place behind the last one.
+/// Returns the place of the cell at a distance from an offset. The offset directly after the last cell has a place too.
+/// Returns `None` for any other offset outside the region.
 fn place_at(region: Region, offset: i32, distance: i16) -> Option<usize>
     ensures place { IfSome result (λ n. pos n ≡ (offset +ℤ distance) +ℤ pos (base_of region)) }
     ensures none { IfNone result ((n : ℕ) → n ≤ room_of region → pos n ≢ (offset +ℤ distance) +ℤ pos (base_of region)) }
@@ -76,7 +81,8 @@ fn place_at(region: Region, offset: i32, distance: i16) -> Option<usize>
     place_of(region, sum(offset, distance))
 }
 
-/// The cells that an access of so many bytes may touch, a distance from a pointer, where all of them lie in its region.
+/// Returns the window that an access of `size` bytes at a distance from a pointer may touch. Returns `None` if a cell
+/// of it may lie outside the region.
 pub fn window_of(region: Region, offsets: Offsets, distance: i16, size: usize) -> Option<Window>
     requires { size ≤ 4096 }
     ensures exact { result ≡ window_known region offsets.0 offsets.1 distance size }
@@ -90,7 +96,8 @@ pub fn window_of(region: Region, offsets: Offsets, distance: i16, size: usize) -
     window_between(region, offsets.low, offsets.high, distance, size)
 }
 
-/// The same, at one offset.
+/// Returns the window that an access of `size` bytes at a distance from one offset touches. Returns `None` if a cell of
+/// it lies outside the region.
 fn window_at(region: Region, offset: i32, distance: i16, size: usize) -> Option<Window>
     requires { size ≤ 4096 }
     ensures exact { result ≡ window_known region offset offset distance size }
@@ -108,7 +115,8 @@ fn window_at(region: Region, offset: i32, distance: i16, size: usize) -> Option<
     Some(Window { place, size })
 }
 
-/// The same, from the least offset to the greatest.
+/// Returns the window that an access of `size` bytes at a distance from the offsets `low` to `high` may touch. Returns
+/// `None` if a cell of it may lie outside the region.
 fn window_between(region: Region, low: i32, high: i32, distance: i16, size: usize) -> Option<Window>
     requires { size ≤ 4096 }
     ensures exact { result ≡ window_known region low high distance size }

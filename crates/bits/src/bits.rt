@@ -1,4 +1,4 @@
-//! Words of which some bits are known.
+//! Words of which some bits are known: the type, membership and joins.
 
 ghost use Rattle.std.specs.Prelude.{◌≡◌, ◌↔◌, ◌≤◌, ◌<◌, ◌^◌, ℕ, IsTrue, bit_or};
 ghost use Rattle.word.specs.Arithmetic.{bits_of};
@@ -7,7 +7,7 @@ ghost use Rattle.bits.specs.Known.{HasBits, has_bits, single, unknown, joined};
 use std::marker::Model;
 use word::Width;
 
-/// The words whose known bits are these: a bit of the mask is unknown, any other is as in the value.
+/// The words with certain known bits. A bit of the mask is unknown, and any other bit is as in the value.
 #[derive(Clone, Copy)]
 pub struct Bits {
     /// The bits that are unknown.
@@ -29,7 +29,7 @@ impl Model for Bits {
 }
 
 impl Bits {
-    /// One number.
+    /// Returns the known bits of one number: all of them.
     pub fn exactly(n: u64) -> Bits
         ensures exact { result ≡ single n }
         ensures holds { HasBits result n }
@@ -37,7 +37,7 @@ impl Bits {
         Bits { mask: 0, value: n }
     }
 
-    /// All numbers of a width.
+    /// Returns the known bits of an arbitrary number of a width: all bits of the width are unknown.
     pub fn unknown(width: Width) -> Bits
         ensures exact { result ≡ unknown width }
         ensures holds { (x : ℕ) → x < 2 ^ bits_of width → HasBits result x }
@@ -49,7 +49,7 @@ impl Bits {
         Bits { mask, value: 0 }
     }
 
-    /// Whether a word has these bits.
+    /// Checks whether a word has these known bits.
     pub fn contains(self, x: u64) -> bool
         ensures exact { result ≡ has_bits self x }
         ensures means { IsTrue result ↔ HasBits self x }
@@ -57,7 +57,7 @@ impl Bits {
         x | self.mask == self.value | self.mask
     }
 
-    /// The least word that has these bits.
+    /// Returns the least word that has these known bits.
     pub fn least(self) -> u64
         ensures exact { result ≡ self.1 }
         ensures least { (x : ℕ) → HasBits self x → result ≤ x }
@@ -65,7 +65,7 @@ impl Bits {
         self.value
     }
 
-    /// The greatest word that has these bits.
+    /// Returns the greatest word that has these known bits.
     pub fn greatest(self) -> u64
         ensures exact { result ≡ bit_or self.1 self.0 }
         ensures greatest { (x : ℕ) → HasBits self x → x ≤ result }
@@ -73,7 +73,8 @@ impl Bits {
         self.value | self.mask
     }
 
-    /// The bits that both know, and know to be the same.
+    /// Returns the bits that both know, and know to be equal. The result contains every word that one of the two
+    /// contains.
     pub fn join(self, other: Bits) -> Bits
         ensures exact { result ≡ joined self other }
         ensures left { (x : ℕ) → HasBits self x → HasBits result x }

@@ -1,4 +1,4 @@
-//! Known bits of words: what is known of the bits of an operation's result, from those of its operands.
+//! Computes with known bits of words: from the known bits of the operands it computes those of an operation's result.
 #![tactic(auto)]
 
 pub mod bits;

@@ -1,4 +1,4 @@
--- The registers that an instruction reads (RFC 9669, sections 4 and 5; of a call those that its helper takes).
+-- Defines the registers that an instruction reads (RFC 9669, sections 4 and 5; of a call those that its helper takes).
 use Rattle.std.specs.Prelude.{ℕ, List, [], ◌∷◌, Option, Some, None}
 use Rattle.word.specs.declared.Operation.{Operation}
 use Rattle.word.specs.declared.Operation.TheVariants.{Move}
@@ -11,28 +11,32 @@ use Rattle.semantics.specs.Call.{helper_of}
 use Rattle.helper.specs.declared.argument.Argument.{Argument}
 use Rattle.helper.specs.Table.{arguments_of}
 
+-- Returns the register that an operand reads, if it is one.
 abbrev pub of_operand : Operand → Option ℕ
 of_operand (Register r) = Some r
 of_operand (Immediate n) = None
 
--- a move reads nothing of dst
+-- A move does not read dst.
 abbrev pub of_first : Operation → ℕ → Option ℕ
 of_first Move dst = None
 of_first _ dst = Some dst
 
+-- Returns the register of an argument, if the helper takes one there.
 abbrev pub of_argument : ℕ → Option Argument → Option ℕ
 of_argument r None = None
 of_argument r (Some argument) = Some r
 
+-- Returns the registers among r1, r2 and r3 that three arguments take.
 abbrev pub of_arguments : List (Option Argument) → List (Option ℕ)
 of_arguments (first ∷ second ∷ third ∷ []) = of_argument 1 first ∷ of_argument 2 second ∷ of_argument 3 third ∷ []
 of_arguments _ = None ∷ None ∷ None ∷ []
 
+-- Returns the registers in which a helper takes its arguments.
 abbrev pub of_helper : Option Helper → List (Option ℕ)
 of_helper None = None ∷ None ∷ None ∷ []
 of_helper (Some helper) = of_arguments (arguments_of helper)
 
--- up to three of them, in the order in which they are looked at
+-- The registers that an instruction reads, at most three, in the order in which the verifier checks them.
 abbrev pub read_by : Insn → List (Option ℕ)
 read_by (Arithmetic w operation dst operand) = of_first operation dst ∷ of_operand operand ∷ None ∷ []
 read_by (Negate w dst) = Some dst ∷ None ∷ None ∷ []

@@ -1,4 +1,4 @@
--- That a call returns a number of its range.
+-- States that a call returns a number within its range.
 use Rattle.std.specs.Prelude.{ℕ, ◌≡◌, true, List, Some}
 use Rattle.range.specs.Interval.{IsIn}
 use Rattle.semantics.specs.Relay.{IsRelay, Relay}
@@ -9,11 +9,11 @@ use Rattle.semantics.specs.State.{State, Next, Ask, value_at}
 use Rattle.semantics.specs.Call.{called, fits, resumed}
 pub use Rattle.helper.specs.Table.{returned_range}
 
--- r0 holds a number of the interval
+-- r0 holds a number of the interval.
 abbrev pub HoldsResult : ℕ → ℕ → State → Type 0
 HoldsResult lo hi s = (n : ℕ) × (value_at s.registers 0 ≡ Number n) × IsIn lo hi n
 
--- a call, and a call that the board has answered, leave a number of the interval in r0
+-- A call leaves a number of the interval in r0, at once or after the board has answered.
 pub record Returns (helper : Helper) (lo hi : ℕ) : Type 0 where
   pub at_once : (context : List ℕ) (relay : Relay) (s after : State) → IsRelay relay →
       called context relay s (Some helper) ≡ Next after → HoldsResult lo hi after

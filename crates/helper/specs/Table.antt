@@ -1,4 +1,4 @@
--- What the helpers take, and what they return.
+-- Defines the arguments that helpers take, and the numbers that they return.
 use Rattle.std.specs.Prelude.{ℕ, ◌+◌, ◌-◌, ◌^◌, ◌≡◌, List, [], ◌∷◌, Option, Some, None, Result, Ok, Err}
 use Rattle.semantics.specs.Limits.{board_words, most_generals, most_held, most_labels, receiver_sets}
 use Rattle.semantics.specs.Relay.{Relay}
@@ -10,7 +10,7 @@ use Rattle.semantics.specs.Call.{below, pointer, called}
 use Rattle.helper.specs.declared.argument.Argument.{Argument}
 use Rattle.helper.specs.declared.argument.Argument.TheVariants.{Slot, Word, Label, Receiver, Words, Orders, Held, Receivers, StackPointer, ReadablePointer}
 
--- an argument that is a number is below this one
+-- Returns the bound below which a number must be as this argument. Pointers have no bound.
 abbrev pub bound_of : Argument → Option ℕ
 bound_of Slot = Some board_words
 bound_of Word = Some (2 ^ 64)
@@ -23,6 +23,7 @@ bound_of Receivers = Some receiver_sets
 bound_of StackPointer = None
 bound_of ReadablePointer = None
 
+-- Returns the arguments that a helper takes in r1, r2 and r3.
 abbrev pub arguments_of : Helper → List (Option Argument)
 arguments_of BoardGet = Some Slot ∷ None ∷ None ∷ []
 arguments_of BoardSwap = Some Slot ∷ Some Word ∷ None ∷ []
@@ -36,7 +37,7 @@ arguments_of Honest = Some Receiver ∷ None ∷ None ∷ []
 arguments_of SignOrder = Some Word ∷ Some Receivers ∷ None ∷ []
 arguments_of PassOn = Some Held ∷ Some Receivers ∷ None ∷ []
 
--- the least and the greatest number that they return in r0
+-- Returns the least and the greatest number that a helper returns in r0.
 abbrev pub returned_range : Helper → ℕ × ℕ
 returned_range BoardGet = (0, 2 ^ 64 - 1)
 returned_range BoardSwap = (0, 2 ^ 64 - 1)
@@ -50,40 +51,42 @@ returned_range Honest = (0, most_labels)
 returned_range SignOrder = (0, 1)
 returned_range PassOn = (0, 1)
 
--- why a call refuses a result
+-- Returns the cause of a failure, or nothing if there is a result.
 abbrev pub refusal : {A : Type 0} → Result A Cause → Option Cause
 refusal (Ok a) = None
 refusal (Err cause) = Some cause
 
--- the test of a value: a number below its bound, or a pointer
+-- Checks a value as an argument. If there is a bound, it must be a number below the bound. Otherwise it must be a
+-- pointer. Returns the cause if the value is rejected.
 abbrev pub test_of : Option ℕ → Value → Option Cause
 test_of (Some bound) v = refusal (below bound v)
 test_of None v = refusal (pointer v)
 
--- the first refusal of the arguments in the registers from r on
+-- Returns the first cause if there is one, otherwise the second.
 abbrev pub or_else : Option Cause → Option Cause → Option Cause
 or_else (Some cause) other = Some cause
 or_else None other = other
 
+-- Returns the cause for the first argument that is rejected, in the registers from `r` on.
 abbrev pub refused : List (Option Argument) → ℕ → List Value → Option Cause
 refused [] r registers = None
 refused (None ∷ arguments) r registers = refused arguments (r + 1) registers
 refused (Some argument ∷ arguments) r registers =
     or_else (test_of (bound_of argument) (value_at registers r)) (refused arguments (r + 1) registers)
 
--- a call of the helper traps for the first of these arguments that is refused
+-- A call of the helper traps for the first of these arguments that is rejected.
 abbrev pub TestsThese : Helper → List (Option Argument) → Type 0
 TestsThese helper arguments =
     (context : List ℕ) (relay : Relay) (s : State) (cause : Cause) → refused arguments 1 s.registers ≡ Some cause
     → called context relay s (Some helper) ≡ Trap cause
 
--- the helpers that also go by the cells at a pointer
+-- The helper also depends on the cells at a pointer.
 abbrev pub HasWindow : Helper → Type 0
 HasWindow BoardCopy = Unit {0}
 HasWindow SendRow = Unit {0}
 HasWindow _ = ⊥
 
--- where none of these is refused, a call traps only for what is at a pointer
+-- If none of these arguments is rejected, a call traps only if the helper also depends on the cells at a pointer.
 abbrev pub AcceptsThese : Helper → List (Option Argument) → Type 0
 AcceptsThese helper arguments =
     (context : List ℕ) (relay : Relay) (s : State) (cause : Cause) → refused arguments 1 s.registers ≡ None

@@ -1,22 +1,23 @@
+//! Kinds of arguments that helpers take in registers, and the limits of those that are numbers.
 ghost use Rattle.std.specs.Prelude.{◌≡◌, ◌+◌, option_map};
 ghost use Rattle.helper.specs.Table.{bound_of};
 
-/// The words of the board.
+/// The number of words of the board.
 pub const BOARD_WORDS: u64 = 64;
 
-/// The generals of the largest campaign.
+/// The number of generals in the largest campaign.
 pub const MOST_GENERALS: u64 = 13;
 
-/// The labels that a context has room for.
+/// The number of labels that a context has room for.
 pub const MOST_LABELS: u64 = 1016;
 
-/// The chains of a signed campaign that a general may hold.
+/// The number of chains that a general may hold in a signed campaign.
 pub const MOST_HELD: u64 = 384;
 
-/// The sets of generals, a bit of a word for each.
+/// The number of sets of generals. A set has one bit of a word for each general.
 pub const RECEIVER_SETS: u64 = 8192;
 
-/// What a helper takes in a register.
+/// The kind of argument that a helper takes in a register.
 #[derive(Clone, Copy, PartialEq, Eq)]
 pub enum Argument {
     /// The number of a word of the board, 0 to 63.
@@ -27,22 +28,22 @@ pub enum Argument {
     Label,
     /// The number of a general, 0 to 12.
     Receiver,
-    /// How many words of the board, 0 to 64.
+    /// A count of words of the board, 0 to 64.
     Words,
-    /// How many orders, 0 to 13.
+    /// A count of orders, 0 to 13.
     Orders,
     /// The place of a chain that the general holds, 0 to 383.
     Held,
-    /// Receivers as the bits of a number, bit g for general g, 0 to 8191.
+    /// A set of receivers as a number from 0 to 8191. Bit g is set if general g is a receiver.
     Receivers,
-    /// A pointer to cells of the stack, to be written.
+    /// A pointer to cells of the stack, which the helper writes.
     StackPointer,
-    /// A pointer to bytes of the stack or the context, to be read.
+    /// A pointer to bytes of the stack or the context, which the helper reads.
     ReadablePointer,
 }
 
 impl Argument {
-    /// The greatest number that it may be; a pointer has none.
+    /// Returns the greatest number that the argument may be, or `None` if it is a pointer.
     pub fn greatest(self) -> Option<u64>
         ensures { option_map (λ n. n + 1) result ≡ bound_of self }
     {

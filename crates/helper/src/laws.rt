@@ -1,9 +1,10 @@
-//! Laws of calls: each function does nothing, and its contract is the law.
+//! Laws of calls. Each function does nothing, and its contract is the law.
 ghost use Rattle.helper.specs.Windows.{CallsTrapByTable};
 
-/// A call traps exactly for the first of its arguments that is refused, or where none is, for what is
-/// refused of them together: a slot and a count past the board, or a window of 8 bytes a word that is
-/// no part of the stack, or of 4 bytes an order that cannot be read.
+/// States when a call traps. It traps for the first of its arguments that is rejected by itself. If there is none, it
+/// traps if the arguments are rejected together: a slot and a count go past the board, or the window of a pointer is
+/// rejected. A window that is written must be on the stack, with 8 bytes for each word. A window that is read must hold
+/// bytes, 4 for each order. Otherwise the call does not trap.
 pub fn calls_trap_by_the_table()
     ensures { CallsTrapByTable }
 {}

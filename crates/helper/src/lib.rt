@@ -1,4 +1,4 @@
-//! The helpers that programs call: their numbers, what they take, and what they return.
+//! The helpers that programs call: their numbers, their arguments, and the numbers that they return.
 #![tactic(auto)]
 
 mod argument;

@@ -1,4 +1,4 @@
-//! The registers that an instruction reads.
+//! Registers that an instruction reads.
 ghost use Rattle.std.specs.Prelude.{◌≡◌, ◌≤◌, ◌∷◌, []};
 ghost use Rattle.semantics.specs.Call.{helper_of};
 ghost use Rattle.helper.specs.declared.argument.Argument.{Argument};
@@ -9,10 +9,10 @@ use crate::table::{arguments, helper_of};
 use insn::{Insn, Operand, Reg};
 use word::Operation;
 
-/// Up to three registers.
+/// A list of up to three registers.
 pub type RegisterTriple = [Option<Reg>; 3];
 
-/// The register that an operand is.
+/// Returns the register of an operand, or `None` if the operand is an immediate number.
 pub fn of_operand(operand: Operand) -> Option<Reg>
     ensures { result ≡ of_operand operand }
 {
@@ -22,7 +22,7 @@ pub fn of_operand(operand: Operand) -> Option<Reg>
     }
 }
 
-/// What an operation reads of its destination: a move nothing.
+/// Returns the destination register if the operation reads it. A move does not read it.
 pub fn of_first(operation: Operation, dst: Reg) -> Option<Reg>
     ensures { result ≡ of_first operation dst }
 {
@@ -32,7 +32,7 @@ pub fn of_first(operation: Operation, dst: Reg) -> Option<Reg>
     }
 }
 
-/// The register of a number.
+/// Returns the register with a number.
 pub fn numbered(number: u8) -> Reg
     requires { number ≤ 10 }
     ensures { result ≡ number }
@@ -43,7 +43,7 @@ pub fn numbered(number: u8) -> Reg
     }
 }
 
-/// The register of an argument, where the helper takes one there.
+/// Returns the register of an argument, or `None` if the helper takes no argument there.
 fn of_argument(number: u8, argument: Option<Argument>) -> Option<Reg>
     requires { number ≤ 10 }
     ensures { result ≡ of_argument number argument }
@@ -54,7 +54,8 @@ fn of_argument(number: u8, argument: Option<Argument>) -> Option<Reg>
     }
 }
 
-/// The registers that the helper of a number takes.
+/// Returns the registers in which the helper with a number takes its arguments. If there is no such helper, there are
+/// none.
 fn of_call(number: i32) -> RegisterTriple
     ensures { result ≡ of_helper (helper_of number) }
 {
@@ -69,7 +70,7 @@ fn of_call(number: i32) -> RegisterTriple
     ]
 }
 
-/// The registers that an instruction reads, in the order in which they are looked at.
+/// Returns the registers that an instruction reads, in the order in which the verifier checks them.
 pub fn read_by(insn: &Insn) -> RegisterTriple
     ensures { result ≡ read_by insn.now }
 {

@@ -1,3 +1,4 @@
+//! The table of helpers: numbers, arguments and ranges of results.
 ghost use Rattle.std.specs.Prelude.{◌≡◌};
 ghost use Rattle.semantics.specs.Call.{helper_of};
 ghost use Rattle.helper.specs.Table.{arguments_of, AcceptsThese, TestsThese};
@@ -7,7 +8,7 @@ use crate::argument::{Argument, BOARD_WORDS, MOST_GENERALS, MOST_LABELS};
 use range::Range;
 use semantics::Helper;
 
-/// The helper of a number, where there is one: 1 to 11.
+/// Returns the helper with a number from 1 to 11, or `None` for any other number.
 pub fn helper_of(number: i32) -> Option<Helper>
     ensures { result ≡ helper_of number }
 {
@@ -27,7 +28,7 @@ pub fn helper_of(number: i32) -> Option<Helper>
     }
 }
 
-/// What the helper takes in r1, r2 and r3. Each is tested in this order, as a call does.
+/// Returns the arguments that the helper takes in r1, r2 and r3. A call checks them in this order.
 pub fn arguments(helper: Helper) -> [Option<Argument>; 3]
     ensures exact { result ≡ arguments_of helper }
     ensures tests { TestsThese helper (arguments_of helper) }
@@ -60,7 +61,7 @@ pub fn arguments(helper: Helper) -> [Option<Argument>; 3]
     [Some(first), second, third]
 }
 
-/// What the helper returns in r0.
+/// Returns the range of the number that the helper returns in r0.
 pub fn result(helper: Helper) -> Range
     ensures exact { result ≡ returned_range helper }
     ensures holds { Returns helper (returned_range helper).0 (returned_range helper).1 }

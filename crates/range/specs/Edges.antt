@@ -1,5 +1,5 @@
--- What a conditional jump tells of two intervals p and q on one of its edges: nothing is left where no pair of numbers
--- takes it.
+-- Defines what a conditional jump implies about two intervals p and q on one of its edges. Nothing remains if no pair
+-- of numbers takes the edge.
 use Rattle.std.specs.Prelude.{ℕ, ◌+◌, ◌-◌, ◌^◌, min, max, Bool, true, false, not, ◌&&◌, ◌==◌, nat_lt, nat_le, if◌then◌else◌, Option, Some, None}
 use Rattle.word.specs.Arithmetic.{bits_of}
 use Rattle.word.specs.declared.Width.{Width}
@@ -8,39 +8,44 @@ use Rattle.word.specs.declared.Condition.TheVariants.{Equal, Above, AtLeast, Any
 use Rattle.range.specs.Interval.{IsIn}
 use Rattle.range.specs.Table.{sign_limit}
 
+-- Two intervals, each given by its ends.
 abbrev pub Pair : Type 0
 Pair = (ℕ × ℕ) × (ℕ × ℕ)
 
--- both intervals, if neither is empty
+-- Returns both intervals if neither is empty.
 abbrev pub both : ℕ × ℕ → ℕ × ℕ → Option Pair
 both p q = if nat_lt p.1 p.0 then None else (if nat_lt q.1 q.0 then None else Some (p, q))
 
--- the same two the other way round
+-- Exchanges the two intervals.
 abbrev pub exchanged : Option Pair → Option Pair
 exchanged None = None
 exchanged (Some e) = Some (e.1, e.0)
 
--- p less the one number of q, where that is an end of p
+-- Removes the only number of q from p, if it is an end of p. If q has several numbers, p stays as it is.
 abbrev pub without : ℕ × ℕ → ℕ × ℕ → ℕ × ℕ
 without p q =
     if q.0 == q.1
     then (if p.0 == q.0 then (p.0 + 1, p.1) else (if p.1 == q.0 then (p.0, p.1 - 1) else p))
     else p
 
--- the edges on which the first number is equal to the second, differs from it, is above it, is at least it
+-- Returns what remains where the first number equals the second.
 abbrev pub equal : ℕ × ℕ → ℕ × ℕ → Option Pair
 equal p q = both (max p.0 q.0, min p.1 q.1) (max p.0 q.0, min p.1 q.1)
 
+-- Returns what remains where the first number differs from the second.
 abbrev pub different : ℕ × ℕ → ℕ × ℕ → Option Pair
 different p q = both (without p q) (without q p)
 
+-- Returns what remains where the first number is above the second.
 abbrev pub above : ℕ × ℕ → ℕ × ℕ → Option Pair
 above p q = both (max p.0 (q.0 + 1), p.1) (q.0, min q.1 (p.1 - 1))
 
+-- Returns what remains where the first number is at least the second.
 abbrev pub at_least : ℕ × ℕ → ℕ × ℕ → Option Pair
 at_least p q = both (max p.0 q.0, p.1) (q.0, min q.1 p.1)
 
--- the edge on which a condition holds of two intervals whose numbers read the same as signed
+-- Returns what remains on the edge on which a condition holds. The numbers of both intervals must have the same value
+-- signed and unsigned if the condition is signed.
 abbrev pub edge : Condition → ℕ × ℕ → ℕ × ℕ → Option Pair
 edge Equal p q = equal p q
 edge NotEqual p q = different p q
@@ -54,7 +59,8 @@ edge AtMost p q = exchanged (at_least q p)
 edge SignedAtMost p q = exchanged (at_least q p)
 edge AnyBit p q = Some (p, q)
 
--- the same of two numbers; any two may share a bit, and may not
+-- Checks whether a condition holds of two numbers that have the same value signed and unsigned. For `AnyBit` it is
+-- always true, because nothing is concluded from shared bits.
 abbrev pub meets : Condition → ℕ → ℕ → Bool
 meets Equal x y = x == y
 meets NotEqual x y = not (x == y)
@@ -68,7 +74,7 @@ meets AtMost x y = nat_le x y
 meets SignedAtMost x y = nat_le x y
 meets AnyBit x y = true
 
--- the condition of the other edge
+-- Returns the condition of the other edge. For `AnyBit` it is `AnyBit`, because neither edge refines anything.
 abbrev pub opposite : Condition → Condition
 opposite Equal = NotEqual
 opposite NotEqual = Equal
@@ -82,7 +88,8 @@ opposite SignedAtLeast = SignedBelow
 opposite SignedBelow = SignedAtLeast
 opposite AnyBit = AnyBit
 
--- only numbers below it are refined: those of the width, for signed conditions those that are not negative
+-- Returns the limit below which numbers are refined: the numbers of the width, and for signed conditions those that are
+-- not negative.
 abbrev pub edge_limit : Width → Condition → ℕ
 edge_limit w SignedAbove = sign_limit w
 edge_limit w SignedAtLeast = sign_limit w
@@ -96,11 +103,12 @@ edge_limit w Below = 2 ^ bits_of w
 edge_limit w AtMost = 2 ^ bits_of w
 edge_limit w AnyBit = 2 ^ bits_of w
 
+-- Returns what remains on the edge where a condition holds, or on the other edge.
 abbrev pub edge_taken : Condition → Bool → ℕ × ℕ → ℕ × ℕ → Option Pair
 edge_taken condition true p q = edge condition p q
 edge_taken condition false p q = edge (opposite condition) p q
 
--- whether the numbers share a bit tells nothing of them
+-- Checks whether a condition says anything about the numbers. That they share a bit says nothing.
 abbrev pub tells : Condition → Bool
 tells AnyBit = false
 tells Equal = true
@@ -114,19 +122,19 @@ tells SignedAtLeast = true
 tells SignedBelow = true
 tells SignedAtMost = true
 
--- whether a condition tells anything of two intervals
+-- Checks whether a condition refines two intervals.
 abbrev pub is_refined : Width → Condition → ℕ × ℕ → ℕ × ℕ → Bool
 is_refined w condition p q =
     (nat_lt p.1 (edge_limit w condition) && nat_lt q.1 (edge_limit w condition)) && tells condition
 
--- what is left of two intervals where a jump on a condition is taken, or is not
+-- Returns what remains of two intervals if a jump on a condition is taken, or is not taken.
 unfoldable pub refined : Width → Condition → Bool → ℕ × ℕ → ℕ × ℕ → Option Pair
 refined w condition taken p q =
     if nat_lt p.1 (edge_limit w condition) && nat_lt q.1 (edge_limit w condition)
     then edge_taken condition taken p q
     else Some (p, q)
 
--- there are two ranges, and they hold the two numbers
+-- Two intervals remain, and they hold the two numbers.
 abbrev pub HoldBoth : Option Pair → ℕ → ℕ → Type 0
 HoldBoth None x y = ⊥
 HoldBoth (Some e) x y = IsIn e.0.0 e.0.1 x × IsIn e.1.0 e.1.1 y

@@ -1,4 +1,4 @@
-//! What a conditional jump tells of the ranges that it compared.
+//! Refinement of two ranges by a conditional jump that compared them, where it is taken and where it is not.
 
 ghost use Rattle.std.specs.Prelude.{◌≡◌, ◌≢◌, ◌<◌, ◌≤◌, ◌+◌, ℕ, IsTrue, true};
 ghost use Rattle.word.specs.Arithmetic.{compared};
@@ -9,8 +9,8 @@ use crate::range::Range;
 use crate::width::{greatest, least_negative};
 use word::{Condition, Width};
 
-/// What is left of two ranges where a jump on a condition is taken, or is not taken; None where no pair of
-/// their numbers goes that way.
+/// Returns what remains of two ranges if a jump on a condition is taken, or is not taken. Returns `None` if no pair of
+/// their numbers takes that edge.
 #[inline(always)]
 pub fn refine(
     width: Width,
@@ -33,7 +33,7 @@ pub fn refine(
     edge_where(other_edge(condition), a, b)
 }
 
-/// Whether anything is told of two ranges on an edge of a jump on the condition.
+/// Checks whether a jump on the condition can refine the two ranges on its edges.
 #[inline(always)]
 pub fn tells(width: Width, condition: Condition, a: Range, b: Range) -> bool
     ensures { result ≡ is_refined width condition a b }
@@ -42,7 +42,8 @@ pub fn tells(width: Width, condition: Condition, a: Range, b: Range) -> bool
     a.hi <= limit && b.hi <= limit && condition != Condition::AnyBit
 }
 
-/// The greatest number that is refined: of a signed condition the greatest that is not negative.
+/// Returns the greatest number that a condition refines. For a signed condition it is the greatest number that is not
+/// negative.
 #[inline(always)]
 fn greatest_refined(width: Width, condition: Condition) -> u64
     ensures { result + 1 ≡ edge_limit width condition }
@@ -62,7 +63,8 @@ fn greatest_refined(width: Width, condition: Condition) -> u64
     }
 }
 
-/// The condition that holds where this one does not.
+/// Returns the condition that holds exactly where `condition` does not. For `AnyBit`, which refines nothing, it returns
+/// `AnyBit`.
 #[inline(always)]
 fn other_edge(condition: Condition) -> Condition
     ensures { result ≡ opposite condition }
@@ -82,7 +84,8 @@ fn other_edge(condition: Condition) -> Condition
     }
 }
 
-/// What is left where a condition holds of numbers that are the same as signed.
+/// Returns what remains of two ranges if a condition holds. Their numbers must have the same value signed and unsigned
+/// if the condition is signed.
 #[inline(always)]
 fn edge_where(condition: Condition, a: Range, b: Range) -> Option<(Range, Range)>
     ensures exact { result ≡ edge condition a b }
@@ -104,7 +107,7 @@ fn edge_where(condition: Condition, a: Range, b: Range) -> Option<(Range, Range)
     }
 }
 
-/// The two ranges the other way round.
+/// Exchanges the two ranges.
 fn turned(pair: Option<(Range, Range)>) -> Option<(Range, Range)>
     ensures exact { result ≡ exchanged pair }
     ensures holds { (x y : ℕ) → HoldBoth pair y x → HoldBoth result x y }
@@ -115,7 +118,7 @@ fn turned(pair: Option<(Range, Range)>) -> Option<(Range, Range)>
     }
 }
 
-/// What is left where both numbers are the same.
+/// Returns what remains of two ranges if both numbers are equal.
 #[inline(always)]
 fn where_equal(a: Range, b: Range) -> Option<(Range, Range)>
     ensures exact { result ≡ equal a b }
@@ -130,7 +133,7 @@ fn where_equal(a: Range, b: Range) -> Option<(Range, Range)>
     Some((common, common))
 }
 
-/// What is left where the numbers differ.
+/// Returns what remains of two ranges if the numbers differ.
 #[inline(always)]
 fn where_different(a: Range, b: Range) -> Option<(Range, Range)>
     ensures exact { result ≡ different a b }
@@ -142,7 +145,7 @@ fn where_different(a: Range, b: Range) -> Option<(Range, Range)>
     Some((less_number(a, b), less_number(b, a)))
 }
 
-/// A range less the other's only number, where that is one of its ends.
+/// Removes the only number of `b` from `a`, if it is an end of `a`. If `b` has several numbers, returns `a`.
 #[inline(always)]
 fn less_number(a: Range, b: Range) -> Range
     requires { a.0 ≡ b.1 → b.0 ≢ a.1 }
@@ -167,7 +170,7 @@ fn less_number(a: Range, b: Range) -> Range
     a
 }
 
-/// What is left where the first number is above the second.
+/// Returns what remains of two ranges if the first number is above the second.
 #[inline(always)]
 fn where_above(a: Range, b: Range) -> Option<(Range, Range)>
     ensures exact { result ≡ above a b }
@@ -187,7 +190,7 @@ fn where_above(a: Range, b: Range) -> Option<(Range, Range)>
     Some((first, second))
 }
 
-/// What is left where the first number is at least the second.
+/// Returns what remains of two ranges if the first number is at least the second.
 #[inline(always)]
 fn where_at_least(a: Range, b: Range) -> Option<(Range, Range)>
     ensures exact { result ≡ at_least a b }

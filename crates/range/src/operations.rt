@@ -1,4 +1,4 @@
-//! The table of operations.
+//! Ranges of the results of operations with two operands: the table of operations.
 
 ghost use Rattle.std.specs.Prelude.{◌≡◌, ◌<◌, ◌^◌, ℕ};
 ghost use Rattle.word.specs.Arithmetic.{bits_of, arithmetic};
@@ -11,8 +11,8 @@ use crate::{bit_operations, quotients, shifts, sums};
 use word::arithmetic::{alu32, alu64};
 use word::{Operation, Width};
 
-/// The range of what an operation makes of a number of `a` and one of `b`: where each is one number,
-/// their result alone. Its code, which is long, stands once.
+/// Returns the range of an operation's results for a number of `a` and one of `b`. If each range has one number, it is
+/// exactly their result. The function is not inlined, because its code is long.
 #[inline(never)]
 pub fn operate(width: Width, operation: Operation, a: Range, b: Range) -> Range
     ensures exact { result ≡ table width operation a.0 a.1 b.0 b.1 }
@@ -28,7 +28,7 @@ pub fn operate(width: Width, operation: Operation, a: Range, b: Range) -> Range
     by_row(width, operation, a, b)
 }
 
-/// The result of an operation on two words.
+/// Computes the result of an operation on two words.
 fn computed(width: Width, operation: Operation, a: u64, b: u64) -> u64
     ensures exact { result ≡ arithmetic width operation a b }
     ensures below { result < 2 ^ bits_of width }
@@ -39,7 +39,7 @@ fn computed(width: Width, operation: Operation, a: u64, b: u64) -> u64
     }
 }
 
-/// The operation's row of the table.
+/// Returns the range of an operation's results by the operation's row of the table. Both ranges must be of the width.
 fn by_row(width: Width, operation: Operation, a: Range, b: Range) -> Range
     requires left { a.1 < 2 ^ bits_of width }
     requires right { b.1 < 2 ^ bits_of width }

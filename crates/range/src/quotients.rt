@@ -8,7 +8,7 @@ use crate::range::Range;
 use crate::width::{least_negative, of_width};
 use word::Width;
 
-/// The range of the quotients, 0 where the divisor is.
+/// Returns the range of the quotients. A quotient by 0 is 0.
 pub(crate) fn divide(width: Width, a: Range, b: Range) -> Range
     ensures exact { result ≡ quotients a.0 a.1 b.0 b.1 }
     ensures below { result.1 ≤ a.1 }
@@ -26,7 +26,7 @@ pub(crate) fn divide(width: Width, a: Range, b: Range) -> Range
     Range { lo: 0, hi: a.hi }
 }
 
-/// The range of what is left, the first number where the divisor is 0.
+/// Returns the range of the remainders. The remainder of a number divided by 0 is that number.
 pub(crate) fn remain(width: Width, a: Range, b: Range) -> Range
     ensures exact { result ≡ remainders a.0 a.1 b.0 b.1 }
     ensures below { result.1 ≤ a.1 }
@@ -47,7 +47,7 @@ pub(crate) fn remain(width: Width, a: Range, b: Range) -> Range
     Range { lo: 0, hi: a.hi }
 }
 
-/// The range of the signed quotients.
+/// Returns the range of the signed quotients. If a number may be negative, it is the whole width.
 pub(crate) fn divide_signed(width: Width, a: Range, b: Range) -> Range
     requires left { a.1 < 2 ^ bits_of width }
     requires right { b.1 < 2 ^ bits_of width }
@@ -61,7 +61,7 @@ pub(crate) fn divide_signed(width: Width, a: Range, b: Range) -> Range
     of_width(width)
 }
 
-/// The range of what signed division leaves.
+/// Returns the range of the signed remainders. If a number may be negative, it is the whole width.
 pub(crate) fn remain_signed(width: Width, a: Range, b: Range) -> Range
     requires left { a.1 < 2 ^ bits_of width }
     requires right { b.1 < 2 ^ bits_of width }

@@ -8,7 +8,7 @@ use crate::range::Range;
 use crate::width::{bit_count, greatest, least_negative, of_width};
 use word::Width;
 
-/// The range of the numbers shifted left.
+/// Returns the range of the numbers of `a` shifted left by those of `b`.
 pub(crate) fn shift_left(width: Width, a: Range, b: Range) -> Range
     requires left { a.1 < 2 ^ bits_of width }
     ensures exact { result ≡ left_shifts width a.0 a.1 b.0 b.1 }
@@ -27,7 +27,7 @@ pub(crate) fn shift_left(width: Width, a: Range, b: Range) -> Range
     }
 }
 
-/// The range of the numbers shifted right.
+/// Returns the range of the numbers of `a` shifted right by those of `b`. The bits that come in are zeros.
 pub(crate) fn shift_right(width: Width, a: Range, b: Range) -> Range
     ensures exact { result ≡ right_shifts width a.0 a.1 b.0 b.1 }
     ensures below { result.1 ≤ a.1 }
@@ -42,7 +42,7 @@ pub(crate) fn shift_right(width: Width, a: Range, b: Range) -> Range
     }
 }
 
-/// The range of the numbers shifted right, their sign coming in from above.
+/// Returns the range of the numbers of `a` shifted right by those of `b`. The bits that come in are copies of the sign.
 pub(crate) fn shift_signed(width: Width, a: Range, b: Range) -> Range
     requires left { a.1 < 2 ^ bits_of width }
     ensures exact { result ≡ signed_shifts width a.0 a.1 b.0 b.1 }

@@ -8,7 +8,7 @@ use crate::range::Range;
 use crate::width::{greatest, of_width};
 use word::Width;
 
-/// The range of the wrapping sums.
+/// Returns the range of the wrapping sums.
 pub(crate) fn add(width: Width, a: Range, b: Range) -> Range
     requires left { a.1 < 2 ^ bits_of width }
     requires right { b.1 < 2 ^ bits_of width }
@@ -31,7 +31,7 @@ pub(crate) fn add(width: Width, a: Range, b: Range) -> Range
     of_width(width)
 }
 
-/// The range of the wrapping differences.
+/// Returns the range of the wrapping differences.
 pub(crate) fn subtract(width: Width, a: Range, b: Range) -> Range
     requires left { a.1 < 2 ^ bits_of width }
     requires right { b.1 < 2 ^ bits_of width }
@@ -54,7 +54,7 @@ pub(crate) fn subtract(width: Width, a: Range, b: Range) -> Range
     of_width(width)
 }
 
-/// The range of the wrapping products.
+/// Returns the range of the wrapping products.
 pub(crate) fn multiply(width: Width, a: Range, b: Range) -> Range
     requires left { a.1 < 2 ^ bits_of width }
     requires right { b.1 < 2 ^ bits_of width }

@@ -1,4 +1,4 @@
--- Laws of causes.
+-- States the law of transfers.
 use Rattle.std.specs.Prelude.{◌≡◌, None}
 use Rattle.insn.specs.declared.insn.Insn.{Insn}
 use Rattle.verify.specs.declared.state.AbsState.{AbsState}
@@ -6,6 +6,6 @@ use Rattle.verify.specs.Instructions.{reason_of}
 use Rattle.verify.specs.Transfer.{transfer}
 use Rattle.reaching.specs.Left.{left}
 
--- what is left by an instruction that may run is what the verifier's transfer leaves
+-- For an instruction that may run, `left` is what the verifier's transfer results in.
 abbrev pub LeftIsTransfer : Type 0
 LeftIsTransfer = (i : Insn) (a : AbsState) → reason_of i a ≡ None → left i a ≡ transfer i a

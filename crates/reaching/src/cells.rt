@@ -1,4 +1,4 @@
-//! What is known of one cell of a stack.
+//! Cells of an abstract stack: what is known of each one.
 ghost use Rattle.std.specs.Prelude.{◌≡◌, ◌≤◌, ◌+◌, IfSome};
 ghost use Rattle.semantics.specs.Memory.{is_same_region};
 ghost use Rattle.reaching.specs.Contents.{pointer_from, pointer_over, content_in, held_at, same_content};
@@ -7,18 +7,18 @@ use absmem::AbsStack;
 use absval::Offset;
 use semantics::Region;
 
-/// What is known of a cell.
+/// What is known of a cell of the stack.
 #[derive(Clone, Copy)]
 pub enum CellContent {
-    /// Nothing: it may be unset, or hold different things on different ways.
+    /// Nothing is known. The cell may be unset, or hold different things on different paths.
     Unset,
-    /// A byte.
+    /// The cell holds a byte.
     Byte,
-    /// A piece of the pointer that stands there whole.
+    /// The cell holds a piece of a pointer that is stored whole. The region and the offset are those of the pointer.
     Piece(Region, i32),
 }
 
-/// The pointer that begins at a place.
+/// Returns the whole pointer that is known to begin at a place.
 fn pointer_from(stack: &AbsStack, place: usize) -> Option<(Region, Offset)>
     ensures { result ≡ pointer_from stack.now place }
 {
@@ -28,7 +28,8 @@ fn pointer_from(stack: &AbsStack, place: usize) -> Option<(Region, Offset)>
     stack.pointer_at(place)
 }
 
-/// The first that begins at a place, or up to so many cells before.
+/// Returns the first pointer that begins at a place or before it. The search goes down from the place over `tries`
+/// places.
 fn pointer_over(stack: &AbsStack, place: usize, tries: usize) -> Option<(Region, Offset)>
     ensures { result ≡ pointer_over stack.now place tries }
 {
@@ -41,7 +42,7 @@ fn pointer_over(stack: &AbsStack, place: usize, tries: usize) -> Option<(Region,
     pointer_over(stack, place.saturating_sub(1), tries - 1)
 }
 
-/// What is known of a cell within the stack.
+/// Returns what is known of a cell within the stack.
 fn content_in(stack: &AbsStack, place: usize) -> CellContent
     requires { place + 1 ≤ 512 }
     ensures { result ≡ content_in stack.now place }
@@ -55,7 +56,7 @@ fn content_in(stack: &AbsStack, place: usize) -> CellContent
     }
 }
 
-/// What is known of a cell.
+/// Returns what is known of a cell. Nothing is known of cells outside the stack.
 #[inline(never)]
 pub fn held_at(stack: &AbsStack, place: usize) -> CellContent
     ensures { result ≡ held_at stack.now place }
@@ -66,6 +67,7 @@ pub fn held_at(stack: &AbsStack, place: usize) -> CellContent
     content_in(stack, place)
 }
 
+/// Checks whether two regions are equal.
 fn is_same_region(a: Region, b: Region) -> bool
     ensures { result ≡ is_same_region a b }
 {
@@ -76,7 +78,7 @@ fn is_same_region(a: Region, b: Region) -> bool
 }
 
 impl CellContent {
-    /// Whether the other is the same.
+    /// Checks whether both contents are equal.
     pub fn is_same(self, other: CellContent) -> bool
         ensures { result ≡ same_content self other }
     {

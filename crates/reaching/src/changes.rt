@@ -1,4 +1,4 @@
-//! For each cell of the stack which units set it.
+//! Changes of the stack: for each cell, the units that set it.
 ghost use Rattle.std.specs.Prelude.{◌≡◌, ◌<◌, length, slice_get, option_map, IfOk};
 ghost use Rattle.insn.specs.Program.{slots_of, instruction_at};
 ghost use Rattle.reaching.specs.declared.subject.Subject.TheVariants.{Cell};
@@ -13,14 +13,14 @@ use insn::{Insn, Program};
 use std::alloc::{AllocError, Global};
 use verify::AbsState;
 
-/// Of a cell of the stack, for each unit whether its instruction sets it.
+/// For one cell of the stack, whether the instruction of each unit sets it.
 #[derive(Drop)]
 pub struct Column {
     pub changed: Vec<bool>,
 }
 
 impl Column {
-    /// Whether a unit sets the cell.
+    /// Checks whether a unit sets the cell.
     pub(crate) fn is_set_by(&self, unit: usize) -> bool
         ensures { result ≡ flag_at (slice_get self.now.changed.items unit) }
     {
@@ -31,7 +31,8 @@ impl Column {
     }
 }
 
-/// The stack that a store or a call leaves.
+/// Returns the abstract stack after a store or a call. Returns `None` for other instructions, and if no path leads to
+/// the unit.
 fn stack_behind(insn: Option<Insn>, state: Option<&AbsState>) -> Option<AbsStack>
     ensures { result ≡ stack_behind insn (option_map (λ a. a.now) state.entry) }
 {
@@ -47,7 +48,7 @@ fn stack_behind(insn: Option<Insn>, state: Option<&AbsState>) -> Option<AbsStack
     }
 }
 
-/// Those that the units leave.
+/// Returns for each unit the abstract stack after its instruction, if that is a store or a call.
 fn stacks_behind(
     alloc: Global,
     program: &Program,
@@ -63,14 +64,14 @@ fn stacks_behind(
     Ok(stacks)
 }
 
-/// That which a unit leaves.
+/// Returns the abstract stack after the instruction of a unit, if there is one.
 fn stack_at(stacks: &[Option<AbsStack>], unit: usize) -> Option<&AbsStack>
     ensures { option_map (λ s. s.now) result ≡ stack_at (slice_get stacks.now unit) }
 {
     stacks.get(unit)?.as_ref()
 }
 
-/// Whether a cell holds something else in the one that is left.
+/// Checks whether a cell of the stack holds something else after an instruction than before it.
 fn changed_in(cell: u16, state: Option<&AbsState>, behind: Option<&AbsStack>) -> bool
     ensures { result ≡ changed_in cell (option_map (λ a. a.now) state.entry) (option_map (λ s. s.now) behind.entry) }
 {
@@ -84,7 +85,7 @@ fn changed_in(cell: u16, state: Option<&AbsState>, behind: Option<&AbsStack>) ->
     !held_at(&state.stack, place).is_same(held_at(behind, place))
 }
 
-/// Whether a unit sets a cell, with the stacks that the units leave.
+/// Checks whether a unit sets a cell. `stacks` has the stack after each unit.
 fn sets_cell(
     program: &Program,
     states: &[Option<AbsState>],
@@ -99,7 +100,7 @@ fn sets_cell(
     changed_in(cell, known_by(states, unit), stack_at(stacks, unit))
 }
 
-/// For each unit whether it sets a cell.
+/// Returns for each unit whether it sets a cell.
 fn flags_of(
     alloc: Global,
     program: &Program,
@@ -118,7 +119,7 @@ fn flags_of(
     Ok(changed)
 }
 
-/// The columns of all cells of the stack.
+/// Returns the columns of all 512 cells of the stack.
 pub fn columns(
     alloc: Global,
     program: &Program,

@@ -1,4 +1,4 @@
-//! Programs with other instructions in one's place, and how far the verifier comes in them.
+//! Edits of programs at one instruction, and how far the verifier comes in the edited program.
 ghost use Rattle.std.specs.Prelude.{◌≡◌, ◌≤◌, ◌<◌, ◌+◌, ◌++◌, ◌∷◌, [], ◌&&◌, ◌+ℤ◌, ◌<ℤ◌, pos, int_lt, length, IfOk, OnOk, IsTrue};
 ghost use Rattle.insn.specs.Program.{slots_of, most_units};
 ghost use Rattle.verify.specs.Judgement.{judged};
@@ -9,30 +9,30 @@ use std::alloc::{AllocError, Global};
 use verify::{VerifyError, verify};
 use word::{Operation, Width};
 
-/// What is changed of a program at one instruction.
+/// A change of a program at one instruction.
 #[derive(Clone, Copy)]
 pub enum Edit {
-    /// An operation of 64 bits is put before it.
+    /// A 64-bit operation is inserted before the instruction.
     Before(Operation, Reg, Operand),
-    /// An operation of 64 bits stands in its place.
+    /// A 64-bit operation replaces the instruction.
     Instead(Operation, Reg, Operand),
-    /// In its place a number, behind a mask if there is one, moves a pointer in the pointer's register, of which the
-    /// number's then has a copy.
+    /// A number is added to a pointer in the pointer's register, and then the number's register gets a copy of the
+    /// pointer. If there is a mask, it is first applied to the number. These instructions replace the original one.
     Moved(Option<i32>, Reg, Reg),
 }
 
 /// How far the verifier comes in a program.
 #[derive(Clone, Copy, PartialEq, Eq)]
 pub enum Trial {
-    /// Not past the unit that is asked about.
+    /// The verifier does not come past the unit in question.
     Refused,
-    /// Past it, and not to the end.
+    /// The verifier comes past the unit in question, but not to the end.
     Passes,
-    /// To the end.
+    /// The verifier accepts the program.
     Accepted,
 }
 
-/// Whether a jump at a unit leads over a place.
+/// Checks whether a jump at a unit leads over a place, with a distance of less than 4,096 units.
 fn is_over(place: usize, unit: usize, distance: i32) -> bool
     requires unit { unit < 4096 }
     requires place { place < 4096 }
@@ -43,7 +43,7 @@ fn is_over(place: usize, unit: usize, distance: i32) -> bool
     to > place as i64 && distance < 4096
 }
 
-/// The distance of a jump at a unit, so much more where it leads over a place.
+/// Returns the distance of a jump at a unit, increased by `more` if the jump leads over a place.
 fn longer(more: u8, place: usize, unit: usize, distance: i16) -> i16
     requires more { more ≤ 2 }
     requires unit { unit < 4096 }
@@ -57,7 +57,7 @@ fn longer(more: u8, place: usize, unit: usize, distance: i16) -> i16
     }
 }
 
-/// The same of a wide distance.
+/// Returns the distance of a long jump at a unit, increased by `more` if the jump leads over a place.
 fn longer_wide(more: u8, place: usize, unit: usize, distance: i32) -> i32
     requires more { more ≤ 2 }
     requires unit { unit < 4096 }
@@ -71,7 +71,8 @@ fn longer_wide(more: u8, place: usize, unit: usize, distance: i32) -> i32
     }
 }
 
-/// An instruction that stands before a place where so many units more are put.
+/// Returns an instruction of a program in which `more` units are inserted at a place. Jumps over the place become
+/// longer.
 fn stretched(more: u8, place: usize, unit: usize, insn: Insn) -> Insn
     requires more { more ≤ 2 }
     requires unit { unit < 4096 }
@@ -102,7 +103,7 @@ fn stretched(more: u8, place: usize, unit: usize, insn: Insn) -> Insn
     }
 }
 
-/// An operation of 64 bits.
+/// Returns a 64-bit operation as an instruction.
 pub fn operation_of(operation: Operation, dst: Reg, operand: Operand) -> Insn
     ensures { result ≡ wide operation dst operand }
 {
@@ -115,7 +116,7 @@ pub fn operation_of(operation: Operation, dst: Reg, operand: Operand) -> Insn
 }
 
 impl Edit {
-    /// How many units more a program has with it: 0 to 2.
+    /// Returns the number of units by which the edit makes a program longer, 0 to 2.
     pub fn grown(self) -> u8
         ensures grown { result ≡ grown self }
         ensures few { result ≤ 2 }
@@ -128,7 +129,7 @@ impl Edit {
     }
 }
 
-/// Adds an instruction.
+/// Appends an instruction.
 fn push_one(insns: &mut Vec<Insn>, insn: Insn) -> Result<(), AllocError>
     ensures { OnOk result (insns.new.items ≡ insns.old.items ++ insn ∷ []) }
 {
@@ -136,7 +137,7 @@ fn push_one(insns: &mut Vec<Insn>, insn: Insn) -> Result<(), AllocError>
     Ok(())
 }
 
-/// Adds a mask of a number, if there is one.
+/// Appends an instruction that masks a number, if there is a mask.
 fn push_mask(insns: &mut Vec<Insn>, mask: Option<i32>, number: Reg) -> Result<(), AllocError>
     ensures { OnOk result (insns.new.items ≡ insns.old.items ++ masked mask number) }
 {
@@ -149,7 +150,8 @@ fn push_mask(insns: &mut Vec<Insn>, mask: Option<i32>, number: Reg) -> Result<()
     )
 }
 
-/// Adds a number's move of a pointer, and a copy of it.
+/// Appends the addition of a number to a pointer, with a mask if there is one, and a copy of the sum to the number's
+/// register.
 fn push_moved(
     insns: &mut Vec<Insn>,
     mask: Option<i32>,
@@ -170,7 +172,7 @@ fn push_moved(
     )
 }
 
-/// Adds what stands for the instruction at the place of an edit.
+/// Appends the instructions that an edit puts in the place of its instruction.
 fn push_at(insns: &mut Vec<Insn>, edit: &Edit, insn: &Insn) -> Result<(), AllocError>
     ensures { OnOk result (insns.new.items ≡ insns.old.items ++ put_at edit.now insn.now) }
 {
@@ -186,7 +188,7 @@ fn push_at(insns: &mut Vec<Insn>, edit: &Edit, insn: &Insn) -> Result<(), AllocE
     }
 }
 
-/// An instruction that stands elsewhere.
+/// Returns an instruction at another place than that of the edit. Jumps over the place of the edit become longer.
 fn passed(edit: &Edit, place: usize, unit: usize, insn: Insn) -> Insn
     requires unit { unit < 4096 }
     requires place { place < 4096 }
@@ -199,7 +201,7 @@ fn passed(edit: &Edit, place: usize, unit: usize, insn: Insn) -> Insn
     }
 }
 
-/// Adds what stands for an instruction of a program with an edit.
+/// Appends what an instruction of a program becomes with an edit.
 fn push_edited(
     insns: &mut Vec<Insn>,
     edit: &Edit,
@@ -218,7 +220,7 @@ fn push_edited(
     }
 }
 
-/// The instructions of a program with an edit.
+/// Returns the instructions of a program with an edit.
 fn mended(alloc: Global, insns: &[Insn], edit: &Edit, place: usize) -> Result<Vec<Insn>, AllocError>
     requires place { place < 4096 }
     requires units { length (slots_of insns.now) ≤ 4096 }
@@ -234,7 +236,7 @@ fn mended(alloc: Global, insns: &[Insn], edit: &Edit, place: usize) -> Result<Ve
     Ok(out)
 }
 
-/// How many units instructions take.
+/// Returns the number of units that instructions take.
 fn units_of(insns: &[Insn]) -> usize
     requires { length insns.now ≤ 12288 }
     ensures { result ≡ length (slots_of insns.now) }
@@ -246,7 +248,7 @@ fn units_of(insns: &[Insn]) -> usize
     units
 }
 
-/// How far the verifier comes in a program that it refuses so.
+/// Returns how far the verifier comes in a program that it rejects with this error. Fails if it ran out of memory.
 fn come_by(fault: VerifyError, unit: usize) -> Result<Trial, AllocError>
     ensures { ComesBy unit fault result }
 {
@@ -257,7 +259,7 @@ fn come_by(fault: VerifyError, unit: usize) -> Result<Trial, AllocError>
     }
 }
 
-/// How far the verifier comes in a program.
+/// Returns how far the verifier comes in a program.
 #[tactic(auto, using(crate::proofs::ComingLemmas::came))]
 fn come(alloc: Global, program: Program, unit: usize) -> Result<Trial, AllocError>
     ensures { IfOk result (λ trial. trial ≡ comes unit (judged program)) }
@@ -268,7 +270,7 @@ fn come(alloc: Global, program: Program, unit: usize) -> Result<Trial, AllocErro
     }
 }
 
-/// How far the verifier comes in a program with an edit at a place: past a unit, or to the end.
+/// Returns how far the verifier comes in a program with an edit at a place: not past a unit, past it, or to the end.
 pub fn tried(
     alloc: Global,
     program: &Program,

@@ -1,7 +1,7 @@
-//! The law of what is left: the function does nothing, and its contract is the law.
+//! The law of transfers. The function does nothing, and its contract is the law.
 ghost use Rattle.reaching.specs.Laws.{LeftIsTransfer};
 
-/// What an instruction that may run leaves is what the verifier's transfer leaves.
+/// States that `left` and the verifier's transfer agree for every instruction that may run.
 pub fn left_is_the_transfer()
     ensures { LeftIsTransfer }
 {}

@@ -1,4 +1,5 @@
-//! Where what is known comes from: what each instruction leaves, what a cell holds, and which units set it last.
+//! Reaching definitions: for explanations, finds which units last set a register or a cell, what a cell holds, and what
+//! is known after each instruction.
 #![tactic(auto)]
 
 mod cells;

@@ -1,4 +1,4 @@
-//! What loads give, where they may run.
+//! Loads: the abstract value that a load results in, if it may run.
 ghost use Rattle.std.specs.Prelude.{◌≡◌, ◌+◌, ◌≤◌, IfSome};
 ghost use Rattle.std.specs.Result.{result_ok};
 ghost use Rattle.semantics.specs.declared.value.Region.{Region};
@@ -13,7 +13,7 @@ use insn::{Size, bytes_of_part};
 use semantics::Region;
 use word::Narrow;
 
-/// Whether each cell of a window is known to be a byte.
+/// Checks whether each cell of a window is known to be a byte.
 fn has_all(stack: &AbsStack, window: Window) -> bool
     requires { window.place + window.size ≤ 512 }
     ensures { result ≡ all_bytes stack.now.bytes window.place window.size }
@@ -21,7 +21,7 @@ fn has_all(stack: &AbsStack, window: Window) -> bool
     stack.has_bytes(window.place, window.size)
 }
 
-/// The pointer that a load of eight bytes at one address finds.
+/// Returns the pointer that a load of eight bytes at one address finds.
 fn stored_pointer(stack: &AbsStack, size: Size, window: Window) -> Option<AbsVal>
     requires { window.place + window.size ≤ 512 }
     ensures { result ≡ spilled stack.now size window }
@@ -36,7 +36,7 @@ fn stored_pointer(stack: &AbsStack, size: Size, window: Window) -> Option<AbsVal
     Some(AbsVal::Pointer(region, Offsets::exactly(offset)))
 }
 
-/// The number that a load of a window of bytes gives.
+/// Returns the number that a load from a window of the stack results in, or `None` if a cell may not be a byte.
 fn number_given(stack: &AbsStack, size: Size, window: Window) -> Option<AbsVal>
     requires { window.place + window.size ≤ 512 }
     ensures { result ≡ result_ok (unless (unset_in stack.now Region.Stack window) (loaded_known size)) }
@@ -47,7 +47,7 @@ fn number_given(stack: &AbsStack, size: Size, window: Window) -> Option<AbsVal>
     Some(loaded(size))
 }
 
-/// What a load from the stack gives.
+/// Returns the result of a load from the stack.
 fn stack_given(stack: &AbsStack, size: Size, window: Window) -> Option<AbsVal>
     requires { window.place + window.size ≤ 512 }
     ensures { result ≡ result_ok (stack_given stack.now size window) }
@@ -58,7 +58,7 @@ fn stack_given(stack: &AbsStack, size: Size, window: Window) -> Option<AbsVal>
     number_given(stack, size, window)
 }
 
-/// What a load from a window of a region gives.
+/// Returns the result of a load from a window of a region.
 fn load_from(stack: &AbsStack, size: Size, region: Region, window: Option<Window>) -> Option<AbsVal>
     requires { IfSome window (λ w. w.place + w.size ≤ room_of region) }
     ensures { result ≡ result_ok (load_from stack.now size region window) }
@@ -70,7 +70,7 @@ fn load_from(stack: &AbsStack, size: Size, region: Region, window: Option<Window
     }
 }
 
-/// What a load gives.
+/// Returns the result of a load, or `None` if the load may not run.
 pub(crate) fn load(stack: &AbsStack, size: Size, base: AbsVal, distance: i16) -> Option<AbsVal>
     ensures { result ≡ result_ok (load_given stack.now size base distance) }
 {
@@ -85,7 +85,7 @@ pub(crate) fn load(stack: &AbsStack, size: Size, base: AbsVal, distance: i16) ->
     )
 }
 
-/// What a load from a window of a region gives that extends by the sign.
+/// Returns the result of a load from a window of a region that is sign-extended.
 fn signed_from(stack: &AbsStack, region: Region, window: Option<Window>) -> Option<AbsVal>
     requires { IfSome window (λ w. w.place + w.size ≤ room_of region) }
     ensures { result ≡ result_ok (signed_from stack.now region window) }
@@ -98,7 +98,7 @@ fn signed_from(stack: &AbsStack, region: Region, window: Option<Window>) -> Opti
     }
 }
 
-/// What a load gives that extends by the sign.
+/// Returns the result of a load that is sign-extended, or `None` if the load may not run.
 pub(crate) fn load_signed(
     stack: &AbsStack,
     part: Narrow,

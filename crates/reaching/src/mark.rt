@@ -1,12 +1,13 @@
-//! Marks of units.
+//! Marks of units, for the question which units last set a register or a cell.
 
-/// What a unit is to the one that is asked about.
+/// How a unit relates to the unit in question.
 #[derive(Clone, Copy, PartialEq, Eq)]
 pub enum UnitMark {
-    /// No way leads from it there on which what is asked about stays as it is.
+    /// No path leads from the unit to the unit in question on which the register or cell keeps its value.
     Closed,
-    /// A way leads from it there on which it stays as it is.
+    /// A path leads from the unit to the unit in question on which the register or cell keeps its value.
     Open,
-    /// Its instruction sets it, and behind it a way leads there on which it stays as it is.
+    /// The instruction of the unit sets the register or cell, and after it a path leads to the unit in question on
+    /// which the value is kept.
     Sets,
 }

@@ -1,4 +1,4 @@
-//! Registers by number, and the one that takes a result.
+//! Registers by number, and the register that an instruction's result is written to.
 ghost use Rattle.std.specs.Prelude.{◌≡◌, ◌<◌};
 ghost use Rattle.verify.specs.Registers.{known_at};
 ghost use Rattle.reaching.specs.Left.{result_of};
@@ -7,7 +7,7 @@ use absval::AbsVal;
 use helper::reads::numbered;
 use insn::{Insn, Reg};
 
-/// What is known of the register of a number.
+/// Returns what is known of the register with a number.
 pub(crate) fn known_at(registers: &[AbsVal; 11], number: usize) -> AbsVal
     requires { number < 11 }
     ensures { result ≡ known_at registers.now number }
@@ -15,7 +15,7 @@ pub(crate) fn known_at(registers: &[AbsVal; 11], number: usize) -> AbsVal
     registers[number]
 }
 
-/// The register that takes the result of an instruction.
+/// Returns the register that the result of an instruction is written to, if there is one.
 pub fn result_of(insn: &Insn) -> Option<Reg>
     ensures { result ≡ result_of insn.now }
 {

@@ -1,4 +1,4 @@
-//! What is left of the stack by an instruction that writes it.
+//! Stack transfers: what an instruction that writes the stack does to what is known of it.
 ghost use Rattle.std.specs.Prelude.{◌≡◌, ◌+◌, ◌≤◌, IfSome};
 ghost use Rattle.absval.specs.Windows.{window_known};
 ghost use Rattle.semantics.specs.Call.{helper_of};
@@ -12,7 +12,7 @@ use helper::{BOARD_WORDS, Helper};
 use insn::Size;
 use semantics::Region;
 
-/// A number of so many bytes is stored somewhere in a window.
+/// Records a store of a number of `size` bytes somewhere in a window.
 fn put_number(stack: &mut AbsStack, size: usize, window: Option<Window>)
     requires { IfSome window (λ w. w.place + w.size ≤ 512) }
     ensures { stack.new ≡ number_stored size window stack.old }
@@ -27,7 +27,7 @@ fn put_number(stack: &mut AbsStack, size: usize, window: Option<Window>)
     }
 }
 
-/// A pointer is stored where a window begins.
+/// Records a store of a pointer at the beginning of a window.
 fn put_pointer(stack: &mut AbsStack, region: Region, offset: Offset, window: Option<Window>)
     requires { IfSome window (λ w. w.place + 8 ≤ 512) }
     ensures { stack.new ≡ pointer_stored region offset window stack.old }
@@ -38,7 +38,7 @@ fn put_pointer(stack: &mut AbsStack, region: Region, offset: Offset, window: Opt
     stack.put_pointer(place, region, offset);
 }
 
-/// The cells of the stack that eight bytes may take, a distance from an offset.
+/// Returns the cells of the stack that eight bytes may take, at a distance from the offsets.
 fn eight_cells(offsets: Offsets, distance: i16) -> Option<Window>
     ensures exact { result ≡ window_known Region.Stack offsets.0 offsets.1 distance 8 }
     ensures fits { IfSome result (λ w. w.place + 8 ≤ 512) }
@@ -46,7 +46,7 @@ fn eight_cells(offsets: Offsets, distance: i16) -> Option<Window>
     window_of(Region::Stack, offsets, distance, 8)
 }
 
-/// What a store leaves of the stack.
+/// Records what a store does to the stack.
 pub(crate) fn store(stack: &mut AbsStack, size: Size, base: AbsVal, distance: i16, value: AbsVal)
     ensures { stack.new ≡ stored_in_stack size base distance value stack.old }
 {
@@ -70,7 +70,7 @@ pub(crate) fn store(stack: &mut AbsStack, size: Size, base: AbsVal, distance: i1
     }
 }
 
-/// Words are written to one place, or somewhere in a window.
+/// Records a write of words, to one place if it is certain, otherwise somewhere in a window.
 fn write_words(stack: &mut AbsStack, certain: bool, window: Option<Window>)
     requires { IfSome window (λ w. w.place + w.size ≤ 512) }
     ensures { stack.new ≡ written certain window stack.old }
@@ -85,14 +85,14 @@ fn write_words(stack: &mut AbsStack, certain: bool, window: Option<Window>)
     }
 }
 
-/// Whether words are written to one place: pointer and count are one number each.
+/// Checks whether words are written to exactly one place: the pointer has one offset, and the count is one number.
 fn is_certain(offsets: Offsets, counts: NumberSet) -> bool
     ensures { result ≡ is_certain offsets counts }
 {
     offsets.is_one() && counts.is_one()
 }
 
-/// What a copy of words of the board leaves of the stack.
+/// Records what a copy of words of the board does to the stack.
 fn copy(stack: &mut AbsStack, target: AbsVal, counts: AbsVal)
     ensures { stack.new ≡ copied_to_stack target counts stack.old }
 {
@@ -112,7 +112,8 @@ fn copy(stack: &mut AbsStack, target: AbsVal, counts: AbsVal)
     write_words(stack, is_certain(at, counts), window);
 }
 
-/// What a call leaves of the stack, of which r2 and r3 tell where and how much is written.
+/// Records what a call does to the stack. `target` is what is known of r2, where words are written, and `counts` of r3,
+/// their number.
 pub(crate) fn call(stack: &mut AbsStack, helper: Option<Helper>, target: AbsVal, counts: AbsVal)
     ensures { stack.new ≡ behind_call helper target counts stack.old }
 {

@@ -1,4 +1,4 @@
-//! What is asked about, and whether an instruction sets it.
+//! Subjects of a question, registers and cells, and whether an instruction sets one.
 ghost use Rattle.std.specs.Prelude.{◌≡◌};
 ghost use Rattle.reaching.specs.Setting.{writes, sets};
 
@@ -8,14 +8,14 @@ use crate::transfer::left_by;
 use insn::{Insn, Reg};
 use verify::AbsState;
 
-/// A register, or a cell of the stack, counted from its lowest.
+/// A register, or a cell of the stack. Cells are numbered from the lowest one.
 #[derive(Clone, Copy)]
 pub enum Subject {
     Register(Reg),
     Cell(u16),
 }
 
-/// Whether an instruction writes a register: a call writes r0 to r5.
+/// Checks whether an instruction writes a register. A call writes r0 to r5.
 fn writes(insn: &Insn, r: Reg) -> bool
     ensures { result ≡ writes insn.now r }
 {
@@ -28,7 +28,7 @@ fn writes(insn: &Insn, r: Reg) -> bool
     }
 }
 
-/// Whether an instruction leaves something else in a cell than was known of it.
+/// Checks whether a cell holds something else after an instruction than was known of it before.
 fn changes(insn: &Insn, cell: u16, state: &AbsState) -> bool
     ensures { result ≡ sets (Subject.Cell cell) insn.now state.now }
 {
@@ -38,7 +38,7 @@ fn changes(insn: &Insn, cell: u16, state: &AbsState) -> bool
 }
 
 impl Subject {
-    /// Whether an instruction sets it.
+    /// Checks whether an instruction sets the register or cell.
     pub fn is_set_by(&self, insn: &Insn, state: &AbsState) -> bool
         ensures { result ≡ sets self.now insn.now state.now }
     {

@@ -1,4 +1,4 @@
-//! What an instruction leaves of what is known.
+//! Transfers: what is known after an instruction.
 ghost use Rattle.std.specs.Prelude.{◌≡◌, slice_set};
 ghost use Rattle.insn.specs.declared.insn.Insn.{Insn};
 ghost use Rattle.absval.specs.NumberSets.{within};
@@ -15,14 +15,14 @@ use range::Range;
 use verify::AbsState;
 use word::{Operation, Width};
 
-/// A register holds another value.
+/// Replaces what is known of a register.
 fn write(registers: &mut [AbsVal; 11], r: Reg, value: AbsVal)
     ensures { registers.new ≡ slice_set registers.old r value }
 {
     registers[r.number() as usize] = value;
 }
 
-/// A register takes a value, where there is one.
+/// Returns the state after a register is set to a value, or an equal state if there is no value.
 fn assigned(state: &AbsState, dst: Reg, value: Option<AbsVal>) -> AbsState
     ensures { result ≡ assigned state.now dst value }
 {
@@ -33,7 +33,8 @@ fn assigned(state: &AbsState, dst: Reg, value: Option<AbsVal>) -> AbsState
     left
 }
 
-/// What is known of what an operation reads of dst: a move reads nothing there.
+/// Returns what is known of the value that an operation reads from `dst`. A move does not read it, so the number 0 is
+/// used.
 fn read_first(state: &AbsState, operation: Operation, dst: Reg) -> AbsVal
     ensures { result ≡ first_known state.now.registers operation dst }
 {
@@ -43,7 +44,7 @@ fn read_first(state: &AbsState, operation: Operation, dst: Reg) -> AbsVal
     }
 }
 
-/// Behind an operation.
+/// Returns the state after an operation.
 fn computed(
     state: &AbsState,
     width: Width,
@@ -58,7 +59,7 @@ fn computed(
     assigned(state, dst, made)
 }
 
-/// Behind a store.
+/// Returns the state after a store.
 fn stored(state: &AbsState, size: Size, base: Reg, offset: i16, source: Operand) -> AbsState
     ensures { result ≡ left (Insn.Store size base offset source) state.now }
 {
@@ -73,7 +74,7 @@ fn stored(state: &AbsState, size: Size, base: Reg, offset: i16, source: Operand)
     left
 }
 
-/// Behind a call r0 has the result, and r1 to r5 are unset.
+/// Records the registers after a call: r0 holds a number of the range, and r1 to r5 are unset.
 fn put_result(registers: &mut [AbsVal; 11], range: Range)
     ensures { registers.new ≡ known_behind (within range) registers.old }
 {
@@ -83,7 +84,7 @@ fn put_result(registers: &mut [AbsVal; 11], range: Range)
     }
 }
 
-/// Behind a call.
+/// Returns the state after a call.
 fn called(state: &AbsState, number: i32) -> AbsState
     ensures { result ≡ left (Insn.Call number) state.now }
 {
@@ -102,7 +103,7 @@ fn called(state: &AbsState, number: i32) -> AbsState
     left
 }
 
-/// What an instruction leaves of what is known, where it may run.
+/// Returns what is known after an instruction, if it may run.
 pub fn left_by(insn: &Insn, state: &AbsState) -> AbsState
     ensures { result ≡ left insn.now state.now }
 {

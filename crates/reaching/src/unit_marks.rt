@@ -1,4 +1,4 @@
-//! Which units set a register or a cell last before a unit.
+//! Reaching definitions: which units last set a register or a cell before a unit.
 ghost use Rattle.std.specs.Prelude.{◌≡◌, ◌<◌, length, replicate, slice_get, option_map, IfOk};
 ghost use Rattle.insn.specs.Program.{slots_of, instruction_at};
 ghost use Rattle.reaching.specs.declared.subject.Subject.TheVariants.{Cell};
@@ -13,14 +13,14 @@ use insn::Program;
 use std::alloc::{AllocError, Global};
 use verify::AbsState;
 
-/// What is known at a unit, if anything is.
+/// Returns what is known at a unit, if anything is.
 pub fn known_by(states: &[Option<AbsState>], unit: usize) -> Option<&AbsState>
     ensures { option_map (λ a. a.now) result ≡ known_by (slice_get states.now unit) }
 {
     states.get(unit)?.as_ref()
 }
 
-/// So many units of which none is open.
+/// Returns the marks of `units` units, all closed.
 #[inline(never)]
 fn closed(alloc: Global, units: usize) -> Result<Vec<UnitMark>, AllocError>
     ensures { IfOk result (λ marks. marks.items ≡ replicate units UnitMark.Closed) }
@@ -28,7 +28,7 @@ fn closed(alloc: Global, units: usize) -> Result<Vec<UnitMark>, AllocError>
     vec![in alloc; UnitMark::Closed; units]
 }
 
-/// The mark of a unit, by those of the units behind it.
+/// Returns the mark of a unit, given the marks of the units after it.
 fn mark_of(
     subject: &Subject,
     behind: &[UnitMark],
@@ -55,7 +55,8 @@ fn mark_of(
     }
 }
 
-/// The marks of the units of a program, of which this is known, for what is asked about at one of them.
+/// Returns the marks of a program's units for a register or cell, as it is at one of them. `states` has what is known
+/// at each unit.
 pub fn marks(
     alloc: Global,
     program: &Program,
@@ -76,7 +77,7 @@ pub fn marks(
     Ok(marks)
 }
 
-/// The mark of a unit for a cell of the stack, with whether the unit sets it.
+/// Returns the mark of a unit for a cell of the stack. `changed` says whether the unit sets the cell.
 fn cell_mark_of(
     cell: u16,
     changed: bool,
@@ -105,7 +106,8 @@ fn cell_mark_of(
     }
 }
 
-/// The marks for a cell of the stack, with its column.
+/// Returns the marks of a program's units for a cell of the stack, as it is at one of them. `column` says which units
+/// set the cell.
 pub fn cell_marks(
     alloc: Global,
     program: &Program,

@@ -1,4 +1,4 @@
-//! Where an instruction may lead.
+//! Units that an instruction may lead to, and whether one of them is open.
 ghost use Rattle.std.specs.Prelude.{◌≡◌, ◌≢◌, ◌<◌, ◌+◌, ◌+ℤ◌, pos, ℕ, IfSome, IfNone, slice_get};
 ghost use Rattle.semantics.specs.Plain.{leads_to};
 ghost use Rattle.reaching.specs.Marks.{is_open, open_at, leads_open};
@@ -6,7 +6,7 @@ ghost use Rattle.reaching.specs.Marks.{is_open, open_at, leads_open};
 use crate::mark::UnitMark;
 use insn::Insn;
 
-/// Whether the mark of a unit is open.
+/// Checks whether the mark of a unit is open.
 fn is_open(marks: &[UnitMark], unit: usize) -> bool
     ensures { result ≡ is_open (slice_get marks.now unit) }
 {
@@ -16,7 +16,7 @@ fn is_open(marks: &[UnitMark], unit: usize) -> bool
     }
 }
 
-/// The unit so far from the following one, if there is one.
+/// Returns the unit at a distance from the following unit, or `None` if it is negative.
 fn target(unit: usize, distance: i32) -> Option<usize>
     requires { unit < 4096 }
     ensures there { IfSome result (λ n. pos n ≡ pos (unit + 1) +ℤ distance) }
@@ -29,7 +29,7 @@ fn target(unit: usize, distance: i32) -> Option<usize>
     Some(to as usize)
 }
 
-/// Whether the unit so far from the following one is open.
+/// Checks whether the unit at a distance from the following unit is open.
 fn is_open_to(marks: &[UnitMark], unit: usize, distance: i32) -> bool
     requires { unit < 4096 }
     ensures { result ≡ open_at marks.now (pos (unit + 1) +ℤ distance) }
@@ -40,7 +40,7 @@ fn is_open_to(marks: &[UnitMark], unit: usize, distance: i32) -> bool
     }
 }
 
-/// Whether an instruction may lead to an open unit.
+/// Checks whether an instruction may lead to an open unit.
 #[inline(never)]
 pub(crate) fn leads_open(marks: &[UnitMark], insn: &Insn, unit: usize) -> bool
     requires { unit < 4096 }

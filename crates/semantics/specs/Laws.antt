@@ -1,4 +1,4 @@
--- What holds of every step and run. Each statement is the contract of a function of this crate.
+-- States what holds of every step and run. Each statement is the contract of a function of this crate.
 use Rattle.std.specs.Prelude.{ℕ, ◌+◌, ◌-◌, ◌<◌, ◌≡◌, ◌≤◌, true, List, [], length}
 use Rattle.std.specs.List.{AllByRecursion}
 use Rattle.insn.specs.declared.insn.Insn.{Insn}
@@ -16,13 +16,13 @@ use Rattle.semantics.specs.Safety.{IsSafe}
 use Rattle.semantics.specs.Reached.{Reached}
 use Rattle.semantics.specs.Whole.{IsWhole, HasWords, Each, CountsOnce}
 
--- each step is counted once
+-- Each step adds one to the step counter, unless it traps.
 abbrev pub StepsAreCounted : Type 0
 StepsAreCounted =
     (program : List Insn) (context : List ℕ) (relay : Relay) (s : State) → CountsOnce s (step program context relay s)
 
--- entry, step and answer leave a state whole; so every state that is reached is whole, and of well-formed instructions
--- in a campaign's setting its numbers have 64 bits and its bytes 8
+-- The entry state is whole, and steps and answers leave a state whole, so every reached state is whole. If the
+-- instructions are well-formed and the setting is that of a campaign, its numbers have 64 bits and its bytes have 8.
 pub record StatesStayWhole : Type 0 where
   pub at_entry : (relay : Relay) → IsWhole (entry (empty_outbox relay))
   pub stepped : (program : List Insn) (context : List ℕ) (relay : Relay) (s : State) → IsWhole s →
@@ -34,19 +34,19 @@ pub record StatesStayWhole : Type 0 where
       AllByRecursion IsInsn program → IsContext context → IsRelay relay →
       Reached program context relay answers s → HasWords s
 
--- what has exited, trapped or waits stays so under any further steps
+-- A run that has exited, trapped or waits for an answer stays so after any further steps.
 abbrev pub RunsStayOver : Type 0
 RunsStayOver =
     (program : List Insn) (context : List ℕ) (relay : Relay) (k j : ℕ) (answers : List (List ℕ)) (s : State) →
     IsFinal (onwards program context relay k answers s) →
     onwards program context relay (k + j) answers s ≡ onwards program context relay k answers s
 
--- a state that is reached is where the run of its answers stands after its steps
+-- A reached state is the result of running the program for that state's number of steps with its answers.
 abbrev pub ReachedIsRun : Type 0
 ReachedIsRun = (program : List Insn) (context : List ℕ) (relay : Relay) (answers : List (List ℕ)) (s : State) →
     Reached program context relay answers s → after program context relay answers s.steps ≡ Running s
 
--- a program is sound exactly where its entry is safe for as many steps as it has instructions
+-- A program is sound exactly if its entry state is safe for as many steps as the program has instructions.
 pub record SoundIsSafeAtEntry : Type 0 where
   pub sound : (program : List Insn) →
       ((context : List ℕ) (relay : Relay) → IsContext context → IsRelay relay →
@@ -56,8 +56,8 @@ pub record SoundIsSafeAtEntry : Type 0 where
       IsRelay relay →
       IsSafe program context relay (length program) (entry (empty_outbox relay))
 
--- every state that a sound program reaches is safe for the steps that are left, and has taken fewer steps than the
--- program has instructions
+-- Every state that a sound program reaches is safe for the remaining steps, and it has taken fewer steps than the
+-- program has instructions.
 pub record ReachedIsSafe : Type 0 where
   pub safe : (program : List Insn) (context : List ℕ) (relay : Relay) (answers : List (List ℕ)) (s : State) →
       IsSound program → IsContext context → IsRelay relay →
@@ -66,8 +66,8 @@ pub record ReachedIsSafe : Type 0 where
       IsSound program → IsContext context → IsRelay relay →
       Reached program context relay answers s → s.steps < length program
 
--- in every state that is reached there are at most 8 entries, and each is of a chain that the general can send; where
--- orders are oral there is no entry, and where they are signed no order is put
+-- Every reached state has at most 8 entries, and each is one that the general can send. Where orders are oral there is
+-- no entry, and where they are signed the outbox stays empty.
 pub record EntriesAreFew : Type 0 where
   pub few : (program : List Insn) (context : List ℕ) (relay : Relay) (answers : List (List ℕ)) (s : State) →
       Reached program context relay answers s → length s.entries ≤ most_entries

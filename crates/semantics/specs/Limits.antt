@@ -1,30 +1,30 @@
--- The limits of campaigns, as far as calls and contexts have them.
+-- Defines the limits of campaigns that concern calls and contexts.
 use Rattle.std.specs.Prelude.{ℕ}
 
--- the generals of the largest campaign; a row of orders has at most one for each
+-- The number of generals in the largest campaign. A row of orders has at most one order for each.
 abbrev pub most_generals : ℕ
 most_generals = 13
 
--- the cells of a stack, a byte each
+-- The number of cells of a stack. Each cell holds one byte.
 abbrev pub stack_size : ℕ
 stack_size = 512
 
--- the bytes of a context
+-- The number of bytes of a context.
 abbrev pub context_size : ℕ
 context_size = 4096
 
--- the labels that a context has room for, four bytes each behind its first 32
+-- The number of labels that a context has room for: four bytes each, after its first 32 bytes.
 abbrev pub most_labels : ℕ
 most_labels = 1016
 
--- the chains of a signed campaign that a general may hold
+-- The number of chains that a general may hold in a signed campaign.
 abbrev pub most_held : ℕ
 most_held = 384
 
--- the sets of generals, a bit of a word for each: 2 ^ most_generals
+-- The number of sets of generals, 2 ^ most_generals. A set has one bit of a word for each general.
 abbrev pub receiver_sets : ℕ
 receiver_sets = 8192
 
--- the words of the board
+-- The number of words of the board.
 abbrev pub board_words : ℕ
 board_words = 64

@@ -1,4 +1,4 @@
--- The outbox of a relay (own).
+-- Defines the outbox of a relay and which places each helper sets (own).
 use Rattle.std.specs.Prelude.{ℕ, ◌+◌, ◌*◌, ◌≤◌, ◌==◌, ◌&&◌, if◌then◌else◌, List, length, map, zip, sum_by, count_by, Option, Some, None, is_some, slice_get, slice_range}
 use Rattle.std.specs.List.{enumerate_from}
 use Rattle.word.specs.Bytes.{little_number}
@@ -7,14 +7,14 @@ use Rattle.semantics.specs.Relay.{IsRelay, Relay, relayed}
 use Rattle.label.specs.Relay.{receivers}
 use Rattle.semantics.specs.State.{Outbox}
 
--- a place of an outbox: its label's rank, its number in that label's row, and the receiver
+-- A place of an outbox: the rank of its label, the place's number in that label's row, and its receiver.
 pub record Place : Type 0 where
   pub rank : ℕ
   pub number : ℕ
   pub receiver : ℕ
 
--- the places, in rows: a row for each label relayed, in it the receivers in ascending order; none where orders are
--- signed
+-- Returns the places of an outbox in rows. There is a row for each label relayed, with its receivers in ascending
+-- order. Where orders are signed, there is no row.
 abbrev pub places : Relay → List (List Place)
 places r =
     map (λ label. map (λ p. record {
@@ -24,55 +24,57 @@ places r =
     }) (enumerate_from 0 (receivers r.shape label.1)))
     (enumerate_from 0 (relayed r))
 
--- the outbox in which nothing has been put
+-- Returns the outbox before any order is put into it.
 abbrev pub empty_outbox : Relay → Outbox
 empty_outbox r = map (λ row. map (λ place. None) row) (places r)
 
--- a helper puts an order at some places, and nothing at the others
+-- What a helper puts at each place: an order, or nothing.
 abbrev pub Choice : Type 0
 Choice = Place → Option ℕ
 
+-- Returns the later order if there is one, otherwise the earlier one.
 abbrev pub newer : Option ℕ → Option ℕ → Option ℕ
 newer (Some order) old = Some order
 newer None old = old
 
--- the outbox after it: a later order replaces the earlier one
+-- Returns the outbox after a helper has put its orders. A later order replaces an earlier one.
 abbrev pub written : Relay → Choice → Outbox → Outbox
 written r choice outbox =
     map (λ row. map (λ p. newer (choice p.0) p.1) (zip row.0 row.1)) (zip (places r) outbox)
 
--- how many places it sets
+-- Returns the number of places that a helper sets.
 abbrev pub places_set : Relay → Choice → ℕ
 places_set r choice = sum_by (λ row. count_by (λ place. is_some (choice place)) row) (places r)
 
--- send: the place of the label of one rank, and one receiver
+-- The choice of send: the place of one label, by rank, and one receiver.
 abbrev pub at_place : ℕ → ℕ → ℕ → Choice
 at_place rank receiver order place = if (place.rank == rank) && (place.receiver == receiver) then Some order else None
 
--- send_row: the label's receivers in ascending order, as many as there are orders
+-- The choice of send_row: the label's first receivers in ascending order, one for each order.
 abbrev pub along_row : ℕ → List ℕ → Choice
 along_row rank orders place = if place.rank == rank then slice_get orders place.number else None
 
--- sway: the receiver's place in every label
+-- The choice of sway: the receiver's place in every label.
 abbrev pub at_receiver : ℕ → ℕ → Choice
 at_receiver receiver order place = if place.receiver == receiver then Some order else None
 
--- the value that the general took for the label of a rank, as the context has it: behind eight numbers of 4 bytes, 4
--- bytes for each rank
+-- Returns the value that the general took for the label of a rank. The context has it after eight numbers of 4 bytes,
+-- with 4 bytes for each rank.
 abbrev pub taken_value : List ℕ → ℕ → ℕ
 taken_value context rank = little_number (slice_range context (32 + 4 * rank) (36 + 4 * rank))
 
--- honest: the same places, each with its label's taken value
+-- The choice of honest: the receiver's place in every label, with the value that the general took for that label.
 abbrev pub as_taken : List ℕ → ℕ → Choice
 as_taken context receiver place = if place.receiver == receiver then Some (taken_value context place.rank) else None
 
--- ---- how many places are set at most; each statement is the contract of a function of this crate
+-- ---- Bounds of the number of places set. Each statement is the contract of a function of this crate.
 
--- within the limits of a campaign a general relays at most 11 * 10 * 9 labels in a round
+-- Within the limits of a campaign, a general relays at most 11 * 10 * 9 labels in a round.
 abbrev pub RelaysAreFew : Type 0
 RelaysAreFew = (relay : Relay) → IsRelay relay → length (relayed relay) ≤ 990
 
--- one place of a label, as many of a row as there are orders, and one in every label
+-- `at_place` sets at most one place, and `along_row` at most one for each order. `at_receiver` and `as_taken` set at
+-- most one place in every label relayed.
 pub record FewPlacesAreSet : Type 0 where
   pub sent : (relay : Relay) (label receiver order : ℕ) → places_set relay (at_place label receiver order) ≤ 1
   pub along : (relay : Relay) (label : ℕ) (orders : List ℕ) → places_set relay (along_row label orders) ≤ length orders
@@ -81,7 +83,7 @@ pub record FewPlacesAreSet : Type 0 where
   pub taken : (relay : Relay) (context : List ℕ) (receiver : ℕ) →
       places_set relay (as_taken context receiver) ≤ length (relayed relay)
 
--- the ranges of what the helpers return
+-- send_row returns at most 13, and sway and honest at most 1016.
 pub record RangesAreKept : Type 0 where
   pub along : (relay : Relay) (label : ℕ) (orders : List ℕ) → length orders ≤ most_generals →
       places_set relay (along_row label orders) ≤ most_generals

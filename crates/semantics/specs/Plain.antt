@@ -1,4 +1,5 @@
--- Plain programs: numbers alone, forward jumps, each register set before it is read (own).
+-- Defines plain programs: they compute with numbers only, jump only forward, and set each register before it is read
+-- (own).
 use Rattle.std.specs.Prelude.{ℕ, ℤ, pos, ◌+◌, ◌+ℤ◌, ◌<ℤ◌, ◌≡◌, List, [], ◌∷◌, ◌++◌, Some, ◌⊎◌, IsSome}
 use Rattle.word.specs.declared.Operation.{Operation}
 use Rattle.word.specs.declared.Operation.TheVariants.{Move}
@@ -9,20 +10,22 @@ use Rattle.insn.specs.declared.insn.Operand.TheVariants.{Register, Immediate}
 use Rattle.insn.specs.Insn.{units_of}
 use Rattle.insn.specs.Program.{instruction_at}
 
--- the list has the element
+-- The list has the element.
 abbrev pub IsIn : {A : Type 0} → A → List A → Type 0
 IsIn x [] = ⊥
 IsIn x (y ∷ ys) = (x ≡ y) ⊎ IsIn x ys
 
+-- Returns the registers that an operand reads.
 abbrev pub operand_reads : Operand → List ℕ
 operand_reads (Register r) = r ∷ []
 operand_reads (Immediate n) = []
 
+-- Returns the registers that an operation reads as its first operand. MOV reads none.
 abbrev pub first_reads : Operation → ℕ → List ℕ
 first_reads Move dst = []
 first_reads _ dst = dst ∷ []
 
--- neither memory nor helpers are used
+-- The instruction uses neither memory nor helpers.
 abbrev pub IsOfNumbers : Insn → Type 0
 IsOfNumbers (Load size dst base offset) = ⊥
 IsOfNumbers (LoadSigned part dst base offset) = ⊥
@@ -30,7 +33,7 @@ IsOfNumbers (Store size base offset source) = ⊥
 IsOfNumbers (Call helper) = ⊥
 IsOfNumbers _ = Unit {0}
 
--- the registers that it reads, where it is of numbers
+-- Returns the registers that an instruction reads, if it uses neither memory nor helpers.
 abbrev pub reads : Insn → List ℕ
 reads (Arithmetic width operation dst operand) = first_reads operation dst ++ operand_reads operand
 reads (Negate width dst) = dst ∷ []
@@ -40,7 +43,7 @@ reads (Branch width condition dst operand distance) = dst ∷ operand_reads oper
 reads Exit = 0 ∷ []
 reads _ = []
 
--- the registers that it writes, where it is of numbers
+-- Returns the registers that an instruction writes, if it uses neither memory nor helpers.
 abbrev pub writes : Insn → List ℕ
 writes (Arithmetic width operation dst operand) = dst ∷ []
 writes (Negate width dst) = dst ∷ []
@@ -49,7 +52,7 @@ writes (Swap order size dst) = dst ∷ []
 writes (LoadImmediate dst number) = dst ∷ []
 writes _ = []
 
--- the units that it may lead to
+-- Returns the units that may follow an instruction.
 abbrev pub leads_to : Insn → ℕ → List ℤ
 leads_to (Jump distance) unit = (pos (unit + 1) +ℤ distance) ∷ []
 leads_to (LongJump distance) unit = (pos (unit + 1) +ℤ distance) ∷ []
@@ -57,22 +60,25 @@ leads_to (Branch width condition dst operand distance) unit = pos (unit + 1) ∷
 leads_to Exit unit = []
 leads_to i unit = pos (unit + units_of i) ∷ []
 
--- some path from the entry to the unit writes the register nowhere
+-- Some path from the entry to the unit does not write register `r`.
 pub data Unwritten (program : List Insn) (r : ℕ) : ℕ → Type 0 where
   at_entry : Unwritten program r 0
   along : {unit : ℕ} (i : Insn) (next : ℕ) → Unwritten program r unit → instruction_at program unit ≡ Some i →
       (IsIn r (writes i) → ⊥) →
       IsIn (pos next) (leads_to i unit) → Unwritten program r next
 
--- an instruction starts there
+-- An instruction starts at this unit.
 abbrev pub IsStart : List Insn → ℤ → Type 0
 IsStart program z = (unit : ℕ) × (z ≡ pos unit) × IsSome (instruction_at program unit)
 
+-- The last instruction is the exit.
 abbrev pub EndsWithExit : List Insn → Type 0
 EndsWithExit [] = ⊥
 EndsWithExit (i ∷ []) = i ≡ Exit
 EndsWithExit (i ∷ j ∷ is) = EndsWithExit (j ∷ is)
 
+-- The program is plain. It ends with the exit, uses neither memory nor helpers, and jumps only forward to instructions.
+-- It sets each register before it is read, and never writes r10.
 pub record IsPlain (program : List Insn) : Type 0 where
   pub exit_last : EndsWithExit program
   pub numbers : (unit : ℕ) (i : Insn) → instruction_at program unit ≡ Some i → IsOfNumbers i

@@ -1,16 +1,17 @@
+//! Entries: the signed orders and chains that a program asks to send in a campaign with signatures.
 ghost use Rattle.std.specs.Prelude.{◌≡◌};
 
-/// What a program enters where orders are signed; in the receivers' number bit g stands for general g.
+/// A message that a program sends where orders are signed. Bit g of `receivers` is set if general g is a receiver.
 #[derive(Clone, Copy)]
 pub enum Entry {
-    /// An order, signed by its general, for these receivers.
+    /// An order that the program's general signs and sends to `receivers`.
     Sign { order: u32, receivers: u16 },
-    /// The chain that he holds at this place, with his signature at its end, for these receivers.
+    /// The chain that the general holds at place `held`, sent to `receivers` with the general's signature appended.
     Pass { held: u16, receivers: u16 },
 }
 
 impl Default for Entry {
-    /// An order for nobody: it stands where a list of fixed room has none yet.
+    /// Returns an order for no receiver. Lists of fixed size hold it in places that are not yet used.
     fn default() -> Entry
         ensures { result ≡ Entry.Sign 0 0 }
     {

@@ -1,4 +1,5 @@
-//! What programs mean: values, cells and requests in types; steps, runs, sound and plain programs in specs/.
+//! Defines what programs mean. The types are values, cells and requests; specs/ defines steps, runs, sound programs and
+//! plain programs.
 #![tactic(auto)]
 
 mod entry;

@@ -1,8 +1,9 @@
+//! Replies: what the board returns for a request, either one word or the words of a copy.
 ghost use Rattle.std.specs.Prelude.{◌≡◌, ◌≤◌, ◌↔◌, IfSome, IsSome, length};
 
 use std::marker::Model;
 
-/// The words of a copy, at most 64, seen as their list.
+/// The words that the board copied, at most 64. Contracts see them as a list.
 #[derive(Drop)]
 pub struct Copied {
     words: Vec<u64>,
@@ -19,7 +20,7 @@ impl Model for Copied {
 }
 
 impl Copied {
-    /// These words, where they are at most 64.
+    /// Returns the words as a copy, or `None` if there are more than 64.
     pub fn new(words: Vec<u64>) -> Option<Copied>
         ensures same { IfSome result (λ c. c ≡ words.items) }
         ensures there { IsSome result ↔ (length words.items ≤ 64) }
@@ -30,7 +31,7 @@ impl Copied {
         Some(Copied { words })
     }
 
-    /// The words, in their order.
+    /// Returns a reference to the words, in their order.
     pub fn as_slice(&self) -> &[u64]
         ensures same { result.now ≡ self.now }
         ensures few { length self.now ≤ 64 }
@@ -39,11 +40,11 @@ impl Copied {
     }
 }
 
-/// What the board answers.
+/// The board's answer to a request.
 #[derive(Drop)]
 pub enum Reply {
-    /// A word as it was.
+    /// The word of the board as it was before the request.
     Word(u64),
-    /// The words of a copy.
+    /// The words that the request copied.
     Words(Copied),
 }

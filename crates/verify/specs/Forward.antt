@@ -1,12 +1,13 @@
--- Programs whose every edge leads on to an instruction (own).
+-- Defines programs in which every edge leads forward to an instruction (own).
 use Rattle.std.specs.Prelude.{ℕ, ℤ, pos, ◌≡◌, ◌<ℤ◌, List, Some}
 use Rattle.insn.specs.declared.insn.Insn.{Insn}
 use Rattle.insn.specs.Program.{instruction_at}
 use Rattle.semantics.specs.Plain.{IsIn, leads_to, IsStart}
 
--- each unit that the instruction may lead to lies further on, and an instruction starts there
+-- Each unit that may follow the instruction is greater than its own unit, and an instruction starts there.
 abbrev pub LeadsForward : List Insn → ℕ → Insn → Type 0
 LeadsForward program unit i = (z : ℤ) → IsIn z (leads_to i unit) → (pos unit <ℤ z) × IsStart program z
 
+-- Each edge of the program leads forward to an instruction.
 pub record IsForward (program : List Insn) : Type 0 where
   pub edges : (unit : ℕ) (i : Insn) → instruction_at program unit ≡ Some i → LeadsForward program unit i

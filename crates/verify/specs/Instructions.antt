@@ -1,4 +1,4 @@
--- Why an instruction may not run on what is known (own).
+-- Defines why an instruction may not run on what is known (own).
 use Rattle.std.specs.Prelude.{Option, None}
 use Rattle.insn.specs.declared.insn.Insn.{Insn}
 use Rattle.insn.specs.declared.insn.Insn.TheVariants.{Arithmetic, Negate, SignExtend, Swap, LoadImmediate, Load, LoadSigned, Store, Call, Jump, LongJump, Branch, Exit}
@@ -10,7 +10,7 @@ use Rattle.verify.specs.Reasons.{first_reason, made_checks, arithmetic_checks, w
 use Rattle.verify.specs.MemoryTable.{load_reason, signed_load_reason, store_reason}
 use Rattle.verify.specs.Calls.{call_reason}
 
--- an instruction that goes on behind itself
+-- The instruction continues with the following one: it is neither a jump nor the exit.
 abbrev pub IsStraight : Insn → Type 0
 IsStraight (Jump distance) = ⊥
 IsStraight (LongJump distance) = ⊥
@@ -18,6 +18,7 @@ IsStraight (Branch width condition dst operand distance) = ⊥
 IsStraight Exit = ⊥
 IsStraight _ = Unit {0}
 
+-- Returns the reason why an instruction that continues with the following one may not run, if there is one.
 abbrev pub straight_reason : Insn → AbsState → Option Reason
 straight_reason (Arithmetic w operation dst operand) a =
     first_reason (arithmetic_checks a.registers w operation dst operand)
@@ -34,7 +35,7 @@ straight_reason (Store size base offset source) a = store_reason a size base off
 straight_reason (Call number) a = call_reason a number
 straight_reason _ a = None
 
--- why an instruction may not run, if so
+-- Returns the reason why an instruction may not run, if there is one.
 abbrev pub reason_of : Insn → AbsState → Option Reason
 reason_of (Branch w condition dst operand distance) a =
     first_reason (compare_checks (known_at a.registers dst) (operand_known a.registers operand))

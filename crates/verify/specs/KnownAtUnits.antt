@@ -1,4 +1,4 @@
--- What the pass knows as it comes to each unit, up to the first fault (own).
+-- Defines what the pass knows when it reaches each unit, up to the first fault (own).
 use Rattle.std.specs.Prelude.{ℕ, ◌<◌, ◌≤◌, ◌≡◌, List, Option, None, length, is_none, option_map, slice_get, if◌then◌else◌}
 use Rattle.std.specs.Result.{result_ok}
 use Rattle.insn.specs.declared.insn.Insn.{Insn}
@@ -8,17 +8,17 @@ use Rattle.verify.specs.declared.state.AbsState.{AbsState}
 use Rattle.verify.specs.Structure.{structural_fault}
 use Rattle.verify.specs.Judgement.{reached_at, passed_to, judged}
 
--- what the pass knows as it comes to a unit: the outer None where it does not come there, for a fault at an earlier
--- unit; the inner None where no path leads there
+-- Returns what the pass knows when it reaches a unit. The outer None means that it does not reach the unit, because of
+-- a fault at an earlier one. The inner None means that no path leads there.
 abbrev pub known_on_the_pass : List Insn → ℕ → Option (Option AbsState)
 known_on_the_pass program unit = option_map (λ reached. reached_at reached unit) (result_ok (passed_to program unit))
 
--- it comes to no unit where there is a fault of structure
+-- Returns what the verifier knows at a unit. The pass reaches no unit of a program with a structural fault.
 abbrev pub known_before : List Insn → ℕ → Option (Option AbsState)
 known_before program unit = if is_none (structural_fault program) then known_on_the_pass program unit else None
 
--- these states and this fault, if there is one, are what the verifier knows of a program: at each unit what the pass
--- knows as it comes there, and the first fault
+-- The states and the fault are what the verifier finds in a program: for each unit what the pass knows when it reaches
+-- the unit, and the first fault, if there is one.
 pub record IsSurvey (program : List Insn) (states : List (Option AbsState)) (fault : Option VerifyError) : Type 0 where
   pub known : (unit : ℕ) → unit < length (slots_of program) → slice_get states unit ≡ known_before program unit
   pub room : length states ≤ length (slots_of program)

@@ -1,4 +1,4 @@
--- Laws of the verifier as one function.
+-- States the laws of the verifier as one function.
 use Rattle.std.specs.Prelude.{ℕ, ◌≡◌, ◌<◌, List, None, Some, length}
 use Rattle.insn.specs.declared.insn.Insn.{Insn}
 use Rattle.verify.specs.declared.error.VerifyError.{VerifyError}
@@ -16,8 +16,8 @@ use Rattle.verify.specs.Judgement.{judged}
 use Rattle.verify.specs.KnownAtUnits.{known_before}
 use Rattle.verify.specs.Describes.{IsAsKnown}
 
--- the pass over a program without a structural fault agrees with what is judged: none has both an end to which the pass
--- comes and a first fault, and none has two first faults
+-- The pass over a program without a structural fault agrees with `judged`. It never both reaches the end and stops at a
+-- first fault, and it never has two different first faults.
 pub record PassesAgree : Type 0 where
   pub through : (program : List Insn) → structural_fault program ≡ None → ComesThrough program → judged program ≡ None
   pub stopped : (program : List Insn) (fault : VerifyError) → structural_fault program ≡ None →
@@ -27,16 +27,16 @@ pub record PassesAgree : Type 0 where
   pub not_two : (program : List Insn) (fault other : VerifyError) → structural_fault program ≡ None →
       IsFirstFault program fault → IsFirstFault program other → fault ≡ other
 
--- the function finds no fault in a plain program of well-formed instructions
+-- `judged` finds no fault in a plain program of well-formed instructions.
 abbrev pub PlainIsAccepted : Type 0
 PlainIsAccepted = (program : List Insn) → AllByRecursion IsInsn program → IsPlain program → judged program ≡ None
 
--- a program of well-formed instructions that takes a unit or more, and in which the function finds no fault, is sound
+-- A program of well-formed instructions is sound if it takes at least one unit and `judged` finds no fault in it.
 abbrev pub AcceptedIsSound : Type 0
 AcceptedIsSound = (program : List Insn) → AllByRecursion IsInsn program → 0 < length (slots_of program) →
     judged program ≡ None → IsSound program
 
--- in such a program every state of every run is as is known at its unit
+-- In such a program, what is known at a unit describes every state of every run at that unit.
 abbrev pub StatesAreAsKnown : Type 0
 StatesAreAsKnown = (program : List Insn) → AllByRecursion IsInsn program → 0 < length (slots_of program) →
     judged program ≡ None → (context : List ℕ) (relay : Relay) (answers : List (List ℕ)) (s : State) →

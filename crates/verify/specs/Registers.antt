@@ -1,4 +1,4 @@
--- What is known of the registers, and what a conditional jump tells of it (own).
+-- Defines what is known of the registers, and what a conditional jump implies for it (own).
 use Rattle.std.specs.Prelude.{ℕ, pos, ◌==◌, Bool, if◌then◌else◌, List, [], ◌∷◌, Option, Some, option_map, slice_index_or, slice_set}
 use Rattle.std.specs.Int.{w64, cast_unsigned}
 use Rattle.word.specs.declared.Width.{Width}
@@ -16,54 +16,56 @@ use Rattle.verify.specs.declared.comparison.Comparison.{Comparison}
 use Rattle.absmem.specs.Tables.{table}
 use Rattle.absval.specs.declared.value.AbsVal.TheVariants.{Unset, Number, Pointer}
 
--- what is known of a register
+-- Returns what is known of a register.
 abbrev pub known_at : List AbsVal → ℕ → AbsVal
 known_at known r = slice_index_or known r Unset
 
+-- Returns what is known of an operand.
 abbrev pub operand_known : List AbsVal → Operand → AbsVal
 operand_known known (Register r) = known_at known r
 operand_known known (Immediate n) = immediate_known n
 
--- what is known of what an operation reads of dst: MOV reads nothing there
+-- Returns what is known of the value that an operation reads from dst. MOV does not read it, so the number 0 is used.
 abbrev pub first_known : List AbsVal → Operation → ℕ → AbsVal
 first_known known Move dst = Number (single 0)
 first_known known _ dst = known_at known dst
 
--- at the entry r1 points to the context and r10 to the end of the stack
+-- What is known of the registers at the entry: r1 points to the context and r10 to the end of the stack.
 abbrev pub entry_known : List AbsVal
 entry_known =
     Unset ∷ Pointer Context (pos 0, pos 0) ∷ Unset ∷ Unset ∷ Unset ∷ Unset ∷ Unset ∷ Unset ∷ Unset ∷ Unset
     ∷ Pointer Stack (pos 0, pos 0) ∷ []
 
--- where two paths meet, each register is joined
+-- Joins each register where two paths meet.
 abbrev pub joined_all : List AbsVal → List AbsVal → List AbsVal
 joined_all known other = table 11 (λ r. joined (known_at known r) (known_at other r))
 
--- ---- the edges of a conditional jump: nothing where the edge is not followed
+-- ---- The edges of a conditional jump. There is no result if the edge cannot be taken.
 
--- numbers are refined, others stay
+-- Refines two values along an edge. Numbers are refined, and other values stay as they are.
 abbrev pub refined_known : Width → Condition → Bool → AbsVal → AbsVal → Option (AbsVal × AbsVal)
 refined_known w condition way (Number m) (Number n) =
     option_map (λ e. (Number e.0, Number e.1)) (refined w condition way m n)
 refined_known w condition way a b = Some (a, b)
 
--- a register is compared with a number, of which the jump's width is used
+-- Refines a register that is compared with a number, of which the low bits of the jump's width are used.
 abbrev pub number_edge : Width → Condition → Bool → List AbsVal → ℕ → ℕ → Option (List AbsVal)
 number_edge w condition way known dst n =
     option_map (λ e. slice_set known dst e.0)
     (refined_known w condition way (known_at known dst) (Number (single (taken w n))))
 
--- a register is compared with another; of itself it tells nothing
+-- Refines two registers that are compared. A register compared with itself is not refined.
 abbrev pub register_edge : Width → Condition → Bool → List AbsVal → ℕ → ℕ → Option (List AbsVal)
 register_edge w condition way known dst src =
     if dst == src then Some known
     else option_map (λ e. slice_set (slice_set known dst e.0) src e.1)
     (refined_known w condition way (known_at known dst) (known_at known src))
 
+-- Refines a register that is compared with an operand, along an edge.
 abbrev pub edge_by : Width → Condition → Bool → List AbsVal → ℕ → Operand → Option (List AbsVal)
 edge_by w condition way known dst (Register src) = register_edge w condition way known dst src
 edge_by w condition way known dst (Immediate n) = number_edge w condition way known dst (cast_unsigned w64 n)
 
--- what the registers hold where the jump is taken, or is not
+-- Returns what is known of the registers if the jump is taken, or is not taken.
 abbrev pub edge_known : Comparison → Bool → List AbsVal → Option (List AbsVal)
 edge_known c way known = edge_by c.width c.condition way known c.dst c.operand

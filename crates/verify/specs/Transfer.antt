@@ -1,5 +1,5 @@
--- The transfer functions: what an instruction leaves of what is known, and what is known along each edge that leads on
--- (own).
+-- Defines the transfer functions: what is known after an instruction, and what is known along each edge that leads on
+-- from it (own).
 use Rattle.std.specs.Prelude.{ℕ, ℤ, pos, ◌+◌, ◌*◌, ◌+ℤ◌, ◌==◌, Bool, true, false, if◌then◌else◌, List, [], ◌∷◌, ◌++◌, Option, Some, None, Result, option_map, slice_set}
 use Rattle.std.specs.Result.{result_ok}
 use Rattle.insn.specs.declared.insn.Insn.{Insn}
@@ -28,23 +28,26 @@ use Rattle.verify.specs.Instructions.{straight_reason}
 use Rattle.verify.specs.Calls.{is_certain, window_from, known_behind}
 use Rattle.absval.specs.declared.value.AbsVal.TheVariants.{Number, Pointer}
 
--- a register takes a value, where there is one
+-- Replaces what is known of a register, if there is a new value.
 abbrev pub assigned : AbsState → ℕ → Option AbsVal → AbsState
 assigned a dst None = a
 assigned a dst (Some value) = record { registers = slice_set a.registers dst value; stack = a.stack }
 
--- ---- stores
+-- ---- Stores
 
--- a number is stored at one address, where the window is no wider than it is, or at one of several
+-- What is known of the stack after a number is stored. It is at one address if the window is as wide as the number, and
+-- otherwise at one of several.
 abbrev pub number_stored : ℕ → Option Window → Known → Known
 number_stored size None known = known
 number_stored size (Some w) known =
     if w.size == size then put_bytes w.place w.size known else spread_bytes w.place w.size known
 
+-- What is known of the stack after a pointer is stored.
 abbrev pub pointer_stored : Region → ℤ → Option Window → Known → Known
 pointer_stored region offset None known = known
 pointer_stored region offset (Some w) known = put_pointer w.place region offset known
 
+-- What is known of the stack after a value is stored.
 abbrev pub stored : Size → AbsVal → ℤ → AbsVal → Known → Known
 stored size (Pointer region at) distance (Number n) known =
     number_stored (bytes_of size) (window_known region at.0 at.1 distance (bytes_of size)) known
@@ -52,32 +55,34 @@ stored size (Pointer region at) distance (Pointer other kept) known =
     pointer_stored other kept.0 (window_known region at.0 at.1 distance 8) known
 stored size base distance value known = known
 
--- ---- calls
+-- ---- Calls
 
--- words are written: to one place, or somewhere
+-- What is known of the stack after words are written, to one place or somewhere in the window.
 abbrev pub written : Bool → Option Window → Known → Known
 written certain None known = known
 written true (Some w) known = put_bytes w.place w.size known
 written false (Some w) known = spread_bytes w.place w.size known
 
+-- What is known of the stack after words of the board are copied to a pointer.
 abbrev pub copied : AbsVal → AbsVal → Known → Known
 copied (Pointer region offsets) (Number counts) known =
     written (is_certain offsets counts) (window_from region offsets (8 * greatest counts)) known
 copied target counts known = known
 
--- of the helpers, the one that copies words of the board writes to the stack
+-- What is known of the stack after a call. Only the helper that copies words of the board writes to it.
 abbrev pub stack_behind : Helper → AbsState → Known
 stack_behind BoardCopy a = copied (known_at a.registers 2) (known_at a.registers 3) a.stack
 stack_behind helper a = a.stack
 
+-- What is known after a call of a helper.
 abbrev pub called : Option Helper → AbsState → AbsState
 called None a = a
 called (Some helper) a =
     record { registers = known_behind (within (returned_range helper)) a.registers; stack = stack_behind helper a }
 
--- ---- instructions
+-- ---- Instructions
 
--- what an instruction leaves that goes on behind itself
+-- What is known after an instruction that continues with the following one.
 abbrev pub transfer : Insn → AbsState → AbsState
 transfer (Arithmetic w operation dst operand) a =
     assigned a dst (computed w operation (first_known a.registers operation dst) (operand_known a.registers operand))
@@ -97,25 +102,26 @@ transfer (Store size base offset source) a =
 transfer (Call number) a = called (helper_of number) a
 transfer i a = a
 
--- what is left by an instruction that goes on behind itself, or why it may not run
+-- What is known after an instruction that continues with the following one, or why it may not run.
 abbrev pub stepped : Insn → AbsState → Result AbsState Reason
 stepped i a = unless (straight_reason i a) (transfer i a)
 
--- what a conditional jump tells where it is taken, or is not: nothing where that cannot be
+-- What is known if a conditional jump is taken, or is not taken. There is no result if that cannot happen.
 abbrev pub narrowed : Comparison → Bool → AbsState → Option AbsState
 narrowed c taken a =
     option_map (λ known. record { registers = known; stack = a.stack }) (edge_known c taken a.registers)
 
--- a unit, and what is known along an edge that leads there
+-- An edge: the unit where it leads, and what is known along it.
 abbrev pub Edge : Type 0
 Edge = ℤ × AbsState
 
+-- Returns the edge to a unit, if it may be taken.
 abbrev pub edge_to : ℤ → Option AbsState → List Edge
 edge_to unit None = []
 edge_to unit (Some a) = (unit, a) ∷ []
 
--- the edges that lead on from an instruction at a unit: a jump counts units from the following one (RFC 9669, section
--- 4.3)
+-- The edges that lead on from an instruction at a unit. A jump counts units from the following instruction (RFC 9669,
+-- section 4.3).
 abbrev pub edges : Insn → ℕ → AbsState → List Edge
 edges (Jump distance) unit a = (pos (unit + 1) +ℤ distance, a) ∷ []
 edges (LongJump distance) unit a = (pos (unit + 1) +ℤ distance, a) ∷ []

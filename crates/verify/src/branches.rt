@@ -1,4 +1,4 @@
-//! What a conditional jump tells of the registers that it compares.
+//! Conditional jumps: what each edge implies for the registers that the jump compares.
 ghost use Rattle.std.specs.Prelude.{◌≡◌, unwrap_or, is_some, if◌then◌else◌, Some, None, true, false};
 ghost use Rattle.std.specs.Int.{w64, cast_unsigned};
 ghost use Rattle.word.specs.Arithmetic.{taken as used};
@@ -19,7 +19,8 @@ pub struct Followed {
     pub not_taken: bool,
 }
 
-/// What is left of two values where a condition on them goes one way; None where no two of theirs do so.
+/// Returns what remains of two values if a condition on them holds, or does not hold. Returns `None` if no pair of them
+/// takes that edge.
 #[inline(always)]
 fn refine_values(
     width: Width,
@@ -40,7 +41,7 @@ fn refine_values(
     Some((AbsVal::Number(m), AbsVal::Number(n)))
 }
 
-/// The bits of an immediate number that are compared.
+/// Returns the bits of an immediate number that a comparison of the width uses.
 fn used_number(width: Width, number: i32) -> u64
     ensures { result ≡ used width (cast_unsigned w64 number) }
 {
@@ -51,7 +52,8 @@ fn used_number(width: Width, number: i32) -> u64
     }
 }
 
-/// The same of a register and a number.
+/// Refines a register that is compared with an immediate number, along one edge. Returns whether that edge may be
+/// taken.
 #[inline(always)]
 fn refine_by_number(
     registers: &mut [AbsVal; 11],
@@ -76,7 +78,8 @@ fn refine_by_number(
     true
 }
 
-/// The same of two registers: one register tells nothing of itself.
+/// Refines two registers that are compared, along one edge. Returns whether that edge may be taken. A register compared
+/// with itself is not refined.
 #[inline(always)]
 fn refine_registers(
     registers: &mut [AbsVal; 11],
@@ -103,8 +106,8 @@ fn refine_registers(
     true
 }
 
-/// Narrows two copies of one state to what may hold where the jump is taken, and where it is not, and answers which
-/// of these edges may be taken at all.
+/// Narrows two copies of one state: `state` to what may hold if the jump is taken, and `other` to what may hold if it
+/// is not. Returns which of these edges may be taken.
 pub fn refine(state: &mut AbsState, other: &mut AbsState, compared: &Comparison) -> Followed
     requires { other.old ≡ state.old }
     ensures taken { (if result.taken then Some state.new else None) ≡ narrowed compared.now true state.old }

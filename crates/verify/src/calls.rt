@@ -1,4 +1,4 @@
-//! What a call of a helper does to what is known.
+//! Calls of helpers: the checks of their arguments, and what a call does to the abstract state.
 ghost use Rattle.std.specs.Prelude.{◌≡◌, ◌+◌, ◌*◌, ◌≤◌, ◌<◌, true, [], ◌∷◌, None, Some};
 ghost use Rattle.absval.specs.NumberSets.{within, greatest};
 ghost use Rattle.semantics.specs.Limits.{board_words, most_generals};
@@ -21,7 +21,8 @@ use helper::{Argument, BOARD_WORDS, Helper};
 use range::Range;
 use semantics::Region;
 
-/// An argument is a number that is not above its greatest, or a pointer where it has none.
+/// Checks that a value is allowed as an argument: a number not above the argument's greatest one, or a pointer if the
+/// argument is a pointer.
 fn check_argument(argument: Argument, value: AbsVal) -> Result<(), Reason>
     ensures { result ≡ answer_of (argument_reason (bound_of argument) value) }
 {
@@ -35,7 +36,7 @@ fn check_argument(argument: Argument, value: AbsVal) -> Result<(), Reason>
     }
 }
 
-/// A number that is an argument is not above the argument's greatest.
+/// Checks that a number is allowed as an argument: it is not above the argument's greatest one.
 fn check_number(argument: Argument, numbers: NumberSet) -> Result<(), Reason>
     ensures { result ≡ answer_of (argument_reason (bound_of argument) (AbsVal.Number numbers)) }
 {
@@ -45,7 +46,7 @@ fn check_number(argument: Argument, numbers: NumberSet) -> Result<(), Reason>
     }
 }
 
-/// A register that the helper does not take is not looked at.
+/// Checks the value of a register as an argument, if the helper takes one there.
 fn check_taken(argument: Option<Argument>, value: AbsVal) -> Result<(), Reason>
     ensures { result ≡ answer_of (taken_reason argument value) }
 {
@@ -55,7 +56,7 @@ fn check_taken(argument: Option<Argument>, value: AbsVal) -> Result<(), Reason>
     }
 }
 
-/// The arguments in r1, r2 and r3, in this order.
+/// Checks the arguments in r1, r2 and r3, in this order.
 fn check_arguments(
     registers: &[AbsVal; 11],
     first: Option<Argument>,
@@ -69,7 +70,7 @@ fn check_arguments(
     check_taken(third, known_at(registers, 3))
 }
 
-/// The numbers of an argument that is one.
+/// Returns the numbers of a value that is known to be a number.
 fn number(value: AbsVal) -> NumberSet
     requires { is_number value ≡ true }
     ensures { value ≡ AbsVal.Number result }
@@ -80,7 +81,7 @@ fn number(value: AbsVal) -> NumberSet
     }
 }
 
-/// The pointer that an argument is.
+/// Returns the region and offsets of a value that is known to be a pointer.
 fn pointer(value: AbsVal) -> (Region, Offsets)
     requires { IsPointer value }
     ensures { value ≡ AbsVal.Pointer result.0 result.1 }
@@ -91,14 +92,14 @@ fn pointer(value: AbsVal) -> (Region, Offsets)
     }
 }
 
-/// Whether words are written to one place: pointer and count are one number each.
+/// Checks whether words are written to exactly one place: the pointer has one offset, and the count is one number.
 fn is_certain(offsets: Offsets, counts: NumberSet) -> bool
     ensures { result ≡ is_certain offsets counts }
 {
     offsets.is_one() && counts.is_one()
 }
 
-/// Words are written at an offset of the stack, so many of 8 bytes each.
+/// Records a write of words of 8 bytes each at offsets of the stack. `counts` contains the possible numbers of words.
 fn write_words(stack: &mut AbsStack, offsets: Offsets, counts: NumberSet) -> Result<(), Reason>
     requires { greatest counts ≤ board_words }
     ensures { let at = window_from Region.Stack offsets (8 * greatest counts) in
@@ -116,7 +117,8 @@ fn write_words(stack: &mut AbsStack, offsets: Offsets, counts: NumberSet) -> Res
     Ok(())
 }
 
-/// Words of the board are copied to a pointer: up to so many, from one of the slots on.
+/// Checks a copy of words of the board to a pointer, and records what it writes. `slots` is what is known of the first
+/// word's number, and `counts` of the number of words.
 fn copy(stack: &mut AbsStack, slots: AbsVal, target: AbsVal, counts: AbsVal) -> Result<(), Reason>
     requires slots { IsBelow board_words slots }
     requires target { IsPointer target }
@@ -135,7 +137,7 @@ fn copy(stack: &mut AbsStack, slots: AbsVal, target: AbsVal, counts: AbsVal) -> 
     }
 }
 
-/// Orders are read at a pointer, up to so many of 4 bytes each.
+/// Checks that orders can be read at a pointer. There may be as many as the greatest of `counts`, of 4 bytes each.
 fn check_row(stack: &AbsStack, source: AbsVal, counts: AbsVal) -> Result<(), Reason>
     requires source { IsPointer source }
     requires counts { IsBelow (most_generals + 1) counts }
@@ -149,7 +151,7 @@ fn check_row(stack: &AbsStack, source: AbsVal, counts: AbsVal) -> Result<(), Rea
     check_bytes(stack, region, window)
 }
 
-/// The cells at a pointer, for the helpers that take one.
+/// Checks the access to the cells at a pointer, for the helpers that make one, and records what it writes.
 fn pass_window(state: &mut AbsState, helper: Helper) -> Result<(), Reason>
     requires { arguments_reason (arguments_of helper) 1 state.old.registers ≡ None }
     ensures { outcome result state.new ≡ unless (window_reason helper state.old) (record state.old {
@@ -167,7 +169,7 @@ fn pass_window(state: &mut AbsState, helper: Helper) -> Result<(), Reason>
     }
 }
 
-/// Behind a call r0 has the result, and r1 to r5 are unset.
+/// Records the registers after a call: r0 holds a number of the range, and r1 to r5 are unset.
 fn put_result(registers: &mut [AbsVal; 11], range: Range)
     ensures { registers.new ≡ known_behind (within range) registers.old }
 {
@@ -177,7 +179,7 @@ fn put_result(registers: &mut [AbsVal; 11], range: Range)
     }
 }
 
-/// The helper of the number is called.
+/// Checks a call of the helper with a number, and records what the call does to the state.
 pub fn call(state: &mut AbsState, number: i32) -> Result<(), Reason>
     ensures { outcome result state.new ≡ unless (call_reason state.old number) (called (helper_of number) state.old) }
 {

@@ -1,7 +1,8 @@
+//! Comparisons of conditional jumps.
 use insn::{Operand, Reg};
 use word::{Condition, Width};
 
-/// What a conditional jump compares, and how.
+/// What a conditional jump compares, and how: its width, its condition, and both operands.
 #[derive(Clone, Copy)]
 pub struct Comparison {
     pub width: Width,

@@ -1,15 +1,16 @@
+//! Errors of the verifier: the fault for which a program is rejected.
 use crate::reason::Reason;
 use insn::Program;
 use std::alloc::AllocError;
 use std::error::Error;
 use std::fmt;
 
-/// Why a program is refused.
+/// The error for which a program is rejected.
 #[derive(Clone, Copy, Debug, PartialEq, Eq, Drop)]
 pub enum VerifyError {
-    /// The reason, and the unit of the instruction that is at fault.
+    /// The reason, and the unit of the instruction at fault.
     At(Reason, usize),
-    /// Memory was refused.
+    /// The verifier ran out of memory.
     Memory,
 }
 
@@ -40,11 +41,11 @@ impl From<AllocError> for VerifyError {
     }
 }
 
-/// A refusal, which hands the program back.
+/// A rejection, which returns the program to the caller.
 #[derive(Drop)]
 pub struct Refused {
-    /// The program that was refused.
+    /// The program that was rejected.
     pub program: Program,
-    /// Why.
+    /// The error for which it was rejected.
     pub fault: VerifyError,
 }

@@ -1,4 +1,4 @@
-//! The verifier: a program that it accepts is sound.
+//! The verifier: it accepts a program, which is then sound, or finds the program's first fault.
 #![tactic(auto)]
 
 mod branches;

@@ -1,4 +1,4 @@
-//! What loads and stores do to what is known.
+//! Loads and stores: their checks, and what they do to the abstract state.
 ghost use Rattle.std.specs.Prelude.{◌≡◌, ◌+◌, ◌≤◌, Some, IfOk};
 ghost use Rattle.std.specs.Option.{ok_or};
 ghost use Rattle.std.specs.Result.{result_err};
@@ -16,7 +16,7 @@ use insn::{Size, bytes_of_part};
 use semantics::Region;
 use word::Narrow;
 
-/// The pointer that a base is.
+/// Returns the region and offsets of a base that is a pointer. Fails with `PointerUse` if the base is not a pointer.
 pub(crate) fn pointer_of(base: &AbsVal) -> Result<(Region, Offsets), Reason>
     ensures { result ≡ pointer_in base.now }
 {
@@ -26,7 +26,7 @@ pub(crate) fn pointer_of(base: &AbsVal) -> Result<(Region, Offsets), Reason>
     }
 }
 
-/// The cells that an access may touch.
+/// Returns the cells that an access may touch. Fails with `Bounds` if it may leave the region.
 fn window(region: Region, offsets: Offsets, distance: i16, size: usize) -> Result<Window, Reason>
     requires { size ≤ 8 }
     ensures exact { result ≡ ok_or (window_known region offsets.0 offsets.1 distance size) Reason.Bounds }
@@ -39,7 +39,7 @@ fn window(region: Region, offsets: Offsets, distance: i16, size: usize) -> Resul
     Ok(window)
 }
 
-/// The pointer that a load of eight bytes at one address finds.
+/// Returns the pointer that a load of eight bytes at one address finds, if a whole pointer is known to be stored there.
 fn stored_pointer(stack: &AbsStack, size: Size, window: Window) -> Option<AbsVal>
     requires { window.place + window.size ≤ 512 }
     ensures { result ≡ spilled stack.now size window }
@@ -54,7 +54,7 @@ fn stored_pointer(stack: &AbsStack, size: Size, window: Window) -> Option<AbsVal
     Some(AbsVal::Pointer(region, Offsets::exactly(offset)))
 }
 
-/// A register takes what a load from the stack gives.
+/// Writes the result of a load from the stack to a register. Fails with `StackUnset` if a cell may not be a byte.
 fn load_stack(
     register: &mut AbsVal,
     stack: &AbsStack,
@@ -75,8 +75,8 @@ fn load_stack(
     Ok(())
 }
 
-/// A register takes what a load gives. It is written where its region is known, so that no value is brought together
-/// from several ways.
+/// Writes the result of a load to a register. Each region has its own write, so that no value is joined from several
+/// branches of the code.
 pub fn load_into(
     register: &mut AbsVal,
     stack: &AbsStack,
@@ -101,7 +101,7 @@ pub fn load_into(
     }
 }
 
-/// The cells of the window are bytes: those of the context are.
+/// Checks that the cells of the window are bytes. Those of the context always are.
 pub(crate) fn check_bytes(stack: &AbsStack, region: Region, window: Window) -> Result<(), Reason>
     requires { window.place + window.size ≤ room_of region }
     ensures { result_err result ≡ unset_in stack.now region window }
@@ -117,7 +117,7 @@ pub(crate) fn check_bytes(stack: &AbsStack, region: Region, window: Window) -> R
     }
 }
 
-/// What a load gives that extends by the sign.
+/// Returns the result of a load that is sign-extended.
 pub fn load_signed(
     stack: &AbsStack,
     part: Narrow,
@@ -132,7 +132,8 @@ pub fn load_signed(
     Ok(AbsVal::Number(NumberSet::any()))
 }
 
-/// The cells of the stack that a store may touch: the context is not written.
+/// Returns the cells of the stack that a store may touch. Fails with `ContextWrite` if the base points into the
+/// context.
 fn stack_window(
     region: Region,
     offsets: Offsets,
@@ -151,7 +152,7 @@ fn stack_window(
     }
 }
 
-/// A number is stored.
+/// Records a store of a number of `size` bytes.
 #[inline(always)]
 pub(crate) fn store_number(
     stack: &mut AbsStack,
@@ -171,7 +172,7 @@ pub(crate) fn store_number(
     Ok(())
 }
 
-/// A pointer is stored: whole, at one address, with one offset.
+/// Records a store of a pointer. It must have 8 bytes, one address and one offset.
 fn store_pointer(
     stack: &mut AbsStack,
     size: Size,
@@ -195,7 +196,7 @@ fn store_pointer(
     Ok(())
 }
 
-/// What a store leaves.
+/// Checks a store of a value, and records what it does to the stack.
 pub fn store(
     stack: &mut AbsStack,
     size: Size,

@@ -1,4 +1,5 @@
-//! The forward pass.
+//! The forward pass: it visits the units of a program in order, checks each instruction, and carries along what is
+//! known.
 ghost use Rattle.std.specs.Prelude.{ℕ, ◌≡◌, ◌≢◌, ◌<◌, ◌≤◌, ◌+◌, ◌^◌, pos, ◌<ℤ◌, ◌+ℤ◌, length, IfErr, IfOk, Ok, Result, if◌then◌else◌, Some, None};
 ghost use Rattle.std.specs.Result.{result_err};
 ghost use Rattle.verify.specs.Instructions.{IsStraight, reason_of};
@@ -22,7 +23,8 @@ use crate::{branches, registers, steps};
 use insn::{Insn, Program};
 use std::alloc::{AllocError, Global};
 
-/// An instruction that goes on behind itself. What it leaves is at hand for the next unit, but where it is wide.
+/// Passes an instruction that continues with the following one, and returns what is known at the next unit. After a
+/// wide instruction, its result is kept for the unit after the second half.
 fn pass_straight(
     unit: usize,
     insn: &Insn,
@@ -45,7 +47,7 @@ fn pass_straight(
     Ok(take_next(pending, unit + 1))
 }
 
-/// A jump by so many units.
+/// Passes a jump by `distance` units: keeps the state for the jump's target.
 fn pass_jump(unit: usize, distance: i32, state: Box<AbsState>, pending: &mut Pending)
     requires bound { unit < 4096 }
     requires forward { pos unit <ℤ (pos (unit + 1) +ℤ distance) }
@@ -55,7 +57,7 @@ fn pass_jump(unit: usize, distance: i32, state: Box<AbsState>, pending: &mut Pen
     flow(pending, forward_target(unit, distance), state);
 }
 
-/// An edge of a conditional jump: what is known there flows on where it may be taken.
+/// Keeps a state for unit `unit` along an edge of a conditional jump, if the edge may be taken.
 fn pass_edge(unit: usize, followed: bool, state: Box<AbsState>, pending: &mut Pending)
     requires { unit < length pending.old.items }
     ensures { pending.new.items
@@ -66,7 +68,7 @@ fn pass_edge(unit: usize, followed: bool, state: Box<AbsState>, pending: &mut Pe
     }
 }
 
-/// A conditional jump by so many units.
+/// Passes a conditional jump by `distance` units: keeps a narrowed state for each edge that may be taken.
 fn pass_branch(
     alloc: Global,
     unit: usize,
@@ -94,7 +96,7 @@ fn pass_branch(
     Ok(())
 }
 
-/// The program ends.
+/// Passes an exit: checks that the program may end with what is known of r0.
 fn pass_exit(unit: usize, state: Box<AbsState>) -> Result<(), VerifyError>
     ensures does { (reached : KnownSoFar) → Does (followed unit Insn.Exit state.value reached) result reached }
     ensures memory { IfErr result (λ e. e ≢ Memory) }
@@ -105,7 +107,7 @@ fn pass_exit(unit: usize, state: Box<AbsState>) -> Result<(), VerifyError>
     Ok(())
 }
 
-/// What is kept for the next unit is taken out, behind an instruction that did not come to a fault.
+/// Takes out what is kept for the next unit, or returns the fault of the instruction before it.
 #[inline(always)]
 fn go_on(
     next: usize,
@@ -121,7 +123,7 @@ fn go_on(
     }
 }
 
-/// An instruction at its unit, with what is known there.
+/// Passes an instruction at its unit with what is known there, and returns what is known at the next unit.
 #[inline(always)]
 fn pass_state(
     alloc: Global,
@@ -165,8 +167,8 @@ fn pass_state(
     }
 }
 
-/// The next unit, at which what is known is at hand; behind it that of the unit that follows. It is made ready by what
-/// is known there.
+/// Passes a unit with what is known there, makes its ready code, and returns what is known at the next unit. If no path
+/// leads to the unit, or no instruction starts there, there is nothing to check.
 #[inline(always)]
 fn pass_unit(
     alloc: Global,
@@ -188,7 +190,7 @@ fn pass_unit(
     ensures others { (other : ℕ) → other ≢ unit → ready_at codes.new.items other ≡ ready_at codes.old.items other }
     ensures long { length codes.new.items ≡ length codes.old.items }
 {
-    // The borrow checker's proof finds a type inside a code only where it is named.
+    // This line names the types inside a code, because the borrow checker's proof finds only a type that is named.
     let _named: Option<(Change, Other)> = None;
     let Some(state) = hand else {
         return Ok(take_next(pending, unit + 1));
@@ -201,8 +203,8 @@ fn pass_unit(
     pass_state(alloc, unit, &insn, state, pending)
 }
 
-/// The units from the first on, up to the end, in their order, each made ready. Its code stands once, and what passes a
-/// unit within it.
+/// Passes the units from `first` up to but not including `end` in order, and makes the ready code of each. The function
+/// is not inlined, so that its code, with that of passing a unit, exists only once.
 #[inline(never)]
 pub fn pass_units(
     alloc: Global,
@@ -232,7 +234,7 @@ pub fn pass_units(
     Ok(())
 }
 
-/// What is kept as the pass opens: the entry, for the first unit.
+/// Returns the pending states at the beginning of the pass: the entry state, for the first unit.
 pub fn opened(alloc: Global, program: &Program) -> Result<Pending, AllocError>
     ensures { IfOk result (λ pending. passed_to program.now 0 ≡ Ok pending.items) }
 {
@@ -241,7 +243,7 @@ pub fn opened(alloc: Global, program: &Program) -> Result<Pending, AllocError>
     Ok(pending)
 }
 
-/// The forward pass over a program whose every edge leads forward, which is made ready.
+/// Runs the forward pass over a program in which every edge leads forward, and makes the ready codes of its units.
 pub fn pass(alloc: Global, program: &Program, codes: &mut Vec<Ready>) -> Result<(), VerifyError>
     requires { IsForward program.now }
     ensures answers { Answers (result_err (passed_to program.now (length (slots_of program.now)))) result }

@@ -1,4 +1,4 @@
-//! The states that are kept for units to come.
+//! Pending states: what the pass knows at units that it has not visited yet.
 ghost use Rattle.std.specs.Prelude.{◌≡◌, ◌-◌, ◌<◌, ◌≤◌, ◌++◌, Some, None, [], length, replicate, slice_set, is_none, pos, IfOk, vec_len, vec_capacity};
 ghost use Rattle.verify.specs.Judgement.{KnownSoFar, reached_at, along, joined_with};
 ghost use Rattle.verify.specs.Kept.{unboxed, AtHand};
@@ -8,12 +8,12 @@ use crate::state::AbsState;
 use std::alloc::{AllocError, Global};
 use std::marker::Model;
 
-/// What is known at each unit to come, and a box that none of them needs any more.
+/// What is known at each unit that the pass has not visited yet, and a spare box that no unit needs any more.
 #[derive(Drop)]
 pub struct Pending {
-    /// A place of each unit up to the last for which something was kept: behind them nothing is.
+    /// A place for each unit up to the last one for which a state was kept. No state is kept for the units after it.
     states: Vec<Option<Box<AbsState>>>,
-    /// How many units there are. There is room for a place of each.
+    /// The number of units. The list of places has room for one place for each.
     units: usize,
     spare: Option<Box<AbsState>>,
 }
@@ -29,7 +29,7 @@ impl Model for Pending {
     ghost invariant = { λ p. HasRoom (vec_len p.states) (vec_capacity p.states) p.units };
 }
 
-/// A state of its own.
+/// Puts a state into a box of its own.
 pub fn boxed(alloc: Global, state: AbsState) -> Result<Box<AbsState>, AllocError>
     ensures { IfOk result (λ b. b.value ≡ state) }
 {
@@ -37,22 +37,24 @@ pub fn boxed(alloc: Global, state: AbsState) -> Result<Box<AbsState>, AllocError
     Ok(boxed)
 }
 
-/// So many states, 131,072 bytes, are as much as an allocator has at hand, or asks the system for in one piece.
+/// The number of states from which on `empty` reserves memory for all of them once. They take 131,072 bytes: as much as
+/// an allocator has at hand, or requests from the system in one piece.
 const MANY_STATES: usize = 128;
 
-/// Room for so many states in one piece, none in it yet.
+/// Allocates room for `states` states in one piece. The list itself is empty.
 fn room_for_states(alloc: Global, states: usize) -> Result<Vec<AbsState>, AllocError>
     ensures { IfOk result (λ room. room.items ≡ []) }
 {
     Vec::with_capacity(alloc, states)
 }
 
-/// Room for so many units, with nothing kept. None has its place yet: in straight code only the first gets one.
+/// Returns pending states for `units` units, with no state kept. No unit has a place yet: in straight code only the
+/// first gets one.
 ///
-/// Later a state may wait for each unit, in a box of its own. Room for them all is asked for in one piece and given
-/// back at once: an allocator that takes memory from the system and returns it by what was given back in one piece (as
-/// glibc's) keeps so much from then on, and the boxes of the next program need no new pages. Where it is refused,
-/// nothing else is. A few states need no such care.
+/// Later a state may wait for each unit, each in its own box. If there are many units, room for all of them is
+/// allocated in one piece and released at once. An allocator such as glibc's decides what to return to the system by
+/// the size of the pieces that were released. It keeps that much memory from then on, and the boxes of the next program
+/// need no new pages. If this allocation is refused, nothing else fails. A few states need no such care.
 pub fn empty(alloc: Global, units: usize) -> Result<Pending, AllocError>
     ensures { IfOk result (λ pending. pending.items ≡ replicate units None) }
 {
@@ -80,7 +82,7 @@ pub fn take(pending: &mut Pending, unit: usize) -> Option<Box<AbsState>>
     pending.states[unit].take()
 }
 
-/// What is kept for a unit, once more.
+/// Returns a copy of what is kept for a unit.
 pub fn kept(pending: &Pending, unit: usize) -> Option<AbsState>
     requires { unit < length pending.now.items }
     ensures { result ≡ reached_at pending.now.items unit }
@@ -94,7 +96,7 @@ pub fn kept(pending: &Pending, unit: usize) -> Option<AbsState>
     }
 }
 
-/// Places of all units before this one, which has none yet. Nothing is kept in the further ones.
+/// Adds an empty place for each unit before `unit` that has none. No state is kept in the added places.
 fn extend(states: &mut Vec<Option<Box<AbsState>>>, unit: usize)
     requires behind { vec_len states.old ≤ unit }
     requires room { unit ≤ vec_capacity states.old }
@@ -118,7 +120,7 @@ fn keep_behind(pending: &mut Pending, unit: usize, state: Box<AbsState>)
     pending.states.push_reserved(Some(state));
 }
 
-/// Keeps a state for a unit that has its place.
+/// Keeps a state for a unit that already has a place.
 #[inline(always)]
 fn keep_inside(pending: &mut Pending, unit: usize, state: Box<AbsState>)
     requires { unit < pending.old.places }
@@ -139,7 +141,7 @@ fn keep(pending: &mut Pending, unit: usize, state: Box<AbsState>)
     keep_inside(pending, unit, state);
 }
 
-/// Whether nothing is kept for a unit that has its place.
+/// Checks whether no state is kept for a unit that has a place.
 #[inline(always)]
 fn is_free(pending: &Pending, unit: usize) -> bool
     requires { unit < pending.now.places }
@@ -148,7 +150,8 @@ fn is_free(pending: &Pending, unit: usize) -> bool
     pending.states[unit].is_none()
 }
 
-/// What a state and the one that is kept for a unit both know. The box of that one is set aside for the next state.
+/// Joins a state with the one kept for a unit, which is taken out. The box of the kept one is set aside for the next
+/// state.
 #[inline(never)]
 fn meet(pending: &mut Pending, unit: usize, mut state: Box<AbsState>) -> Box<AbsState>
     requires { unit < length pending.old.items }
@@ -164,7 +167,7 @@ fn meet(pending: &mut Pending, unit: usize, mut state: Box<AbsState>) -> Box<Abs
     state
 }
 
-/// A state comes to a unit that has its place.
+/// Joins a state that arrives at a unit with the one kept there, which is taken out. The unit must have a place.
 #[inline(always)]
 fn come_inside(pending: &mut Pending, unit: usize, state: Box<AbsState>) -> Box<AbsState>
     requires inside { unit < length pending.old.items }
@@ -179,7 +182,8 @@ fn come_inside(pending: &mut Pending, unit: usize, state: Box<AbsState>) -> Box<
     meet(pending, unit, state)
 }
 
-/// A state comes to a unit: what it knows there, with what is kept for it and is taken out.
+/// Joins a state that arrives at a unit with the one kept there, which is taken out. If none is kept, returns the state
+/// as it is.
 #[inline(always)]
 pub fn come(pending: &mut Pending, unit: usize, state: Box<AbsState>) -> Box<AbsState>
     requires { unit < length pending.old.items }
@@ -192,8 +196,8 @@ pub fn come(pending: &mut Pending, unit: usize, state: Box<AbsState>) -> Box<Abs
     come_inside(pending, unit, state)
 }
 
-/// The same state once more, in the box that no unit needs any more, else in a new one, in which that of the entry
-/// stands at first: of that the least is written.
+/// Returns a copy of a state. It uses the spare box if there is one. Otherwise it makes a new box with the entry state
+/// first, because that state takes the fewest writes.
 pub fn second(
     alloc: Global,
     pending: &mut Pending,
@@ -210,7 +214,7 @@ pub fn second(
     Ok(spare)
 }
 
-/// Keeps a state for a unit, with what is kept there.
+/// Keeps a state for a unit, joined with what is already kept there.
 #[inline(always)]
 pub fn flow(pending: &mut Pending, unit: usize, state: Box<AbsState>)
     requires { unit < length pending.old.items }
@@ -224,7 +228,7 @@ pub fn flow(pending: &mut Pending, unit: usize, state: Box<AbsState>)
     keep_inside(pending, unit, state);
 }
 
-/// Takes out what is kept for a unit, where there is such a unit.
+/// Takes out what is kept for a unit, if there is such a unit.
 #[inline(always)]
 pub fn take_next(pending: &mut Pending, unit: usize) -> Option<Box<AbsState>>
     ensures value { unboxed result ≡ reached_at pending.old.items unit }
@@ -236,7 +240,7 @@ pub fn take_next(pending: &mut Pending, unit: usize) -> Option<Box<AbsState>>
     take(pending, unit)
 }
 
-/// Keeps again what was taken out.
+/// Keeps a state again that was taken out.
 pub fn put_back(pending: &mut Pending, unit: usize, state: Option<Box<AbsState>>)
     ensures { (reached : KnownSoFar) → AtHand reached unit state pending.old.items → pending.new.items ≡ reached }
 {

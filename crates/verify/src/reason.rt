@@ -1,32 +1,34 @@
+//! Reasons for which the verifier rejects an instruction, V1 to V13.
 use std::error::Error;
 use std::fmt;
 
-/// Why an instruction is at fault.
+/// The reason why an instruction is at fault.
 #[derive(Clone, Copy, Debug, PartialEq, Eq, Drop)]
 pub enum Reason {
-    /// V1: a jump leads to its own unit or back.
+    /// V1: a jump leads to its own unit or backwards.
     BackJump,
-    /// V2: a jump leads past the end.
+    /// V2: a jump leads past the end of the program.
     JumpOut,
     /// V3: a jump leads into the second half of a wide instruction.
     JumpInWide,
     /// V4: the last instruction is not the exit.
     LastNotExit,
-    /// V5: a register is read of which nothing is known: it may be unset, or of different kinds on different ways.
+    /// V5: a register is read of which nothing is known. It may be unset, or hold different kinds of values on
+    /// different paths.
     Unset,
     /// V6: the frame pointer is written.
     FrameWrite,
-    /// V7: a pointer is used as it may not be, or a number is the base of an access.
+    /// V7: a pointer is used in a way that is not allowed, or a number is the base of an access.
     PointerUse,
     /// V8: an access may leave its region.
     Bounds,
-    /// V9: a cell of the stack is read that may hold no byte.
+    /// V9: a cell of the stack is read that may not hold a byte.
     StackUnset,
     /// V10: the context is written.
     ContextWrite,
-    /// V11: a helper is called that is not there.
+    /// V11: a helper is called that does not exist.
     Helper,
-    /// V12: a helper is called with an argument that it may not take.
+    /// V12: a helper is called with an argument that it does not accept.
     Argument,
     /// V13: the program ends with a pointer in r0.
     ExitPointer,

@@ -1,4 +1,4 @@
-//! What is known of the registers.
+//! Abstract registers: what is known of the eleven registers.
 ghost use Rattle.std.specs.Prelude.{◌≡◌, ◌<◌, slice_set, IsTrue};
 ghost use Rattle.absval.specs.Table.{joined};
 ghost use Rattle.verify.specs.Registers.{known_at, operand_known, first_known, joined_all};
@@ -11,10 +11,11 @@ use insn::{Operand, Reg};
 use semantics::Region;
 use word::Operation;
 
-/// The beginning of the context, and the end of the stack.
+/// The offset 0: the beginning of the context, or the end of the stack.
 const AT_ZERO: Offsets = Offsets { low: 0, high: 0 };
 
-/// What is known at the entry: r1 points to the context, r10 to the end of the stack, of which nothing is known.
+/// Returns what is known at the entry: r1 points to the context, and r10 to the end of the stack. Nothing is known of
+/// the stack's cells.
 pub fn at_entry() -> AbsState
     ensures { result ≡ at_entry }
 {
@@ -27,7 +28,7 @@ pub fn at_entry() -> AbsState
     }
 }
 
-/// What is known of the register of a number.
+/// Returns what is known of the register with a number.
 pub fn known_at(registers: &[AbsVal; 11], number: usize) -> AbsVal
     requires { number < 11 }
     ensures { result ≡ known_at registers.now number }
@@ -35,14 +36,14 @@ pub fn known_at(registers: &[AbsVal; 11], number: usize) -> AbsVal
     registers[number]
 }
 
-/// What is known of a register.
+/// Returns what is known of a register.
 pub fn read(registers: &[AbsVal; 11], r: Reg) -> AbsVal
     ensures { result ≡ known_at registers.now r }
 {
     known_at(registers, r.number() as usize)
 }
 
-/// The same, where it stands.
+/// Returns a reference to what is known of a register.
 #[inline(always)]
 pub fn at(registers: &[AbsVal; 11], r: Reg) -> &AbsVal
     ensures { result.now ≡ known_at registers.now r }
@@ -50,7 +51,7 @@ pub fn at(registers: &[AbsVal; 11], r: Reg) -> &AbsVal
     &registers[r.number() as usize]
 }
 
-/// What is known of an operand.
+/// Returns what is known of an operand.
 pub fn operand(registers: &[AbsVal; 11], operand: Operand) -> AbsVal
     ensures { result ≡ operand_known registers.now operand }
 {
@@ -60,7 +61,8 @@ pub fn operand(registers: &[AbsVal; 11], operand: Operand) -> AbsVal
     }
 }
 
-/// What is known of what an operation reads of dst: a move reads nothing there.
+/// Returns what is known of the value that an operation reads from `dst`. A move does not read it, so the number 0 is
+/// used.
 pub fn first(registers: &[AbsVal; 11], operation: Operation, dst: Reg) -> AbsVal
     ensures { result ≡ first_known registers.now operation dst }
 {
@@ -70,14 +72,14 @@ pub fn first(registers: &[AbsVal; 11], operation: Operation, dst: Reg) -> AbsVal
     }
 }
 
-/// A register holds another value.
+/// Replaces what is known of a register.
 pub fn write(registers: &mut [AbsVal; 11], r: Reg, value: AbsVal)
     ensures { registers.new ≡ slice_set registers.old r value }
 {
     registers[r.number() as usize] = value;
 }
 
-/// What is known where two paths meet.
+/// Joins the registers of two states that meet at a unit.
 pub fn join(registers: &mut [AbsVal; 11], other: &[AbsVal; 11])
     ensures { registers.new ≡ joined_all registers.old other.now }
 {
@@ -86,8 +88,8 @@ pub fn join(registers: &mut [AbsVal; 11], other: &[AbsVal; 11])
     }
 }
 
-/// The same of one register: where nothing is known of it, it stays, and the other is not looked at; numbers are
-/// joined where they stand, and a pointer that both are is not written.
+/// Joins one register with that of another state. If nothing is known of it, it stays so, and the other is not read.
+/// Numbers are joined in place. A pointer that both have is not written.
 fn join_one(register: &mut AbsVal, other: &AbsVal)
     ensures { register.new ≡ joined register.old other.now }
 {
@@ -99,7 +101,7 @@ fn join_one(register: &mut AbsVal, other: &AbsVal)
     }
 }
 
-/// Whether a value is this pointer.
+/// Checks whether a value is exactly the given pointer.
 fn is_pointer(value: &AbsVal, region: Region, offsets: Offsets) -> bool
     ensures { IsTrue result → value.now ≡ AbsVal.Pointer region offsets }
 {
@@ -109,14 +111,14 @@ fn is_pointer(value: &AbsVal, region: Region, offsets: Offsets) -> bool
     }
 }
 
-/// What is known becomes the same as of the others.
+/// Makes the registers equal to `other`.
 pub fn assign(registers: &mut [AbsVal; 11], other: &[AbsVal; 11])
     ensures { registers.new ≡ other.now }
 {
     registers.copy_from_slice(other);
 }
 
-/// The same registers once more.
+/// Returns a copy of the registers.
 pub fn copied(registers: &[AbsVal; 11]) -> [AbsVal; 11]
     ensures { result ≡ registers.now }
 {

@@ -1,3 +1,4 @@
+//! Abstract states: what the verifier knows of a program's state at a unit.
 ghost use Rattle.std.specs.Prelude.{◌≡◌};
 ghost use Rattle.verify.specs.Registers.{known_at, operand_known};
 ghost use Rattle.verify.specs.Knowledge.{met};
@@ -7,7 +8,7 @@ use absmem::AbsStack;
 use absval::AbsVal;
 use insn::{Operand, Reg};
 
-/// What is known of a program's state: of each of its eleven registers, and of its stack.
+/// An abstract state: what is known of each of the eleven registers, and of the stack.
 #[derive(Drop)]
 pub struct AbsState {
     pub registers: [AbsVal; 11],
@@ -15,21 +16,21 @@ pub struct AbsState {
 }
 
 impl AbsState {
-    /// What is known of a register.
+    /// Returns what is known of a register.
     pub fn known(&self, r: Reg) -> AbsVal
         ensures { result ≡ known_at self.now.registers r }
     {
         registers::read(&self.registers, r)
     }
 
-    /// What is known of an operand.
+    /// Returns what is known of an operand.
     pub fn operand(&self, operand: Operand) -> AbsVal
         ensures { result ≡ operand_known self.now.registers operand }
     {
         registers::operand(&self.registers, operand)
     }
 
-    /// The same once more.
+    /// Returns a copy of the state.
     #[inline(never)]
     pub fn copy(&self) -> AbsState
         ensures { result ≡ self.now }
@@ -40,7 +41,7 @@ impl AbsState {
         }
     }
 
-    /// Becomes the same as the other.
+    /// Makes the state equal to `other`.
     pub fn assign(&mut self, other: &AbsState)
         ensures { self.new ≡ other.now }
     {
@@ -48,7 +49,7 @@ impl AbsState {
         self.stack.assign(&other.stack);
     }
 
-    /// Keeps what both know.
+    /// Joins two states: keeps the facts that hold in both.
     pub fn join(&mut self, other: &AbsState)
         ensures { self.new ≡ met self.old other.now }
     {

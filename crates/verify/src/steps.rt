@@ -1,4 +1,4 @@
-//! What one instruction does to what is known.
+//! Steps of the pass: the checks of one instruction, and what it does to the abstract state.
 ghost use Rattle.std.specs.Prelude.{◌≡◌, ◌≢◌, [], ◌∷◌, Some, None, is_none, option_map, slice_set, IfOk, if◌then◌else◌};
 ghost use Rattle.std.specs.Result.{result_err};
 ghost use Rattle.absval.specs.Contains.{is_number};
@@ -18,7 +18,7 @@ use absval::{AbsVal, NumberSet};
 use insn::{Insn, Operand, Reg, Size};
 use word::{ByteOrder, Narrow, Operation, SwapSize, Width};
 
-/// A register that is read is set.
+/// Checks that a register that is read is set.
 fn check_set(value: &AbsVal) -> Result<(), Reason>
     ensures { result_err result ≡ first_reason ((is_unset value.now, Reason.Unset) ∷ []) }
 {
@@ -28,7 +28,7 @@ fn check_set(value: &AbsVal) -> Result<(), Reason>
     }
 }
 
-/// A value that is compared is a number.
+/// Checks that a value that is compared is a number.
 fn check_number(value: AbsVal) -> Result<(), Reason>
     ensures { result_err result ≡ (if is_number value then None else Some Reason.PointerUse) }
 {
@@ -38,7 +38,7 @@ fn check_number(value: AbsVal) -> Result<(), Reason>
     }
 }
 
-/// The register that is written is not the frame pointer.
+/// Checks that the register that is written is not the frame pointer.
 fn check_writable(dst: Reg) -> Result<(), Reason>
     ensures { result_err result ≡ first_reason (write_checks dst) }
 {
@@ -48,14 +48,15 @@ fn check_writable(dst: Reg) -> Result<(), Reason>
     Ok(())
 }
 
-/// Writes a result into a register.
+/// Writes a result to a register.
 fn put(state: &mut AbsState, dst: Reg, value: AbsVal)
     ensures { state.new ≡ assigned state.old dst (Some value) }
 {
     registers::write(&mut state.registers, dst, value);
 }
 
-/// Writes into dst what is made of the last value that is read, where its use is not a pointer's.
+/// Writes the result of an operation to `dst`. Fails if the operand `value` may be unset, if `dst` is the frame
+/// pointer, or if the operation has no result for a pointer.
 fn put_made(
     state: &mut AbsState,
     dst: Reg,
@@ -74,7 +75,7 @@ fn put_made(
     Ok(())
 }
 
-/// An operation on dst and an operand, whose result dst takes.
+/// Applies an operation to `dst` and an operand, and writes the result to `dst`.
 fn arithmetic(
     state: &mut AbsState,
     width: Width,
@@ -90,7 +91,7 @@ fn arithmetic(
     combine(state, width, operation, dst, operand)
 }
 
-/// A move of an operand to dst, of which nothing is read.
+/// Moves an operand to `dst`. The old value of `dst` is not read.
 fn move_operand(
     state: &mut AbsState,
     width: Width,
@@ -108,7 +109,7 @@ fn move_operand(
     }
 }
 
-/// A move of a value to dst.
+/// Moves a value to `dst`.
 #[inline(always)]
 fn move_value(state: &mut AbsState, width: Width, dst: Reg, value: AbsVal) -> Result<(), Reason>
     ensures { outcome result state.new ≡
@@ -118,7 +119,7 @@ fn move_value(state: &mut AbsState, width: Width, dst: Reg, value: AbsVal) -> Re
     put_made(state, dst, &value, made)
 }
 
-/// An operation other than a move on dst and an operand, whose result dst takes.
+/// Applies an operation other than a move to `dst` and an operand, and writes the result to `dst`.
 fn combine(
     state: &mut AbsState,
     width: Width,
@@ -137,7 +138,7 @@ fn combine(
     combine_at(&mut state.registers, dst, width, operation, second)
 }
 
-/// A register takes what an operation makes of it and a value.
+/// Applies an operation other than a move to a register and a value, and writes the result to the register.
 #[inline(always)]
 fn combine_at(
     registers: &mut [AbsVal; 11],
@@ -162,7 +163,7 @@ fn combine_at(
     )
 }
 
-/// What is known of a register becomes what an operation makes of it and a value. Numbers are written where they stand.
+/// Replaces what is known of a register by the result of an operation on it and a value. Numbers are written in place.
 #[inline(always)]
 fn combine_into(
     register: &mut AbsVal,
@@ -191,7 +192,7 @@ fn combine_into(
     Ok(())
 }
 
-/// The negation of dst.
+/// Negates `dst`.
 fn negate(state: &mut AbsState, width: Width, dst: Reg) -> Result<(), Reason>
     ensures { outcome result state.new ≡ stepped (Insn.Negate width dst) state.old }
 {
@@ -200,7 +201,7 @@ fn negate(state: &mut AbsState, width: Width, dst: Reg) -> Result<(), Reason>
     put_made(state, dst, &value, made)
 }
 
-/// The low bytes of src, extended by their sign.
+/// Writes the low bytes of `src` to `dst`, sign-extended.
 fn sign_extend(
     state: &mut AbsState,
     width: Width,
@@ -215,7 +216,7 @@ fn sign_extend(
     put_made(state, dst, &value, made)
 }
 
-/// The low bytes of dst, put in an order.
+/// Puts the low bytes of `dst` in an order.
 fn swap(state: &mut AbsState, order: ByteOrder, size: SwapSize, dst: Reg) -> Result<(), Reason>
     ensures { outcome result state.new ≡ stepped (Insn.Swap order size dst) state.old }
 {
@@ -224,7 +225,7 @@ fn swap(state: &mut AbsState, order: ByteOrder, size: SwapSize, dst: Reg) -> Res
     put_made(state, dst, &value, made)
 }
 
-/// An immediate number of 64 bits.
+/// Writes an immediate 64-bit number to `dst`.
 fn load_immediate(state: &mut AbsState, dst: Reg, number: u64) -> Result<(), Reason>
     ensures { outcome result state.new ≡ stepped (Insn.LoadImmediate dst number) state.old }
 {
@@ -233,7 +234,7 @@ fn load_immediate(state: &mut AbsState, dst: Reg, number: u64) -> Result<(), Rea
     Ok(())
 }
 
-/// A load of a number, or of a pointer that is kept on the stack.
+/// Loads a number, or a pointer that is stored on the stack, into `dst`.
 fn load(state: &mut AbsState, size: Size, dst: Reg, base: Reg, offset: i16) -> Result<(), Reason>
     ensures { outcome result state.new ≡ stepped (Insn.Load size dst base offset) state.old }
 {
@@ -245,7 +246,7 @@ fn load(state: &mut AbsState, size: Size, dst: Reg, base: Reg, offset: i16) -> R
     memory::load_into(register, &state.stack, size, region, offsets, offset)
 }
 
-/// A load of a number that is extended by its sign.
+/// Loads a number into `dst` and sign-extends it.
 fn load_signed(
     state: &mut AbsState,
     part: Narrow,
@@ -263,7 +264,7 @@ fn load_signed(
     Ok(())
 }
 
-/// A store of a value by a base. Both are looked at where they stand: few are copied.
+/// Stores a value at a base. Both are passed by reference, because few need to be copied.
 #[inline(always)]
 fn store_value(
     stack: &mut AbsStack,
@@ -281,7 +282,7 @@ fn store_value(
     memory::store(stack, size, base, offset, value)
 }
 
-/// A store of a number or of a pointer.
+/// Stores a number or a pointer.
 fn store(
     state: &mut AbsState,
     size: Size,
@@ -305,7 +306,7 @@ fn store(
     }
 }
 
-/// An instruction that goes on behind itself.
+/// Checks an instruction that continues with the following one, and applies it to the state.
 pub fn straight(state: &mut AbsState, insn: &Insn) -> Result<(), Reason>
     requires { IsStraight insn.now }
     ensures { outcome result state.new ≡ stepped insn.now state.old }
@@ -351,7 +352,7 @@ pub fn straight(state: &mut AbsState, insn: &Insn) -> Result<(), Reason>
     }
 }
 
-/// Two values are compared.
+/// Checks that the two values that a conditional jump compares are set and are numbers.
 pub fn compare(state: &AbsState, compared: &Comparison) -> Result<(), Reason>
     ensures { result_err result
         ≡ first_reason (compare_checks (known_at state.now.registers compared.now.dst)
@@ -365,7 +366,7 @@ pub fn compare(state: &AbsState, compared: &Comparison) -> Result<(), Reason>
     check_number(second)
 }
 
-/// The program ends with r0.
+/// Checks that the program may end with r0: it must be a number.
 pub fn exit(state: &AbsState) -> Result<(), Reason>
     ensures { result_err result ≡ first_reason (exit_checks (known_at state.now.registers 0)) }
 {

@@ -1,4 +1,4 @@
-//! Where the jumps of a program lead, and how it ends.
+//! Structure of programs: where their jumps lead, and how they end.
 ghost use Rattle.std.specs.Prelude.{◌≡◌, ◌<◌, ◌≤◌, ◌+◌, ◌+ℤ◌, ◌<ℤ◌, ℕ, List, [], pos, length, false, is_some};
 ghost use Rattle.insn.specs.declared.insn.Insn.{Insn as InsnValue};
 ghost use Rattle.insn.specs.Program.{slots_of};
@@ -8,7 +8,7 @@ use crate::error::VerifyError;
 use crate::reason::Reason;
 use insn::{Insn, Program};
 
-/// Where a jump from a unit leads, counted in units.
+/// Returns the target of a jump from a unit, in units. It may be outside the program.
 pub(crate) fn target(unit: usize, distance: i32) -> i64
     requires { unit < 4096 }
     ensures { result ≡ pos (unit + 1) +ℤ distance }
@@ -16,7 +16,7 @@ pub(crate) fn target(unit: usize, distance: i32) -> i64
     unit as i64 + 1 + i64::from(distance)
 }
 
-/// Where a jump leads that leads forward.
+/// Returns the target of a jump that leads forward, in units.
 pub(crate) fn forward_target(unit: usize, distance: i32) -> usize
     requires bound { unit < 4096 }
     requires forward { pos unit <ℤ (pos (unit + 1) +ℤ distance) }
@@ -25,7 +25,7 @@ pub(crate) fn forward_target(unit: usize, distance: i32) -> usize
     target(unit, distance) as usize
 }
 
-/// The fault of a jump from a unit, by so many units, in a program of `end` units.
+/// Returns the fault of a jump from a unit by `distance` units, in a program of `end` units.
 fn target_fault(program: &Program, end: usize, unit: usize, distance: i32) -> Option<VerifyError>
     requires end { end ≡ length (slots_of program.now) }
     requires bound { end ≤ 4096 }
@@ -46,7 +46,7 @@ fn target_fault(program: &Program, end: usize, unit: usize, distance: i32) -> Op
     None
 }
 
-/// The fault of the instruction at a unit, if it is a jump.
+/// Returns the fault of the instruction at a unit, if it is a jump with a fault.
 #[inline(always)]
 fn jump_fault(program: &Program, end: usize, unit: usize, insn: &Insn) -> Option<VerifyError>
     requires end { end ≡ length (slots_of program.now) }
@@ -62,7 +62,7 @@ fn jump_fault(program: &Program, end: usize, unit: usize, insn: &Insn) -> Option
     }
 }
 
-/// Whether an instruction is a jump.
+/// Checks whether an instruction is a jump.
 #[inline(always)]
 fn is_jump(insn: &Insn) -> bool
     ensures { result ≡ false → (program : List InsnValue) (unit : ℕ) → jump_checks program unit insn.now ≡ [] }
@@ -73,7 +73,7 @@ fn is_jump(insn: &Insn) -> bool
     )
 }
 
-/// The fault of the instruction of an index, if it is a jump.
+/// Returns the fault of the instruction with an index, if it is a jump with a fault.
 #[inline(always)]
 fn fault_of(program: &Program, end: usize, index: usize) -> Option<VerifyError>
     requires end { end ≡ length (slots_of program.now) }
@@ -85,7 +85,8 @@ fn fault_of(program: &Program, end: usize, index: usize) -> Option<VerifyError>
     jump_fault(program, end, unit, &program.instructions()[index])
 }
 
-/// Whether it has one.
+/// Checks whether the instruction with an index is a jump with a fault. It first computes the unit where the
+/// instruction starts.
 #[inline(never)]
 fn is_faulty(program: &Program, end: usize, index: usize) -> bool
     requires end { end ≡ length (slots_of program.now) }
@@ -96,8 +97,8 @@ fn is_faulty(program: &Program, end: usize, index: usize) -> bool
     fault_of(program, end, index).is_some()
 }
 
-/// Whether the instruction of an index is a jump with a fault. Most instructions are none, and are not looked at
-/// further: so where they start is not asked.
+/// Checks whether the instruction with an index is a jump with a fault. Most instructions are not jumps, and for them
+/// the unit where they start is not computed.
 #[inline(always)]
 fn has_fault(program: &Program, end: usize, index: usize) -> bool
     requires end { end ≡ length (slots_of program.now) }
@@ -111,7 +112,7 @@ fn has_fault(program: &Program, end: usize, index: usize) -> bool
     is_faulty(program, end, index)
 }
 
-/// The first fault of the jumps.
+/// Returns the first fault of the jumps.
 fn first_jump_fault(program: &Program) -> Option<VerifyError>
     ensures { result ≡ first_fault (checks_from program.now 0 program.now) }
 {
@@ -124,7 +125,7 @@ fn first_jump_fault(program: &Program) -> Option<VerifyError>
     None
 }
 
-/// Whether an instruction is the exit.
+/// Checks whether an instruction is the exit.
 fn is_the_exit(insn: &Insn) -> bool
     ensures { result ≡ is_exit insn.now }
 {
@@ -134,7 +135,7 @@ fn is_the_exit(insn: &Insn) -> bool
     }
 }
 
-/// The fault of a last instruction that is not the exit.
+/// Returns the fault of the last instruction, if it is not the exit.
 fn last_fault(program: &Program) -> Option<VerifyError>
     ensures { result ≡ first_fault (last_checks 0 program.now) }
 {
@@ -145,7 +146,7 @@ fn last_fault(program: &Program) -> Option<VerifyError>
     Some(VerifyError::At(Reason::LastNotExit, program.unit_of(last)))
 }
 
-/// The first fault of a program's structure.
+/// Returns the first fault of a program's structure.
 pub(crate) fn find_fault(program: &Program) -> Option<VerifyError>
     ensures { result ≡ structural_fault program.now }
 {

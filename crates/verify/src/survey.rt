@@ -1,4 +1,4 @@
-//! What is known at each unit as the pass comes there.
+//! What the verifier knows at each unit of a program, for explanations and reports.
 ghost use Rattle.std.specs.Prelude.{◌≡◌, ◌≢◌, None, IfOk, OnErr, OnOk};
 ghost use Rattle.verify.specs.Structure.{structural_fault};
 ghost use Rattle.verify.specs.KnownAtUnits.{IsSurvey};
@@ -12,17 +12,18 @@ use crate::structure::find_fault;
 use insn::Program;
 use std::alloc::{AllocError, Global};
 
-/// What the pass knows of a program as it comes to each unit, up to the first fault.
+/// What the pass knows of a program at each unit, up to the first fault.
 #[derive(Drop)]
 pub struct KnownStates {
-    /// What is known at each unit to which the pass comes, that of the fault the last; None where no path leads there.
+    /// What is known at each unit that the pass reaches. If the pass finds a fault, the fault's unit is the last. An
+    /// entry is `None` if no path leads to its unit.
     pub states: Vec<Option<AbsState>>,
-    /// Why the program is refused, if so.
+    /// The error for which the program is rejected, if it is.
     pub fault: Option<VerifyError>,
 }
 
-/// What is known at each unit of a program, up to its first fault. The pass does not come to a program with a fault of
-/// structure.
+/// Returns what is known at each unit of a program, up to its first fault. If the program has a structural fault, the
+/// pass does not start and no state is returned.
 pub fn known_at_units(alloc: Global, program: &Program) -> Result<KnownStates, AllocError>
     ensures { IfOk result (λ s. IsSurvey program.now s.states.items s.fault) }
 {
@@ -35,7 +36,7 @@ pub fn known_at_units(alloc: Global, program: &Program) -> Result<KnownStates, A
     known_forward(alloc, program)
 }
 
-/// The same of a program without a fault of structure.
+/// Returns what is known at each unit of a program that has no structural fault.
 fn known_forward(alloc: Global, program: &Program) -> Result<KnownStates, AllocError>
     requires { structural_fault program.now ≡ None }
     ensures { IfOk result (λ s. IsSurvey program.now s.states.items s.fault) }
@@ -59,7 +60,7 @@ fn known_forward(alloc: Global, program: &Program) -> Result<KnownStates, AllocE
     })
 }
 
-/// A fault of the program, and no want of memory.
+/// Returns a fault of the program as it is. Fails if the verifier ran out of memory.
 fn named(fault: VerifyError) -> Result<VerifyError, AllocError>
     ensures same { IfOk result (λ f. f ≡ fault) }
     ensures named { OnOk result (fault ≢ VerifyError.Memory) }

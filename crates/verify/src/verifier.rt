@@ -1,3 +1,4 @@
+//! The verifier itself: `verify` accepts or rejects a program.
 ghost use Rattle.std.specs.Prelude.{◌≡◌, ◌⊎◌, None, Some, IfOk, IfErr, IsErrAnd, IfSome, Err, length};
 ghost use Rattle.semantics.specs.Run.{IsSound};
 ghost use Rattle.semantics.specs.Plain.{IsPlain};
@@ -17,8 +18,8 @@ use crate::verified_program::Verified;
 use insn::Program;
 use std::alloc::Global;
 
-/// The first fault: those of structure, and behind them those of the pass. Where there is none, the program is made
-/// ready.
+/// Returns the first fault: first those of structure, then those of the pass. If there is none, makes the ready codes
+/// of the program.
 fn check(alloc: Global, program: &Program, codes: &mut Vec<Ready>) -> Result<(), VerifyError>
     ensures judged { Answers (judged program.now) result }
     ensures structural { IfSome (structural_fault program.now) (λ fault. result ≡ Err fault) }
@@ -31,26 +32,30 @@ fn check(alloc: Global, program: &Program, codes: &mut Vec<Ready>) -> Result<(),
     pass(alloc, program, codes)
 }
 
-/// The program, if it is accepted, else the first fault. Only the pass takes memory.
+/// Returns the program as a verified one if it is accepted. Only the pass allocates memory.
+///
+/// # Errors
+///
+/// Returns the program with its first fault if it is rejected, or with `Memory` if memory runs out.
 pub fn verify(alloc: Global, program: Program) -> Result<Verified, Refused>
-    // The answer is that of one function from programs to faults, want of memory aside.
+    // Unless memory runs out, the result is that of one function from programs to faults.
     ensures accepted { IfOk result (λ v. judged v ≡ None) }
     ensures refused { IfErr result (λ r. (r.fault ≡ VerifyError.Memory) ⊎ (judged program ≡ Some r.fault)) }
     ensures same { IfOk result (λ v. v ≡ program) }
     ensures back { IfErr result (λ r. r.program ≡ program) }
 
-    // What is accepted is sound.
+    // An accepted program is sound.
     ensures sound { IfOk result (λ v. IsSound v) }
 
-    // A plain program is refused only for want of memory.
+    // A plain program is rejected only if memory runs out.
     ensures plain { IsPlain program → IfErr result (λ r. r.fault ≡ VerifyError.Memory) }
 
-    // A structural fault is answered exactly where one stands, and then the first. Any other stands at an instruction.
+    // If the program has a structural fault, the error is the first one. Any other fault is at an instruction.
     ensures structural { IfSome (structural_fault program) (λ fault. IsErrAnd result (λ r. r.fault ≡ fault)) }
     ensures unstructural { structural_fault program ≡ None → IfErr result (λ r. IsOwnFault program r.fault) }
 
-    // Then it is that of the first instruction at which the pass may not go on, or want of memory. Through what is
-    // accepted the pass comes to the end.
+    // Without a structural fault, the error is that of the first instruction that may not run, or out of memory. The
+    // pass reaches the end of every accepted program.
     ensures first { structural_fault program ≡ None →
         IfErr result (λ r. (r.fault ≡ VerifyError.Memory) ⊎ IsFirstFault program r.fault) }
     ensures passed { IfOk result (λ v. ComesThrough v) }
