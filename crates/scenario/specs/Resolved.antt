@@ -90,8 +90,8 @@ abbrev pub refers : Items → Bool
 refers no_items = false
 refers (item d ds) = element_refers d || refers ds
 
--- The text is this document's, if the document nests at most 80 levels deep. There is no text if a date of the
--- document has none.
+-- The text is this document's, if the document nests at most 80 levels deep. There is no text if a date of the document
+-- has none.
 abbrev pub IsPrinted : Members → Option (List ℕ) → Type 0
 IsPrinted ms None = members_have_valid_dates ms ≡ false
 IsPrinted ms (Some text) = members_depth ms ≤ 80 → parse_document text ≡ Some ms

@@ -52,7 +52,7 @@ abbrev pub place : Option ℕ → Word
 place None = codes "-"
 place (Some number) = decimal number
 
--- a line for each label: its rank, and the orders that its receivers were told
+-- a line for each label: its rank, and the orders that were sent to its receivers
 abbrev pub row_lines : ℕ → List (List (Option ℕ)) → List Line
 row_lines rank [] = []
 row_lines rank (row ∷ rows) = (codes "row" ∷ decimal rank ∷ map place row) ∷ row_lines (suc rank) rows

@@ -60,8 +60,8 @@ impl LineBuffer {
         self.count = with_number(&mut self.bytes, self.count, number);
     }
 
-    /// Appends the orders that receivers were told, each after a space. A dash means that the receiver was told
-    /// nothing.
+    /// Appends the orders that were sent to the receivers of a label, each after a space. A dash means that none was
+    /// sent.
     pub fn add_orders(&mut self, orders: &[Option<u32>])
         requires { length self.old + 11 * length orders.now ≤ 1024 }
         ensures added { self.new ≡ self.old ++ further (map place orders.now) }
@@ -74,8 +74,8 @@ impl LineBuffer {
         self.count = count;
     }
 
-    /// Appends the order that `times` receivers were told alike, once for each, after a space. A dash means that they
-    /// were told nothing.
+    /// Appends the order that was sent to each of `times` receivers alike, `times` times and each time after a space. A
+    /// dash means that none was sent.
     pub fn add_alike(&mut self, order: Option<u32>, times: u32)
         requires { length self.old + 11 * times ≤ 1024 }
         ensures added { self.new ≡ self.old ++ further (map place (replicate times order)) }

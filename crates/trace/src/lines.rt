@@ -107,8 +107,8 @@ pub fn put_order<S: Sink>(sink: &mut S, order: Option<u32>)
     }
 }
 
-/// Appends the orders that the receivers of the label of this rank were told, each after a space. A dash means that the
-/// receiver was told nothing. There are at most 13 receivers and 11 bytes for each, so at most 143 bytes.
+/// Appends the orders that were sent to the receivers of the label of this rank, each after a space. A dash means that
+/// none was sent. There are at most 13 receivers and 11 bytes for each, so at most 143 bytes.
 fn add_orders(line: &mut LineBuffer, outbox: &Outbox, rank: u32)
     requires rank { rank < length outbox.now.rows }
     requires room { length line.old + 143 ≤ 1024 }
@@ -121,7 +121,7 @@ fn add_orders(line: &mut LineBuffer, outbox: &Outbox, rank: u32)
     }
 }
 
-/// Appends the line of a label's row: its rank, and the orders that its receivers were told.
+/// Appends the line of a label's row: its rank, and the orders that were sent to its receivers.
 fn add_row(lines: &mut LineBuffer, outbox: &Outbox, rank: u32)
     requires rank { rank < length outbox.now.rows }
     requires room { length lines.old + 158 ≤ 1024 }

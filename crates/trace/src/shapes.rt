@@ -1,5 +1,5 @@
-//! Checks the shapes of a chronicle's lines. A shape is the words of a line, where a capital letter stands for any word
-//! of one kind.
+//! Checks the shapes of a chronicle's lines. A shape is the words of a line, where a capital letter matches any word of
+//! one kind.
 ghost use Rattle.std.specs.Prelude.{◌≡◌, ◌&&◌, ◌==◌, Some, option_map, codes, length, map};
 ghost use Rattle.std.specs.List.{list_all, list_any};
 ghost use Rattle.text.specs.Stop.{dot, space, feed};
