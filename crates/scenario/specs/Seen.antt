@@ -42,7 +42,7 @@ abbrev pub unassembled : ℕ → AsmError → ScenarioError
 unassembled g assembler.Memory = errors.Memory
 unassembled g (assembler.At fault line) = errors.Program g (Asm fault line)
 
--- the scenario's error for a text that is not bytes in hex
+-- the scenario's error for an error of the hex decoder
 abbrev pub unhexed : ℕ → FromHexError → ScenarioError
 unhexed g hex.OutOfMemory = errors.Memory
 unhexed g _ = errors.Program g faults.Hex

@@ -35,7 +35,8 @@ Seats = List (Option (List Insn))
 abbrev pub is_seated : Seats → ℕ → Bool
 is_seated seats g = is_some (slice_index_or seats g None)
 
--- the table of number `i`, for one of `n` generals who has no program yet
+-- the general and the program of table `i`, or its first fault. There are `n` generals, and `seats` has the programs of
+-- the earlier tables.
 unfoldable pub table_in : ℕ → Seats → ℕ → Members → Result Table Flaw
 table_in n seats i ms = do
   none ← known (Some i) (first_unknown is_entry_key ms)
@@ -44,7 +45,7 @@ table_in n seats i ms = do
   s ← source i (get_member (codes "asm") ms) (get_member (codes "code") ms)
   Ok (record { general = g; source = s })
 
--- the element of number `i` as a table
+-- the general and the program of element `i` of the list, or its first fault, which may be that it is not a table
 unfoldable pub table : ℕ → Seats → ℕ → Data → Result Table Flaw
 table n seats i d = do
   ms ← ok_or (as_table d) (faulty faults.Kind (places.Table i))

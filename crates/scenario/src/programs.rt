@@ -66,7 +66,7 @@ fn spelled(alloc: Global, general: u8, text: &str) -> Result<Program, ScenarioEr
     }
 }
 
-/// Returns the scenario's error for a text that is not bytes in hex.
+/// Returns the scenario's error for an error of the hex decoder.
 fn unhexed(general: u8, error: FromHexError) -> ScenarioError
     ensures { result ≡ unhexed general error }
 {

@@ -263,8 +263,8 @@ fn resolved_document(
 /// his own. Returns `None` if the text is not TOML, if no table names a file or several generals, or if a date has no
 /// text. The caller then reads the text itself.
 ///
-/// The name of a file that is not in `files` is kept, and the reader rejects its key as unknown. So it is with a file
-/// next to the program that it would give, and with a list of generals next to a general.
+/// The name of a file that is not in `files` is kept, and the reader rejects its key as unknown. The same happens to a
+/// file's key next to another source for its program, and to `generals` next to `general`.
 ///
 /// # Errors
 ///

@@ -41,7 +41,8 @@ AreBack made seat came [] = Unit {0}
 AreBack made seat came (p ∷ back) = ((p.general < made) × (seat p.general ≡ None)
     × (p.letters ≡ letters_of p.general came)) × AreBack made seat came back
 
--- There is one collector, which knows the letters that were taken. Nothing came from a general without a poster yet.
+-- There is one collector, which knows the letters that were taken. Nothing has come from a general for whom no poster
+-- was made yet.
 abbrev pub FitsCollector : ℕ → (ℕ → Option ℕ) → List Letter → List Letter → ℕ → Known → Type 0
 FitsCollector reader seat taken came pass v =
     v.takes ≡ true

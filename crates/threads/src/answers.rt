@@ -13,7 +13,7 @@ pub(crate) struct Refused {
 }
 
 impl Refused {
-    /// Returns the error to report.
+    /// Returns the error that a muster reports if not all threads were started.
     pub(crate) fn error(self) -> MusterError
         ensures { result ≡ self.error }
     {

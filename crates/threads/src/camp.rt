@@ -30,7 +30,7 @@ use std::sync::Wait;
 pub(crate) struct HandedOut {
     /// The scenario of these tasks.
     scenario: Snapshot<Scenario>,
-    /// What was received in the rounds before.
+    /// What the lieutenants received in the earlier rounds.
     told: Snapshot<Received>,
     /// Evidence that each task was put into an inbox.
     given: AllGiven,
@@ -109,8 +109,8 @@ impl<'a, G, J: Room, C: Claim> Crew<'a, G, J, C> {
         }
     }
 
-    /// Puts each general's task into his inbox. It is his task in the next round, where `told` is what was received in
-    /// the rounds before.
+    /// Puts each general's task into his inbox. It is his task in the next round, where `told` is what the lieutenants
+    /// received in the earlier rounds.
     pub(crate) fn hand_out<R: Wait>(
         &self,
         rt: &R,

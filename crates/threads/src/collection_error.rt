@@ -24,7 +24,7 @@ pub(crate) enum Uncollected {
 }
 
 impl Uncollected {
-    /// Returns the error to report.
+    /// Returns the error that a muster reports if the letters were not collected for this reason.
     pub(crate) fn error(self) -> MusterError
         ensures { result ≡ uncollected_as self }
     {

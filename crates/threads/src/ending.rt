@@ -19,7 +19,7 @@ pub(crate) struct Ending {
 }
 
 impl Ending {
-    /// Returns the ending for why not all threads were started, for the answers of the threads that were, and for the
+    /// Returns the ending with these parts: why a thread was not started, the answers of those that were, and the
     /// outcome of the rounds.
     pub(crate) fn new(
         refused: Option<Refused>,

@@ -28,7 +28,7 @@ pub(crate) enum Failure {
 }
 
 impl Failure {
-    /// Returns the error to report.
+    /// Returns the error that a muster reports for this failure.
     pub(crate) fn error(self) -> MusterError
         ensures { result ≡ failure_as self }
     {

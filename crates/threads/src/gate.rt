@@ -39,8 +39,8 @@ impl Gate for Open {
 }
 
 /// The board as one general uses it for one task. For each access he first passes the gate and then takes the lock.
-/// Contracts see the accesses that its type names, followed by those served for this task, and the beginning of the
-/// board's history that he has met.
+/// Contracts see the accesses that its session `T` names, followed by those served for this task, and the beginning of
+/// the board's history that he has met.
 #[derive(Drop)]
 pub(crate) struct Gated<'a, R, G: Gate, J: Room, T: Session> {
     rt: &'a R,
@@ -68,7 +68,7 @@ impl<'a, R, G: Gate, J: Room, T: Session> Model for Gated<'a, R, G, J, T> {
 
 impl<'a, R, G: Gate, J: Room, T: Session> Gated<'a, R, G, J, T> {
     /// Returns the board as the general with this witness uses it. As many accesses were served through the witness as
-    /// the type names from before, and the history that it has met contains them all.
+    /// `T::before` has, and the history that it has met contains them all.
     pub(crate) fn new(
         rt: &'a R,
         alloc: Global,

@@ -24,7 +24,7 @@ pub(crate) enum Halt {
 }
 
 impl Halt {
-    /// Returns the error to report.
+    /// Returns the error that a muster reports if the rounds stopped for this reason.
     pub(crate) fn error(self) -> MusterError
         ensures { result ≡ halt_as self }
     {

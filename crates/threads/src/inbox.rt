@@ -44,7 +44,7 @@ impl Phase {
     }
 }
 
-/// Evidence that an inbox was found closed. Only the crew closes inboxes, and only the inbox creates this value.
+/// Evidence that an inbox was found closed. Only `Crew::close` closes inboxes, and only the inbox creates this value.
 #[derive(Drop)]
 pub(crate) struct Closed {
     /// The general whose inbox it is.

@@ -43,8 +43,8 @@ const STACK: usize = 1 << 20;
 /// - If the bound holds, all loyal lieutenants decide alike, on the commander's order if he is loyal (TOPLAS 1982,
 ///   Theorem 1).
 ///
-/// For each access in a letter of the chronicle, what the gate says of an access that has passed (`Gate::passed`) holds
-/// for its general, its round, and its number, counted from 0 in the letter.
+/// Each access in a letter of the chronicle satisfies what the gate says of an access that has passed. `Gate::passed`
+/// holds for its general, its round and its number, counted from 0 in the letter.
 ///
 /// The function joins its threads, and returns when all of them have ended.
 ///
@@ -134,8 +134,8 @@ fn muster_on<R: Threads + Wait + Sync, G: Gate + Sync>(
     mustered::<R, G, Brand>(rt, alloc, scenario, gate, stack, unshared)
 }
 
-/// Plays the scenario's campaign as `muster` does, on the unshared board, whose name is `J`. The board opens with the
-/// scenario's words.
+/// Plays the scenario's campaign as `muster` does, on this board, which has the name `J` and is not shared yet. The
+/// board opens with the scenario's words.
 ///
 /// # Errors
 ///

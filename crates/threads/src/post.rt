@@ -133,7 +133,7 @@ impl<C: Claim> PostOf<C> {
     }
 }
 
-/// Returns all posters to the collector.
+/// Takes all posters back into the collector's pass, and returns that pass.
 fn all_back<C: Claim>(
     queue: &Queue<C>,
     mut pass: Pass<Letter, Known>,

@@ -23,14 +23,14 @@ use std::alloc::Global;
 use std::marker::Brand;
 use std::sync::Wait;
 
-/// Evidence that a general has failed for good, and why. Only `stay` creates one.
+/// Evidence that a general has failed for good, and why. Only `GeneralThread::stay` creates one.
 #[derive(Clone, Copy)]
 pub(crate) struct Failed {
     failure: Failure,
 }
 
 impl Failed {
-    /// Returns the error to report.
+    /// Returns the error that a muster reports for this failure.
     pub(crate) fn error(self) -> MusterError
         ensures { result ≡ failure_as self.failure }
     {
@@ -38,7 +38,7 @@ impl Failed {
     }
 }
 
-/// The result of a general's thread. Only `stay` creates one.
+/// The result of a general's thread. Only `GeneralThread::stay` creates one.
 #[derive(Drop)]
 pub(crate) struct Answer {
     /// The general whose thread it was.
@@ -181,9 +181,9 @@ impl<'a, G: Gate, J: Room> GeneralThread<'a, G, J> {
         Ok((uncounted, me))
     }
 
-    /// Makes the general's letter for a task. For each access in it, what the gate says of an access that has passed
-    /// holds. Together with those of his earlier letters, they are as many as were served through his witness, and the
-    /// board's history contains them all.
+    /// Makes the general's letter for a task. Each access in it satisfies what the gate says of an access that has
+    /// passed. Together with those of his earlier letters, its accesses are as many as were served through his witness,
+    /// and the board's history contains them all.
     ///
     /// # Errors
     ///

@@ -57,7 +57,7 @@ pub(crate) fn receive<R: Wait, C: Claim>(
     Ok((collector, letters))
 }
 
-/// Checks that letters are of this round, one for each general.
+/// Checks that letters are of this round of the campaign.
 ///
 /// # Errors
 ///

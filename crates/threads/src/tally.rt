@@ -23,7 +23,7 @@ pub(crate) struct Reported {
 }
 
 impl Reported {
-    /// Returns the error to report.
+    /// Returns the error that a muster reports for this failure.
     pub(crate) fn error(self) -> MusterError
         ensures { result ≡ failure_as self.failed.failure }
     {

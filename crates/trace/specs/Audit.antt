@@ -31,13 +31,13 @@ lines_version rule (line ∷ lines) = line_version rule line
 unfoldable pub version_named : Rule → List ℕ → Option Version
 version_named rule t = lines_version rule (pieces feed t)
 
--- `place` is the first position at which the two texts differ, where one of them may end
+-- `place` is the first byte offset at which the two texts differ. One of them may end there.
 pub record IsFirstDifference (t other : List ℕ) (place : ℕ) : Type 0 where
   pub within : place ≤ length t
   pub same : take place t ≡ take place other
   pub differs : slice_get t place ≢ slice_get other place
 
--- the number of the line, counted from 1, in which a position of the text is
+-- the number of the line, counted from 1, that contains a byte offset of the text
 abbrev pub line_at : List ℕ → ℕ → ℕ
 line_at t place = suc (count_by (λ c. c == 10) (take place t))
 
@@ -45,12 +45,12 @@ line_at t place = suc (count_by (λ c. c == 10) (take place t))
 abbrev pub differing : ℕ → TraceFault
 differing line = if nat_le line 2 then NotTheScenarios else Differs
 
--- the fault that is reported: a line without a valid shape goes before a line that differs
+-- the fault to report: the first line without a valid shape if there is one, otherwise the line that differs
 abbrev pub first_fault : Option ℕ → ℕ → TraceError
 first_fault (Some line) differs = At Line line
 first_fault None differs = At (differing differs) differs
 
--- the fault of a text that differs from the expected one at this position
+-- the fault of a text that differs from the expected one at this byte offset
 unfoldable pub fault_at : List ℕ → ℕ → TraceError
 fault_at t place = first_fault (unshaped_from 1 (pieces feed t)) (line_at t place)
 
@@ -60,7 +60,7 @@ abbrev pub DiffersAt : Scenario → List ℕ → Option Version → ℕ → Type
 DiffersAt s t None place = place ≡ 0
 DiffersAt s t (Some version) place = IsFirstDifference t (text_in version (chronicle_told s t)) place
 
--- `e` is why the text is not sound: the fault at its first difference
+-- `e` says why the text is not sound: it is the fault for its first difference.
 pub record IsFaultOf (s : Scenario) (t : List ℕ) (e : TraceError) : Type 0 where
   pub place : ℕ
   pub differs : DiffersAt s t (version_named s.rule t) place

@@ -34,7 +34,7 @@ abbrev pub SignedDiffersAt : Scenario → List ℕ → Bool → ℕ → Type 0
 SignedDiffersAt s t false place = place ≡ 0
 SignedDiffersAt s t true place = IsFirstDifference t (signed_text (signed_chronicle_told s t)) place
 
--- `e` is why the text is not sound: the fault at its first difference
+-- `e` says why the text is not sound: it is the fault for its first difference.
 pub record IsSignedFaultOf (s : Scenario) (t : List ℕ) (e : TraceError) : Type 0 where
   pub place : ℕ
   pub differs : SignedDiffersAt s t (is_third_version t) place

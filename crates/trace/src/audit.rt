@@ -72,8 +72,8 @@ pub(crate) fn replayed(
     replay(alloc, scenario.copy(alloc)?, &lists[1..])
 }
 
-/// Returns the position at which a text first differs from a chronicle's text in this version, or `None` if the two are
-/// the same.
+/// Returns the byte offset at which a text first differs from a chronicle's text in this version, or `None` if the two
+/// are the same.
 fn difference(text: &[u8], version: Version, chronicle: &Chronicle) -> Option<usize>
     ensures same { IfNone result (text.now ≡ text_in version chronicle.now) }
     ensures differs { IfSome result (IsFirstDifference text.now (text_in version chronicle.now)) }

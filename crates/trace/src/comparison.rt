@@ -1,4 +1,4 @@
-//! Compares a text with another one while the other is written.
+//! Compares a text with another text while that is being written.
 ghost use Rattle.std.specs.Prelude.{◌≡◌, ◌≢◌, ◌<◌, ◌≤◌, ◌+◌, true, false, IfNone, IfSome, None, is_some, length, slice_get, take};
 ghost use Rattle.std.specs.Int.{to_le_bytes, w64};
 ghost use Rattle.trace.specs.Compared.{eight};
@@ -13,7 +13,7 @@ pub struct ComparingSink<'a> {
     same: usize,
     /// The first received byte that differs from the text or comes after the text's end.
     other: Option<u8>,
-    /// Whether the sink has refused bytes because an earlier byte differed.
+    /// Whether the sink has rejected bytes because an earlier byte differed.
     failed: bool,
     ghost within: { same ≤ length text.now },
     ghost differs: { slice_get text.now same ≡ other → other ≡ None },
@@ -34,8 +34,8 @@ impl<'a> ComparingSink<'a> {
         }
     }
 
-    /// Returns the position of the first difference, or `None` if the sink has received exactly the text. If the
-    /// received bytes end too early, the position is where they end.
+    /// Returns the byte offset of the first difference, or `None` if the sink has received exactly the text. If the
+    /// received bytes end too early, the offset is where they end.
     pub fn difference(&self) -> Option<usize>
         ensures none { IfNone result ((self.now.other ≡ None) × (self.now.same ≡ length self.now.text.now)) }
         ensures some { IfSome result (λ place. (place ≡ self.now.same)

@@ -10,7 +10,7 @@ use crate::version::Version;
 use crate::writer::{put_all, put_headed};
 use combine::Rule;
 
-/// Writes the line of the version.
+/// Writes the line that names the version.
 pub fn put_version<S: Sink>(sink: &mut S, version: Version)
     ensures { Wrote (S.contents sink.old) (S.has_failed sink.old) (text (version_line version ∷ []))
         (S.contents sink.new) (S.has_failed sink.new) }

@@ -17,7 +17,7 @@ fn feeds(text: &[u8]) -> usize
     count
 }
 
-/// Returns the number of the line, counted from 1, in which a position of the text is.
+/// Returns the number of the line, counted from 1, that contains a byte offset of the text.
 fn line_at(text: &[u8], place: usize) -> u64
     requires { place ≤ length text.now }
     ensures { result ≡ line_at text.now place }
@@ -36,8 +36,8 @@ fn differing(line: u64) -> TraceFault
     }
 }
 
-/// Returns why a text is rejected that differs from the expected chronicle at `place`. A line without a valid shape is
-/// reported in preference to the difference.
+/// Returns the error for a text that differs from the expected chronicle at the byte offset `place`. If a line has no
+/// valid shape, the first such line is reported instead of the difference.
 #[tactic(auto, unfolding(crate::specs::Audit::fault_at))]
 pub fn refusal(text: &[u8], place: usize) -> TraceError
     requires { place ≤ length text.now }

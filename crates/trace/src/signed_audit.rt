@@ -44,7 +44,7 @@ pub(crate) fn signed_replayed(
     replay_signed(alloc, scenario.copy(alloc)?, &lists[1..])
 }
 
-/// Returns the position at which a text first differs from a signed chronicle's text, or `None` if the two are the
+/// Returns the byte offset at which a text first differs from a signed chronicle's text, or `None` if the two are the
 /// same.
 fn signed_difference(text: &[u8], chronicle: &SignedChronicle) -> Option<usize>
     ensures same { IfNone result (text.now ≡ signed_text chronicle.now) }

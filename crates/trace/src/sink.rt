@@ -16,7 +16,7 @@ pub trait Sink {
 
     /// Accepts a beginning of the piece, at least one byte, and returns the number of accepted bytes. Returns `None` if
     /// it accepts none, and the sink has then failed. An empty piece changes nothing and returns `Some(0)`. A sink that
-    /// has failed stays so.
+    /// has failed stays failed.
     fn put(&mut self, piece: &[u8]) -> Option<usize>
         ensures taken { IfSome result (λ n. (n ≤ length piece.now)
             × Appends (contents self.old) (contents self.new) (take n piece.now)) }

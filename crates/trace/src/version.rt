@@ -4,7 +4,7 @@ ghost use Rattle.trace.specs.Text.{version_by};
 
 use combine::Rule;
 
-/// A version of an unsigned campaign's chronicle.
+/// A version of the chronicles of oral campaigns.
 #[derive(Clone, Copy, PartialEq, Eq)]
 pub enum Version {
     /// The version that has neither the patience nor the rule.

@@ -8,7 +8,7 @@ use crate::poster::Poster;
 use crate::resident::Failed;
 pub(crate) use uncounted_letter::{Uncounted, send};
 
-/// Evidence that all generals have posted their letters of a round. Only `begin_again` creates one.
+/// Evidence that all generals have posted their letters of a round. Only `Count::begin_again` creates one.
 #[derive(Drop)]
 pub(crate) struct AllPosted {
     letters: usize,
@@ -25,7 +25,7 @@ impl AllPosted {
     }
 }
 
-/// Evidence that a general has failed. Only `begin_again` creates one.
+/// Evidence that a general has failed. Only `Count::begin_again` creates one.
 #[derive(Clone, Copy)]
 pub(crate) struct SomeoneFailed {
     failed: Failed,
