@@ -1,11 +1,11 @@
--- Which files the tables of a scenario name (own).
+-- The files that the tables of a scenario name (own).
 use Rattle.std.specs.Prelude.{ℕ, ◌+◌, List, [], ◌∷◌, ◌++◌, Option, None, Some}
 use Rattle.toml.specs.Data.{Items, no_items, item, Members, as_table}
 use Rattle.scenario.specs.declared.reference_key.ReferenceKey.{ReferenceKey}
 use Rattle.scenario.specs.declared.reference_key.ReferenceKey.TheVariants.{Assembly, Bytecode, Object}
 use Rattle.scenario.specs.ReferenceNames.{function_at, name_at, traitors}
 
--- the table of this number names a file by this key, and of an object the function
+-- a file that the table of this number names by this key, and the function if the file is an object
 pub record Asked : Type 0 where
   pub index : ℕ
   pub key : ReferenceKey
@@ -16,15 +16,16 @@ abbrev pub asked_if : ℕ → ReferenceKey → Option (List ℕ) → Option (Lis
 asked_if i key function None = []
 asked_if i key function (Some name) = record { index = i; key = key; name = name; function = function } ∷ []
 
+-- the file that a table names by this key, or no file
 abbrev pub asked_by : ℕ → Members → ReferenceKey → List Asked
 asked_by i ms key = asked_if i key (function_at key ms) (name_at key ms)
 
--- by an element of the list, where it is a table
+-- the files that an element of the list names, if it is a table
 abbrev pub asked_of : ℕ → Option Members → List Asked
 asked_of i None = []
 asked_of i (Some ms) = asked_by i ms Assembly ++ asked_by i ms Bytecode ++ asked_by i ms Object
 
--- by the elements of the list, from this number on
+-- the files that the elements of the list name, where these are counted from `i`
 abbrev pub asked_in : ℕ → Items → List Asked
 asked_in i no_items = []
 asked_in i (item d ds) = asked_of i (as_table d) ++ asked_in (i + 1) ds
@@ -33,7 +34,7 @@ abbrev pub asked_by_list : Option Items → List Asked
 asked_by_list None = []
 asked_by_list (Some ds) = asked_in 0 ds
 
--- by a text that is this document, or none
+-- the files that a text names, where its document is given, or `None` for a text that is not TOML
 abbrev pub asked : Option Members → List Asked
 asked None = []
 asked (Some ms) = asked_by_list (traitors ms)

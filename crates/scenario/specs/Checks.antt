@@ -1,4 +1,4 @@
--- The checks of a scenario's keys, in order: the value, or the first fault (own; TOML 1.0 for the text).
+-- The checks of a scenario's keys, in order: each gives the value, or the first fault (own; TOML 1.0 for the text).
 use Rattle.std.specs.Prelude.{ℕ, suc, ℤ, pos, negsuc, Bool, ◌+◌, ◌-◌, ◌<◌, ◌≤◌, min, nat_lt, nat_le, ◌&&◌, cond, if◌then◌else◌, List, slice_set, replicate, Option, Some, None, Result, Ok, Err, codes, bytes_eq}
 use Rattle.std.specs.Option.{ok_or}
 use Rattle.toml.specs.Data.{Data, Items, Members, no_items, item, no_members, member, get_member, as_integer, as_str, as_array}
@@ -17,30 +17,35 @@ use Rattle.scenario.specs.declared.fault.ScenarioFault.TheVariants as faults
 use Rattle.scenario.specs.Names.{is_top_key}
 use Rattle.scenario.specs.Flaws.{Flaw, unknown, faulty, ◌>>=◌}
 
--- the least key by bytes that is none of these, since members ascend
+-- the first key that is unknown, which is the least by bytes, since members ascend
 abbrev pub first_unknown : (List ℕ → Bool) → Members → Option (List ℕ)
 first_unknown is_key no_members = None
 first_unknown is_key (member k d ms) = cond (is_key k) (first_unknown is_key ms) (Some k)
 
+-- the check that there is no unknown key
 abbrev pub known : Option ℕ → Option (List ℕ) → Result (Unit {0}) Flaw
 known at None = Ok tt
 known at (Some k) = Err (unknown at k)
 
+-- the value of a required key
 abbrev pub required : ScenarioPlace → Option Data → Result Data Flaw
 required s None = Err (faulty faults.Key s)
 required s (Some d) = Ok d
 
+-- the integer that a value is
 abbrev pub whole : ScenarioPlace → Data → Result ℤ Flaw
 whole s d = ok_or (as_integer d) (faulty faults.Kind s)
 
+-- an integer that is not negative
 abbrev pub natural : ScenarioFault → ScenarioPlace → ℤ → Result ℕ Flaw
 natural f s (pos n) = Ok n
 natural f s (negsuc n) = Err (faulty f s)
 
+-- the check of a condition, which fails with this fault at this place
 abbrev pub test : Bool → ScenarioFault → ScenarioPlace → Result (Unit {0}) Flaw
 test b f s = cond b (Ok tt) (Err (faulty f s))
 
--- a number between two others
+-- the number from `least` to `most` at a required key
 unfoldable pub number : ScenarioPlace → ℕ → ℕ → Option Data → Result ℕ Flaw
 number s least most o = do
   d ← required s o
@@ -49,13 +54,14 @@ number s least most o = do
   within ← test (nat_le least n && nat_le n most) faults.Range s
   Ok n
 
+-- the number from `least` to `most` at an optional key
 unfoldable pub optional_number : ScenarioPlace → ℕ → ℕ → Option Data → Result (Option ℕ) Flaw
 optional_number s least most None = Ok None
 optional_number s least most (Some d) = do
   n ← number s least most (Some d)
   Ok (Some n)
 
--- one of n generals; low is the fault of a number below 0
+-- the number of one of `n` generals, where `low` is the fault of a negative number
 unfoldable pub general : ScenarioPlace → ScenarioFault → ℕ → Option Data → Result ℕ Flaw
 general s low n o = do
   d ← required s o
@@ -64,12 +70,12 @@ general s low n o = do
   within ← test (nat_lt g n) faults.General s
   Ok g
 
--- one item after the other, from place i on
+-- the result of a step for each item in turn, where the items are counted from `i`
 unfoldable pub over : {A : Type 0} → (ℕ → A → Data → Result A Flaw) → ℕ → A → Items → Result A Flaw
 over step i x no_items = Ok x
 over step i x (item d ds) = step i x d >>= λ y. over step (i + 1) y ds
 
--- the words of the board
+-- a word of the board, which is not negative
 unfoldable pub word : ℕ → Data → Result ℕ Flaw
 word i d = do
   z ← whole (places.Word i) d
@@ -81,31 +87,34 @@ is_integer i u d = whole (places.Word i) d >>= λ z. Ok tt
 abbrev pub set_word : ℕ → List ℕ → Data → Result (List ℕ) Flaw
 set_word i ws d = word i d >>= λ w. Ok (slice_set ws i w)
 
+-- the number of items
 abbrev pub items_length : Items → ℕ
 items_length no_items = 0
 items_length (item d ds) = suc (items_length ds)
 
--- the items of an array
+-- the items of the array that a value is
 abbrev pub elements : ScenarioPlace → Data → Result Items Flaw
 elements s d = ok_or (as_array d) (faulty faults.Kind s)
 
+-- the board's 64 words from at most 64 integers, of which none is negative
 unfoldable pub board_words : Items → Result (List ℕ) Flaw
 board_words ds = do
   all ← over is_integer 0 tt ds
   few ← test (nat_le (items_length ds) 64) faults.Range (places.Key names.Board)
   over set_word 0 (replicate 64 0) ds
 
+-- the board's 64 words, which are 0 if the key is missing
 unfoldable pub board : Option Data → Result (List ℕ) Flaw
 board None = Ok (replicate 64 0)
 board (Some d) = do
   ds ← elements (places.Key names.Board) d
   board_words ds
 
--- the rule that a text names
+-- the rule that has this name
 abbrev pub rule_by_name : List ℕ → Result Rule Flaw
 rule_by_name t = ok_or (rule_named t) (faulty faults.Range (places.Key names.Rule))
 
--- the rule, or what is so where there is no key
+-- the rule, which is the default rule if the key is missing
 unfoldable pub rule : Option Data → Result Rule Flaw
 rule None = Ok default_rule
 rule (Some d) = do
@@ -122,19 +131,19 @@ messages_by_name Both t =
     else if bytes_eq t (codes "signed") then Ok Signed
     else Err (faulty faults.Range (places.Key names.Messages))
 
--- how orders are sent, orally where there is no key
+-- how orders are sent, which is orally if the key is missing
 unfoldable pub messages : Kinds → Option Data → Result Messages Flaw
 messages kinds None = Ok Oral
 messages kinds (Some d) = do
   t ← ok_or (as_str d) (faulty faults.Kind (places.Key names.Messages))
   messages_by_name kinds t
 
--- a signed campaign combines nothing, and names no rule
+-- A signed campaign may not name a rule, since it combines no orders.
 abbrev pub fitting : Messages → Option Data → Result (Unit {0}) Flaw
 fitting Signed (Some rule) = Err (faulty faults.Key (places.Key names.Rule))
 fitting _ _ = Ok tt
 
--- a campaign's numbers and rule, and how orders are sent
+-- a campaign's numbers, its rule, and how orders are sent
 pub record Head : Type 0 where
   pub generals : ℕ
   pub bound : ℕ
@@ -145,8 +154,8 @@ pub record Head : Type 0 where
   pub rule : Rule
   pub messages : Messages
 
--- 2 to 13 generals, a bound of at most 4 and at most all generals but 2, the commander a general, a patience of 1 to
--- 4,096 steps
+-- A campaign has 2 to 13 generals. Its bound is at most 4 and at most the number of generals less 2. The commander is a
+-- general. A patience is 1 to 4,096 steps.
 pub record IsHeadWithin (generals bound commander : ℕ) (patience : Option ℕ) : Type 0 where
   pub few : generals ≤ 13
   pub rounds : bound ≤ 4
@@ -154,7 +163,7 @@ pub record IsHeadWithin (generals bound commander : ℕ) (patience : Option ℕ)
   pub leads : commander < generals
   pub waits : IsPatience patience
 
--- all but the traitors, for a reader of these kinds
+-- everything in a scenario except the traitors, for a reader of these kinds of campaigns
 unfoldable pub head : Kinds → Members → Result Head Flaw
 head kinds ms = do
   none ← known None (first_unknown is_top_key ms)
@@ -169,7 +178,7 @@ head kinds ms = do
   fits ← fitting w (get_member (codes "rule") ms)
   Ok (record { generals = n; bound = m; commander = c; order = o; board = b; patience = p; rule = r; messages = w })
 
--- the traitors' tables, not yet looked at
+-- the elements of the list of traitors, which are not checked yet
 unfoldable pub tables : Option Data → Result Items Flaw
 tables None = Ok no_items
 tables (Some d) = elements (places.Key names.Traitor) d

@@ -1,4 +1,4 @@
--- What is said of a fault.
+-- The texts of a scenario's errors (own).
 use Rattle.std.specs.Prelude.{ℕ, List, ◌++◌, Some, None, codes, string_bytes}
 use Rattle.std.specs.Fmt.{decimal}
 use Rattle.asm.specs.ErrorText as asm
@@ -14,6 +14,7 @@ use Rattle.scenario.specs.declared.fault.ProgramFault.TheVariants.{Asm, Hex, Cod
 use Rattle.scenario.specs.declared.fault.ScenarioError.{ScenarioError}
 use Rattle.scenario.specs.declared.fault.ScenarioError.TheVariants.{Toml, Unknown, At, Program, Memory}
 
+-- the text of a place
 abbrev pub place_text : ScenarioPlace → List ℕ
 place_text (place.Key name) = text_of name
 place_text (place.Word index) = codes "board[" ++ decimal index ++ codes "]"
@@ -27,19 +28,19 @@ code_of Range = codes "S4"
 code_of General = codes "S5"
 code_of Twice = codes "S6"
 
--- there is no program, or it is not accepted
+-- S8 if the verifier rejects the program, and S7 if the text gives no program
 abbrev pub scenario_code : ProgramFault → List ℕ
 scenario_code (Verifier reason unit) = codes "S8"
 scenario_code _ = codes "S7"
 
--- the code, and the line or the unit
+-- the code of a program's fault, with its line or its unit
 abbrev pub program_text : ProgramFault → List ℕ
 program_text (Asm fault line) = asm.code_of fault ++ codes " line " ++ decimal line
 program_text Hex = codes "hex"
 program_text (Code fault unit) = codec.code_of fault ++ codes " unit " ++ decimal unit
 program_text (Verifier reason unit) = verify.code_of reason ++ codes " unit " ++ decimal unit
 
--- the code, and the place
+-- the text of an error: its code and its place
 abbrev pub told : ScenarioError → List ℕ
 told Toml = codes "S1"
 told (Unknown None key) = codes "S2 " ++ string_bytes key

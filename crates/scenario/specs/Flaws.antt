@@ -1,4 +1,4 @@
--- The first fault of a scenario's keys, and how an answer tells it (own).
+-- The first fault of a scenario's keys, and how a result reports it (own).
 use Rattle.std.specs.Prelude.{◌≡◌, ℕ, List, Option, Result, Ok, Err, string_bytes}
 use Rattle.scenario.specs.declared.place.ScenarioPlace.{ScenarioPlace}
 use Rattle.scenario.specs.declared.fault.ScenarioFault.{ScenarioFault}
@@ -10,24 +10,24 @@ pub data Flaw : Type 0 where
   unknown : Option ℕ → List ℕ → Flaw
   faulty : ScenarioFault → ScenarioPlace → Flaw
 
--- one check behind another that found no fault
+-- a check, and then another one if the first found no fault
 infixl 10 ◌>>=◌
 abbrev pub ◌>>=◌ : {A B : Type 0} → Result A Flaw → (A → Result B Flaw) → Result B Flaw
 (Ok x) >>= f = f x
 (Err e) >>= f = Err e
 
--- an error tells what the checks found: want of memory never does
+-- The error reports the fault that the checks found. Out of memory is not such a fault.
 abbrev pub Fails : {Y : Type 0} → ScenarioError → Result Y Flaw → Type 0
 Fails (errors.Unknown at key) read = read ≡ Err (unknown at (string_bytes key))
 Fails (errors.At fault place) read = read ≡ Err (faulty fault place)
 Fails _ read = ⊥
 
--- the answer, seen by view, is what the checks give
+-- The result, seen through `view`, is what the checks give.
 abbrev pub Gives : {X Y : Type 0} → (X → Y) → Result X ScenarioError → Result Y Flaw → Type 0
 Gives view (Ok x) read = read ≡ Ok (view x)
 Gives view (Err e) read = Fails e read
 
--- the answer, or that memory was refused
+-- The result satisfies `IsAnswer`, or it is out of memory.
 abbrev pub OrMemory : {X : Type 0} → (Result X ScenarioError → Type 0) → Result X ScenarioError → Type 0
 OrMemory IsAnswer (Err errors.Memory) = Unit {0}
 OrMemory IsAnswer r = IsAnswer r

@@ -1,4 +1,4 @@
--- From which element of the list of traitors a table comes that stands in the resolved list (own).
+-- The element of the list of traitors from which a table of the resolved list comes (own).
 use Rattle.std.specs.Prelude.{ℕ, suc, ℤ, pos, ◌+◌, ◌-◌, ◌==◌, ◌||◌, Bool, false, nat_lt, if◌then◌else◌, List, Option, None, Some, codes, option_and_then}
 use Rattle.toml.specs.Data.{Data, Items, no_items, item, Members, as_integer, as_table, get_member}
 use Rattle.scenario.specs.ReferenceNames.{seats, traitors}
@@ -7,7 +7,7 @@ abbrev pub count : Items → ℕ
 count no_items = 0
 count (item d ds) = suc (count ds)
 
--- how many tables stand in the place of an element: one for each general who shares it, else one
+-- the number of tables that replace an element: one for each general who shares it, otherwise one
 abbrev pub by_sharers : Option Items → ℕ
 by_sharers None = 1
 by_sharers (Some gs) = count gs
@@ -19,7 +19,8 @@ by_table (Some ms) = by_sharers (seats ms)
 abbrev pub stands_for : Data → ℕ
 stands_for d = by_table (as_table d)
 
--- the element from which the table of this number comes, of those from this one on; behind all of them none does
+-- the number of the element from which the table of this number comes, where the elements are counted from `at`. If
+-- there are too few tables, it is the number after the last element.
 abbrev pub origin_from : ℕ → ℕ → Items → ℕ
 origin_from at number no_items = at
 origin_from at number (item d ds) =
@@ -29,11 +30,11 @@ abbrev pub origin_in : ℕ → Option Items → ℕ
 origin_in number None = number
 origin_in number (Some ds) = origin_from 0 number ds
 
--- in a text that is this document, or none
+-- the element from which a table comes, where the text's document is given, or `None` for a text that is not TOML
 abbrev pub origin : ℕ → Option Members → ℕ
 origin number document = origin_in number (option_and_then traitors document)
 
--- the value is this general's number
+-- whether a value is this general's number
 abbrev pub is_number : ℕ → Option ℤ → Bool
 is_number g (Some (pos n)) = n == g
 is_number g z = false
@@ -45,7 +46,7 @@ abbrev pub has_general : ℕ → Items → Bool
 has_general g no_items = false
 has_general g (item d ds) = is_general g d || has_general g ds
 
--- the table is this general's, by himself or with others
+-- whether a table is for this general, who may share it with others
 abbrev pub is_named : ℕ → Option Data → Bool
 is_named g None = false
 is_named g (Some d) = is_general g d
@@ -58,7 +59,7 @@ abbrev pub is_seat : ℕ → Option Members → Bool
 is_seat g None = false
 is_seat g (Some ms) = is_among g ms (seats ms)
 
--- the first element that is this general's table, of those from this one on
+-- the number of the first element that is a table for this general, where the elements are counted from `at`
 abbrev pub seat_from : ℕ → ℕ → Items → Option ℕ
 seat_from at g no_items = None
 seat_from at g (item d ds) = if is_seat g (as_table d) then Some at else seat_from (at + 1) g ds
@@ -67,5 +68,6 @@ abbrev pub seat_in : ℕ → Option Items → Option ℕ
 seat_in g None = None
 seat_in g (Some ds) = seat_from 0 g ds
 
+-- the number of the first traitor's table for this general, where the text's document is given
 abbrev pub seat : ℕ → Option Members → Option ℕ
 seat g document = seat_in g (option_and_then traitors document)

@@ -1,4 +1,4 @@
--- The scenario that a text tells (own).
+-- The scenario that a text describes (own).
 use Rattle.std.specs.Prelude.{◌≡◌, ℕ, ◌+◌, ◌⊎◌, List, replicate, slice_set, Option, Some, None, Result, Ok, Err, IsErr, codes}
 use Rattle.toml.specs.Data.{Items, Members, no_items, item, get_member}
 use Rattle.toml.specs.Parse.{parse_document}
@@ -23,12 +23,12 @@ use Rattle.scenario.specs.Flaws.{Flaw, Fails, OrMemory}
 use Rattle.scenario.specs.Checks.{Head, head, tables}
 use Rattle.scenario.specs.Tables.{Source, Assembly, Hex, Table, Seats, table}
 
--- the assembly says the program, or the bytes spell it
+-- The program is what the assembly assembles to, or what the bytes in hex decode to.
 abbrev pub IsProgramOf : Source → List Insn → Type 0
 IsProgramOf (Assembly text) program = program_of text ≡ Some program
 IsProgramOf (Hex text) program = (bytes : List ℕ) × (decode_of text ≡ Ok bytes) × SpellsProgram bytes program
 
--- why it says or spells none, the assembly's or the bytes' first fault, or why the verifier refuses it
+-- The fault is the first one of the assembly, of the hex text or of its bytes, or why the verifier rejects the program.
 abbrev pub IsFaultOf : ProgramFault → Source → Type 0
 IsFaultOf (faults.Asm fault line) (Assembly text) = said text ≡ Err (assembler.At fault line)
 IsFaultOf faults.Hex (Hex text) = IsErr (decode_of text)
@@ -38,7 +38,8 @@ IsFaultOf (faults.Verifier reason unit) source =
     (program : List Insn) × IsProgramOf source program × (judged program ≡ Some (verifier.At reason unit))
 IsFaultOf _ _ = ⊥
 
--- the answer to one table: the general and his program, which the verifier accepts, or its first fault
+-- The result for one table is its general and his program, which the verifier accepts, or it is the table's first fault
+-- or the program's.
 abbrev pub TableGives : Result Table Flaw → Result (ℕ × List Insn) ScenarioError → Type 0
 TableGives (Ok t) (Ok seated) = (seated.0 ≡ t.general) × IsProgramOf t.source seated.1 × (judged seated.1 ≡ None)
 TableGives (Ok t) (Err (errors.Program g fault)) = (g ≡ t.general) × IsFaultOf fault t.source
@@ -46,13 +47,13 @@ TableGives (Ok t) (Err _) = ⊥
 TableGives (Err flaw) (Ok seated) = ⊥
 TableGives (Err flaw) (Err e) = Fails {Y = Table} e (Err flaw)
 
--- an error tells what was found
+-- The result is the error for this table.
 abbrev pub Stopped : {X : Type 0} → Result Table Flaw → Result X ScenarioError → Type 0
 Stopped read (Ok x) = ⊥
 Stopped read (Err e) = TableGives read (Err e)
 
--- the tables from this one on: one of them stops, or each seats its general, and then the answer is what is made of the
--- seats
+-- The result for the tables from `i` on is an error for one of them. If there is none, each table gives its general a
+-- program, and the result is made of all seats.
 abbrev pub Answers : {X : Type 0} → (Seats → X) → ℕ → ℕ → Seats → Items → Result X ScenarioError → Type 0
 Answers made n i seats no_items r = r ≡ Ok (made seats)
 Answers made n i seats (item d ds) r =
@@ -60,7 +61,7 @@ Answers made n i seats (item d ds) r =
     ⊎ ((seated : ℕ × List Insn) × TableGives (table n seats i d) (Ok seated)
     × Answers made n (i + 1) (slice_set seats seated.0 (Some seated.1)) ds r)
 
--- the scenario of a campaign's numbers and seats
+-- the scenario with these numbers and these seats
 abbrev pub scenario_of : Head → Seats → Scenario
 scenario_of h seats = record {
   generals = h.generals;
@@ -73,50 +74,49 @@ scenario_of h seats = record {
   rule = h.rule;
 }
 
--- a scenario whose orders are sent so
+-- a scenario as a campaign in which orders are sent in this way
 abbrev pub campaign_by : Messages → Scenario → Campaign
 campaign_by messages.Oral s = Oral s
 campaign_by messages.Signed s = Signed s
 
--- the campaign of its numbers and seats
+-- the campaign with these numbers and these seats
 abbrev pub campaign_of : Head → Seats → Campaign
 campaign_of h seats = campaign_by h.messages (scenario_of h seats)
 
--- nobody is seated yet
+-- the seats before any table is read, where no general has a program
 abbrev pub unseated : Head → Seats
 unseated h = replicate h.generals None
 
--- behind a good head, what the traitors' tables give
+-- The result for a head without a fault is that of the traitors' tables.
 abbrev pub Begun : {X : Type 0} → (Head → Seats → X) → Head → Result Items Flaw → Result X ScenarioError → Type 0
 Begun made h (Ok ds) r = Answers (made h) h.generals 0 (unseated h) ds r
 Begun made h (Err flaw) (Ok x) = ⊥
 Begun made h (Err flaw) (Err e) = Fails {Y = Items} e (Err flaw)
 
--- what a text gives whose head is this, or has this fault
+-- The result for a text with this head is that of its tables. If the head has a fault, the result is this fault.
 abbrev pub Headed : {X : Type 0} → (Head → Seats → X) → Result Head Flaw → Members → Result X ScenarioError → Type 0
 Headed made (Ok h) ms r = Begun made h (tables (get_member (codes "traitor") ms)) r
 Headed made (Err flaw) ms (Ok x) = ⊥
 Headed made (Err flaw) ms (Err e) = Fails {Y = Head} e (Err flaw)
 
--- the answer to a text: what is made of the head and the seats that its table tells, or the first fault, in the table's
--- order
+-- The result for a text is made of its head and its seats, or it is the first fault in the order of the keys.
 abbrev pub Answered : {X : Type 0} → (Head → Seats → X) → (Members → Result Head Flaw) → Option Members →
     Result X ScenarioError → Type 0
 Answered made head_of None r = r ≡ Err errors.Toml
 Answered made head_of (Some ms) r = Headed made (head_of ms) ms r
 
--- the answer to a text of an oral campaign: its scenario, or the first fault; or memory was refused
+-- The result of reading an oral campaign is its scenario, the first fault, or out of memory.
 abbrev pub Reads : Option Members → Result Scenario ScenarioError → Type 0
 Reads parsed r = OrMemory (Answered scenario_of (head OralAlone) parsed) r
 
--- the answer to a text of an oral or a signed campaign, likewise
+-- The result of reading an oral or a signed campaign is the campaign, the first fault, or out of memory.
 abbrev pub ReadsAny : Option Members → Result Campaign ScenarioError → Type 0
 ReadsAny parsed r = OrMemory (Answered campaign_of (head Both) parsed) r
 
--- the text tells the scenario
+-- The text describes this scenario.
 abbrev pub Tells : List ℕ → Scenario → Type 0
 Tells text s = Reads (parse_document text) (Ok s)
 
--- the text tells the campaign, be it oral or signed
+-- The text describes this campaign, oral or signed.
 abbrev pub TellsAny : List ℕ → Campaign → Type 0
 TellsAny text c = ReadsAny (parse_document text) (Ok c)

@@ -1,4 +1,4 @@
--- A scenario in which the files stand where they are named, and each traitor has a table of his own (own).
+-- A scenario in which programs replace the names of their files, and each traitor has a table of his own (own).
 use Rattle.std.specs.Prelude.{◌≡◌, ◌≤◌, ℕ, Bool, true, false, ◌||◌, ◌&&◌, cond, if◌then◌else◌, List, Option, None, Some, is_some, option_map, option_and_then, codes, bytes_eq}
 use Rattle.toml.specs.Data.{Data, string, array, table, Items, no_items, item, Members, no_members, member, as_table, get_member, members_depth, members_have_valid_dates}
 use Rattle.toml.specs.Parse.{parse_document}
@@ -7,40 +7,42 @@ use Rattle.scenario.specs.declared.reference_key.ReferenceKey.TheVariants.{Objec
 use Rattle.scenario.specs.ReferenceNames.{File, function_at, key_of, name_at, place_of, seats, text_named, traitors}
 use Rattle.scenario.specs.Members.{join, put}
 
--- what stands in the place of the file that a table names by the key k: of which program, and its text
+-- the kind and the text of the file that a table names by the key `k`, if the file was read
 abbrev pub program : List File → Members → List ℕ → Option (ReferenceKey × List ℕ)
 program files ms k =
     option_and_then (λ key. option_and_then
     (λ name. option_map (λ t. (key, t)) (text_named files key name (function_at key ms))) (name_at key ms))
     (key_of k)
 
--- the key names the function of an object that stands in its place: nothing is left of it
+-- whether the key names the function of an object whose code replaces it. Such an entry is dropped.
 abbrev pub is_spent : List File → Members → List ℕ → Bool
 is_spent files ms k =
     bytes_eq k (codes "entry") && (is_some (function_at Object ms) && is_some (program files ms (codes "elf")))
 
--- an entry without a file: this general in place of those who share the table
+-- the members with an entry that names no file, where a general may replace the generals who share the table
 abbrev pub kept : Option Data → List ℕ → Data → Members → Members
 kept None k d done = put k d done
 kept (Some g) k d done = if bytes_eq k (codes "generals") then put (codes "general") g done else put k d done
 
+-- the members with an entry, where a program may replace the name of its file
 abbrev pub entry_by : Option (ReferenceKey × List ℕ) → Option Data → List ℕ → Data → Members → Members
 entry_by None general k d done = kept general k d done
 entry_by (Some p) general k d done = put (place_of p.0) (string p.1) done
 
--- an entry of the table ms
+-- the members with an entry of the table `ms`
 abbrev pub entry : List File → Option Data → Members → List ℕ → Data → Members → Members
 entry files general ms k d done = cond (is_spent files ms k) done (entry_by (program files ms k) general k d done)
 
--- the entries of the table ms, one put after the other
+-- the members with the remaining entries of the table `ms`, put one after the other
 abbrev pub entries : List File → Option Data → Members → Members → Members → Members
 entries files general ms done no_members = done
 entries files general ms done (member k d more) = entries files general ms (entry files general ms k d done) more
 
+-- a traitor's table in which programs replace the names of their files
 abbrev pub rebuilt : List File → Option Data → Members → Members
 rebuilt files general ms = entries files general ms no_members ms
 
--- a table for each general who shares it
+-- a table for each of the generals who share one
 abbrev pub one_each : List File → Members → Items → Items
 one_each files ms no_items = no_items
 one_each files ms (item g gs) = item (table (rebuilt files (Some g) ms)) (one_each files ms gs)
@@ -49,10 +51,11 @@ abbrev pub by_seats : List File → Members → Option Items → Items
 by_seats files ms None = item (table (rebuilt files None ms)) no_items
 by_seats files ms (Some gs) = one_each files ms gs
 
+-- the tables that replace a traitor's table
 abbrev pub tables : List File → Members → Items
 tables files ms = by_seats files ms (seats ms)
 
--- an element that is no table stays
+-- the tables that replace an element, or the element itself if it is not a table
 abbrev pub tables_by : List File → Data → Option Members → Items
 tables_by files d None = item d no_items
 tables_by files d (Some ms) = tables files ms
@@ -60,15 +63,16 @@ tables_by files d (Some ms) = tables files ms
 abbrev pub tables_of : List File → Data → Items
 tables_of files d = tables_by files d (as_table d)
 
+-- the list of traitors in which each has a table of his own
 abbrev pub resolved : List File → Items → Items
 resolved files no_items = no_items
 resolved files (item d ds) = join (tables_of files d) (resolved files ds)
 
--- the document with this list of traitors resolved
+-- the document whose list of traitors is replaced by the resolved list
 abbrev pub with_traitors : List File → Items → Members → Members
 with_traitors files ds ms = put (codes "traitor") (array (resolved files ds)) ms
 
--- a table names a file, or generals who share it
+-- whether a table names a file, or generals who share it
 abbrev pub table_refers : Members → Bool
 table_refers ms =
     is_some (get_member (codes "asm_file") ms) || (is_some (get_member (codes "code_file") ms)
@@ -81,17 +85,18 @@ refers_by (Some ms) = table_refers ms
 abbrev pub element_refers : Data → Bool
 element_refers d = refers_by (as_table d)
 
+-- whether any table of the list names a file, or generals who share it
 abbrev pub refers : Items → Bool
 refers no_items = false
 refers (item d ds) = element_refers d || refers ds
 
--- the text is this document's, where that nests no deeper than a reader goes; or there is none, since a date of it has
--- no text
+-- The text is this document's, if the document nests at most 80 levels deep. There is no text if a date of the document
+-- has none.
 abbrev pub IsPrinted : Members → Option (List ℕ) → Type 0
 IsPrinted ms None = members_have_valid_dates ms ≡ false
 IsPrinted ms (Some text) = members_depth ms ≤ 80 → parse_document text ≡ Some ms
 
--- the new text is that of the document with its traitors resolved; there is none where no table refers
+-- The new text is that of the resolved document, or `None` if no table names a file or several generals.
 abbrev pub IsPrintedIf : Bool → Members → Option (List ℕ) → Type 0
 IsPrintedIf true ms new = IsPrinted ms new
 IsPrintedIf false ms new = new ≡ None
@@ -100,6 +105,7 @@ abbrev pub ResolvesList : List File → Members → Option Items → Option (Lis
 ResolvesList files ms None new = new ≡ None
 ResolvesList files ms (Some ds) new = IsPrintedIf (refers ds) (with_traitors files ds ms) new
 
+-- The new text is that of the resolved document, or `None` if there is no document or nothing to resolve.
 abbrev pub Resolves : List File → Option Members → Option (List ℕ) → Type 0
 Resolves files None new = new ≡ None
 Resolves files (Some ms) new = ResolvesList files ms (traitors ms) new

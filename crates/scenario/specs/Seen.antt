@@ -1,4 +1,4 @@
--- Words of the reader alone.
+-- Definitions that only the reader's code uses (own).
 use Rattle.std.specs.Prelude.{◌≡◌, ℕ, List, None, Some, Result, Ok, Err}
 use Rattle.insn.specs.declared.insn.Insn.{Insn}
 use Rattle.verify.specs.Judgement.{judged}
@@ -19,38 +19,40 @@ use Rattle.scenario.specs.declared.fault.ScenarioError.TheVariants as errors
 use Rattle.scenario.specs.Tables.{Source, Assembly, Hex}
 use Rattle.scenario.specs.Reading.{IsProgramOf, IsFaultOf}
 
--- a program as it is written, seen as its text
+-- a program as it is written, with its text as bytes
 abbrev pub source_of : ProgramText → Source
 source_of (written.Asm text) = Assembly text.now
 source_of (written.Code text) = Hex text.now
 
--- the program of a source, or why there is none
+-- The result is the program of a source, or why the source gives none.
 abbrev pub Makes : ℕ → Source → Result (List Insn) ScenarioError → Type 0
 Makes g source (Ok program) = IsProgramOf source program
 Makes g source (Err (errors.Program h fault)) = (h ≡ g) × IsFaultOf fault source
 Makes g source (Err _) = ⊥
 
--- the program, accepted, or why it is not
+-- The result is the program if the verifier accepts it, or why it does not.
 abbrev pub Accepts : ℕ → List Insn → Result (List Insn) ScenarioError → Type 0
 Accepts g program (Ok accepted) = (accepted ≡ program) × (judged program ≡ None)
 Accepts g program (Err (errors.Program h (Verifier reason unit))) =
     (h ≡ g) × (judged program ≡ Some (verifier.At reason unit))
 Accepts g program (Err _) = ⊥
 
--- the error that tells of the assembler's, of the hex text's, of the decoder's and of the verifier's: memory of memory
--- alone
+-- the scenario's error for an error of the assembler, which is out of memory only if that error is
 abbrev pub unassembled : ℕ → AsmError → ScenarioError
 unassembled g assembler.Memory = errors.Memory
 unassembled g (assembler.At fault line) = errors.Program g (Asm fault line)
 
+-- the scenario's error for an error of the hex decoder
 abbrev pub unhexed : ℕ → FromHexError → ScenarioError
 unhexed g hex.OutOfMemory = errors.Memory
 unhexed g _ = errors.Program g faults.Hex
 
+-- the scenario's error for an error of the decoder
 abbrev pub undecoded : ℕ → CodecError → ScenarioError
 undecoded g decoder.Memory = errors.Memory
 undecoded g (decoder.At fault unit) = errors.Program g (Code fault unit)
 
+-- the scenario's error for an error of the verifier
 abbrev pub unverified : ℕ → VerifyError → ScenarioError
 unverified g verifier.Memory = errors.Memory
 unverified g (verifier.At reason unit) = errors.Program g (Verifier reason unit)

@@ -1,4 +1,4 @@
-//! Why a text tells no scenario.
+//! Defines the errors of scenarios: why a text is not a scenario.
 ghost use Rattle.std.specs.Prelude.{◌≡◌};
 ghost use Rattle.scenario.specs.ErrorText.{scenario_code};
 ghost use Rattle.scenario.specs.declared.fault.ScenarioError.TheVariants.{Memory};
@@ -8,18 +8,19 @@ use std::alloc::{AllocError, AllocFailed};
 use std::fmt;
 use verify::Reason;
 
-/// What is wrong at a place.
+/// A fault at a place of a scenario.
 #[derive(Clone, Copy, Debug, PartialEq, Eq)]
 pub enum ScenarioFault {
-    /// The key is missing; with `asm`, both or neither of `asm` and `code` are there.
+    /// A required key is missing, or `rule` is set where messages are signed. At `asm`, the table has both or neither
+    /// of `asm` and `code`.
     Key,
-    /// The value is of another kind.
+    /// The value is of the wrong kind.
     Kind,
     /// The value is out of its range.
     Range,
-    /// There is no such general.
+    /// There is no general with this number.
     General,
-    /// The general has a table already.
+    /// An earlier table has the same general.
     Twice,
 }
 
@@ -40,21 +41,21 @@ impl fmt::Display for ScenarioFault {
     }
 }
 
-/// What is wrong with a traitor's program, and where in it.
+/// A fault of a traitor's program, and its place in the program.
 #[derive(Clone, Copy, Debug, PartialEq, Eq)]
 pub enum ProgramFault {
-    /// The assembler's fault and its line.
+    /// The assembler reports this fault in this line, counted from 1.
     Asm(asm::AsmFault, u64),
-    /// The text is no list of bytes in hex.
+    /// The text is not a list of bytes in hex.
     Hex,
-    /// The decoder's fault and its unit.
+    /// The decoder reports this fault at this unit, counted from 0.
     Code(codec::CodecFault, usize),
-    /// The verifier's reason and its unit.
+    /// The verifier rejects the program for this reason at this unit, counted from 0.
     Verifier(Reason, usize),
 }
 
 impl ProgramFault {
-    /// The scenario's code: S7 where there is no program, S8 where it is not accepted.
+    /// Returns the scenario's error code: S7 if the text gives no program, S8 if the verifier rejects the program.
     fn scenario_code(self) -> &'static str
         ensures { result.now ≡ scenario_code self }
     {
@@ -81,18 +82,18 @@ impl fmt::Display for ProgramFault {
     }
 }
 
-/// The first fault of a text that tells no scenario, or want of memory.
+/// The first fault of a text that is not a scenario, or out of memory.
 #[derive(Debug, Drop)]
 pub enum ScenarioError {
-    /// S1: the text is no TOML.
+    /// S1: the text is not TOML.
     Toml,
-    /// S2: a key at the top, or of the traitor's table of this number, is none.
+    /// S2: this key is unknown. It is in the traitor's table of this number, or at the top if there is no number.
     Unknown(Option<usize>, String),
-    /// S2 to S6: a fault at a place.
+    /// S2 to S6: there is a fault at this place.
     At(ScenarioFault, ScenarioPlace),
-    /// S7 and S8: a fault of this general's program.
+    /// S7 or S8: the program of this general has a fault.
     Program(u8, ProgramFault),
-    /// Memory was refused.
+    /// An allocation failed.
     Memory,
 }
 

@@ -1,9 +1,9 @@
-//! A campaign as a text tells it, before its traitors.
+//! Defines the head of a scenario: everything in it except its traitors.
 use crate::messages::Messages;
 use combine::Rule;
 use std::marker::Model;
 
-/// A campaign's numbers and rule, without its traitors.
+/// A campaign's numbers, its rule, and how orders are sent, without its traitors.
 #[derive(Drop)]
 pub struct Head {
     pub generals: u8,

@@ -1,4 +1,4 @@
-//! The values of single keys, each the value or the first fault of its checks.
+//! Checks the values of single keys. Each check returns the value, or fails with the first fault.
 
 ghost use Rattle.std.specs.Prelude.{◌≡◌, ℕ, ◌≤◌, ◌<◌, ◌^◌, option_map, IfOk, IfSome, MatchResult};
 ghost use Rattle.toml.specs.Data.{get_member};
@@ -13,7 +13,7 @@ use crate::place::{ScenarioKey, ScenarioPlace};
 use std::alloc::{AllocError, Global};
 use toml::{Table, Value};
 
-/// Whether the top of a scenario has the key.
+/// Returns whether a scenario may have this key at its top.
 pub fn is_top_key(key: &str) -> bool
     ensures { result ≡ is_top_key key.now }
 {
@@ -28,13 +28,14 @@ pub fn is_top_key(key: &str) -> bool
         || key == "traitor"
 }
 
-/// Whether a traitor's table has the key.
+/// Returns whether a traitor's table may have this key.
 pub fn is_entry_key(key: &str) -> bool
     ensures { result ≡ is_entry_key key.now }
 {
     key == "general" || key == "asm" || key == "code"
 }
 
+/// Returns the first key that a scenario may not have at its top.
 fn first_unknown_at_top(table: &Table) -> Option<&str>
     ensures { option_map (λ k. k.now) result ≡ first_unknown is_top_key (table_view table.now) }
 {
@@ -46,6 +47,7 @@ fn first_unknown_at_top(table: &Table) -> Option<&str>
     None
 }
 
+/// Returns the first key that a traitor's table may not have.
 fn first_unknown_in_entry(table: &Table) -> Option<&str>
     ensures { option_map (λ k. k.now) result ≡ first_unknown is_entry_key (table_view table.now) }
 {
@@ -57,7 +59,7 @@ fn first_unknown_in_entry(table: &Table) -> Option<&str>
     None
 }
 
-/// Why a text tells no scenario where a key is unknown: that key, unless memory was refused for it.
+/// Returns the error for an unknown key, or `Memory` if there was no memory for a copy of the key.
 fn unknown(at: Option<usize>, key: Result<String, AllocError>) -> ScenarioError
     ensures { MatchResult key (λ key. result ≡ Unknown at key) (λ _. result ≡ Memory) }
 {
@@ -67,6 +69,7 @@ fn unknown(at: Option<usize>, key: Result<String, AllocError>) -> ScenarioError
     }
 }
 
+/// Fails with an unknown key, if there is one.
 fn refuse_unknown(alloc: Global, at: Option<usize>, key: Option<&str>) -> Result<(), ScenarioError>
     ensures { OrMemory (λ r. Gives (λ _. tt) r (known at (option_map (λ k. k.now) key.entry))) result }
 {
@@ -76,14 +79,22 @@ fn refuse_unknown(alloc: Global, at: Option<usize>, key: Option<&str>) -> Result
     }
 }
 
-/// All keys at the top are known.
+/// Checks that a scenario has only known keys at its top.
+///
+/// # Errors
+///
+/// `Unknown` with the first unknown key, the least by bytes. `Memory` if an allocation fails.
 pub fn top_is_known(alloc: Global, table: &Table) -> Result<(), ScenarioError>
     ensures { OrMemory (λ r. Gives (λ _. tt) r (known None (first_unknown is_top_key (table_view table.now)))) result }
 {
     refuse_unknown(alloc, None, first_unknown_at_top(table))
 }
 
-/// All keys of the traitor's table are known.
+/// Checks that the traitor's table of this number has only known keys.
+///
+/// # Errors
+///
+/// `Unknown` with the number and the first unknown key, the least by bytes. `Memory` if an allocation fails.
 pub fn entry_is_known(alloc: Global, index: usize, table: &Table) -> Result<(), ScenarioError>
     ensures { OrMemory (λ r. Gives (λ _. tt) r
         (known (Some index) (first_unknown is_entry_key (table_view table.now)))) result }
@@ -91,14 +102,18 @@ pub fn entry_is_known(alloc: Global, index: usize, table: &Table) -> Result<(), 
     refuse_unknown(alloc, Some(index), first_unknown_in_entry(table))
 }
 
-/// The value at a key.
+/// Returns the value at a key, or `None` if the table does not have the key.
 pub fn at<'a>(table: &'a Table, name: ScenarioKey) -> Option<&'a Value>
     ensures { option_map (λ v. view v.now) result ≡ get_member (text_of name) (table_view table.now) }
 {
     table.get(name.text())
 }
 
-/// The value of a required key.
+/// Returns the value of a required key.
+///
+/// # Errors
+///
+/// `At` with `Key` if the key is missing.
 fn required(place: ScenarioPlace, value: Option<&Value>) -> Result<&Value, ScenarioError>
     ensures { Gives (λ v. view v.now) result (required place (option_map (λ v. view v.now) value.entry)) }
 {
@@ -108,7 +123,11 @@ fn required(place: ScenarioPlace, value: Option<&Value>) -> Result<&Value, Scena
     }
 }
 
-/// An integer.
+/// Returns the integer that a value is.
+///
+/// # Errors
+///
+/// `At` with `Kind` if the value is not an integer.
 pub fn whole(place: ScenarioPlace, value: &Value) -> Result<i64, ScenarioError>
     ensures { Gives (λ z. z) result (whole place (view value.now)) }
 {
@@ -118,7 +137,11 @@ pub fn whole(place: ScenarioPlace, value: &Value) -> Result<i64, ScenarioError>
     }
 }
 
-/// The elements of an array.
+/// Returns the elements of the array that a value is.
+///
+/// # Errors
+///
+/// `At` with `Kind` if the value is not an array.
 pub fn elements(place: ScenarioPlace, value: &Value) -> Result<&[Value], ScenarioError>
     ensures { Gives (λ a. items_view a.now) result (elements place (view value.now)) }
 {
@@ -128,7 +151,11 @@ pub fn elements(place: ScenarioPlace, value: &Value) -> Result<&[Value], Scenari
     }
 }
 
-/// An integer that is not below 0.
+/// Returns an integer as a number that is not negative.
+///
+/// # Errors
+///
+/// `At` with the given fault if the integer is negative.
 pub fn natural(
     fault: ScenarioFault,
     place: ScenarioPlace,
@@ -142,7 +169,11 @@ pub fn natural(
     }
 }
 
-/// A number between two others.
+/// Returns the number from `least` to `most` at a required key.
+///
+/// # Errors
+///
+/// `At` with `Key` if the key is missing, `Kind` if its value is not an integer, or `Range` if that is out of range.
 #[tactic(auto, unfolding(crate::specs::Checks::number))]
 pub fn number(
     place: ScenarioPlace,
@@ -162,7 +193,11 @@ pub fn number(
     Err(ScenarioError::At(ScenarioFault::Range, place))
 }
 
-/// A number between two others, if there is one.
+/// Returns the number from `least` to `most` at an optional key, or `None` if the key is missing.
+///
+/// # Errors
+///
+/// `At` with `Kind` if the value is not an integer, or `Range` if it is out of range.
 #[tactic(auto, unfolding(crate::specs::Checks::optional_number))]
 pub fn optional_number(
     place: ScenarioPlace,
@@ -180,7 +215,12 @@ pub fn optional_number(
     }
 }
 
-/// One of the generals.
+/// Returns the number of a general at a required key.
+///
+/// # Errors
+///
+/// `At` with `Key` if the key is missing, `Kind` if its value is not an integer, the fault `low` if that is negative,
+/// or `General` if there is no such general.
 #[tactic(auto, unfolding(crate::specs::Checks::general))]
 pub fn general(
     place: ScenarioPlace,

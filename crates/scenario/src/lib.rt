@@ -1,4 +1,4 @@
-//! Scenarios: reads campaigns from TOML texts, with the files that they name put in place of the names.
+//! Reads campaigns from TOML texts, called scenarios, and replaces the names of files in them by the files' contents.
 #![tactic(auto)]
 
 mod fault;

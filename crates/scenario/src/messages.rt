@@ -1,29 +1,29 @@
-//! How the generals of a campaign send orders.
+//! Defines how the generals of a campaign send orders: orally or with signatures.
 use round::Scenario;
 
 /// How orders are sent.
 #[derive(Clone, Copy, PartialEq, Eq)]
 pub enum Messages {
-    /// By word of mouth: OM(m).
+    /// Orders are sent orally, by the algorithm OM(m).
     Oral,
-    /// Signed: SM(m).
+    /// Orders are sent with signatures, by the algorithm SM(m).
     Signed,
 }
 
-/// Which campaigns a reader takes.
+/// Which campaigns a reader accepts.
 #[derive(Clone, Copy, PartialEq, Eq)]
 pub enum Kinds {
-    /// Oral ones alone.
+    /// The reader accepts only oral campaigns.
     OralAlone,
-    /// Oral and signed ones.
+    /// The reader accepts oral and signed campaigns.
     Both,
 }
 
-/// A campaign that a text tells.
+/// A campaign that a text describes.
 #[derive(Drop)]
 pub enum Campaign {
-    /// With oral messages.
+    /// A campaign with oral messages.
     Oral(Scenario),
-    /// With signed messages; its scenario has the rule that an absent key gives.
+    /// A campaign with signed messages. Its scenario has the default rule, since its text may not name a rule.
     Signed(Scenario),
 }

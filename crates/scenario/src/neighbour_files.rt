@@ -1,4 +1,4 @@
-//! Files that were read beside a scenario.
+//! Holds the files that a scenario names after they were read.
 ghost use Rattle.std.specs.Prelude.{◌≡◌, ◌∷◌, [], IfOk, None, option_map, string_bytes};
 ghost use Rattle.hex.specs.Hex.{encode_lower};
 ghost use Rattle.scenario.specs.ReferenceNames.{are_same, text_named};
@@ -9,8 +9,8 @@ use crate::reference_key::ReferenceKey;
 use std::alloc::{AllocError, Global};
 use std::marker::Model;
 
-/// A file that was read beside a scenario: by which key it is named, its name, which function of an object, and the
-/// text that stands in its place.
+/// A file that a scenario names, after it was read. It has the key and the name by which a table refers to it, an
+/// object's function if one is named, and the text that replaces the reference.
 #[derive(Drop)]
 pub struct LoadedFile {
     key: ReferenceKey,
@@ -34,7 +34,7 @@ impl Model for LoadedFile {
 }
 
 impl LoadedFile {
-    /// A file of assembly with this text.
+    /// Returns a file of assembly with this text.
     pub fn assembly(name: String, text: String) -> LoadedFile
         ensures { result ≡ record {
           key = Assembly;
@@ -51,11 +51,11 @@ impl LoadedFile {
         }
     }
 
-    /// A file of bytecode with these bytes, which stand in its place in hex.
+    /// Returns a file of bytecode with these bytes. The text that replaces the reference has them in hex.
     ///
     /// # Errors
     ///
-    /// `AllocError` where the memory for the digits is refused.
+    /// `AllocError` if an allocation fails.
     pub fn bytecode(alloc: Global, name: String, bytes: &[u8]) -> Result<LoadedFile, AllocError>
         ensures { IfOk result (λ f. f ≡ record {
           key = Bytecode;
@@ -73,12 +73,12 @@ impl LoadedFile {
         })
     }
 
-    /// An object, of which this function has this code, which stands in its place in hex; no function is named where it
-    /// is the only global one.
+    /// Returns an object file whose function has this code. The text that replaces the reference has the code in hex.
+    /// `function` is `None` if the table names no function, which means the only global one.
     ///
     /// # Errors
     ///
-    /// `AllocError` where the memory for the digits is refused.
+    /// `AllocError` if an allocation fails.
     pub fn object(
         alloc: Global,
         name: String,
@@ -101,7 +101,7 @@ impl LoadedFile {
         })
     }
 
-    /// Its text, where it is named so.
+    /// Returns the file's text if the file has this key, this name and this function.
     fn text_if(&self, key: ReferenceKey, name: &str, function: Option<&str>) -> Option<&str>
         ensures { option_map (λ t. t.now) result
             ≡ text_named (self.now ∷ []) key name.now (option_map (λ f. f.now) function.entry) }
@@ -116,7 +116,7 @@ impl LoadedFile {
     }
 }
 
-/// Whether no function is named, or the same.
+/// Returns whether both functions are absent, or both have the same name.
 fn are_same(own: Option<&str>, other: Option<&str>) -> bool
     ensures { result ≡ are_same (option_map (λ f. f.now) own.entry) (option_map (λ f. f.now) other.entry) }
 {
@@ -127,7 +127,7 @@ fn are_same(own: Option<&str>, other: Option<&str>) -> bool
     }
 }
 
-/// The text of the first file that is named so.
+/// Returns the text of the first file that has this key, this name and this function.
 pub(crate) fn text_named<'a>(
     files: &'a [LoadedFile],
     key: ReferenceKey,

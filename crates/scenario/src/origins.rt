@@ -1,4 +1,4 @@
-//! From which table of a scenario's text a table of the resolved one comes.
+//! Finds the table of a scenario's text from which a table of the resolved text comes, and the table of a general.
 ghost use Rattle.std.specs.Prelude.{◌≡◌, IfOk};
 ghost use Rattle.toml.specs.Parse.{parse_document};
 ghost use Rattle.toml.specs.View.{items_view, table_view, view};
@@ -10,7 +10,7 @@ use crate::text_tables::{document, seats, traitors, value_at};
 use std::alloc::{AllocError, Global};
 use toml::{Table, Value};
 
-/// How many tables stand in the place of an element of the list.
+/// Returns the number of tables that replace an element of the list: one for each general who shares it, otherwise one.
 #[tactic(auto, using(crate::proofs::OriginLemmas::counted))]
 fn stands_for(value: &Value) -> usize
     ensures { result ≡ stands_for (view value.now) }
@@ -24,7 +24,8 @@ fn stands_for(value: &Value) -> usize
     }
 }
 
-/// The element from which the table of this number comes.
+/// Returns the number of the element from which the resolved table of this number comes. If there are too few tables,
+/// it returns the number of elements.
 fn origin_in(values: &[Value], number: usize) -> usize
     ensures { result ≡ origin_from 0 number (items_view values.now) }
 {
@@ -39,7 +40,7 @@ fn origin_in(values: &[Value], number: usize) -> usize
     values.len()
 }
 
-/// Whether the value is this general's number.
+/// Returns whether the value is this general's number.
 fn is_general(value: &Value, general: u8) -> bool
     ensures { result ≡ is_general general (view value.now) }
 {
@@ -52,7 +53,7 @@ fn is_general(value: &Value, general: u8) -> bool
     }
 }
 
-/// Whether the list has this general's number.
+/// Returns whether the list contains this general's number.
 fn has_general(values: &[Value], general: u8) -> bool
     ensures { result ≡ has_general general (items_view values.now) }
 {
@@ -64,7 +65,7 @@ fn has_general(values: &[Value], general: u8) -> bool
     false
 }
 
-/// Whether the table is this general's, by himself or with others.
+/// Returns whether the table is for this general, who may share it with others.
 fn is_among(table: &Table, general: u8) -> bool
     ensures { result ≡ is_among general (table_view table.now) (seats (table_view table.now)) }
 {
@@ -77,7 +78,7 @@ fn is_among(table: &Table, general: u8) -> bool
     }
 }
 
-/// Whether an element of the list is such a table.
+/// Returns whether an element of the list is a table for this general, who may share it with others.
 fn is_seat(value: &Value, general: u8) -> bool
     ensures { result ≡ is_seat general (as_table (view value.now)) }
 {
@@ -87,7 +88,7 @@ fn is_seat(value: &Value, general: u8) -> bool
     }
 }
 
-/// The first element that is this general's table.
+/// Returns the number of the first element that is a table for this general, or `None` if there is none.
 fn seat_in(values: &[Value], general: u8) -> Option<usize>
     ensures { result ≡ seat_from 0 general (items_view values.now) }
 {
@@ -99,12 +100,12 @@ fn seat_in(values: &[Value], general: u8) -> Option<usize>
     None
 }
 
-/// From which traitor's table of the text of a scenario the table of this number comes that stands in its resolved
-/// text, both counted from 0; the same number where the text has no list of traitors.
+/// Returns the number of the traitor's table in a scenario's text from which the table of this number in the resolved
+/// text comes. Both are counted from 0. If the text has no list of traitors, it returns the same number.
 ///
 /// # Errors
 ///
-/// `AllocError` where memory is refused.
+/// `AllocError` if an allocation fails.
 pub fn origin(alloc: Global, text: &str, number: usize) -> Result<usize, AllocError>
     ensures { IfOk result (λ own. own ≡ origin number (parse_document text.now)) }
 {
@@ -117,12 +118,12 @@ pub fn origin(alloc: Global, text: &str, number: usize) -> Result<usize, AllocEr
     }
 }
 
-/// Which traitor's table of the text of a scenario is the first of this general, by himself or with others, counted
-/// from 0; none where no table is.
+/// Returns the number of the first traitor's table for this general in a scenario's text, counted from 0. He may share
+/// it with others. Returns `None` if there is no such table.
 ///
 /// # Errors
 ///
-/// `AllocError` where memory is refused.
+/// `AllocError` if an allocation fails.
 pub fn seat(alloc: Global, text: &str, general: u8) -> Result<Option<usize>, AllocError>
     ensures { IfOk result (λ own. own ≡ seat general (parse_document text.now)) }
 {

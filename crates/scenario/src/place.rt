@@ -1,10 +1,10 @@
-//! Where a fault of a scenario stands.
+//! Defines the keys of a scenario and the places at which a fault can be.
 ghost use Rattle.std.specs.Prelude.{◌≡◌};
 ghost use Rattle.scenario.specs.Names.{text_of};
 
 use std::fmt;
 
-/// A key that a scenario may have.
+/// A key that a scenario may have, at its top or in a traitor's table.
 #[derive(Clone, Copy, Debug, PartialEq, Eq)]
 pub enum ScenarioKey {
     Generals,
@@ -22,7 +22,7 @@ pub enum ScenarioKey {
 }
 
 impl ScenarioKey {
-    /// The key as it is written.
+    /// Returns the key as it is written in a scenario.
     pub fn text(self) -> &'static str
         ensures { result.now ≡ text_of self }
     {
@@ -46,13 +46,13 @@ impl ScenarioKey {
 /// A place in a scenario.
 #[derive(Clone, Copy, Debug, PartialEq, Eq)]
 pub enum ScenarioPlace {
-    /// A key at the top.
+    /// This key at the top.
     Key(ScenarioKey),
-    /// A word of the board, counted from 0.
+    /// The board's word of this number, counted from 0.
     Word(usize),
-    /// An element of the list of traitors, counted from 0.
+    /// The element of this number in the list of traitors, counted from 0.
     Table(usize),
-    /// A key of a traitor's table.
+    /// This key of the traitor's table of this number, counted from 0.
     Entry(usize, ScenarioKey),
 }
 

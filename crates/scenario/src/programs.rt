@@ -1,4 +1,4 @@
-//! The traitors' programs, assembled or decoded, and verified.
+//! Assembles or decodes the traitors' programs, and verifies them.
 ghost use Rattle.std.specs.Prelude.{◌≡◌};
 ghost use Rattle.scenario.specs.Flaws.{OrMemory};
 ghost use Rattle.scenario.specs.Tables.{Assembly, Hex};
@@ -12,16 +12,20 @@ use insn::Program;
 use std::alloc::Global;
 use verify::{Refused, Verified, VerifyError, verify};
 
-/// A program as a table has it.
+/// A traitor's program as it is written in his table.
 #[derive(Clone, Copy)]
 pub enum ProgramText<'a> {
-    /// Assembly.
+    /// The program is written as assembly.
     Asm(&'a str),
-    /// Bytecode in hex.
+    /// The program is written as bytecode in hex.
     Code(&'a str),
 }
 
-/// The program that assembly says.
+/// Assembles the program of this general.
+///
+/// # Errors
+///
+/// `Program` with the assembler's fault and its line. `Memory` if an allocation fails.
 fn said(alloc: Global, general: u8, text: &str) -> Result<Program, ScenarioError>
     ensures { OrMemory (Makes general (Assembly text.now)) result }
 {
@@ -31,7 +35,7 @@ fn said(alloc: Global, general: u8, text: &str) -> Result<Program, ScenarioError
     }
 }
 
-/// Why there is no program where the assembler made none.
+/// Returns the scenario's error for an error of the assembler.
 fn unassembled(general: u8, error: AsmError) -> ScenarioError
     ensures { result ≡ unassembled general error }
 {
@@ -43,7 +47,12 @@ fn unassembled(general: u8, error: AsmError) -> ScenarioError
     }
 }
 
-/// The program that bytes in hex spell.
+/// Decodes the program of this general from bytecode in hex.
+///
+/// # Errors
+///
+/// `Program` with `Hex` if the text is not bytes in hex, otherwise with the decoder's fault and its unit. `Memory` if
+/// an allocation fails.
 fn spelled(alloc: Global, general: u8, text: &str) -> Result<Program, ScenarioError>
     ensures { OrMemory (Makes general (Hex text.now)) result }
 {
@@ -57,7 +66,7 @@ fn spelled(alloc: Global, general: u8, text: &str) -> Result<Program, ScenarioEr
     }
 }
 
-/// Why there is no program where the text spelled no bytes.
+/// Returns the scenario's error for an error of the hex decoder.
 fn unhexed(general: u8, error: FromHexError) -> ScenarioError
     ensures { result ≡ unhexed general error }
 {
@@ -69,7 +78,7 @@ fn unhexed(general: u8, error: FromHexError) -> ScenarioError
     }
 }
 
-/// Why there is no program where the decoder made none.
+/// Returns the scenario's error for an error of the decoder.
 fn undecoded(general: u8, error: CodecError) -> ScenarioError
     ensures { result ≡ undecoded general error }
 {
@@ -81,7 +90,11 @@ fn undecoded(general: u8, error: CodecError) -> ScenarioError
     }
 }
 
-/// The program of a table.
+/// Assembles or decodes the program of this general as it is written in his table.
+///
+/// # Errors
+///
+/// `Program` with the fault of the assembler, the hex text or the decoder. `Memory` if an allocation fails.
 pub fn program(
     alloc: Global,
     general: u8,
@@ -95,7 +108,11 @@ pub fn program(
     }
 }
 
-/// The program, where the verifier accepts it.
+/// Verifies the program of this general, and returns it if the verifier accepts it.
+///
+/// # Errors
+///
+/// `Program` with the verifier's reason and its unit. `Memory` if an allocation fails.
 pub fn accepted(alloc: Global, general: u8, program: Program) -> Result<Verified, ScenarioError>
     ensures { OrMemory (Accepts general program) result }
 {
@@ -105,7 +122,7 @@ pub fn accepted(alloc: Global, general: u8, program: Program) -> Result<Verified
     }
 }
 
-/// Why the program is not accepted.
+/// Returns the scenario's error for an error of the verifier.
 fn unverified(general: u8, error: VerifyError) -> ScenarioError
     ensures { result ≡ unverified general error }
 {

@@ -1,4 +1,4 @@
-//! Scenarios, read from their text.
+//! Reads scenarios from their text.
 ghost use Rattle.std.specs.Prelude.{◌≡◌, ◌-◌, ◌≤◌, min, length, replicate, option_map, None, Some, IfOk, OnOk, MatchBool, MatchResult};
 ghost use Rattle.toml.specs.Parse.{parse_document};
 ghost use Rattle.toml.specs.View.{view, table_view, items_view};
@@ -21,7 +21,11 @@ use std::sync::Arc;
 use toml::{Table, Value};
 use verify::Verified;
 
-/// The rule that a text names.
+/// Returns the rule that has this name.
+///
+/// # Errors
+///
+/// `At` with `Range` at `rule` if there is no such rule.
 fn rule_by_name(text: &str) -> Result<Rule, ScenarioError>
     ensures { Gives (λ r. r) result (rule_by_name text.now) }
 {
@@ -31,7 +35,11 @@ fn rule_by_name(text: &str) -> Result<Rule, ScenarioError>
     }
 }
 
-/// The rule, or what is so where there is no key.
+/// Returns the rule of a scenario, or the default rule if the key is missing.
+///
+/// # Errors
+///
+/// `At` at `rule`, with `Kind` if the value is not a text, or `Range` if it does not name a rule.
 #[tactic(auto, unfolding(crate::specs::Checks::rule))]
 fn rule(value: Option<&Value>) -> Result<Rule, ScenarioError>
     ensures { Gives (λ r. r) result (rule (option_map (λ v. view v.now) value.entry)) }
@@ -45,7 +53,11 @@ fn rule(value: Option<&Value>) -> Result<Rule, ScenarioError>
     }
 }
 
-/// How orders are sent, as a text names it.
+/// Returns how orders are sent, as a text names it. Only a reader of both kinds accepts `signed`.
+///
+/// # Errors
+///
+/// `At` with `Range` at `messages` for any text that the reader does not accept.
 fn messages_by_name(kinds: Kinds, text: &str) -> Result<Messages, ScenarioError>
     ensures { Gives (λ m. m) result (messages_by_name kinds text.now) }
 {
@@ -61,7 +73,11 @@ fn messages_by_name(kinds: Kinds, text: &str) -> Result<Messages, ScenarioError>
     }
 }
 
-/// How orders are sent, orally where there is no key.
+/// Returns how orders are sent, which is orally if the key is missing.
+///
+/// # Errors
+///
+/// `At` at `messages`, with `Kind` if the value is not a text, or `Range` if the reader does not accept it.
 #[tactic(auto, unfolding(crate::specs::Checks::messages))]
 fn messages(kinds: Kinds, value: Option<&Value>) -> Result<Messages, ScenarioError>
     ensures { Gives (λ m. m) result (messages kinds (option_map (λ v. view v.now) value.entry)) }
@@ -78,7 +94,11 @@ fn messages(kinds: Kinds, value: Option<&Value>) -> Result<Messages, ScenarioErr
     }
 }
 
-/// A signed campaign has no rule.
+/// Checks that a signed campaign names no rule.
+///
+/// # Errors
+///
+/// `At` with `Key` at `rule` if it does.
 fn fitting(messages: Messages, rule: Option<&Value>) -> Result<(), ScenarioError>
     ensures { Gives (λ _. tt) result (fitting messages (option_map (λ v. view v.now) rule.entry)) }
 {
@@ -90,14 +110,18 @@ fn fitting(messages: Messages, rule: Option<&Value>) -> Result<(), ScenarioError
     }
 }
 
-/// The greatest bound that so many generals may have.
+/// Returns the greatest bound that a campaign with this number of generals may have.
 fn greatest_bound(generals: u8) -> u8
     ensures { result ≡ min 4 (generals - 2) }
 {
     generals.saturating_sub(2).min(4)
 }
 
-/// All but the traitors, for a reader of these kinds.
+/// Reads everything in a scenario except the traitors, for a reader of these kinds of campaigns.
+///
+/// # Errors
+///
+/// `Unknown` with the first unknown key, otherwise `At` with the first fault. `Memory` if an allocation fails.
 #[tactic(auto, unfolding(crate::specs::Checks::head))]
 fn head(alloc: Global, table: &Table, kinds: Kinds) -> Result<Head, ScenarioError>
     ensures { OrMemory (λ r. Gives (λ h. h) r (head kinds (table_view table.now))) result }
@@ -151,7 +175,11 @@ fn head(alloc: Global, table: &Table, kinds: Kinds) -> Result<Head, ScenarioErro
     })
 }
 
-/// The traitors' tables, none where the key is absent.
+/// Returns the elements of the list of traitors, which is empty if the key is missing.
+///
+/// # Errors
+///
+/// `At` with `Kind` at `traitor` if the value is not a list.
 #[tactic(auto, unfolding(crate::specs::Checks::tables))]
 fn tables(value: Option<&Value>) -> Result<&[Value], ScenarioError>
     ensures { Gives (λ t. items_view t.now) result (tables (option_map (λ v. view v.now) value.entry)) }
@@ -162,7 +190,11 @@ fn tables(value: Option<&Value>) -> Result<&[Value], ScenarioError>
     }
 }
 
-/// A seat for each general, nobody's yet.
+/// Returns a player without a program for each general.
+///
+/// # Errors
+///
+/// `AllocError` if an allocation fails.
 fn unseated(alloc: Global, generals: u8) -> Result<Vec<Player>, AllocError>
     ensures { IfOk result (λ seats. seats.items ≡ replicate generals None) }
 {
@@ -173,14 +205,22 @@ fn unseated(alloc: Global, generals: u8) -> Result<Vec<Player>, AllocError>
     Ok(seats)
 }
 
-/// The seat of a traitor with this program.
+/// Returns the player who is a traitor with this program.
+///
+/// # Errors
+///
+/// `Memory` if an allocation fails.
 fn seat_of(alloc: Global, program: Verified) -> Result<Player, ScenarioError>
     ensures { MatchResult result (λ seat. seat ≡ Some program) (λ e. e ≡ Memory) }
 {
     Ok(Player::new(Some(Arc::new(alloc, program)?)))
 }
 
-/// The scenario with the tables' traitors in their seats.
+/// Reads the traitors' tables, and returns the scenario in which each of these generals has his program.
+///
+/// # Errors
+///
+/// The first fault of a table or of its program, in the order of the tables. `Memory` if an allocation fails.
 fn seated(alloc: Global, head: Head, values: &[Value]) -> Result<Scenario, ScenarioError>
     ensures { OrMemory (Answers (scenario_of head) head.generals 0 (unseated head) (items_view values.now)) result }
 {
@@ -204,7 +244,11 @@ fn seated(alloc: Global, head: Head, values: &[Value]) -> Result<Scenario, Scena
     ))
 }
 
-/// The scenario of a table.
+/// Reads the scenario of an oral campaign from its table.
+///
+/// # Errors
+///
+/// The first fault, in the order that `read` describes. `Memory` if an allocation fails.
 fn scenario(alloc: Global, table: &Table) -> Result<Scenario, ScenarioError>
     ensures { Reads (Some (table_view table.now)) result }
 {
@@ -213,7 +257,7 @@ fn scenario(alloc: Global, table: &Table) -> Result<Scenario, ScenarioError>
     seated(alloc, head, values)
 }
 
-/// The campaign of a scenario whose orders are sent so.
+/// Returns the campaign of a scenario in which orders are sent in this way.
 fn campaign_by(messages: Messages, scenario: Scenario) -> Campaign
     ensures { result ≡ campaign_by messages scenario }
 {
@@ -223,7 +267,11 @@ fn campaign_by(messages: Messages, scenario: Scenario) -> Campaign
     }
 }
 
-/// The campaign of a table.
+/// Reads the campaign, oral or signed, from the table of a scenario.
+///
+/// # Errors
+///
+/// The first fault, in the order that `read_any` describes. `Memory` if an allocation fails.
 fn campaign(alloc: Global, table: &Table) -> Result<Campaign, ScenarioError>
     ensures { ReadsAny (Some (table_view table.now)) result }
 {
@@ -234,7 +282,7 @@ fn campaign(alloc: Global, table: &Table) -> Result<Campaign, ScenarioError>
     Ok(campaign_by(messages, scenario))
 }
 
-/// Why a text that was not parsed tells no scenario: it is no TOML, or memory was refused.
+/// Returns the error for a text that could not be parsed: out of memory, or the text is not TOML.
 fn unparsed(is_memory: bool) -> ScenarioError
     ensures { MatchBool is_memory (result ≡ Memory) (result ≡ Toml) }
 {
@@ -245,13 +293,14 @@ fn unparsed(is_memory: bool) -> ScenarioError
     }
 }
 
-/// The scenario that the text of an oral campaign tells.
+/// Reads the scenario of an oral campaign from its text.
 ///
 /// # Errors
 ///
-/// The first fault, with its place: that the text is no TOML, then an unknown key at the top (the least by bytes), then
-/// `generals`, `bound`, `commander`, `order`, `board`, `patience`, `rule`, `messages` (a signed campaign is refused
-/// there: S4), the list `traitor`, and its tables in order.
+/// The first fault, with its place. First it is that the text is not TOML, then an unknown key at the top (the least by
+/// bytes). Then come `generals`, `bound`, `commander`, `order`, `board`, `patience`, `rule` and `messages`, where a
+/// signed campaign is rejected (S4). The list `traitor` and its tables in order are last. `Memory` if an allocation
+/// fails.
 pub fn read(alloc: Global, text: &str) -> Result<Scenario, ScenarioError>
     ensures { Reads (parse_document text.now) result }
 {
@@ -261,12 +310,12 @@ pub fn read(alloc: Global, text: &str) -> Result<Scenario, ScenarioError>
     }
 }
 
-/// The campaign that a text tells, be it oral or signed.
+/// Reads a campaign, oral or signed, from the text of its scenario.
 ///
 /// # Errors
 ///
-/// The first fault, with its place, in the order of `read`; behind `messages` that a signed campaign has a key `rule`
-/// (S2).
+/// The first fault, with its place, in the order of `read`. After `messages`, a signed campaign is rejected if it has a
+/// key `rule` (S2). `Memory` if an allocation fails.
 pub fn read_any(alloc: Global, text: &str) -> Result<Campaign, ScenarioError>
     ensures { ReadsAny (parse_document text.now) result }
 {

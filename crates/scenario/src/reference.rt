@@ -1,4 +1,4 @@
-//! Which files a scenario names.
+//! Lists the files that a scenario names.
 ghost use Rattle.std.specs.Prelude.{◌≡◌, ◌++◌, IfOk, OnOk, option_map, string_bytes};
 ghost use Rattle.toml.specs.Data.{as_table};
 ghost use Rattle.toml.specs.Parse.{parse_document};
@@ -11,14 +11,14 @@ use std::alloc::{AllocError, Global};
 use std::marker::Model;
 use toml::{Table, Value};
 
-/// A file that a traitor's table names.
+/// A reference: a file that a traitor's table names.
 #[derive(Drop)]
 pub struct Reference {
     /// The number of the table, counted from 0.
     pub index: usize,
     pub key: ReferenceKey,
     pub name: String,
-    /// Of an object the function that is the program; none where its only global one is.
+    /// The function of an object that is the program, or `None` for the only global function.
     pub function: Option<String>,
 }
 
@@ -36,7 +36,11 @@ impl Model for Reference {
     } };
 }
 
-/// A text of its own, where there is one.
+/// Returns a copy of a text, if there is one.
+///
+/// # Errors
+///
+/// `AllocError` if an allocation fails.
 pub(crate) fn copied(alloc: Global, text: Option<&str>) -> Result<Option<String>, AllocError>
     ensures { IfOk result (λ own. option_map string_bytes own ≡ option_map (λ t. t.now) text.entry) }
 {
@@ -46,7 +50,11 @@ pub(crate) fn copied(alloc: Global, text: Option<&str>) -> Result<Option<String>
     }
 }
 
-/// The file that a table names by a key, behind the others.
+/// Appends the file that a table names by this key, if it names one.
+///
+/// # Errors
+///
+/// `AllocError` if an allocation fails.
 fn ask(
     alloc: Global,
     done: &mut Vec<Reference>,
@@ -67,7 +75,11 @@ fn ask(
     Ok(())
 }
 
-/// The files that an element of the list names, behind the others.
+/// Appends the files that an element of the list names.
+///
+/// # Errors
+///
+/// `AllocError` if an allocation fails.
 fn ask_all(
     alloc: Global,
     done: &mut Vec<Reference>,
@@ -84,7 +96,11 @@ fn ask_all(
     ask(alloc, done, index, table, ReferenceKey::Object)
 }
 
-/// The files that the list names.
+/// Returns the files that the tables of the list name.
+///
+/// # Errors
+///
+/// `AllocError` if an allocation fails.
 fn asked_in(alloc: Global, values: &[Value]) -> Result<Vec<Reference>, AllocError>
     ensures { IfOk result (λ all. all.items ≡ asked_in 0 (items_view values.now)) }
 {
@@ -95,11 +111,12 @@ fn asked_in(alloc: Global, values: &[Value]) -> Result<Vec<Reference>, AllocErro
     Ok(done)
 }
 
-/// The files that the text of a scenario names, by the order of its tables; none where the text is no TOML.
+/// Returns the files that the text of a scenario names, in the order of its tables. There are none if the text is not
+/// TOML.
 ///
 /// # Errors
 ///
-/// `AllocError` where memory is refused.
+/// `AllocError` if an allocation fails.
 pub fn asked(alloc: Global, text: &str) -> Result<Vec<Reference>, AllocError>
     ensures { IfOk result (λ all. all.items ≡ asked (parse_document text.now)) }
 {

@@ -1,20 +1,20 @@
-//! The keys by which a traitor's table names a file.
+//! Defines the keys by which a traitor's table names a file.
 ghost use Rattle.std.specs.Prelude.{◌≡◌};
 ghost use Rattle.scenario.specs.ReferenceNames.{is_same, key_of, place_of, reference_of};
 
-/// How a file is named, and so what it has.
+/// The kind of a file that a traitor's table names.
 #[derive(Clone, Copy, PartialEq, Eq)]
 pub enum ReferenceKey {
-    /// Assembly.
+    /// The file contains assembly.
     Assembly,
-    /// Bytecode.
+    /// The file contains bytecode.
     Bytecode,
-    /// An ELF object, of which one function is the program.
+    /// The file is an ELF object, and one of its functions is the program.
     Object,
 }
 
 impl ReferenceKey {
-    /// The key that names the file.
+    /// Returns the key that names a file of this kind.
     pub fn reference(self) -> &'static str
         ensures { result.now ≡ reference_of self }
     {
@@ -25,7 +25,7 @@ impl ReferenceKey {
         }
     }
 
-    /// The key of the program itself, in whose place the file is named.
+    /// Returns the key of the program that replaces the file's name.
     pub fn place(self) -> &'static str
         ensures { result.now ≡ place_of self }
     {
@@ -35,7 +35,7 @@ impl ReferenceKey {
         }
     }
 
-    /// The key that is written so, if it names a file.
+    /// Returns the kind of file that a key of this name names, or `None` if it names no file.
     pub(crate) fn of(text: &str) -> Option<ReferenceKey>
         ensures { result ≡ key_of text.now }
     {
@@ -51,7 +51,7 @@ impl ReferenceKey {
         None
     }
 
-    /// Whether both are the same.
+    /// Returns whether both kinds are the same.
     pub(crate) fn is_same(self, other: ReferenceKey) -> bool
         ensures { result ≡ is_same self other }
     {

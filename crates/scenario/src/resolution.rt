@@ -1,4 +1,4 @@
-//! The text of a scenario in which each file stands where it is named, and each traitor has a table of his own.
+//! Resolves a scenario's text: replaces each file's name by its contents, and gives each traitor a table of his own.
 ghost use Rattle.std.specs.Prelude.{◌≡◌, IfOk, OnOk, option_map, string_bytes};
 ghost use Rattle.toml.specs.Data.{item, no_items};
 ghost use Rattle.toml.specs.Parse.{parse_document};
@@ -15,8 +15,8 @@ use std::alloc::{AllocError, Global};
 use toml::ser::Error;
 use toml::{Table, Value};
 
-/// What stands in the place of the file that a table names by this key: the key of its program and its text; nothing
-/// where the key names none, or the file was not read.
+/// Returns the kind and the text of the file that a table names by this key. Returns `None` if the key names no file,
+/// or if the file was not read.
 fn program<'a>(files: &'a [LoadedFile], table: &Table, key: &str) -> Option<(ReferenceKey, &'a str)>
     ensures { option_map (λ p. (p.0, (p.1).now)) result ≡ program files.now (table_view table.now) key.now }
 {
@@ -26,7 +26,7 @@ fn program<'a>(files: &'a [LoadedFile], table: &Table, key: &str) -> Option<(Ref
     Some((of, text))
 }
 
-/// Whether the key names the function of an object that stands in its place.
+/// Returns whether the key names the function of an object whose code replaces it.
 fn is_spent(files: &[LoadedFile], table: &Table, key: &str) -> bool
     ensures { result ≡ is_spent files.now (table_view table.now) key.now }
 {
@@ -35,8 +35,12 @@ fn is_spent(files: &[LoadedFile], table: &Table, key: &str) -> bool
         && program(files, table, "elf").is_some()
 }
 
-/// Puts an entry of a traitor's table: the program in place of its file, and this general in place of those who share
-/// it.
+/// Puts an entry of a traitor's table into the new table. A file's name is replaced by the program, and the generals
+/// who share the table by this general.
+///
+/// # Errors
+///
+/// `AllocError` if an allocation fails.
 fn put_entry(
     alloc: Global,
     done: &mut Table,
@@ -60,7 +64,11 @@ fn put_entry(
     }
 }
 
-/// A traitor's table with the programs in place of their files, of this general where it is shared.
+/// Returns a traitor's table in which programs replace the names of their files. A shared table becomes this general's.
+///
+/// # Errors
+///
+/// `AllocError` if an allocation fails.
 fn rebuilt(
     alloc: Global,
     files: &[LoadedFile],
@@ -77,14 +85,22 @@ fn rebuilt(
     Ok(done)
 }
 
-/// Pushes a value.
+/// Appends a value.
+///
+/// # Errors
+///
+/// `AllocError` if an allocation fails.
 fn push(done: &mut Vec<Value>, value: Value) -> Result<(), AllocError>
     ensures { OnOk result (items_view done.new.items ≡ join (items_view done.old.items) (item (view value) no_items)) }
 {
     Ok(done.push(value)?)
 }
 
-/// Pushes a table for each of the generals who share one.
+/// Appends a table for each of the generals who share this one.
+///
+/// # Errors
+///
+/// `AllocError` if an allocation fails.
 fn push_each(
     alloc: Global,
     done: &mut Vec<Value>,
@@ -102,7 +118,11 @@ fn push_each(
     Ok(())
 }
 
-/// Pushes what stands in the place of a traitor's table.
+/// Appends the tables that replace a traitor's table.
+///
+/// # Errors
+///
+/// `AllocError` if an allocation fails.
 fn push_tables(
     alloc: Global,
     done: &mut Vec<Value>,
@@ -118,7 +138,11 @@ fn push_tables(
     }
 }
 
-/// Pushes what stands in the place of an element of the list; one that is no table stays.
+/// Appends the tables that replace an element of the list, or the element itself if it is not a table.
+///
+/// # Errors
+///
+/// `AllocError` if an allocation fails.
 fn push_element(
     alloc: Global,
     done: &mut Vec<Value>,
@@ -134,7 +158,11 @@ fn push_element(
     }
 }
 
-/// The list of traitors in which each has a table of his own, and his program.
+/// Returns the list of traitors in which each traitor has a table of his own, with his program.
+///
+/// # Errors
+///
+/// `AllocError` if an allocation fails.
 fn resolved_list(
     alloc: Global,
     files: &[LoadedFile],
@@ -149,14 +177,14 @@ fn resolved_list(
     Ok(done)
 }
 
-/// Whether a traitor's table names a file, or generals who share it.
+/// Returns whether a traitor's table names a file, or generals who share it.
 fn table_refers(table: &Table) -> bool
     ensures { result ≡ table_refers (table_view table.now) }
 {
     has(table, "asm_file") || has(table, "code_file") || has(table, "elf") || has(table, "generals")
 }
 
-/// Whether an element of the list is such a table.
+/// Returns whether an element of the list is a table that names a file, or generals who share it.
 fn element_refers(value: &Value) -> bool
     ensures { result ≡ element_refers (view value.now) }
 {
@@ -166,7 +194,7 @@ fn element_refers(value: &Value) -> bool
     }
 }
 
-/// Whether a table of the list names a file, or generals who share it.
+/// Returns whether any table of the list names a file, or generals who share it.
 fn refers(values: &[Value]) -> bool
     ensures { result ≡ refers (items_view values.now) }
 {
@@ -178,7 +206,11 @@ fn refers(values: &[Value]) -> bool
     false
 }
 
-/// What is told of a table that was printed so: its text, or none where a date has no text.
+/// Returns the text that a printer returned, or `None` if the document has a date without a text.
+///
+/// # Errors
+///
+/// `AllocError` if the printer ran out of memory.
 fn text_of<T: Drop>(printed: Result<T, Error>) -> Result<Option<T>, AllocError>
     ensures { IsTextBy printed result }
 {
@@ -189,7 +221,11 @@ fn text_of<T: Drop>(printed: Result<T, Error>) -> Result<Option<T>, AllocError>
     }
 }
 
-/// The text of a table; none where a date of it has no text.
+/// Returns the text of a table, or `None` if it has a date without a text.
+///
+/// # Errors
+///
+/// `AllocError` if an allocation fails.
 #[tactic(auto, using(crate::proofs::PrintLemmas::told_so))]
 fn printed(alloc: Global, table: &Table) -> Result<Option<String>, AllocError>
     ensures { IfOk result (λ new. IsPrinted (table_view table.now) (option_map string_bytes new)) }
@@ -197,8 +233,12 @@ fn printed(alloc: Global, table: &Table) -> Result<Option<String>, AllocError>
     text_of(toml::table_to_string(alloc, table))
 }
 
-/// The text of a document's table in which the files stand where they are named, and each traitor has a table of his
-/// own; none where no table names a file or several generals.
+/// Returns the resolved text of a document: programs replace the names of their files, and each traitor has a table of
+/// his own. Returns `None` if no table names a file or several generals, or if a date has no text.
+///
+/// # Errors
+///
+/// `AllocError` if an allocation fails.
 fn resolved_document(
     alloc: Global,
     files: &[LoadedFile],
@@ -219,15 +259,16 @@ fn resolved_document(
     printed(alloc, &table)
 }
 
-/// The text of a scenario in which the files stand where they are named, and each traitor has a table of his own; none
-/// where the text is no TOML or no table names a file or several generals: then the text itself is to be read.
+/// Returns the resolved text of a scenario: programs replace the names of their files, and each traitor has a table of
+/// his own. Returns `None` if the text is not TOML, if no table names a file or several generals, or if a date has no
+/// text. The caller then reads the text itself.
 ///
-/// A file that is not among these stays named, and is refused as an unknown key; so does one in whose place the table
-/// has a program as well, and a list of generals beside a general.
+/// The name of a file that is not in `files` is kept, and the reader rejects its key as unknown. The same happens to a
+/// file's key next to another source for its program, and to `generals` next to `general`.
 ///
 /// # Errors
 ///
-/// `AllocError` where memory is refused.
+/// `AllocError` if an allocation fails.
 pub fn resolved(
     alloc: Global,
     text: &str,

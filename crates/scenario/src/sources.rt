@@ -1,4 +1,4 @@
-//! The programs of a scenario as they are written, of a text that may have faults.
+//! Finds a general's program as it is written in a scenario, which may have faults.
 ghost use Rattle.std.specs.Prelude.{◌≡◌, option_map};
 ghost use Rattle.toml.specs.View.{view, items_view, table_view};
 ghost use Rattle.scenario.specs.Seen.{source_of};
@@ -9,7 +9,7 @@ use crate::place::ScenarioKey;
 use crate::programs::ProgramText;
 use toml::{Table, Value};
 
-/// Whether the number is that of this general.
+/// Returns whether an integer is this general's number.
 fn is_number(number: i64, general: u8) -> bool
     ensures { result ≡ is_number general number }
 {
@@ -19,7 +19,7 @@ fn is_number(number: i64, general: u8) -> bool
     }
 }
 
-/// Whether the value is the number of this general.
+/// Returns whether a value is this general's number.
 fn is_general(value: Option<&Value>, general: u8) -> bool
     ensures { result ≡ is_general general (option_map (λ v. view v.now) value.entry) }
 {
@@ -32,7 +32,7 @@ fn is_general(value: Option<&Value>, general: u8) -> bool
     }
 }
 
-/// The text of a value, if it is one.
+/// Returns the text that a value is, or `None` if it is of another kind.
 fn text_in(value: Option<&Value>) -> Option<&str>
     ensures { option_map (λ t. t.now) result ≡ text_in (option_map (λ v. view v.now) value.entry) }
 {
@@ -42,7 +42,7 @@ fn text_in(value: Option<&Value>) -> Option<&str>
     }
 }
 
-/// The program of a table.
+/// Returns the program that a table contains: its assembly, or its bytecode if it has no assembly.
 fn written_in(table: &Table) -> Option<ProgramText<'_>>
     ensures { option_map source_of result ≡ source_in (table_view table.now) }
 {
@@ -55,7 +55,7 @@ fn written_in(table: &Table) -> Option<ProgramText<'_>>
     }
 }
 
-/// The table, if it is one of this general.
+/// Returns an element of the list as a table, if it is a table of this general.
 fn table_of(value: &Value, general: u8) -> Option<&Table>
     ensures { option_map (λ t. table_view t.now) result ≡ members_of general (view value.now) }
 {
@@ -65,7 +65,7 @@ fn table_of(value: &Value, general: u8) -> Option<&Table>
     }
 }
 
-/// That of the first of these tables which is of this general.
+/// Returns the program in the first table of this general.
 fn written_among(values: &[Value], general: u8) -> Option<ProgramText<'_>>
     ensures { option_map source_of result ≡ source_among general (items_view values.now) }
 {
@@ -77,7 +77,8 @@ fn written_among(values: &[Value], general: u8) -> Option<ProgramText<'_>>
     None
 }
 
-/// The program of this general as the scenario's table has it: that of the first traitor's table with his number.
+/// Returns the program of this general as it is written in the scenario: that of the first traitor's table with his
+/// number.
 pub fn written_by(table: &Table, general: u8) -> Option<ProgramText<'_>>
     ensures { option_map source_of result ≡ source_by general (table_view table.now) }
 {

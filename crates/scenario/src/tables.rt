@@ -1,4 +1,4 @@
-//! The traitors' tables, one after the other.
+//! Reads the traitors' tables one after the other.
 ghost use Rattle.std.specs.Prelude.{◌≡◌, ◌<◌, ◌≤◌, ℕ, not, None, Some, Ok, option_map, ok_or, IfOk, length, replicate};
 ghost use Rattle.toml.specs.Data.{as_table};
 ghost use Rattle.toml.specs.View.{view, items_view, table_view};
@@ -17,7 +17,12 @@ use std::alloc::Global;
 use toml::{Table, Value};
 use verify::Verified;
 
-/// The program as it is written: exactly one of the two keys, and a text there.
+/// Returns the program as it is written in the traitor's table of this number.
+///
+/// # Errors
+///
+/// `At` with `Key` at `asm` if the table has both or neither of `asm` and `code`. `At` with `Kind` if the value is not
+/// a text.
 #[tactic(auto, unfolding(crate::specs::Tables::source))]
 fn written<'a>(
     index: usize,
@@ -51,7 +56,7 @@ fn written<'a>(
     }
 }
 
-/// Whether a table before seated the general.
+/// Returns whether an earlier table is this general's.
 fn is_seated(seats: &[Player], general: u8) -> bool
     requires { general < length seats.now }
     ensures { result ≡ is_seated seats.now general }
@@ -59,7 +64,11 @@ fn is_seated(seats: &[Player], general: u8) -> bool
     seats[usize::from(general)].program().is_some()
 }
 
-/// No table before seated the general.
+/// Checks that no earlier table is this general's.
+///
+/// # Errors
+///
+/// `At` with `Twice` at this place if there is one.
 fn once(place: ScenarioPlace, seats: &[Player], general: u8) -> Result<(), ScenarioError>
     requires { general < length seats.now }
     ensures { Gives (λ _. tt) result (test (not (is_seated seats.now general)) ScenarioFault.Twice place) }
@@ -70,7 +79,11 @@ fn once(place: ScenarioPlace, seats: &[Player], general: u8) -> Result<(), Scena
     Ok(())
 }
 
-/// An element of the list, which is a table.
+/// Returns the element of this number in the list as a table.
+///
+/// # Errors
+///
+/// `At` with `Kind` at the element if it is not a table.
 fn as_table(index: usize, value: &Value) -> Result<&Table, ScenarioError>
     ensures { Gives (λ t. table_view t.now) result
         (ok_or (as_table (view value.now)) (faulty ScenarioFault.Kind (ScenarioPlace.Table index))) }
@@ -81,7 +94,11 @@ fn as_table(index: usize, value: &Value) -> Result<&Table, ScenarioError>
     }
 }
 
-/// The general of a table, and his program as it is written.
+/// Returns the general of the table of this number, and his program as it is written there.
+///
+/// # Errors
+///
+/// `Unknown` with the first unknown key, otherwise `At` with the first fault. `Memory` if an allocation fails.
 #[tactic(auto, unfolding(crate::specs::Tables::table_in))]
 fn in_table<'a>(
     alloc: Global,
@@ -114,7 +131,11 @@ fn in_table<'a>(
     Ok((general, written))
 }
 
-/// The general of an element of the list, and his program as it is written.
+/// Returns the general of the element of this number, and his program as it is written there.
+///
+/// # Errors
+///
+/// `Unknown` with the first unknown key, otherwise `At` with the first fault. `Memory` if an allocation fails.
 #[tactic(auto, unfolding(crate::specs::Tables::table))]
 fn table<'a>(
     alloc: Global,
@@ -133,7 +154,12 @@ fn table<'a>(
     in_table(alloc, generals, seats, index, as_table(index, value)?)
 }
 
-/// The general of a table, and his verified program.
+/// Returns the general of the element of this number, and his verified program.
+///
+/// # Errors
+///
+/// `Unknown` or `At` with the table's first fault, otherwise `Program` with the program's. `Memory` if an allocation
+/// fails.
 pub fn traitor(
     alloc: Global,
     generals: u8,

@@ -1,4 +1,4 @@
-//! The table of a scenario's text, and what a table has at a key.
+//! Parses a scenario's text into a TOML table, and looks up keys of such tables.
 ghost use Rattle.std.specs.Prelude.{◌≡◌, IfOk, OnOk, is_some, option_and_then, option_map, codes};
 ghost use Rattle.toml.specs.Data.{as_array, as_str, get_member};
 ghost use Rattle.toml.specs.Parse.{parse_document};
@@ -12,7 +12,11 @@ use std::alloc::{AllocError, Global};
 use toml::de::Error;
 use toml::{Table, Value};
 
-/// What a text that was parsed so tells: its table, or none where it is no TOML.
+/// Returns the table of a parsed text, or `None` if the text is not TOML.
+///
+/// # Errors
+///
+/// `AllocError` if the parser ran out of memory.
 fn told(parsed: Result<Table, Error>) -> Result<Option<Table>, AllocError>
     ensures { IsDocumentOf parsed result }
 {
@@ -23,21 +27,25 @@ fn told(parsed: Result<Table, Error>) -> Result<Option<Table>, AllocError>
     }
 }
 
-/// The table of a text; none where it is no TOML.
+/// Parses a text, and returns its table, or `None` if the text is not TOML.
+///
+/// # Errors
+///
+/// `AllocError` if an allocation fails.
 pub(crate) fn document(alloc: Global, text: &str) -> Result<Option<Table>, AllocError>
     ensures { IfOk result (λ table. option_map table_view table ≡ parse_document text.now) }
 {
     told(toml::table_from_str(alloc, text))
 }
 
-/// Whether the table has the key.
+/// Returns whether the table has the key.
 pub(crate) fn has(table: &Table, key: &str) -> bool
     ensures { result ≡ is_some (get_member key.now (table_view table.now)) }
 {
     table.get(key).is_some()
 }
 
-/// The text at a key, where one stands there.
+/// Returns the text at a key, or `None` if there is no text.
 fn text_at<'a>(table: &'a Table, key: &str) -> Option<&'a str>
     ensures { option_map (λ t. t.now) result ≡ option_and_then as_str (get_member key.now (table_view table.now)) }
 {
@@ -47,7 +55,7 @@ fn text_at<'a>(table: &'a Table, key: &str) -> Option<&'a str>
     }
 }
 
-/// The elements of the list at a key, where one stands there.
+/// Returns the elements of the list at a key, or `None` if there is no list.
 fn list_at<'a>(table: &'a Table, key: &str) -> Option<&'a [Value]>
     ensures { option_map (λ ds. items_view ds.now) result
         ≡ option_and_then as_array (get_member key.now (table_view table.now)) }
@@ -61,7 +69,8 @@ fn list_at<'a>(table: &'a Table, key: &str) -> Option<&'a [Value]>
     }
 }
 
-/// Whether a traitor's table has a program in the place of such a file, or two files for it.
+/// Returns whether a traitor's table has another source for the program that a file of this kind would give. Next to an
+/// object, that is `code` or `code_file`.
 fn is_taken(table: &Table, key: ReferenceKey) -> bool
     ensures { result ≡ is_taken key (table_view table.now) }
 {
@@ -71,7 +80,8 @@ fn is_taken(table: &Table, key: ReferenceKey) -> bool
     }
 }
 
-/// The file that a traitor's table names by a key, where it has no program in its place.
+/// Returns the name of the file that a traitor's table gives for this key, or `None` if the table has another source
+/// for the program.
 pub(crate) fn name_at<'a>(table: &'a Table, key: ReferenceKey) -> Option<&'a str>
     ensures { option_map (λ n. n.now) result ≡ name_at key (table_view table.now) }
 {
@@ -81,7 +91,7 @@ pub(crate) fn name_at<'a>(table: &'a Table, key: ReferenceKey) -> Option<&'a str
     text_at(table, key.reference())
 }
 
-/// The function of its object that a traitor's table names.
+/// Returns the name of the object's function that a traitor's table gives, or `None` if the file is not an object.
 pub(crate) fn function_at<'a>(table: &'a Table, key: ReferenceKey) -> Option<&'a str>
     ensures { option_map (λ f. f.now) result ≡ function_at key (table_view table.now) }
 {
@@ -91,7 +101,7 @@ pub(crate) fn function_at<'a>(table: &'a Table, key: ReferenceKey) -> Option<&'a
     }
 }
 
-/// The generals that share a traitor's table, where it names none by himself.
+/// Returns the generals who share a traitor's table, or `None` if the table has a general of its own.
 pub(crate) fn seats(table: &Table) -> Option<&[Value]>
     ensures { option_map (λ ds. items_view ds.now) result ≡ seats (table_view table.now) }
 {
@@ -101,21 +111,25 @@ pub(crate) fn seats(table: &Table) -> Option<&[Value]>
     list_at(table, "generals")
 }
 
-/// The list of traitors of a scenario.
+/// Returns the list of traitors of a scenario, or `None` if there is no list.
 pub(crate) fn traitors(table: &Table) -> Option<&[Value]>
     ensures { option_map (λ ds. items_view ds.now) result ≡ traitors (table_view table.now) }
 {
     list_at(table, "traitor")
 }
 
-/// The value at a key.
+/// Returns the value at a key, or `None` if the table does not have the key.
 pub(crate) fn value_at<'a>(table: &'a Table, key: &str) -> Option<&'a Value>
     ensures { option_map (λ v. view v.now) result ≡ get_member key.now (table_view table.now) }
 {
     table.get(key)
 }
 
-/// Puts a value at a key.
+/// Puts a value at a key, in place of any value there.
+///
+/// # Errors
+///
+/// `AllocError` if an allocation fails.
 pub(crate) fn put(
     alloc: Global,
     table: &mut Table,

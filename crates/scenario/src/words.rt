@@ -1,4 +1,4 @@
-//! The words of the board.
+//! Reads the board's opening words.
 
 ghost use Rattle.std.specs.Prelude.{◌≡◌, ℕ, ◌≤◌, length, replicate, option_map};
 ghost use Rattle.toml.specs.View.{view, items_view};
@@ -10,6 +10,7 @@ use crate::keys::{elements, natural, whole};
 use crate::place::{ScenarioKey, ScenarioPlace};
 use toml::Value;
 
+/// Checks that all elements are integers, or fails with the first one that is not.
 fn are_integers(values: &[Value]) -> Result<(), ScenarioError>
     ensures { Gives (λ _. tt) result (over is_integer 0 tt (items_view values.now)) }
 {
@@ -20,6 +21,7 @@ fn are_integers(values: &[Value]) -> Result<(), ScenarioError>
 }
 
 #[tactic(auto, unfolding(crate::specs::Checks::word))]
+/// Returns a word of the board, which is an integer that is not negative.
 fn word(index: usize, value: &Value) -> Result<u64, ScenarioError>
     ensures { Gives (λ n. n) result (word index (view value.now)) }
 {
@@ -27,6 +29,7 @@ fn word(index: usize, value: &Value) -> Result<u64, ScenarioError>
     natural(ScenarioFault::Range, ScenarioPlace::Word(index), integer)
 }
 
+/// Returns the board with these words first and 0 after them.
 fn words(values: &[Value]) -> Result<[u64; 64], ScenarioError>
     requires { length values.now ≤ 64 }
     ensures { Gives (λ ws. ws) result (over set_word 0 (replicate 64 0) (items_view values.now)) }
@@ -39,6 +42,7 @@ fn words(values: &[Value]) -> Result<[u64; 64], ScenarioError>
 }
 
 #[tactic(auto, unfolding(crate::specs::Checks::board_words), using(crate::proofs::Items::items_length_view))]
+/// Returns the board's 64 words from a list of at most 64 integers that are not negative.
 fn board_words(values: &[Value]) -> Result<[u64; 64], ScenarioError>
     ensures { Gives (λ ws. ws) result (board_words (items_view values.now)) }
 {
@@ -49,7 +53,12 @@ fn board_words(values: &[Value]) -> Result<[u64; 64], ScenarioError>
     words(values)
 }
 
-/// The words of the board, 0 where none is given.
+/// Returns the board's 64 words. Those that the scenario does not give are 0.
+///
+/// # Errors
+///
+/// `At` with the first fault: `board` is not a list, an element is not an integer, there are more than 64 elements, or
+/// an element is negative.
 #[tactic(auto, unfolding(crate::specs::Checks::board))]
 pub fn board(value: Option<&Value>) -> Result<[u64; 64], ScenarioError>
     ensures { Gives (λ ws. ws) result (board (option_map (λ v. view v.now) value.entry)) }

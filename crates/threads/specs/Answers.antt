@@ -1,4 +1,4 @@
--- Which error stands for what the threads have answered (own).
+-- The error of a muster for what its threads have answered (own).
 use Rattle.std.specs.Prelude.{ℕ, ◌≡◌, List, Option, Some, None, Result, Ok, Err, is_some, find, IsSortedByKey}
 use Rattle.std.specs.Ordering.{nat_cmp}
 use Rattle.std.specs.Option.{option_flatten}
@@ -16,45 +16,46 @@ use Rattle.threads.specs.declared.mishap.Mishap.{Mishap}
 use Rattle.threads.specs.declared.mishap.Mishap.TheVariants.{Memory as RefusedAnywhere, Uncollected as NotAll, Unlike}
 use Rattle.board.specs.Ledger.{RecordedBoard}
 
--- what the failure of a general is told as
+-- the error for a general's failure
 abbrev pub failure_as : Failure → MusterError
 failure_as RefusedToHim = Memory
 failure_as (Foreign task) = Unaccounted
 failure_as (Returned letter) = Post
 
--- of a task that this general was given, or of a letter of his
+-- The failure is about a task that this general was given, or about a letter of his.
 abbrev pub IsFailureOf : ℕ → Failure → Type 0
 IsFailureOf g RefusedToHim = Unit {0}
 IsFailureOf g (Foreign task) = task.general ≡ g
 IsFailureOf g (Returned letter) = letter.general ≡ g
 
--- what it is told as that rounds were not conducted
+-- the error for rounds that were not all conducted
 abbrev pub halt_as : Halt → MusterError
 halt_as RefusedToAll = Memory
 halt_as (Unstarted refused) = refused.error
 halt_as (Failed someone) = Unaccounted
 halt_as (Strayed letters) = Unaccounted
 
--- if letters were not of their round, it was this one
+-- If the rounds stopped because letters were not of their round, it was this round.
 abbrev pub HasStrayedIn : ℕ → Halt → Type 0
 HasStrayedIn round RefusedToAll = Unit {0}
 HasStrayedIn round (Unstarted refused) = Unit {0}
 HasStrayedIn round (Failed someone) = Unit {0}
 HasStrayedIn round (Strayed letters) = letters.round ≡ round
 
--- what it is told as that the letters were not all collected, and that there is no chronicle
+-- the error for letters that were not all collected
 abbrev pub uncollected_as : Uncollected → MusterError
 uncollected_as RefusedToThem = Memory
 uncollected_as (NotStarted refused) = refused.error
 uncollected_as (OneFailed reported) = failure_as reported.failed.failure
 uncollected_as (Halted halt) = halt_as halt
 
+-- the error for a muster without a chronicle
 abbrev pub mishap_as : Mishap → MusterError
 mishap_as RefusedAnywhere = Memory
 mishap_as (NotAll uncollected) = uncollected_as uncollected
 mishap_as (Unlike found) = Unaccounted
 
--- if a board does not account for the letters, it is such a one
+-- If a board does not account for the letters, `Is` holds for this board.
 abbrev pub IfUnlike : Mishap → (RecordedBoard → Type 0) → Type 0
 IfUnlike RefusedAnywhere Is = Unit {0}
 IfUnlike (NotAll uncollected) Is = Unit {0}
@@ -68,18 +69,19 @@ abbrev pub error_of : {T : Type 0} → Result T Reported → Option Uncollected
 error_of (Ok well) = None
 error_of (Err reported) = Some (OneFailed reported)
 
--- by what a general has failed, if he has
+-- why a general has failed, if he has
 abbrev pub failure_of : Answer → Option Uncollected
 failure_of answer = error_of answer.ended
 
--- by what the first has failed who has: where they stand by general, ascending, the lowest
+-- the first failure in a list. If the list is ordered by general, it is that of the lowest general who failed.
 abbrev pub first_failure : {E : Type 0} → List (Option E) → Option E
 first_failure failures = option_flatten (find (λ failure. is_some failure) failures)
 
+-- The answers are ordered by general, ascending.
 abbrev pub AreAscending : List Answer → Type 0
 AreAscending answers = IsSortedByKey (λ (a : Answer). a.general) nat_cmp answers
 
--- that a thread was not started stands before what the generals have failed by, and that before the outcome
+-- the result of a muster: a thread that was not started goes before a general's failure, and that before the outcome
 abbrev pub ended_as : {T E : Type 0} → Option E → Option E → Result T E → Result T E
 ended_as (Some refused) failed outcome = Err refused
 ended_as None (Some failure) outcome = Err failure

@@ -1,4 +1,4 @@
--- What each general has posted, in order, is what came of him.
+-- The letters that come from each general are those that he has posted, in order (own).
 use Rattle.std.specs.Prelude.{◌≡◌, ℕ, List, [], ◌∷◌, ◌==◌, filter}
 use Rattle.round.specs.Letters.{Letter}
 use Rattle.threads.specs.declared.knowledge.Posted.{Posted}
@@ -10,7 +10,7 @@ letters_of general letters = filter (λ l. l.general == general) letters
 abbrev pub posted : ℕ → List Letter → Posted
 posted general letters = record { general = general; letters = letters }
 
--- what each of these generals has posted is just what came of him: in the same order, each letter once
+-- The letters that came from each of these generals are those that he has posted, in the same order and each once.
 abbrev pub AreDelivered : List Letter → List Posted → Type 0
 AreDelivered came [] = Unit {0}
 AreDelivered came (p ∷ rest) = (p.letters ≡ letters_of p.general came) × AreDelivered came rest

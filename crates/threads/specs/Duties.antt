@@ -1,4 +1,4 @@
--- What a general is to do in a round (own; TOPLAS 1982, section 3: a loyal general relays what he took, a traitor does
+-- What a general must do in a round (own; TOPLAS 1982, section 3: a loyal general relays what he took, a traitor does
 -- as he likes).
 use Rattle.std.specs.Prelude.{ℕ, ◌≡◌, suc, List, length, Option, None, Some}
 use Rattle.insn.specs.declared.insn.Insn.{Insn}
@@ -7,7 +7,7 @@ use Rattle.round.specs.Letters.{Letter}
 use Rattle.round.specs.Contexts.{context_of, letter_told}
 use Rattle.round.specs.Running.{IsLived}
 
--- who acts in which round, told what, by which program, or none where he is loyal, and with which patience
+-- a general's duty in a round: his context, his program, or `None` if he is loyal, and his patience
 pub record Duty : Type 0 where
   pub general : ℕ
   pub round : ℕ
@@ -15,7 +15,7 @@ pub record Duty : Type 0 where
   pub program : Option (List Insn)
   pub patience : Option ℕ
 
--- a general's in the round behind these
+-- the duty of a general in the round after the given ones
 abbrev pub duty_of : Scenario → List (List Letter) → ℕ → Duty
 duty_of s before g =
     record {
@@ -26,7 +26,8 @@ duty_of s before g =
       patience = s.patience;
     }
 
--- a loyal general has told what his context has; a traitor's program was run in it to its end, or to its patience
+-- A loyal general's letter relays what his context contains. A traitor's program was run with his context until it
+-- exited or used up his patience.
 abbrev pub IsDoneBy : Option (List Insn) → Duty → Letter → Type 0
 IsDoneBy None d l = l ≡ letter_told d.general d.round d.context
 IsDoneBy (Some program) d l = IsLived d.general d.round program d.context d.patience l

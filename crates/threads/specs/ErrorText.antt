@@ -1,4 +1,4 @@
--- What is said of an error.
+-- The texts of a muster's errors (own).
 use Rattle.std.specs.Prelude.{ℕ, List, codes}
 use Rattle.threads.specs.declared.error.MusterError.{MusterError}
 use Rattle.threads.specs.declared.error.MusterError.TheVariants.{Memory, Unaccounted, Spawn, Post}

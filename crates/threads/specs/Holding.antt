@@ -1,4 +1,4 @@
--- What is tested of a letter, its context aside.
+-- What is checked of a letter, except for its context (own).
 use Rattle.std.specs.Prelude.{ℕ, ◌≡◌, ◌||◌, true, List}
 use Rattle.board.specs.Board.{Access}
 use Rattle.round.specs.Scenario.{Scenario, program_of}
@@ -7,12 +7,13 @@ use Rattle.round.specs.Activation.{is_reached}
 use Rattle.round.specs.Runs.{IsWithin}
 use Rattle.world.specs.World.{accesses_of}
 
--- its general has ended, within the patience
+-- The letter's general has ended, within his patience.
 pub record EndedInTime (s : Scenario) (l : Letter) : Type 0 where
   pub within : IsWithin s.patience l.steps
   pub over : (l.exited || is_reached s.patience l.steps) ≡ true
 
--- whose it is, of which round, by which program; he has ended, and has made just these of the accesses
+-- The letter is of this general and this round, with his program. He has ended, and his accesses in `piece` are those
+-- of the letter.
 pub record Stands (s : Scenario) (piece : List Access) (g round : ℕ) (l : Letter) : Type 0 where
   pub general : l.general ≡ g
   pub round_is : l.round ≡ round

@@ -1,5 +1,6 @@
--- The rule of the post: what was taken, and then what is queued, is of each general what he has posted. So where 1 has
--- posted a and b, and 2 has posted c: with a taken, c and b may be queued, or b and c; b is never taken before a.
+-- The rule of the post (own). For each general, the letters that were taken and then those that are queued are the
+-- letters that he has posted. Suppose 1 has posted a and b, 2 has posted c, and a is taken. Then c and b may be queued,
+-- or b and c. But b is never taken before a.
 use Rattle.std.specs.Prelude.{◌≡◌, ℕ, ◌<◌, ◌≤◌, Bool, true, false, List, [], ◌∷◌, ◌++◌, All, Option, Some, None}
 use mathlib.Core.Option.{some}
 use lib.ListN.{get_elem?}
@@ -18,29 +19,30 @@ known posts takes general letters made back = record {
   back = back;
 }
 
--- what the poster of a general knows who has posted these
+-- what the poster of a general knows when the general has posted these letters
 abbrev pub poster : ℕ → List Letter → Known
 poster general letters = known true false general letters 0 []
 
--- what the collector knows who has taken these, has made so many posters, and has those back
+-- what the collector knows when it has taken these letters, has made this number of posters, and has these back
 abbrev pub collector : List Letter → ℕ → List Posted → Known
 collector taken made back = known false true 0 taken made back
 
--- what a pass knows that is no more used
+-- what a pass knows that is no longer used
 abbrev pub spent : Known
 spent = known false false 0 [] 0 []
 
--- a poster has its general's seat, and has posted what came of him
+-- A poster has its general's seat, and the letters that it has posted are those that came from him.
 abbrev pub FitsPoster : (ℕ → Option ℕ) → List Letter → ℕ → Known → Type 0
 FitsPoster seat came pass v = v.posts ≡ true → (seat v.general ≡ Some pass) × (v.letters ≡ letters_of v.general came)
 
--- those that are back have posted what came of them, and their seats are empty
+-- The posters that are back have posted the letters that came from their generals, and their seats are empty.
 abbrev pub AreBack : ℕ → (ℕ → Option ℕ) → List Letter → List Posted → Type 0
 AreBack made seat came [] = Unit {0}
 AreBack made seat came (p ∷ back) = ((p.general < made) × (seat p.general ≡ None)
     × (p.letters ≡ letters_of p.general came)) × AreBack made seat came back
 
--- there is one collector, who knows what was taken; of generals without a poster yet nothing came
+-- There is one collector, which knows the letters that were taken. Nothing has come from a general for whom no poster
+-- was made yet.
 abbrev pub FitsCollector : ℕ → (ℕ → Option ℕ) → List Letter → List Letter → ℕ → Known → Type 0
 FitsCollector reader seat taken came pass v =
     v.takes ≡ true
@@ -51,12 +53,13 @@ FitsCollector reader seat taken came pass v =
 abbrev pub Fits : ℕ → (ℕ → Option ℕ) → List Letter → List Letter → ℕ → Known → Type 0
 Fits reader seat taken came pass v = FitsPoster seat came pass v × FitsCollector reader seat taken came pass v
 
--- the rule: what came is what was taken and then what is queued, and every pass fits it. Alike for all generals
+-- The rule: the letters that came are those taken and then those queued, and every pass fits them. The rule is the same
+-- for all generals.
 abbrev pub Delivers : List Letter → List Known → Type 0
 Delivers queued views =
     (reader : ℕ) × (seat : ℕ → Option ℕ) × (taken : List Letter)
     × ((pass : ℕ) (v : Known) → get_elem? views pass ≡ some v → Fits reader seat taken (taken ++ queued) pass v)
 
--- the same, and only letters are queued of which the claim holds
+-- The rule with a claim, which holds for each queued letter.
 abbrev pub DeliversOnly : (Letter → Type 0) → List Letter → List Known → Type 0
 DeliversOnly Is queued views = Delivers queued views × All Is queued

@@ -1,20 +1,20 @@
--- How a post and its passes are seen by their callers.
+-- How the contracts of a post's callers see the post and its passes (own).
 use Rattle.std.specs.Prelude.{ℕ, List}
 use Rattle.atomic_table.specs.Seated.{TableId}
 use Rattle.round.specs.Letters.{Letter}
 
--- which post it is, and how many letters it has room for
+-- the identity of a post, and the number of letters for which it has room
 pub record PostSeen : Type 0 where
   pub table : TableId
   pub capacity : ℕ
 
--- which post it is of, whose it is, and what was posted with it, in order
+-- a poster: its post, its general, and the letters that were posted with it, in order
 pub record PosterSeen : Type 0 where
   pub table : TableId
   pub general : ℕ
   pub posted : List Letter
 
--- which post it is of, what was taken with it, in order, and how many generals the post has
+-- a collector: its post, the letters that were taken with it, in order, and the number of generals of the post
 pub record CollectorSeen : Type 0 where
   pub table : TableId
   pub taken : List Letter

@@ -1,38 +1,40 @@
--- What one general was served of the accesses of all, and which of them have passed a gate (own).
+-- The accesses that were served to one general, among those of all, and which of them have passed a gate (own).
 use Rattle.std.specs.Prelude.{ℕ, ◌≡◌, ◌==◌, ◌⊎◌, List, [], ◌∷◌, ◌++◌, All, length, count_by, flat_map}
 use Rattle.board.specs.Board.{Access}
 use Rattle.round.specs.Letters.{Letter}
 use Rattle.shared_board.specs.Witnessed.{Witnessed}
 
--- these stand among those, in the same order
+-- The accesses of the first list are among those of the second, in the same order.
 abbrev pub AreAmong : List Access → List Access → Type 0
 AreAmong [] all = Unit {0}
 AreAmong (a ∷ made) [] = ⊥
 AreAmong (a ∷ made) (b ∷ all) = ((a ≡ b) × AreAmong made all) ⊎ AreAmong (a ∷ made) all
 
--- behind those before, each has passed a gate, which counts a general's accesses of a round from 0
+-- Each of these accesses, which follow those before, has passed a gate, which counts a general's accesses of a round
+-- from 0.
 abbrev pub HavePassed : (ℕ → ℕ → ℕ → Type 0) → List Access → List Access → Type 0
 HavePassed passed before [] = Unit {0}
 HavePassed passed before (a ∷ made) = passed a.general a.round (count_by (λ b. b.round == a.round) before)
     × HavePassed passed (before ++ a ∷ []) made
 
--- each access that a letter tells has passed a gate, which counts those of a round from 0
+-- Each access in the letter has passed a gate, which counts those of a round from 0.
 abbrev pub IsGated : (ℕ → ℕ → ℕ → Type 0) → Letter → Type 0
 IsGated passed l = HavePassed passed [] l.transcript
 
--- the same of all letters, by round
+-- Each access in all these letters, which are given by round, has passed a gate.
 abbrev pub AreGated : (ℕ → ℕ → ℕ → Type 0) → List (List Letter) → Type 0
 AreGated passed rounds = All (λ letters. All (IsGated passed) letters) rounds
 
--- the accesses that letters tell
+-- the accesses that the letters contain
 abbrev pub told_in : List Letter → List Access
 told_in letters = flat_map (λ l. l.transcript) letters
 
--- what was served to him, and the beginning of the board's history that he has met
+-- the accesses that were served to a general, and the beginning of the board's history that he has met
 pub record Served : Type 0 where
   pub made : List Access
   pub seen : List Access
 
--- as many were served through this witness, and they stand, in this order, in the history that it has met
+-- As many accesses as these were served through this witness, and the history that it has met contains them in this
+-- order.
 abbrev pub AreWitnessed : List Access → Witnessed → Type 0
 AreWitnessed made w = AreAmong made w.seen × (w.made ≡ length made)

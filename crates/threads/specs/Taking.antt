@@ -1,26 +1,28 @@
--- Letters taken out of a list, one for each general and round.
+-- Letters that are taken out of a list, one for each general and round (own).
 use Rattle.std.specs.Prelude.{ℕ, zero, suc, ◌≡◌, ◌<◌, ◌*◌, ◌==◌, ◌&&◌, Bool, cond, List, [], ◌∷◌, length}
 use Rattle.round.specs.Letters.{Letter}
 use Rattle.world.specs.Accounted.{letters_by}
 
--- the list without the first letter that passes
+-- the list without the first letter that satisfies the condition
 abbrev pub without : (Letter → Bool) → List Letter → List Letter
 without is [] = []
 without is (l ∷ letters) = cond (is l) letters (l ∷ without is letters)
 
+-- the list without the first letter of this general in this round
 abbrev pub left_by : ℕ → ℕ → List Letter → List Letter
 left_by g round letters = without (λ l. (l.general == g) && (l.round == round)) letters
 
--- what is left behind the first generals of a round, and behind the first rounds
+-- the list without a letter of each of the first generals in this round
 abbrev pub left_by_all : ℕ → ℕ → List Letter → List Letter
 left_by_all zero round letters = letters
 left_by_all (suc g) round letters = left_by g round (left_by_all g round letters)
 
+-- the list without a letter of each general in each of the first rounds
 abbrev pub left_rounds : ℕ → ℕ → List Letter → List Letter
 left_rounds n zero letters = letters
 left_rounds n (suc r) letters = left_by_all n (suc r) (left_rounds n r letters)
 
--- as many letters as places, and each place has one
+-- There are as many letters as places, and each place has one.
 pub record IsGrid (n rounds : ℕ) (letters : List Letter) : Type 0 where
   pub count : length letters ≡ rounds * n
   pub rows : (r : ℕ) → r < rounds → length (letters_by n (suc r) letters) ≡ n

@@ -1,4 +1,4 @@
-//! Whether letters are accounted for.
+//! Checks whether a ledger accounts for the letters of a campaign.
 ghost use Rattle.std.specs.Prelude.{◌≡◌, ◌↔◌, ◌<◌, ◌≤◌, ℕ, suc, take, drop, min, sum_by, length, All, List, IsTrue, IfOk, OnOk};
 ghost use Rattle.round.specs.Scenario.{program_of};
 ghost use Rattle.round.specs.Letters.{Letter as LetterSeen};
@@ -12,7 +12,7 @@ use board::Access;
 use round::{Letter, Received, Round, Scenario};
 use std::alloc::{AllocError, Global};
 
-/// Whether these are just one general's accesses, in their order.
+/// Returns whether the accesses of this general in `piece` are exactly those in `transcript`, in the same order.
 fn is_part(piece: &[Access], general: u32, transcript: &[Access]) -> bool
     ensures { IsTrue result ↔ (accesses_of general piece.now ≡ transcript.now) }
 {
@@ -28,14 +28,15 @@ fn is_part(piece: &[Access], general: u32, transcript: &[Access]) -> bool
     next == transcript.len()
 }
 
-/// Whether each access is of this round, and of one of so many generals.
+/// Returns whether each access was made in this round, by a general whose number is below `generals`.
 fn are_known(piece: &[Access], generals: u32, round: u32) -> bool
     ensures { IsTrue result ↔ All (λ a. (a.general < generals) × (a.round ≡ round)) piece.now }
 {
     piece.iter().all(|access| access.general < generals && access.round == round)
 }
 
-/// Whether the letter's general has ended, within the patience.
+/// Returns whether the letter's general ended in time: he exited or used up his patience, and took no more steps than
+/// it allows.
 fn is_over(scenario: &Scenario, letter: &Letter) -> bool
     ensures { IsTrue result ↔ EndedInTime scenario.now letter.now }
 {
@@ -45,7 +46,8 @@ fn is_over(scenario: &Scenario, letter: &Letter) -> bool
     }
 }
 
-/// Whether a letter is that of its place, its context aside.
+/// Returns whether a letter is the one expected of this general in this round, except for its context. It has his
+/// program, he ended in time, and its transcript is his accesses in `piece`.
 fn stands(scenario: &Scenario, piece: &[Access], general: u8, round: u32, letter: &Letter) -> bool
     requires { general < scenario.now.generals }
     ensures { IsTrue result ↔ Stands scenario.now piece.now general round letter.now }
@@ -57,7 +59,11 @@ fn stands(scenario: &Scenario, piece: &[Access], general: u8, round: u32, letter
         && is_part(piece, u32::from(general), letter.transcript.as_slice())
 }
 
-/// Whether a letter's context is what its general was told after so many rounds.
+/// Returns whether a letter has the context that its general has after the first `rounds` rounds.
+///
+/// # Errors
+///
+/// `AllocError` if an allocation fails.
 fn has_context(
     alloc: Global,
     told: &Received,
@@ -79,7 +85,12 @@ fn has_context(
     Ok(letter.context.as_slice() == context.as_slice())
 }
 
-/// Whether a letter is that of its general in the round behind so many, and the accesses are its transcript.
+/// Returns whether a letter is its general's letter of round `rounds` + 1, and its transcript is his accesses in
+/// `piece`.
+///
+/// # Errors
+///
+/// `AllocError` if an allocation fails.
 fn holds_letter(
     alloc: Global,
     told: &Received,
@@ -107,7 +118,12 @@ fn holds_letter(
     Ok(has)
 }
 
-/// Whether the letters are those of the round behind so many, and the accesses are theirs.
+/// Returns whether the letters are those of round `rounds` + 1, one for each general, and `piece` has exactly their
+/// accesses.
+///
+/// # Errors
+///
+/// `AllocError` if an allocation fails.
 fn holds_round(
     alloc: Global,
     told: &Received,
@@ -136,7 +152,7 @@ fn holds_round(
     Ok(true)
 }
 
-/// How many accesses the letters have together, at most so many.
+/// Returns the number of accesses in all these letters, or `most` if there are more.
 fn count_accesses(letters: &[Letter], most: usize) -> usize
     ensures { result ≡ min (sum_by (λ l. length l.transcript) letters.now) most }
 {
@@ -148,7 +164,12 @@ fn count_accesses(letters: &[Letter], most: usize) -> usize
     count
 }
 
-/// Whether the rounds from this one on are accounted for by the rest of the ledger, where all of them were told.
+/// Returns whether the rest of the ledger accounts for the rounds from index `at` on. `told` is what was received
+/// through the letters of all rounds.
+///
+/// # Errors
+///
+/// `AllocError` if an allocation fails.
 pub(crate) fn are_accounted(
     alloc: Global,
     told: &Received,

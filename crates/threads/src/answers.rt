@@ -1,4 +1,4 @@
-//! What the answers of others come to: which error stands for them.
+//! Turns what threads and checks report into the errors of a muster.
 ghost use Rattle.std.specs.Prelude.{◌≡◌, ◌≤◌, ◌+◌, ◌++◌, ◌∷◌, [], find, is_some, length, Ok, Err, IsSomeAnd, MatchBool, MatchOption, MatchResult};
 ghost use Rattle.threads.specs.Answers.{ended_as, first_failure};
 ghost use Rattle.threads.specs.declared.error.MusterError.TheVariants.{Memory, Unaccounted, Spawn};
@@ -6,14 +6,14 @@ ghost use Rattle.threads.specs.declared.error.MusterError.TheVariants.{Memory, U
 use crate::error::MusterError;
 use std::io;
 
-/// Why not all threads were started, as `kept` alone tells.
+/// Evidence that not all threads were started, with the error to report. Only `kept` creates one.
 #[derive(Clone, Copy)]
 pub(crate) struct Refused {
     error: MusterError,
 }
 
 impl Refused {
-    /// The error that tells it.
+    /// Returns the error that a muster reports if not all threads were started.
     pub(crate) fn error(self) -> MusterError
         ensures { result ≡ self.error }
     {
@@ -21,7 +21,11 @@ impl Refused {
     }
 }
 
-/// What is not as it has to be is not accounted for.
+/// Checks a condition without which the letters are not accounted for.
+///
+/// # Errors
+///
+/// `Unaccounted` if the condition does not hold.
 pub(crate) fn accounted(is_so: bool) -> Result<(), MusterError>
     ensures { MatchBool is_so (result ≡ Ok tt) (result ≡ Err Unaccounted) }
 {
@@ -32,7 +36,11 @@ pub(crate) fn accounted(is_so: bool) -> Result<(), MusterError>
     }
 }
 
-/// What is there; where it is not, something is not as it has to be.
+/// Returns a value that must be there for the letters to be accounted for.
+///
+/// # Errors
+///
+/// `Unaccounted` if there is no value.
 pub(crate) fn found<T: Drop>(found: Option<T>) -> Result<T, MusterError>
     ensures { MatchOption found (result ≡ Err Unaccounted) (λ own. result ≡ Ok own) }
 {
@@ -42,8 +50,8 @@ pub(crate) fn found<T: Drop>(found: Option<T>) -> Result<T, MusterError>
     }
 }
 
-/// Keeps the handle of a thread that was started: what went wrong, where one was not or there is no memory for the
-/// handle.
+/// Keeps the handle of a thread that was started. Returns `None`, or what went wrong: `Spawn` if the thread was not
+/// started, or `Memory` if there is no memory for the handle.
 pub(crate) fn kept<H: Drop>(handles: &mut Vec<H>, started: io::Result<H>) -> Option<Refused>
     ensures handle { MatchResult started
         (λ handle. MatchOption result (handles.new.items ≡ handles.old.items ++ handle ∷ []) (λ r. r.error ≡ Memory))
@@ -60,8 +68,9 @@ pub(crate) fn kept<H: Drop>(handles: &mut Vec<H>, started: io::Result<H>) -> Opt
     Some(Refused { error })
 }
 
-/// What a muster ends with: why a thread was not started, where one was not; else by what the lowest general has failed
-/// who has; else what was conducted. These have failed by general, ascending.
+/// Returns how a muster ends: with the error `refused` if a thread was not started, otherwise with the first failure,
+/// otherwise with the outcome. If the failures are ordered by general, ascending, the first is that of the lowest
+/// general who failed.
 pub fn ended<T: Drop, E: Copy>(
     refused: Option<E>,
     failures: &[Option<E>],
@@ -75,7 +84,7 @@ pub fn ended<T: Drop, E: Copy>(
     }
 }
 
-/// The first of these that is a failure.
+/// Returns the first element that is a failure.
 fn first_failed<E: Copy>(failures: &[Option<E>]) -> Option<Option<E>>
     ensures { result ≡ find (λ failure. is_some failure) failures.now }
 {

@@ -1,4 +1,4 @@
-//! Letters by round and general.
+//! Arranges letters by round and general.
 ghost use Rattle.std.specs.Prelude.{◌≡◌, ◌+◌, ◌<◌, ◌≤◌, ◌∷◌, [], suc, length, MatchOption, IfOk, IfSome, slice_get};
 ghost use Rattle.std.specs.List.{remove};
 ghost use Rattle.world.specs.World.{each};
@@ -8,7 +8,7 @@ ghost use Rattle.threads.specs.Taking.{left_by, left_by_all, IsGrid};
 use round::{Letter, Round};
 use std::alloc::{AllocError, Global};
 
-/// The index of the first letter of a general in a round.
+/// Returns the index of the first letter of this general in this round, or `None` if there is none.
 fn index_of(letters: &[Letter], general: u32, round: u32) -> Option<usize>
     ensures within { IfSome result (λ i. i < length letters.now) }
     ensures found { MatchOption result (letter_by general round letters.now ≡ None)
@@ -24,7 +24,7 @@ fn index_of(letters: &[Letter], general: u32, round: u32) -> Option<usize>
     None
 }
 
-/// Takes out the first letter of a general in a round, where there is one.
+/// Removes the first letter of this general in this round and returns it, or returns `None` if there is none.
 fn take(letters: &mut Vec<Letter>, general: u32, round: u32) -> Option<Letter>
     ensures found { result ≡ letter_by general round letters.old.items }
     ensures left { IfSome result (λ _. letters.new.items ≡ left_by general round letters.old.items) }
@@ -36,7 +36,12 @@ fn take(letters: &mut Vec<Letter>, general: u32, round: u32) -> Option<Letter>
     }
 }
 
-/// Takes out the letters of a round, by general, where each has one.
+/// Removes a letter of each general in this round, and returns these letters by general, ascending. Returns `None` if a
+/// general has none.
+///
+/// # Errors
+///
+/// `AllocError` if an allocation fails.
 fn take_round(
     alloc: Global,
     letters: &mut Vec<Letter>,
@@ -58,7 +63,12 @@ fn take_round(
     Ok(Some(row))
 }
 
-/// The letters by round and general, where there is one for each and no other.
+/// Arranges the letters by round, and in a round by general. Returns `None` unless there is exactly one letter for each
+/// general and round, and no other.
+///
+/// # Errors
+///
+/// `AllocError` if an allocation fails.
 pub(crate) fn arrange(
     alloc: Global,
     letters: Vec<Letter>,

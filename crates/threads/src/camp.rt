@@ -1,4 +1,4 @@
-//! What the generals of a campaign share.
+//! Defines what the generals' threads of a campaign share: the gate, the board, the inboxes, the post and the tally.
 ghost use Rattle.std.specs.Prelude.{◌≡◌, ℕ, ◌<◌, ◌≤◌, ◌∷◌, [], List, length, slice_index_or, IfOk};
 ghost use Rattle.round.specs.Letters.{Letter as LetterSeen};
 ghost use Rattle.round.specs.Told.{WasTold};
@@ -25,23 +25,24 @@ use std::alloc::{AllocError, Global};
 use std::snapshot::Snapshot;
 use std::sync::Wait;
 
-/// That the generals were given their tasks of a round, as `Crew::hand_out` alone tells.
+/// Evidence that the generals were given their tasks of a round. Only `Crew::hand_out` creates one.
 #[derive(Drop)]
 pub(crate) struct HandedOut {
-    /// Of which scenario.
+    /// The scenario of these tasks.
     scenario: Snapshot<Scenario>,
-    /// What the rounds before have told.
+    /// What the lieutenants received in the earlier rounds.
     told: Snapshot<Received>,
-    /// That each task was put into an inbox.
+    /// Evidence that each task was put into an inbox.
     given: AllGiven,
 }
 
-/// That the generals are sent home, as `Crew::close` alone tells.
+/// Evidence that the generals are sent home, since no more tasks will come. Only `Crew::close` creates one.
 #[derive(Clone, Copy)]
 pub(crate) struct Home(());
 
-/// What the generals share with one another and with the one who conducts the rounds: the gate and the board, the
-/// inboxes in which they are given their tasks, the post for their letters, and the tally of those who have posted.
+/// What the generals' threads share with each other and with the thread that conducts the rounds. It has the gate, the
+/// board, the inboxes through which the generals receive their tasks, the post for their letters, and the tally of the
+/// letters that were posted.
 #[derive(Drop)]
 pub(crate) struct Crew<'a, G, J: Room, C: Claim> {
     pub(crate) gate: &'a G,
@@ -52,12 +53,12 @@ pub(crate) struct Crew<'a, G, J: Room, C: Claim> {
 }
 
 impl<'a, G, J: Room, C: Claim> Crew<'a, G, J, C> {
-    /// The camp of so many generals, with their posters, ascending, and the collector of their letters. The post has
-    /// room for a letter of each.
+    /// Returns the crew of `generals` generals, their posters, ascending by general, and the collector of their
+    /// letters. The post has room for a letter from each general.
     ///
     /// # Errors
     ///
-    /// `AllocError` where memory is refused.
+    /// `AllocError` if an allocation fails.
     pub(crate) fn new(
         alloc: Global,
         generals: u8,
@@ -89,7 +90,7 @@ impl<'a, G, J: Room, C: Claim> Crew<'a, G, J, C> {
         Ok((camp, posters, collector))
     }
 
-    /// The general of this number, at his inbox, ready to begin.
+    /// Returns the general of this number with his inbox, ready to run in a thread.
     pub(crate) fn resident<'c>(&'c self, general: u8) -> GeneralThread<'c, G, J>
         requires inbox { general < length self.now.inboxes.items }
         requires own { AreOwn self.now.inboxes.items }
@@ -108,7 +109,8 @@ impl<'a, G, J: Room, C: Claim> Crew<'a, G, J, C> {
         }
     }
 
-    /// Puts each general's task into his inbox: what he is to do in the round to come, where this was told before.
+    /// Puts each general's task into his inbox. It is his task in the next round, where `told` is what the lieutenants
+    /// received in the earlier rounds.
     pub(crate) fn hand_out<R: Wait>(
         &self,
         rt: &R,
@@ -136,7 +138,7 @@ impl<'a, G, J: Room, C: Claim> Crew<'a, G, J, C> {
         }
     }
 
-    /// Closes all inboxes: the generals go home.
+    /// Closes all inboxes, so that the generals get no more tasks.
     pub(crate) fn close<R: Wait>(&self, rt: &R) -> AllShut
         requires own { AreOwn self.now.inboxes.items }
         ensures shut { result.inboxes ≡ length self.now.inboxes.items }
@@ -150,7 +152,11 @@ impl<'a, G, J: Room, C: Claim> Crew<'a, G, J, C> {
     }
 }
 
-/// An empty inbox for each general.
+/// Returns an empty inbox for each general.
+///
+/// # Errors
+///
+/// `AllocError` if an allocation fails.
 fn empty_inboxes(alloc: Global, generals: u8) -> Result<Vec<Inbox>, AllocError>
     ensures count { IfOk result (λ inboxes. length inboxes.items ≡ generals) }
     ensures own { IfOk result (λ inboxes. AreOwn inboxes.items) }

@@ -1,12 +1,13 @@
-//! What holds of the letters in a post.
+//! Defines claims, which are statements that hold for each letter in a post.
 use std::marker::Brand;
 
-/// Says something of each letter that a post takes in, and so of each that is taken out. Where a function over
-/// a claim that no type of its signature names is called with `Brand`, the caller's proof picks what.
+/// A statement about letters. It holds for each letter that a post accepts, and so for each letter that is taken out. A
+/// function may be generic over a claim that no type of its signature names. If it is called with `Brand`, the caller's
+/// proof picks the statement.
 pub trait Claim {
     ghost use Rattle.round.specs.Letters.{Letter};
 
-    /// What holds of a letter.
+    /// The statement about a letter.
     ghost holds: { Letter → Type 0 };
 }
 
@@ -14,7 +15,7 @@ impl Claim for Brand {
     ghost holds = { λ _. Unit {0} };
 }
 
-/// Any letter: nothing is said of it.
+/// The claim that says nothing, and so holds for any letter.
 pub struct AnyLetter;
 
 impl Claim for AnyLetter {

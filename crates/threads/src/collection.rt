@@ -1,4 +1,4 @@
-//! The letters of a campaign whose generals stay in their threads for all rounds.
+//! Collects the letters of a campaign from generals' threads that run through all rounds.
 ghost use Rattle.std.specs.Prelude.{◌≡◌, ℕ, ◌<◌, ◌≤◌, [], suc, length, slice_index_or, vec_capacity, None, All, IsPermutation, IfOk, IfSome, Err};
 ghost use Rattle.round.specs.Letters.{Letter as LetterSeen};
 ghost use Rattle.round.specs.Told.{WasTold};
@@ -26,13 +26,14 @@ use std::sync::Wait;
 use std::thread;
 use std::thread::{JoinHandle, Threads};
 
-/// The letters of all rounds, in each round by general, and what they told. Each general acts in a thread of his own
-/// through all rounds, with a stack of so many bytes. All threads that were started have ended when it answers.
+/// Returns the letters of all rounds, in each round by general, and what was received through them. Each general acts
+/// in a thread of his own through all rounds, with a stack of `stack` bytes. All threads that were started have ended
+/// when it returns.
 ///
 /// # Errors
 ///
-/// `Unstarted` where a thread could not be started; else `Failed` by what the lowest general has failed who has; else
-/// `Halted` where the rounds were not all conducted; `Memory` where memory is refused before a thread is started.
+/// `Memory` if an allocation fails before a thread is started. `Unstarted` if a thread could not be started. Otherwise
+/// `Failed` with the failure of the lowest general who failed. Otherwise `Halted` if not all rounds were conducted.
 pub(crate) fn collect<
     R: Threads + Wait + Sync,
     G: Gate + Sync,
@@ -61,11 +62,11 @@ pub(crate) fn collect<
     ending.told()
 }
 
-/// What the generals of these posters come to, in this camp.
+/// Starts a thread for each poster's general, conducts the rounds, and returns how the campaign ended.
 ///
 /// # Errors
 ///
-/// `AllocError` where memory is refused before a thread is started.
+/// `AllocError` if an allocation fails before a thread is started.
 fn through_residents<
     R: Threads + Wait + Sync,
     G: Gate + Sync,
@@ -157,8 +158,8 @@ fn through_residents<
     Ok(ending)
 }
 
-/// Conducts the rounds, unless a thread was refused, then sends the generals home and waits for their threads: what
-/// that has come to.
+/// Conducts the rounds if all threads were started, closes the inboxes, and joins the threads. Returns how the campaign
+/// ended.
 fn finish<R: Threads + Wait, G, J: Room, C: Claim>(
     rt: &R,
     alloc: Global,
@@ -190,7 +191,11 @@ fn finish<R: Threads + Wait, G, J: Room, C: Claim>(
     Ending::new(refused, answers, outcome)
 }
 
-/// Conducts the rounds, unless a thread was refused.
+/// Conducts the rounds if all threads were started.
+///
+/// # Errors
+///
+/// `Unstarted` if a thread was not started, otherwise the errors of `conduct`.
 fn conducted<R: Wait, G, J: Room, C: Claim>(
     rt: &R,
     alloc: Global,
@@ -214,8 +219,8 @@ fn conducted<R: Wait, G, J: Room, C: Claim>(
     }
 }
 
-/// Waits for threads, of which there are no more than inboxes that were closed: an answer of each, in a list that has
-/// room for them.
+/// Joins the threads, and returns an answer of each in a list that must have room for them. At least as many inboxes
+/// must have been closed as there are threads.
 fn joined<R: Threads>(
     rt: &R,
     shut: AllShut,
@@ -235,7 +240,7 @@ fn joined<R: Threads>(
     answers
 }
 
-/// The same answers, ascending by general.
+/// Returns the same answers, ascending by general.
 fn by_general(mut answers: Vec<Answer>) -> Vec<Answer>
     ensures same { IsPermutation answers.items result.items }
     ensures count { length result.items ≡ length answers.items }

@@ -1,4 +1,4 @@
-//! Why the letters of a campaign were not all collected.
+//! Defines why the letters of a campaign were not all collected.
 ghost use Rattle.std.specs.Prelude.{◌≡◌};
 ghost use Rattle.threads.specs.Answers.{uncollected_as};
 ghost use Rattle.threads.specs.declared.collection_error.Uncollected.TheVariants.{Memory};
@@ -9,21 +9,22 @@ use crate::halt::Halt;
 use crate::tally::Reported;
 use std::alloc::AllocError;
 
-/// Why the letters of a campaign were not all collected: memory aside, only what finds it can tell so.
+/// Why the letters of a campaign were not all collected. Each variant except `Memory` has evidence, which only the code
+/// that finds the fault can create.
 #[derive(Clone, Copy)]
 pub(crate) enum Uncollected {
-    /// Memory was refused.
+    /// An allocation failed.
     Memory,
     /// Not all threads were started.
     Unstarted(Refused),
     /// A general has failed.
     Failed(Reported),
-    /// The rounds were not all conducted.
+    /// Not all rounds were conducted.
     Halted(Halt),
 }
 
 impl Uncollected {
-    /// The error that tells it.
+    /// Returns the error that a muster reports if the letters were not collected for this reason.
     pub(crate) fn error(self) -> MusterError
         ensures { result ≡ uncollected_as self }
     {

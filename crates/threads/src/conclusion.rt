@@ -1,4 +1,4 @@
-//! What a campaign comes to.
+//! Judges a campaign that has ended: compares its letters with the ledger, and makes its decisions and its chronicle.
 ghost use Rattle.std.specs.Prelude.{◌≡◌, ◌≢◌, ◌≤◌, [], suc, All, List, length, Ok, IfOk, OnOk, IfErr, IsErrAnd, MatchBool};
 ghost use Rattle.board.specs.Board.{IsLegal};
 ghost use Rattle.round.specs.Letters.{Letter as LetterSeen, messages};
@@ -24,21 +24,21 @@ use std::thread;
 use std::thread::Threads;
 use world::Chronicle;
 
-/// That a board does not account for the letters of a campaign, as `accounted` alone tells.
+/// Evidence that a board does not account for the letters of a campaign. Only `accounted` creates one.
 #[derive(Drop)]
 pub(crate) struct Unlike {
-    /// Which board that is.
+    /// The board that does not account for the letters.
     board: Snapshot<Board>,
 }
 
-/// What the lieutenants decide of the letters of a campaign, ascending by number, where the ledger of the board that
-/// served it accounts for these letters, all of which were told. The letters are compared with the ledger while the
-/// decisions are made: neither needs the other.
+/// Returns what the lieutenants decide, ascending by number, if the ledger of the board that served the campaign
+/// accounts for its letters. `told` is what was received through all these letters. The letters are compared with the
+/// ledger while the decisions are made, since neither needs the other.
 ///
 /// # Errors
 ///
-/// `Unlike` where the board opened with other words than the scenario's, or its ledger does not account for the
-/// letters; `Memory` where memory is refused.
+/// `Unlike` if the board opened with other words than the scenario's, or if its ledger does not account for the
+/// letters. `Memory` if an allocation fails.
 pub(crate) fn judge<R: Threads + Sync>(
     rt: &R,
     alloc: Global,
@@ -86,12 +86,13 @@ pub(crate) fn judge<R: Threads + Sync>(
     Ok(decided?)
 }
 
-/// Tests that a board that served a campaign accounts for the letters by round, all of which were told.
+/// Checks that the board that served a campaign accounts for its letters, which are given by round. `told` is what was
+/// received through all these letters.
 ///
 /// # Errors
 ///
-/// `Unlike` where the board opened with other words than the scenario's, or its ledger does not account for the
-/// letters; `Memory` where memory is refused.
+/// `Unlike` if the board opened with other words than the scenario's, or if its ledger does not account for the
+/// letters. `Memory` if an allocation fails.
 fn account(
     alloc: Global,
     scenario: &Scenario,
@@ -118,7 +119,11 @@ fn account(
     Ok(())
 }
 
-/// Tests of something whether it is as it has to be: where it is not, this board does not account for the letters.
+/// Checks a condition without which this board does not account for the letters.
+///
+/// # Errors
+///
+/// `Unlike` with the board if the condition does not hold.
 fn accounted(board: &Board, is_so: bool) -> Result<(), Unlike>
     ensures { MatchBool is_so (result ≡ Ok tt) (IsErrAnd result (λ unlike. unlike.board.value ≡ board.now)) }
 {
@@ -131,11 +136,11 @@ fn accounted(board: &Board, is_so: bool) -> Result<(), Unlike>
     }
 }
 
-/// What the lieutenants decide of what they were told, ascending by number.
+/// Returns what the lieutenants decide from what they received, ascending by number.
 ///
 /// # Errors
 ///
-/// `AllocError` where the memory for the decisions is refused.
+/// `AllocError` if an allocation fails.
 fn decide<R: Threads + Sync>(
     rt: &R,
     alloc: Global,
@@ -151,7 +156,7 @@ fn decide<R: Threads + Sync>(
     Ok(as_array(orders.as_slice()))
 }
 
-/// The same orders, in an array.
+/// Returns the same orders in an array.
 fn as_array(orders: &[u32]) -> ArrayVec<u32, 12>
     requires { length orders.now ≤ 12 }
     ensures { result.items ≡ orders.now }
@@ -163,8 +168,8 @@ fn as_array(orders: &[u32]) -> ArrayVec<u32, 12>
     list
 }
 
-/// The chronicle of a campaign from its accesses, the letters that they account for, by round, and the decisions. It is
-/// that of the replay of the accesses.
+/// Returns the chronicle of a campaign, made of its accesses, its letters by round and its decisions. The accesses must
+/// account for the letters. The chronicle is that of the replay of the accesses.
 pub(crate) fn conclude(
     scenario: Scenario,
     accesses: Vec<Access>,

@@ -1,4 +1,4 @@
-//! A campaign's rounds, conducted through the generals' camp.
+//! Conducts the rounds of a campaign: gives the generals their tasks, and takes their letters.
 ghost use Rattle.std.specs.Prelude.{◌≡◌, ◌≢◌, ◌≤◌, ◌∷◌, [], suc, All, List, length, IfOk, IfErr};
 ghost use Rattle.round.specs.Letters.{Letter as LetterSeen};
 ghost use Rattle.round.specs.Told.{WasTold};
@@ -19,13 +19,12 @@ use shared_board::Room;
 use std::alloc::{AllocError, Global};
 use std::sync::Wait;
 
-/// The letters of all rounds, in each round by general, and what they told: the generals of the camp are given their
-/// tasks, and when all have posted their letters, these are taken.
+/// Conducts all rounds, and returns the letters of each round by general, and what was received through them. In each
+/// round it gives the generals their tasks, and takes their letters once all generals have posted.
 ///
 /// # Errors
 ///
-/// `Memory` where memory is refused, `Failed` where a general has failed, `Strayed` where letters are not of their
-/// round.
+/// `Memory` if an allocation fails, `Failed` if a general has failed, `Strayed` if letters are not of their round.
 pub(crate) fn conduct<R: Wait, G, J: Room, C: Claim>(
     rt: &R,
     alloc: Global,
@@ -58,7 +57,11 @@ pub(crate) fn conduct<R: Wait, G, J: Room, C: Claim>(
     Ok((rows, told))
 }
 
-/// The generals' tasks in the round to come, ascending.
+/// Returns the generals' tasks in the next round, ascending by general.
+///
+/// # Errors
+///
+/// `AllocError` if an allocation fails.
 fn tasks(alloc: Global, scenario: &Scenario, told: &Received) -> Result<Vec<Task>, AllocError>
     requires told { (before : List (List LetterSeen)) × WasTold scenario.now before told.now }
     requires left { told.now.rounds ≤ scenario.now.bound }

@@ -1,4 +1,4 @@
-//! What a campaign by threads has come to.
+//! Defines how a campaign with threads ends, and turns that into letters or an error.
 ghost use Rattle.std.specs.Prelude.{◌≡◌, ◌≤◌, length, map, option_map};
 ghost use Rattle.threads.specs.Answers.{ended_as, failure_of, first_failure, outcome_as};
 ghost use Rattle.threads.specs.declared.collection_error.Uncollected.TheVariants.{Unstarted};
@@ -10,7 +10,7 @@ use crate::resident::Answer;
 use arrayvec::ArrayVec;
 use round::{Received, Round};
 
-/// What a campaign by threads has come to. What it is told as is told by `told` alone, so no answer is lost.
+/// How a campaign with threads has ended. Only `told` turns it into a result, so no answer is lost.
 #[derive(Drop)]
 pub(crate) struct Ending {
     refused: Option<Refused>,
@@ -19,7 +19,8 @@ pub(crate) struct Ending {
 }
 
 impl Ending {
-    /// Of these: why not all threads were started, what those that were have answered, what was conducted.
+    /// Returns the ending with these parts: why a thread was not started, the answers of those that were, and the
+    /// outcome of the rounds.
     pub(crate) fn new(
         refused: Option<Refused>,
         answers: Vec<Answer>,
@@ -36,7 +37,12 @@ impl Ending {
         }
     }
 
-    /// What was conducted, unless not all threads were started, or a general has failed.
+    /// Returns the letters of all rounds, and what was received through them.
+    ///
+    /// # Errors
+    ///
+    /// `Unstarted` if not all threads were started, otherwise the first failure among the answers. Otherwise `Halted`
+    /// if not all rounds were conducted.
     pub(crate) fn told(self) -> Result<(Vec<Round>, Received), Uncollected>
         requires { length self.answers.items ≤ 13 }
         ensures { result ≡ ended_as (option_map Unstarted self.refused)
@@ -49,7 +55,7 @@ impl Ending {
     }
 }
 
-/// By what each has failed, if he has.
+/// Returns why each general has failed, or `None` for a general who has not.
 fn failures(answers: &[Answer]) -> ArrayVec<Option<Uncollected>, 13>
     requires { length answers.now ≤ 13 }
     ensures { result.items ≡ map failure_of answers.now }

@@ -1,4 +1,4 @@
-//! Why there is no chronicle.
+//! Defines the errors of musters.
 ghost use Rattle.std.specs.Prelude.{◌≡◌};
 ghost use Rattle.threads.specs.declared.error.MusterError.TheVariants.{Memory};
 
@@ -6,10 +6,10 @@ use std::alloc::{AllocError, AllocFailed};
 use std::error::Error;
 use std::fmt;
 
-/// Why there is no chronicle of a muster.
+/// Why a muster has no chronicle.
 #[derive(Clone, Copy, Debug, PartialEq, Eq)]
 pub enum MusterError {
-    /// Memory was refused.
+    /// An allocation failed.
     Memory,
     /// M2: the ledger does not account for the letters, or the board did not open with the scenario's words.
     Unaccounted,

@@ -1,4 +1,4 @@
-//! By what a general has failed.
+//! Defines why a general's thread fails.
 ghost use Rattle.std.specs.Prelude.{◌≡◌, ◌≢◌, MatchResult};
 ghost use Rattle.threads.specs.Answers.{failure_as};
 ghost use Rattle.threads.specs.declared.failure.Failure.TheVariants.{Memory, Foreign as NotHis, Returned as Back};
@@ -8,26 +8,27 @@ use crate::tally::Returned;
 use crate::task::Task;
 use std::alloc::AllocError;
 
-/// That a general was given another's task, as `is_his` alone tells.
+/// Evidence that a general was given another general's task. Only `is_his` creates one.
 #[derive(Clone, Copy)]
 pub(crate) struct Foreign {
-    /// Who was given it.
+    /// The general who was given the task.
     general: u32,
 }
 
-/// By what a general has failed: memory aside, only what finds it can tell so.
+/// Why a general has failed. Each variant except `Memory` has evidence, which only the code that finds the fault can
+/// create.
 #[derive(Clone, Copy)]
 pub(crate) enum Failure {
-    /// Memory was refused.
+    /// An allocation failed.
     Memory,
-    /// A task that he was given is another's.
+    /// He was given another general's task.
     Foreign(Foreign),
-    /// A letter of his came back from the post.
+    /// The post returned a letter of his.
     Returned(Returned),
 }
 
 impl Failure {
-    /// The error that tells it.
+    /// Returns the error that a muster reports for this failure.
     pub(crate) fn error(self) -> MusterError
         ensures { result ≡ failure_as self }
     {
@@ -63,7 +64,11 @@ impl From<Returned> for Failure {
     }
 }
 
-/// Tests that a task is this general's.
+/// Checks that a task is this general's.
+///
+/// # Errors
+///
+/// `Foreign` if it is another general's.
 pub(crate) fn is_his(task: &Task, general: u32) -> Result<(), Foreign>
     ensures { MatchResult result (λ _. task.now.general ≡ general)
         (λ foreign. (task.now.general ≢ general) × (foreign.general ≡ general)) }

@@ -1,4 +1,4 @@
-//! What holds a general before each access.
+//! Defines gates, which may hold a general before each access, and the board as a general uses it through a gate.
 ghost use Rattle.std.specs.Prelude.{◌≡◌, ℕ, ◌++◌, ◌∷◌, ◌<◌, ◌==◌, [], true, List, count_by, vec_len, vec_capacity, IfOk, OnErr};
 ghost use Rattle.semantics.specs.Call.{fits};
 ghost use Rattle.semantics.specs.Replies.{words_in};
@@ -17,18 +17,20 @@ use std::alloc::{AllocError, Global};
 use std::marker::{Model, PhantomData};
 use std::sync::Wait;
 
-/// Holds generals before their accesses, for as long as it likes.
+/// A gate, which may hold generals before their accesses for as long as it likes.
 pub trait Gate {
-    /// What holds of a general, a round and a number once that access has passed: what a gate says of it, if anything.
+    /// What holds for a general, a round and a number once the access of this number has passed. A gate that does not
+    /// define it says nothing.
     ghost passed: { Self → ℕ → ℕ → ℕ → Type 0 } = { λ _ _ _ _. Unit {0} };
 
-    /// Called before each taking of the board's lock, and never while the lock is held; `nth` is counted from 0 for
-    /// that general and round. That it is, an implementer is not told.
+    /// Holds a general before an access. It is called each time before the board's lock is taken, and never while the
+    /// lock is held. `nth` is the number of the access, counted from 0 for this general and round. The contract does
+    /// not promise this to an implementer.
     fn before_access(&self, general: u32, round: u32, nth: u64)
         ensures { passed self.now general round nth };
 }
 
-/// Lets everyone pass at once.
+/// A gate that lets everyone pass at once.
 #[derive(Clone, Copy)]
 pub struct Open;
 
@@ -36,17 +38,17 @@ impl Gate for Open {
     fn before_access(&self, _general: u32, _round: u32, _nth: u64) {}
 }
 
-/// The board as one general meets it for one task: first the gate, then the lock, for one access. It is seen as what its
-/// type names, and behind it what was served to him for this task; and as the beginning of the board's history that he
-/// has met.
+/// The board as one general uses it for one task. For each access he first passes the gate and then takes the lock.
+/// Contracts see the accesses that its session `T` names, followed by those served for this task, and the beginning of
+/// the board's history that he has met.
 #[derive(Drop)]
 pub(crate) struct Gated<'a, R, G: Gate, J: Room, T: Session> {
     rt: &'a R,
     gate: &'a G,
     board: &'a SharedBoard<J>,
-    /// His leave to have accesses served.
+    /// The general's permission to have accesses served.
     me: Witness<J>,
-    /// All that were served to him for this task.
+    /// All accesses that were served to him for this task.
     made: Made,
     session: PhantomData<T>,
 }
@@ -65,8 +67,8 @@ impl<'a, R, G: Gate, J: Room, T: Session> Model for Gated<'a, R, G, J, T> {
 }
 
 impl<'a, R, G: Gate, J: Room, T: Session> Gated<'a, R, G, J, T> {
-    /// The board as this witness's general meets it, through whom as many accesses were served before as its type names,
-    /// all of which he has met.
+    /// Returns the board as the general with this witness uses it. As many accesses were served through the witness as
+    /// `T::before` has, and the history that it has met contains them all.
     pub(crate) fn new(
         rt: &'a R,
         alloc: Global,
@@ -88,8 +90,8 @@ impl<'a, R, G: Gate, J: Room, T: Session> Gated<'a, R, G, J, T> {
         }
     }
 
-    /// The witness, when the task is done: through it as many accesses were served as before and for the task, and of
-    /// each for the task holds what its type names.
+    /// Returns the witness when the task is done. As many accesses were served through it as before and for the task
+    /// together. For each access of the task, `T::passed` holds.
     pub(crate) fn into_witness(self) -> Witness<J>
         ensures served { AreWitnessed self.entry.made result }
         ensures passed { (now : List Entry) × (self.entry.made ≡ T.before ++ now) × HavePassed T.passed [] now }
@@ -98,15 +100,16 @@ impl<'a, R, G: Gate, J: Room, T: Session> Gated<'a, R, G, J, T> {
     }
 }
 
-/// A poster, with which as many accesses are told as were served through a witness, all of which it has met:
-/// `Settled::new` alone makes one.
+/// A poster whose letters contain as many accesses as were served through a witness. The history that the witness has
+/// met contains them all. Only `Settled::new` creates one.
 #[derive(Drop)]
 pub(crate) struct Settled {
     poster: Poster,
 }
 
 impl Settled {
-    /// A poster, with which as many accesses are told as were served through this witness, all of which it has met.
+    /// Returns a settled poster. The poster's letters must contain as many accesses as were served through this
+    /// witness, and the history that it has met must contain them all.
     pub(crate) fn new<J: Room>(poster: Poster, me: Witness<J>) -> Settled
         requires { AreWitnessed (told_in poster.posted) me }
         ensures { result.poster ≡ poster }
@@ -134,7 +137,11 @@ impl<'a, R: Wait, G: Gate, J: Room, T: Session> Server for Gated<'a, R, G, J, T>
     }
 }
 
-/// Has an access served behind the gate, and enters it. There is room for it before it is served.
+/// Passes the gate, has an access served, and enters it into the list, which must have room for it.
+///
+/// # Errors
+///
+/// `AllocError` if an allocation fails. Then nothing was served or entered.
 fn serve_entered<R: Wait, G: Gate, J: Room>(
     rt: &R,
     gate: &G,

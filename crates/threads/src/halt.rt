@@ -1,4 +1,4 @@
-//! Why the rounds were not all conducted.
+//! Defines why the rounds of a campaign were not all conducted.
 ghost use Rattle.std.specs.Prelude.{◌≡◌};
 ghost use Rattle.threads.specs.Answers.{halt_as};
 ghost use Rattle.threads.specs.declared.halt.Halt.TheVariants.{Memory, Failed, Strayed as Astray};
@@ -9,12 +9,13 @@ use crate::round_letters::Strayed;
 use crate::tally::SomeoneFailed;
 use std::alloc::{AllocError, AllocFailed};
 
-/// Why the rounds were not all conducted: memory aside, only what finds it can tell so.
+/// Why not all rounds were conducted. Each variant except `Memory` has evidence, which only the code that finds the
+/// fault can create.
 #[derive(Clone, Copy)]
 pub(crate) enum Halt {
-    /// Memory was refused.
+    /// An allocation failed.
     Memory,
-    /// None was, since not all threads were started.
+    /// No round was conducted, since not all threads were started.
     Unstarted(Refused),
     /// A general has failed.
     Failed(SomeoneFailed),
@@ -23,7 +24,7 @@ pub(crate) enum Halt {
 }
 
 impl Halt {
-    /// The error that tells it.
+    /// Returns the error that a muster reports if the rounds stopped for this reason.
     pub(crate) fn error(self) -> MusterError
         ensures { result ≡ halt_as self }
     {

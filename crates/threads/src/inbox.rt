@@ -1,4 +1,4 @@
-//! Where a general waits for his next task.
+//! Defines the inbox, in which a general's thread waits for its next task.
 ghost use Rattle.std.specs.Prelude.{◌≡◌, ◌≢◌, IfErr, MatchResult};
 ghost use Rattle.threads.specs.Inboxes.{left_in};
 ghost use Rattle.threads.specs.declared.inbox.Phase.TheVariants.{Waiting as NoneYet, Given as Tasked, Closed as NoMore};
@@ -11,23 +11,23 @@ use std::mem;
 use std::sync::{Condvar, Mutex, Wait};
 pub(crate) use steps::{Given, Shut};
 
-/// What stands in an inbox.
+/// The state of an inbox.
 #[derive(Drop)]
 enum Phase {
-    /// No task yet.
+    /// There is no task yet.
     Waiting,
-    /// A task that is to be done.
+    /// There is a task to be done.
     Given(Task),
-    /// No task any more, since its general is sent home.
+    /// No more tasks will come, since the general is sent home.
     Closed(Home),
 }
 
 impl Phase {
-    /// Takes the task that is given, where one has not to be waited for.
+    /// Takes the task that was given. There must be a task, or the inbox must be closed.
     ///
     /// # Errors
     ///
-    /// `Home` where no task will come any more.
+    /// `Home` if the inbox is closed, so that no more tasks will come.
     fn take(&mut self) -> Result<Task, Home>
         requires waited { self.old ≢ NoneYet }
         ensures task { MatchResult result (λ task. self.old ≡ Tasked task) (λ home. self.old ≡ NoMore home) }
@@ -44,26 +44,26 @@ impl Phase {
     }
 }
 
-/// That an inbox was found closed, which only the camp does: the inbox alone tells so.
+/// Evidence that an inbox was found closed. Only `Crew::close` closes inboxes, and only the inbox creates this value.
 #[derive(Drop)]
 pub(crate) struct Closed {
-    /// Whose it is.
+    /// The general whose inbox it is.
     general: u32,
-    /// That he is sent home.
+    /// Evidence that he is sent home.
     home: Home,
 }
 
-/// An inbox of one general, in which he is given his tasks, one at a time.
+/// The inbox of one general, through which he is given his tasks, one at a time.
 #[derive(Drop)]
 pub(crate) struct Inbox {
-    /// Whose it is.
+    /// The general whose inbox it is.
     pub(crate) general: u32,
     phase: Mutex<Phase>,
     changed: Condvar,
 }
 
 impl Inbox {
-    /// An empty inbox of this general.
+    /// Returns an empty inbox of this general.
     pub(crate) fn new(general: u32) -> Inbox
         ensures { result.general ≡ general }
     {
@@ -74,7 +74,7 @@ impl Inbox {
         }
     }
 
-    /// Puts a task of its general into the inbox.
+    /// Puts a task of the inbox's general into the inbox, and wakes his thread.
     pub(crate) fn put<R: Wait>(&self, rt: &R, task: Task) -> Given
         requires { task.general ≡ self.now.general }
         ensures { result.general ≡ self.now.general }
@@ -84,7 +84,7 @@ impl Inbox {
         given
     }
 
-    /// Closes the inbox: who waits at it goes home.
+    /// Closes the inbox, so that its general gets no more tasks, and wakes his thread.
     pub(crate) fn close<R: Wait>(&self, rt: &R, home: Home) -> Shut
         ensures { result.general ≡ self.now.general }
     {
@@ -97,7 +97,7 @@ impl Inbox {
     ///
     /// # Errors
     ///
-    /// `Closed` where the inbox is closed.
+    /// `Closed` if the inbox is closed.
     pub(crate) fn next<R: Wait>(&self, rt: &R) -> Result<Task, Closed>
         ensures { IfErr result (λ closed. closed.general ≡ self.now.general) }
     {

@@ -1,15 +1,16 @@
-//! What a pass knows. No value of these types is made.
+//! Defines what the passes of a post know. No value of these types is ever created.
 use round::Letter;
 use std::collections::LinkedList;
 
-/// What one general has posted.
+/// The letters that one general has posted.
 pub(crate) struct Posted {
     pub(crate) general: u32,
     pub(crate) letters: LinkedList<Letter>,
 }
 
-/// What a pass knows. A poster knows its general and what it has posted. The collector knows what was taken, for how
-/// many generals posters were made, and what those have posted that are back.
+/// What a pass knows. A poster knows its general and the letters that it has posted. The collector knows the letters
+/// that were taken, the number of generals for whom posters were made, and the letters of each poster that was
+/// returned.
 pub(crate) struct Known {
     pub(crate) posts: bool,
     pub(crate) takes: bool,

@@ -1,4 +1,4 @@
-//! The letters that a ledger accounts for.
+//! Arranges the letters of a campaign by round, and checks that a ledger accounts for them.
 ghost use Rattle.std.specs.Prelude.{◌≡◌, ◌≢◌, suc, length, IfOk, OnOk, IfErr, MatchOption};
 ghost use Rattle.round.specs.Origin.{AreRoundsOf};
 ghost use Rattle.round.specs.Told.{WasTold};
@@ -13,13 +13,14 @@ use board::Access;
 use round::{Letter, Received, Round, Scenario, are_letters_of};
 use std::alloc::{AllocError, Global};
 
-/// The letters by round, and in a round by general, where the ledger accounts for them: there is one for each general
-/// and round and no other, each has its general's program and the context that the letters of the rounds before give,
-/// each traitor has ended, and the ledger has just their accesses, round by round.
+/// Returns the letters by round, and in a round by general, if the ledger accounts for them. Then there is one letter
+/// for each general and round, and no other. Each letter has its general's program, and the context that results from
+/// the letters of the rounds before. Each traitor has ended. The ledger has exactly the letters' accesses, round by
+/// round.
 ///
 /// # Errors
 ///
-/// `Unaccounted` exactly where the ledger does not account for them; `Memory` where memory is refused.
+/// `Memory` if an allocation fails, and otherwise `Unaccounted` exactly if the ledger does not account for the letters.
 pub fn gather(
     alloc: Global,
     scenario: &Scenario,
@@ -41,7 +42,12 @@ pub fn gather(
     Ok(rows)
 }
 
-/// Delivers the letters of all rounds: what they have told, where the letters of each are of that round.
+/// Delivers the letters of all rounds, and returns what was received through them. Returns `None` if the letters of
+/// some round are not letters of that round.
+///
+/// # Errors
+///
+/// `AllocError` if an allocation fails.
 fn deliver_all(
     alloc: Global,
     scenario: &Scenario,

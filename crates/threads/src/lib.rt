@@ -1,5 +1,5 @@
-//! Campaigns whose generals act in threads: the post, which is the queue of letters that threads share, `muster`, and
-//! the check of letters against the ledger.
+//! Plays campaigns with a thread for each general, in `muster`. The threads give their letters through a queue, the
+//! post, and `gather` checks letters against the ledger.
 #![tactic(auto)]
 
 mod account;

@@ -1,4 +1,4 @@
-//! Why a muster has no chronicle.
+//! Defines why a muster has no chronicle, with the evidence for it.
 ghost use Rattle.std.specs.Prelude.{◌≡◌};
 ghost use Rattle.threads.specs.Answers.{mishap_as};
 ghost use Rattle.threads.specs.declared.mishap.Mishap.TheVariants.{Memory, Uncollected as NotAll, Unlike as NotTheirs};
@@ -8,10 +8,11 @@ use crate::conclusion::Unlike;
 use crate::error::MusterError;
 use std::alloc::AllocError;
 
-/// Why a muster has no chronicle: memory aside, only what finds it can tell so.
+/// Why a muster has no chronicle. Each variant except `Memory` has evidence, which only the code that finds the fault
+/// can create.
 #[derive(Drop)]
 pub(crate) enum Mishap {
-    /// Memory was refused.
+    /// An allocation failed.
     Memory,
     /// The letters were not all collected.
     Uncollected(Uncollected),

@@ -1,4 +1,4 @@
-//! Campaigns whose generals act in threads.
+//! Plays campaigns with a thread for each general.
 ghost use Rattle.std.specs.Prelude.{◌≡◌, ◌≤◌, ◌↔◌, suc, length, All, IfOk, IfErr};
 ghost use mathlib.Core.List.{IsPrefix};
 ghost use Rattle.board.specs.Board.{IsLegal};
@@ -26,30 +26,34 @@ use std::sync::Wait;
 use std::thread::Threads;
 use world::Chronicle;
 
-/// How many bytes of stack a thread gets.
+/// The stack size of each thread, in bytes.
 const STACK: usize = 1 << 20;
 
-/// The scenario's campaign, in which each general acts in a thread of his own through all rounds, and posts his
-/// letters. Before each access of a traitor's program to the board the gate may hold him.
+/// Plays the scenario's campaign with a thread for each general. A general acts in his thread through all rounds, and
+/// posts his letters. Before each access of a traitor's program to the board, the gate may hold the traitor.
 ///
-/// Whatever programs the verifier accepted, whatever the gate does, and in whatever order the generals took the lock:
-/// the chronicle is that of a complete run, the replay of its own accesses. These are one legal history from the
-/// scenario's words on; no activation has trapped (`world::activations_are_safe`, of every complete run) or taken more
-/// steps than its program has instructions (`short`); each lieutenant decides
-/// what OM(m) gives from the messages recorded; and where the bound holds, all loyal lieutenants decide alike, on the
-/// commander's order if he is loyal (TOPLAS 1982, Theorem 1).
+/// The following is so for all programs that the verifier accepts, for all gates, and in whatever order the generals
+/// take the lock:
 ///
-/// Of each access that a letter of the chronicle tells holds what the gate says of one that has passed (`Gate::passed`),
-/// with its general, its round, and its number, counted from 0 in the letter.
+/// - The chronicle is that of a complete run, namely of the replay of its own accesses.
+/// - The accesses are one legal history that begins with the scenario's words.
+/// - No activation has trapped (`world::activations_are_safe`, which covers every complete run), or taken more steps
+///   than its program has instructions (`short`).
+/// - Each lieutenant decides what OM(m) gives from the recorded messages.
+/// - If the bound holds, all loyal lieutenants decide alike, on the commander's order if he is loyal (TOPLAS 1982,
+///   Theorem 1).
 ///
-/// It waits for its threads, and answers when all of them have ended.
+/// Each access in a letter of the chronicle satisfies what the gate says of an access that has passed. `Gate::passed`
+/// holds for its general, its round and its number, counted from 0 in the letter.
+///
+/// The function joins its threads, and returns when all of them have ended.
 ///
 /// # Errors
 ///
-/// `Spawn` where a thread could not be started; those that were started are waited for first. `Memory` where memory is
-/// refused, `Post` where a general's letter found the post full: where generals fail, the error of the lowest.
-/// `Unaccounted` where the letters are not those that the ledger accounts for; that with the threads that are started
-/// here neither of the last two happens is not proved.
+/// `Spawn` if a thread could not be started; the threads that were started are joined first. `Memory` if an allocation
+/// fails. `Post` if the post was full when a general posted his letter. If several generals fail, the error is that of
+/// the lowest. `Unaccounted` if the letters are not those that the ledger accounts for. It is not proved that `Post`
+/// and `Unaccounted` never happen with the threads that are started here.
 pub fn muster<R: Threads + Wait + Sync, G: Gate + Sync>(
     rt: &R,
     alloc: Global,
@@ -72,11 +76,11 @@ pub fn muster<R: Threads + Wait + Sync, G: Gate + Sync>(
     Ok(muster_on(rt, alloc, scenario, gate, STACK)?)
 }
 
-/// The same, where each thread gets a stack of so many bytes.
+/// Plays the scenario's campaign as `muster` does, where each thread gets a stack of `stack` bytes.
 ///
 /// # Errors
 ///
-/// As `muster`.
+/// The errors are those of `muster`.
 pub fn muster_with<R: Threads + Wait + Sync, G: Gate + Sync>(
     rt: &R,
     alloc: Global,
@@ -100,7 +104,11 @@ pub fn muster_with<R: Threads + Wait + Sync, G: Gate + Sync>(
     Ok(muster_on(rt, alloc, scenario, gate, stack)?)
 }
 
-/// The same: where there is no chronicle, what was found.
+/// Plays the scenario's campaign as `muster` does, where each thread gets a stack of `stack` bytes.
+///
+/// # Errors
+///
+/// Why there is no chronicle, with the evidence for it.
 fn muster_on<R: Threads + Wait + Sync, G: Gate + Sync>(
     rt: &R,
     alloc: Global,
@@ -126,7 +134,12 @@ fn muster_on<R: Threads + Wait + Sync, G: Gate + Sync>(
     mustered::<R, G, Brand>(rt, alloc, scenario, gate, stack, unshared)
 }
 
-/// The same, by the board of this name, which opens with the scenario's words.
+/// Plays the scenario's campaign as `muster` does, on this board, which has the name `J` and is not shared yet. The
+/// board opens with the scenario's words.
+///
+/// # Errors
+///
+/// Why there is no chronicle, with the evidence for it.
 fn mustered<R: Threads + Wait + Sync, G: Gate + Sync, J: Room + Send + Sync>(
     rt: &R,
     alloc: Global,
@@ -161,8 +174,13 @@ fn mustered<R: Threads + Wait + Sync, G: Gate + Sync, J: Room + Send + Sync>(
     by_board::<R, G, J, Brand>(rt, alloc, scenario, gate, stack, board, witness, witnesses)
 }
 
-/// The same, by this board, which opens with the scenario's words, and its witnesses, one of whom stays. The accesses of
-/// the chronicle begin with what he has met. The post claims of each letter that its accesses have passed this gate.
+/// Plays the scenario's campaign as `muster` does, on this board. The board opens with the scenario's words. Each
+/// general gets one of `witnesses`, while `witness` stays here. The accesses of the chronicle begin with those that
+/// `witness` has met. The post's claim about each letter is that its accesses have passed this gate.
+///
+/// # Errors
+///
+/// Why there is no chronicle, with the evidence for it.
 fn by_board<
     R: Threads + Wait + Sync,
     G: Gate + Sync,

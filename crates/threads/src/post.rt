@@ -1,4 +1,5 @@
-//! The post. Of each general, letters are taken in the order in which he has posted them, each once.
+//! Defines the post, the queue through which threads give their letters. The letters of each general are taken in the
+//! order in which he posted them, each once.
 ghost use Rattle.std.specs.Prelude.{◌≡◌, ℕ, ◌<◌, ◌++◌, ◌∷◌, [], List, All, map, true, length, IfOk, IfErr, slice_index_or, IfSome, MatchOption, MatchResult};
 ghost use Rattle.crossbeam_queue.specs.Passes.{view, IsPassOf};
 ghost use Rattle.round.specs.Letters.{Letter as LetterSeen};
@@ -16,15 +17,16 @@ use std::alloc::{AllocError, Global};
 use std::marker::Model;
 use std::sync::Wait;
 
-/// A queue of letters that threads share. For each general, what was taken and then what is queued is what he has
-/// posted, in order, each letter once, whatever the threads do. Of each letter in it holds the claim that its type names.
+/// A queue of letters that threads share. For each general, the letters that were taken and then those that are queued
+/// are the letters that he has posted, in order and each once, whatever the threads do. The claim that its type names
+/// holds for each letter in it.
 #[derive(Drop)]
 pub struct PostOf<C: Claim> {
     queue: Queue<C>,
     alloc: Global,
 }
 
-/// A post that takes any letter.
+/// A post that accepts any letter.
 pub type Post = PostOf<AnyLetter>;
 
 impl<C: Claim> Model for PostOf<C> {
@@ -37,11 +39,11 @@ impl<C: Claim> Model for PostOf<C> {
 }
 
 impl<C: Claim> PostOf<C> {
-    /// An empty post with room for so many letters, the posters of so many generals, ascending, and the collector.
+    /// Returns an empty post with room for `capacity` letters, a poster for each general, ascending, and the collector.
     ///
     /// # Errors
     ///
-    /// `AllocError` where memory is refused.
+    /// `AllocError` if an allocation fails.
     pub fn new(
         alloc: Global,
         generals: u8,
@@ -63,7 +65,8 @@ impl<C: Claim> PostOf<C> {
         Ok((PostOf { queue, alloc }, posters, Collector { pass }))
     }
 
-    /// Posts a letter of the poster's general, of which the claim holds. It comes back where the post was full.
+    /// Posts a letter of the poster's general, for which the claim holds. Returns the letter as an error if the post is
+    /// full.
     pub fn post<R: Wait>(
         &self,
         rt: &R,
@@ -84,7 +87,7 @@ impl<C: Claim> PostOf<C> {
         (Poster { pass }, sent)
     }
 
-    /// Takes the oldest letter, where there is one.
+    /// Takes the oldest letter, if there is one.
     pub fn take<R: Wait>(&self, rt: &R, collector: Collector) -> (Collector, Option<Letter>)
         requires post { collector.table ≡ self.now.table }
         ensures post { result.0.table ≡ collector.table }
@@ -99,12 +102,12 @@ impl<C: Claim> PostOf<C> {
         (Collector { pass }, taken)
     }
 
-    /// Ends the post, and gives the letters that are queued, oldest first: with what was taken before, they are what
-    /// the posters' generals have posted. Memory for them is asked for before one is taken.
+    /// Ends the post, and returns the queued letters, oldest first. After the letters that were taken before, they are
+    /// what the posters' generals have posted. The memory for them is allocated before the first is taken.
     ///
     /// # Errors
     ///
-    /// `AllocError` where memory is refused: what was taken is then a beginning of what came.
+    /// `AllocError` if an allocation fails. The letters that were taken before are then a beginning of those that came.
     pub fn settle<R: Wait>(
         self,
         rt: &R,
@@ -130,7 +133,7 @@ impl<C: Claim> PostOf<C> {
     }
 }
 
-/// Takes all posters back.
+/// Takes all posters back into the collector's pass, and returns that pass.
 fn all_back<C: Claim>(
     queue: &Queue<C>,
     mut pass: Pass<Letter, Known>,
@@ -152,7 +155,11 @@ fn all_back<C: Claim>(
     pass
 }
 
-/// Takes what is left, in the order in which it comes.
+/// Takes the letters that are left, in the order in which they come.
+///
+/// # Errors
+///
+/// `AllocError` if an allocation fails.
 fn drain<R: Wait, C: Claim>(
     rt: &R,
     queue: &Queue<C>,

@@ -1,10 +1,10 @@
-//! The pass of one general.
+//! Defines the poster, the pass with which one general posts letters.
 use crate::knowledge::Known;
 use crossbeam_queue::Pass;
 use round::Letter;
 use std::marker::Model;
 
-/// One general's leave to post. It takes no bytes, and there is one for each general of a post.
+/// One general's permission to post letters. It takes no bytes, and there is one for each general of a post.
 #[derive(Drop)]
 pub struct Poster {
     pub(crate) pass: Pass<Letter, Known>,

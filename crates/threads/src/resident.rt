@@ -1,4 +1,4 @@
-//! A general's thread through all rounds.
+//! Runs the thread of one general through all rounds.
 ghost use Rattle.std.specs.Prelude.{◌≡◌, ◌≢◌, ℕ, ◌++◌, ◌∷◌, [], All, IfOk, IfErr, IsErrAnd};
 ghost use Rattle.round.specs.Letters.{Letter as LetterSeen};
 ghost use Rattle.threads.specs.Answers.{failure_of, failure_as, IsFailureOf};
@@ -23,14 +23,14 @@ use std::alloc::Global;
 use std::marker::Brand;
 use std::sync::Wait;
 
-/// By what a general has failed for good, as `stay` alone tells.
+/// Evidence that a general has failed for good, and why. Only `GeneralThread::stay` creates one.
 #[derive(Clone, Copy)]
 pub(crate) struct Failed {
     failure: Failure,
 }
 
 impl Failed {
-    /// The error that tells it.
+    /// Returns the error that a muster reports for this failure.
     pub(crate) fn error(self) -> MusterError
         ensures { result ≡ failure_as self.failure }
     {
@@ -38,26 +38,25 @@ impl Failed {
     }
 }
 
-/// What a general's thread has answered, as `stay` alone does.
+/// The result of a general's thread. Only `GeneralThread::stay` creates one.
 #[derive(Drop)]
 pub(crate) struct Answer {
-    /// Whose it is.
+    /// The general whose thread it was.
     general: u32,
-    /// That his inbox was closed, with his poster, which a task that fails takes from him, and with which as many
-    /// accesses are told as were served through a witness; or by what he has failed, of which the one who waits for the
-    /// letters was told.
+    /// If his inbox was closed, the evidence for that and his settled poster, which a failing task takes from him. If
+    /// he failed, the evidence that he reported it to the thread that waits for the letters.
     ended: Result<(Closed, Settled), Reported>,
 }
 
 impl Answer {
-    /// Whose it is.
+    /// Returns the general whose thread it was.
     pub(crate) fn general(&self) -> u32
         ensures { result ≡ self.now.general }
     {
         self.general
     }
 
-    /// By what he has failed, if he has.
+    /// Returns why the general has failed, or `None` if he has not.
     pub(crate) fn failure(&self) -> Option<Uncollected>
         ensures { result ≡ failure_of self.now }
     {
@@ -68,7 +67,7 @@ impl Answer {
     }
 }
 
-/// A general who stays for all rounds: his inbox, and what he shares with the others.
+/// A general who acts in one thread through all rounds: his inbox, and what he shares with the others.
 #[derive(Drop)]
 pub(crate) struct GeneralThread<'a, G, J: Room> {
     pub(crate) general: u32,
@@ -79,8 +78,8 @@ pub(crate) struct GeneralThread<'a, G, J: Room> {
 }
 
 impl<'a, G: Gate, J: Room> GeneralThread<'a, G, J> {
-    /// Does his tasks until his inbox is closed, or he fails; where he fails, he says so to the one who waits for the
-    /// letters.
+    /// Does the general's tasks until his inbox is closed or he fails. If he fails, he reports it to the thread that
+    /// waits for the letters.
     pub(crate) fn stay<R: Wait, C: Claim>(
         self,
         rt: &R,
@@ -111,13 +110,13 @@ impl<'a, G: Gate, J: Room> GeneralThread<'a, G, J> {
         }
     }
 
-    /// Does the tasks that his inbox gives him, until the inbox is closed: nothing else ends them without an error, and
-    /// none of them has failed, since his poster and his witness are still there. As many accesses are then told as were
-    /// served through it.
+    /// Does the tasks that the inbox gives, until it is closed. Nothing else ends them without an error. No task has
+    /// failed then, since the poster and the witness are still there. The poster's letters contain as many accesses as
+    /// were served through the witness.
     ///
     /// # Errors
     ///
-    /// As `do_task`.
+    /// The errors are those of `do_task`.
     fn do_tasks<R: Wait, C: Claim>(
         &self,
         rt: &R,
@@ -149,12 +148,12 @@ impl<'a, G: Gate, J: Room> GeneralThread<'a, G, J> {
         unreachable!()
     }
 
-    /// Does a task: his letter for it is posted, to be counted. With it his letters tell as many accesses as were served
-    /// through his witness, all in the history that it has met.
+    /// Does a task: posts the general's letter for it, which must then be counted. His letters including this one
+    /// contain as many accesses as were served through his witness, and the history that it has met contains them all.
     ///
     /// # Errors
     ///
-    /// `Memory` where memory is refused, `Returned` where the post is full, `Foreign` where the task is not his.
+    /// `Memory` if an allocation fails, `Returned` if the post is full, `Foreign` if the task is another general's.
     fn do_task<R: Wait, C: Claim>(
         &self,
         rt: &R,
@@ -182,12 +181,13 @@ impl<'a, G: Gate, J: Room> GeneralThread<'a, G, J> {
         Ok((uncounted, me))
     }
 
-    /// His letter for a task. Of each access that it tells holds what the gate says of one that has passed; with those
-    /// that were told before, they are as many as were served through his witness, and stand in the board's history.
+    /// Makes the general's letter for a task. Each access in it satisfies what the gate says of an access that has
+    /// passed. Together with those of his earlier letters, its accesses are as many as were served through his witness,
+    /// and the board's history contains them all.
     ///
     /// # Errors
     ///
-    /// `Memory` where memory is refused, `Foreign` where the task is not his.
+    /// `Memory` if an allocation fails, `Foreign` if the task is another general's.
     fn letter<R: Wait, T: Session>(
         &self,
         rt: &R,

@@ -1,4 +1,4 @@
-//! The letters of a round, taken out of the post.
+//! Takes the letters of a round out of the post, and checks that they are of that round.
 ghost use Rattle.std.specs.Prelude.{◌≡◌, ◌≢◌, ◌≤◌, ◌++◌, suc, All, List, IsPermutation, IsSortedByKey, IfOk, OnOk, IfErr};
 ghost use Rattle.std.specs.Ordering.{nat_cmp};
 ghost use Rattle.round.specs.Letters.{Letter as LetterSeen};
@@ -15,18 +15,19 @@ use round::{Letter, Received, Scenario, are_letters_of};
 use std::alloc::{AllocError, Global};
 use std::sync::Wait;
 
-/// That letters are not all of their round, as `of_round` alone tells.
+/// Evidence that letters are not all of their round. Only `of_round` creates one.
 #[derive(Clone, Copy)]
 pub(crate) struct Strayed {
-    /// Which round that is.
+    /// The round of which they should be.
     round: u32,
 }
 
-/// The letters of the round to come, ascending by general, which all generals have posted for their tasks of it.
+/// Takes the letters of the next round out of the post, and returns them ascending by general. All generals have posted
+/// them for their tasks of that round.
 ///
 /// # Errors
 ///
-/// `Memory` where memory is refused, `Strayed` where letters are not of that round.
+/// `Memory` if an allocation fails, `Strayed` if letters are not of that round.
 pub(crate) fn receive<R: Wait, C: Claim>(
     rt: &R,
     alloc: Global,
@@ -56,7 +57,11 @@ pub(crate) fn receive<R: Wait, C: Claim>(
     Ok((collector, letters))
 }
 
-/// Tests that letters are of this round.
+/// Checks that letters are of this round of the campaign.
+///
+/// # Errors
+///
+/// `Strayed` if they are not.
 fn of_round(scenario: &Scenario, round: u32, letters: &[Letter]) -> Result<(), Strayed>
     ensures placed { OnOk result (AreLettersOf scenario.now round letters.now) }
     ensures strayed { IfErr result (λ strayed. (¬ AreLettersOf scenario.now round letters.now)
@@ -69,8 +74,13 @@ fn of_round(scenario: &Scenario, round: u32, letters: &[Letter]) -> Result<(), S
     }
 }
 
-/// The letters that it takes out of the post until it finds none, all of them, ascending by general; of each holds what
-/// the post claims. No more is promised of them here: they are tested where they are told, and judged at the end.
+/// Takes letters out of the post until it finds none, and returns all of them, ascending by general. The post's claim
+/// holds for each. The contract promises no more here: the letters are checked when they are delivered, and judged at
+/// the end.
+///
+/// # Errors
+///
+/// `AllocError` if an allocation fails.
 fn take_letters<R: Wait, C: Claim>(
     rt: &R,
     alloc: Global,
@@ -97,7 +107,7 @@ fn take_letters<R: Wait, C: Claim>(
     Ok((collector, by_general(letters)))
 }
 
-/// The same letters, ascending by general.
+/// Returns the same letters, ascending by general.
 fn by_general(mut letters: Vec<Letter>) -> Vec<Letter>
     ensures same { IsPermutation letters.items result.items }
     ensures ascending { IsSortedByKey (λ (letter : LetterSeen). letter.general) nat_cmp result.items }

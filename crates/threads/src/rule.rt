@@ -1,4 +1,4 @@
-//! The rule of the post, and the moves that it admits.
+//! Defines the rule of the post, and the moves that the rule allows.
 use crate::claim::Claim;
 use crate::knowledge::Known;
 use crossbeam_queue::RuledArrayQueue;
@@ -6,11 +6,11 @@ use crossbeam_queue::protocol::{Join, Lesson, Outcome, Protocol, Split};
 use round::Letter;
 use std::marker::PhantomData;
 
-/// A queue under the rule.
+/// A queue that obeys the post's rule.
 pub(crate) type Queue<C> = RuledArrayQueue<Letter, Known, Delivery<C>>;
 
-/// The rule: what was taken, and then what is queued, is of each general what he has posted, and of each letter that is
-/// queued the claim holds.
+/// The rule of the post. For each general, the letters that were taken and then those that are queued are the letters
+/// that he has posted. The claim holds for each queued letter.
 #[derive(Drop)]
 pub(crate) struct Delivery<C> {
     of: PhantomData<C>,
@@ -25,7 +25,7 @@ impl<C: Claim> Protocol<Letter, Known> for Delivery<C> {
     ghost first = { collector [] 0 [] };
 }
 
-/// The collector makes the next general's poster.
+/// The move in which the collector makes the next general's poster.
 pub(crate) struct Hire;
 
 impl Split<Known> for Hire {
@@ -37,7 +37,7 @@ impl Split<Known> for Hire {
     ghost right = { λ v. poster v.made [] };
 }
 
-/// A poster comes back to the collector.
+/// The move in which a poster is returned to the collector.
 pub(crate) struct Return;
 
 impl Join<Known> for Return {
@@ -50,7 +50,7 @@ impl Join<Known> for Return {
     ghost spent = { spent };
 }
 
-/// A poster posts a letter.
+/// The move in which a poster posts a letter.
 pub(crate) struct Put;
 
 impl Outcome<Letter, Known> for Put {
@@ -64,7 +64,7 @@ impl Lesson<Letter, Known> for Put {
     ghost fact = { λ v items. Unit {0} };
 }
 
-/// The collector takes a letter, of which the claim holds, or finds none.
+/// The move in which the collector takes a letter, for which the claim holds, or finds none.
 pub(crate) struct Took<C> {
     of: PhantomData<C>,
 }

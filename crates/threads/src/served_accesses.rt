@@ -1,4 +1,4 @@
-//! The accesses that were served to one general for one task, each behind a gate.
+//! Keeps the accesses that were served to one general for one task, for each of which he passed a gate.
 ghost use Rattle.std.specs.Prelude.{◌≡◌, ◌++◌, ◌∷◌, ◌==◌, ◌<◌, [], true, count_by, vec_len, vec_capacity, IfOk, OnOk, OnErr};
 ghost use Rattle.semantics.specs.Call.{fits};
 ghost use Rattle.semantics.specs.Replies.{words_in};
@@ -14,7 +14,7 @@ use std::marker::Model;
 use std::snapshot::Snapshot;
 use std::sync::Wait;
 
-/// That a general has passed a gate, which heard the number of an access, as `Passed::gate` alone tells.
+/// Evidence that a general has passed a gate for the access of this number. Only `Passed::gate` creates one.
 #[derive(Drop)]
 pub(crate) struct Passed {
     general: u32,
@@ -23,7 +23,7 @@ pub(crate) struct Passed {
 }
 
 impl Passed {
-    /// Waits at this gate before the access of this number, counted from 0.
+    /// Waits at this gate before the access of number `nth`, counted from 0.
     pub(crate) fn gate<G: Gate>(gate: &G, general: u32, round: u32, nth: u64) -> Passed
         ensures general { result.general ≡ general }
         ensures round { result.round ≡ round }
@@ -38,11 +38,11 @@ impl Passed {
         }
     }
 
-    /// Has that access served by the board, behind its lock.
+    /// Has the access served by the board, under its lock. Returns the reply, and the access to be entered.
     ///
     /// # Errors
     ///
-    /// `AllocError` where memory is refused; then nothing was served.
+    /// `AllocError` if an allocation fails. Then nothing was served.
     pub(crate) fn apply<R: Wait, J: Room>(
         self,
         rt: &R,
@@ -82,15 +82,15 @@ impl Passed {
     }
 }
 
-/// An access that was served and is not entered yet, with its number, as `Passed::apply` alone tells: so a gate that
-/// heard this number was passed before.
+/// An access that was served and is not entered yet, with its number. Only `Passed::apply` creates one, so the general
+/// has passed a gate for this number.
 #[derive(Drop)]
 pub(crate) struct Unentered {
     mark: Mark,
     nth: u64,
 }
 
-/// An access that was made: its round, and the whole as proofs see it, which takes no bytes.
+/// An access that was made: its round, and a snapshot of the whole access for proofs, which takes no bytes.
 #[derive(Drop)]
 struct Mark {
     round: u32,
@@ -109,7 +109,7 @@ impl Model for Mark {
 }
 
 impl Mark {
-    /// Of this access.
+    /// Returns the mark of this access.
     fn new(access: &Access) -> Mark
         ensures { result ≡ access.now }
     {
@@ -119,7 +119,7 @@ impl Mark {
         }
     }
 
-    /// Its round.
+    /// Returns the round of the access.
     fn round(&self) -> u32
         ensures { result ≡ self.now.round }
     {
@@ -127,14 +127,14 @@ impl Mark {
     }
 }
 
-/// The accesses that were served to a general for a task, in order: before each he has passed a gate.
+/// The accesses that were served to a general for a task, in order. Before each of them he has passed a gate.
 #[derive(Drop)]
 pub(crate) struct Made {
     accesses: Vec<Mark>,
 }
 
 impl Made {
-    /// None so far.
+    /// Returns an empty list of accesses.
     pub(crate) fn new(alloc: Global) -> Made
         ensures { result.accesses.items ≡ [] }
     {
@@ -143,7 +143,7 @@ impl Made {
         }
     }
 
-    /// How many they are of this round.
+    /// Returns the number of accesses of this round.
     pub(crate) fn count(&self, round: u32) -> u64
         ensures { result ≡ count_by (λ a. a.round == round) self.now.accesses.items }
     {
@@ -153,11 +153,11 @@ impl Made {
             .count() as u64
     }
 
-    /// Makes room for one more.
+    /// Makes room for one more access.
     ///
     /// # Errors
     ///
-    /// `AllocError` where memory is refused.
+    /// `AllocError` if an allocation fails.
     pub(crate) fn make_room(&mut self) -> Result<(), AllocError>
         ensures same { self.new.accesses.items ≡ self.old.accesses.items }
         ensures room { OnOk result (vec_len self.new.accesses < vec_capacity self.new.accesses) }
@@ -165,7 +165,8 @@ impl Made {
         self.accesses.reserve(1)
     }
 
-    /// Enters an access, where there is room: a gate has heard how many there are of its round.
+    /// Enters an access, for which there must be room. Its number, which a gate was given, must be the number of
+    /// accesses of its round so far.
     pub(crate) fn enter(&mut self, unentered: Unentered)
         requires room { vec_len self.old.accesses < vec_capacity self.old.accesses }
         requires nth { unentered.nth ≡ count_by (λ a. a.round == unentered.mark.round) self.old.accesses.items }

@@ -1,16 +1,16 @@
-//! What is known when a general begins a task.
+//! Defines sessions, which name what contracts know when a general begins a task.
 use std::marker::Brand;
 
-/// Names what a general has told before a task, and what a gate says of an access once it has passed. Each task picks
-/// the name, which its server bears in its type: so serving cannot change it.
+/// A name for the accesses that a general's letters contain before a task, and for what a gate says of an access that
+/// has passed. Each task picks a name. The task's server has it in its type, so serving cannot change it.
 pub(crate) trait Session {
     ghost use Rattle.std.specs.Prelude.{ℕ, List};
     ghost use Rattle.board.specs.Board.{Access};
 
-    /// What he has told before.
+    /// The accesses that the general's earlier letters contain.
     ghost before: { List Access };
 
-    /// What holds of a general, a round and a number once that access has passed.
+    /// What holds for a general, a round and a number once the access of this number has passed.
     ghost passed: { ℕ → ℕ → ℕ → Type 0 };
 }
 

@@ -1,4 +1,4 @@
-//! What the generals tell the one who waits for their letters.
+//! Counts the letters that generals have posted, for the thread that waits for them.
 ghost use Rattle.std.specs.Prelude.{◌≡◌, ◌≤◌, IfOk};
 ghost use Rattle.threads.specs.Answers.{failure_as};
 
@@ -14,8 +14,8 @@ pub(crate) use count::{AllPosted, SomeoneFailed, Uncounted, send};
 pub(crate) use returned_letter::Returned;
 use std::sync::{Condvar, Mutex, Wait};
 
-/// That a general has failed, and that it was counted where the one who waits for the letters reads it, as
-/// `PostedCount::failed` alone tells.
+/// Evidence that a general has failed, and that this was recorded where the thread that waits for the letters reads it.
+/// Only `PostedCount::failed` creates one.
 #[derive(Clone, Copy)]
 pub(crate) struct Reported {
     failed: Failed,
@@ -23,7 +23,7 @@ pub(crate) struct Reported {
 }
 
 impl Reported {
-    /// The error that tells it.
+    /// Returns the error that a muster reports for this failure.
     pub(crate) fn error(self) -> MusterError
         ensures { result ≡ failure_as self.failed.failure }
     {
@@ -31,7 +31,8 @@ impl Reported {
     }
 }
 
-/// What the generals tell the one who waits for their letters.
+/// The count of the letters posted in a round, and any failure, which the generals share with the thread that waits for
+/// their letters.
 #[derive(Drop)]
 pub(crate) struct PostedCount {
     generals: usize,
@@ -40,7 +41,7 @@ pub(crate) struct PostedCount {
 }
 
 impl PostedCount {
-    /// The tally of so many generals, none of whom has posted a letter.
+    /// Returns the count for `generals` generals, of whom none has posted a letter.
     pub(crate) fn new(generals: usize) -> PostedCount
         ensures { result.generals ≡ generals }
     {
@@ -51,7 +52,7 @@ impl PostedCount {
         }
     }
 
-    /// One more general has posted his letter of the round: it is counted, and he has his poster back.
+    /// Counts one more letter that was posted in the round, and returns its general's poster.
     pub(crate) fn posted<R: Wait>(&self, rt: &R, uncounted: Uncounted) -> Poster
         ensures { result ≡ uncounted.poster }
     {
@@ -63,7 +64,7 @@ impl PostedCount {
         poster
     }
 
-    /// A general has failed: no more letters will come of him.
+    /// Records that a general has failed, so that no more letters of his will come.
     pub(crate) fn failed<R: Wait>(&self, rt: &R, failed: Failed) -> Reported
         ensures { result.failed ≡ failed }
     {
@@ -77,7 +78,7 @@ impl PostedCount {
     ///
     /// # Errors
     ///
-    /// `SomeoneFailed` where one has failed.
+    /// `SomeoneFailed` if a general has failed.
     pub(crate) fn all_posted<R: Wait>(
         &self,
         rt: &R,

@@ -1,4 +1,4 @@
-//! What a general does in a round.
+//! Defines the task of a general in a round, and makes his letter for it.
 ghost use Rattle.std.specs.Prelude.{◌≡◌, ◌<◌, ◌≤◌, ◌++◌, List, IfOk};
 ghost use Rattle.round.specs.Letters.{Letter as LetterSeen};
 ghost use Rattle.round.specs.Told.{WasTold};
@@ -8,8 +8,8 @@ use round::{Letter, Player, Received, Scenario, Server, live, loyal_letter};
 use std::alloc::{AllocError, Global};
 use std::marker::Model;
 
-/// A general's task in a round: to run his program, or, where he is loyal, to relay what he was told. It is seen as his
-/// duty.
+/// The task of a general in a round. A traitor runs his program, and a loyal general relays what he received. Contracts
+/// see it as his duty.
 #[derive(Drop)]
 pub(crate) struct Task {
     program: Player,
@@ -40,11 +40,11 @@ impl Model for Task {
 }
 
 impl Task {
-    /// A general's task in the round to come.
+    /// Returns a general's task in the next round.
     ///
     /// # Errors
     ///
-    /// `AllocError` where the memory for the context is refused.
+    /// `AllocError` if an allocation fails.
     pub(crate) fn new(
         alloc: Global,
         scenario: &Scenario,
@@ -70,18 +70,19 @@ impl Task {
         })
     }
 
-    /// Whose it is.
+    /// Returns the general whose task it is.
     pub(crate) fn general(&self) -> u32
         ensures { result ≡ self.now.general }
     {
         self.general
     }
 
-    /// The general's letter. His program's requests go to the server, and the letter tells just what it has served.
+    /// Makes the general's letter. The server serves the requests of his program, and the letter contains exactly the
+    /// accesses that it has served.
     ///
     /// # Errors
     ///
-    /// `AllocError` where memory is refused.
+    /// `AllocError` if an allocation fails.
     pub(crate) fn letter<S: Server>(
         self,
         alloc: Global,

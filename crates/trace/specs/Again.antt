@@ -1,5 +1,5 @@
--- The text that a campaign has in place of one that is not sound: that of the replay of the accesses that the text
--- tells (own).
+-- The text that a campaign should have in place of one that is not sound: the chronicle of the replay of the accesses
+-- that the text lists (own).
 use Rattle.std.specs.Prelude.{ℕ, List, Option, Some, None}
 use Rattle.round.specs.Scenario.{Scenario}
 use Rattle.world.specs.Chronicle.{Chronicle}
@@ -10,13 +10,15 @@ use Rattle.trace.specs.SignedAudit.{signed_chronicle_told}
 use Rattle.trace.specs.SignedText.{signed_text}
 use Rattle.trace.specs.Text.{chronicle_text, text_in}
 
--- in the version that is named or, without one, in that of its campaign
+-- the text of a chronicle in the given version, or in the version of its campaign if none is given
 abbrev pub text_again : Option Version → Chronicle → List ℕ
 text_again None c = chronicle_text c
 text_again (Some version) c = text_in version c
 
+-- the text that replaces a text of this scenario: the chronicle of the replay, in the version that the text names
 abbrev pub told_again : Scenario → List ℕ → List ℕ
 told_again s t = text_again (version_named s.rule t) (chronicle_told s t)
 
+-- the text that replaces a text of this signed scenario: the chronicle of the replay
 abbrev pub signed_told_again : Scenario → List ℕ → List ℕ
 signed_told_again s t = signed_text (signed_chronicle_told s t)

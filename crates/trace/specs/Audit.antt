@@ -1,4 +1,4 @@
--- What an audit answers to a text that is not sound (own).
+-- The fault that an audit reports for a text that is not sound (own).
 use Rattle.std.specs.Prelude.{ℕ, suc, ◌≡◌, ◌≢◌, ◌≤◌, ◌==◌, nat_le, if◌then◌else◌, List, [], ◌∷◌, length, take, slice_get, count_by, bytes_eq, codes, Option, Some, None}
 use Rattle.combine.specs.declared.campaign_rule.Rule.{Rule}
 use Rattle.combine.specs.Names.{is_default}
@@ -15,10 +15,11 @@ use Rattle.trace.specs.Text.{text_in}
 use Rattle.trace.specs.Names.{chronicle_told}
 use Rattle.trace.specs.Shapes.{unshaped_from}
 
--- the version that a first line names, where a campaign by the rule may be told in it
+-- the first version, if a campaign with this rule may be written in it
 abbrev pub first_version : Rule → Option Version
 first_version rule = if is_default rule then Some First else None
 
+-- the version that a chronicle's first line names, if a campaign with this rule may be written in it
 abbrev pub line_version : Rule → List ℕ → Option Version
 line_version rule line = if bytes_eq line (codes "chronicle 2") then Some Second
     else if bytes_eq line (codes "chronicle 1") then first_version rule else None
@@ -30,35 +31,36 @@ lines_version rule (line ∷ lines) = line_version rule line
 unfoldable pub version_named : Rule → List ℕ → Option Version
 version_named rule t = lines_version rule (pieces feed t)
 
--- the first place at which two texts differ: one of them may end there
+-- `place` is the first byte offset at which the two texts differ. One of them may end there.
 pub record IsFirstDifference (t other : List ℕ) (place : ℕ) : Type 0 where
   pub within : place ≤ length t
   pub same : take place t ≡ take place other
   pub differs : slice_get t place ≢ slice_get other place
 
--- the line of a place, counted from 1
+-- the number of the line, counted from 1, that contains a byte offset of the text
 abbrev pub line_at : List ℕ → ℕ → ℕ
 line_at t place = suc (count_by (λ c. c == 10) (take place t))
 
--- a first or second line that differs is not the scenario's
+-- the fault of a line that differs: in the first two lines, the text is not the scenario's
 abbrev pub differing : ℕ → TraceFault
 differing line = if nat_le line 2 then NotTheScenarios else Differs
 
--- a line of no shape comes before a difference
+-- the fault to report: the first line without a valid shape if there is one, otherwise the line that differs
 abbrev pub first_fault : Option ℕ → ℕ → TraceError
 first_fault (Some line) differs = At Line line
 first_fault None differs = At (differing differs) differs
 
--- the fault of a text that differs at this place
+-- the fault of a text that differs from the expected one at this byte offset
 unfoldable pub fault_at : List ℕ → ℕ → TraceError
 fault_at t place = first_fault (unshaped_from 1 (pieces feed t)) (line_at t place)
 
--- the text differs there from that of its replay, or at once where it is in no version of the campaign's
+-- The text first differs from the text of its replay at `place`. If the text names no version that the rule admits,
+-- `place` is 0.
 abbrev pub DiffersAt : Scenario → List ℕ → Option Version → ℕ → Type 0
 DiffersAt s t None place = place ≡ 0
 DiffersAt s t (Some version) place = IsFirstDifference t (text_in version (chronicle_told s t)) place
 
--- why the text is not sound: the fault at its first difference
+-- `e` says why the text is not sound: it is the fault for its first difference.
 pub record IsFaultOf (s : Scenario) (t : List ℕ) (e : TraceError) : Type 0 where
   pub place : ℕ
   pub differs : DiffersAt s t (version_named s.rule t) place

@@ -1,4 +1,4 @@
--- What is said of a fault.
+-- The texts of the errors of schedules and chronicles (own).
 use Rattle.std.specs.Prelude.{ℕ, List, ◌++◌, codes}
 use Rattle.std.specs.Fmt.{decimal}
 use Rattle.trace.specs.declared.fault.TraceFault.{TraceFault}
@@ -11,7 +11,7 @@ code_of Line = codes "X1"
 code_of Scenario = codes "X2"
 code_of Differs = codes "X3"
 
--- the code, and the line where there is one
+-- the text of an error: its code, and the line if it is in one
 abbrev pub told : TraceError → List ℕ
 told (At fault line) = code_of fault ++ codes " line " ++ decimal line
 told Write = codes "X4"

@@ -1,4 +1,5 @@
--- Who makes the accesses of each round, as a text tells it, and the chronicle of their replay (own).
+-- The generals who make the accesses of each round, by the lines of a text, and the chronicle of the replay of these
+-- accesses (own).
 use Rattle.std.specs.Prelude.{ℕ, cond, List, [], ◌∷◌, ◌++◌, map, filter, decimal, codes, bytes_eq}
 use Rattle.text.specs.Stop.{space, feed}
 use Rattle.text.specs.Parts.{pieces}
@@ -9,14 +10,15 @@ use Rattle.world.specs.Lists.{replayed}
 use Rattle.world.specs.Chronicle.{Chronicle, chronicle_of}
 use Rattle.trace.specs.Text.{Word, Line}
 
--- the general of this number, if he is one
+-- the general with this number, or no element if there is none
 abbrev pub general_of : Word → List ℕ
 general_of w = filter (λ g. bytes_eq (decimal g) w) (generals 13)
 
--- the names before the first line of a round, and those of each round
+-- the generals named before the first round line, and those named after each round line
 abbrev pub Named : Type 0
 Named = List ℕ × List (List ℕ)
 
+-- the generals named from this line on, where `rest` has those named after it
 abbrev pub with_line : Line → Named → Named
 with_line (w ∷ v ∷ vs) rest =
     cond (bytes_eq w (codes "round")) ([], rest.0 ∷ rest.1)
@@ -27,10 +29,10 @@ abbrev pub named : List Line → Named
 named [] = ([], [])
 named (l ∷ ls) = with_line l (named ls)
 
--- for each round line of a text, the names of the access lines behind it
+-- for each round line of a text, the generals named by the access lines between it and the next round line
 unfoldable pub names_of : List ℕ → List (List ℕ)
 names_of t = (named (map (pieces space) (pieces feed t))).1
 
--- the chronicle of the replay of the accesses that a text tells
+-- the chronicle of the replay of the accesses that a text lists
 unfoldable pub chronicle_told : Scenario → List ℕ → Chronicle
 chronicle_told s t = chronicle_of (run (opening s) (replayed s (names_of t)))

@@ -1,4 +1,4 @@
--- The shapes of a chronicle's lines: each is a line's alone, whatever its numbers (own).
+-- The shapes of a chronicle's lines: each is a property of one line only, and does not depend on its numbers (own).
 use Rattle.std.specs.Prelude.{ℕ, suc, ◌==◌, ◌&&◌, ◌||◌, nat_lt, Bool, true, false, if◌then◌else◌, List, [], ◌∷◌, length, bytes_eq, codes, Option, Some, None, is_some}
 use Rattle.std.specs.List.{list_all, list_any}
 use Rattle.combine.specs.Names.{rule_named}
@@ -8,7 +8,7 @@ use Rattle.text.specs.Number.{decimal_of}
 use Rattle.board.specs.Wording.{Row, rows}
 use Rattle.trace.specs.Text.{Word, acting_shape, loyal_shape}
 
--- a decimal number without leading zeros, of any size
+-- whether a word is a decimal number without leading zeros, of any size
 abbrev pub is_number : Word → Bool
 is_number word = is_some (decimal_of word)
 
@@ -21,15 +21,16 @@ is_place word = is_dash word || is_number word
 abbrev pub is_yes_no : Word → Bool
 is_yes_no word = bytes_eq word (codes "yes") || bytes_eq word (codes "no")
 
--- numbers joined by dots
+-- whether a word is one or more numbers joined by dots
 abbrev pub are_joined : Word → Bool
 are_joined word = list_all is_number (pieces dot word)
 
 abbrev pub are_receivers : Word → Bool
 are_receivers word = is_dash word || are_joined word
 
--- whether a word is what a word of a shape stands for: N for a number, P for a number or a dash, A for yes or no, B for
--- these or a dash, S for numbers joined by dots, R for these or a dash, C for a rule's word, any other for itself
+-- Whether a word matches a word of a shape. N matches a number, and P a number or a dash. A matches yes or no, and B
+-- these or a dash. S matches numbers joined by dots, and R these or a dash. C matches the name of a rule. Any other
+-- word matches itself only.
 unfoldable pub stands_for : Word → Word → Bool
 stands_for kind word =
     if bytes_eq kind (codes "N") then is_number word
@@ -41,7 +42,7 @@ stands_for kind word =
     else if bytes_eq kind (codes "C") then is_some (rule_named word)
     else bytes_eq word kind
 
--- the words behind those of a shape
+-- the words after those of a shape, or `None` if the line does not begin with these
 abbrev pub behind : List Word → List Word → Option (List Word)
 behind [] words = Some words
 behind (kind ∷ kinds) [] = None
@@ -54,31 +55,31 @@ abbrev pub is_nothing_left : Option (List Word) → Bool
 is_nothing_left (Some []) = true
 is_nothing_left _ = false
 
--- a line of these words and no others
+-- whether a line has the words of a shape and no others
 unfoldable pub fits : List ℕ → List Word → Bool
 fits shape words = is_nothing_left (behind_shape shape words)
 
--- the line of a version
+-- whether a line names a version
 unfoldable pub is_version : List Word → Bool
 is_version words =
     fits (codes "chronicle 1") words
     || fits (codes "chronicle 2") words
     || fits (codes "chronicle 3") words
 
--- the line of a campaign, in any version
+-- whether a line describes a campaign, in any version
 unfoldable pub is_campaign : List Word → Bool
 is_campaign words =
     fits (codes "generals N bound N commander N order N") words
     || fits (codes "generals N bound N commander N order N patience P rule C") words
     || fits (codes "signed generals N bound N commander N order N patience P") words
 
--- places to the end of a line, at least one: each label of a row has a receiver
+-- whether at least one word is left, and each is a number or a dash: a label has at least one receiver
 abbrev pub are_places : Option (List Word) → Bool
 are_places None = false
 are_places (Some []) = false
 are_places (Some (word ∷ words)) = list_all is_place (word ∷ words)
 
--- the line of a round, and those of a letter
+-- whether a line begins a round or is part of a letter
 unfoldable pub is_told : List Word → Bool
 is_told words =
     fits (codes "round N") words
@@ -87,37 +88,38 @@ is_told words =
     || fits (codes "chain N S to R") words
     || are_places (behind_shape (codes "row N") words)
 
--- so many words, all of them numbers
+-- whether there are as many words as the count says, all of them numbers
 abbrev pub is_count : Option ℕ → List Word → Bool
 is_count None words = false
 is_count (Some count) words = list_all is_number words && count == length words
 
--- how many words are copied, and the words
+-- whether the rest of a line is a count, an equals sign and as many numbers as the count says
 abbrev pub is_copied : Option (List Word) → Bool
 is_copied (Some (count ∷ equals ∷ words)) = bytes_eq equals (codes "=") && is_count (decimal_of count) words
 is_copied _ = false
 
--- an access of a request that is worded so
+-- whether a line is an access with a request of this wording
 abbrev pub is_worded : Row → List Word → Bool
 is_worded r words = if r.copies then is_copied (behind_shape r.shape words) else fits r.shape words
 
+-- whether a line is an access with any request that the board knows
 unfoldable pub is_access : List Word → Bool
 is_access words = list_any (λ r. is_worded r words) rows
 
--- a decision, and the verdict
+-- whether a line is a decision or the verdict
 unfoldable pub is_end : List Word → Bool
 is_end words =
     fits (codes "decision N N") words
     || fits (codes "decision N traitor N") words
     || fits (codes "verdict alike A obeyed B bound A") words
 
--- a line of one of the shapes
+-- whether a line has one of the shapes
 unfoldable pub is_shaped : List ℕ → Bool
 is_shaped line = let words = pieces space line in
     is_version words || is_campaign words || is_told words || is_access words || is_end words
 
--- the first line, counted from this number, that has no shape or no LF behind it, where nothing stands behind the last
--- LF; an empty text has a first line
+-- The first line that has no valid shape or no LF after it, where the lines are counted from `number`. Nothing may come
+-- after the last LF. In an empty text, the first line is such a line.
 abbrev pub unshaped_from : ℕ → List (List ℕ) → Option ℕ
 unshaped_from number [] = None
 unshaped_from number (line ∷ []) = if length line == 0 && nat_lt 1 number then None else Some number

@@ -1,4 +1,4 @@
--- What an audit of a signed campaign's text finds (own).
+-- What an audit of a signed campaign's text accepts, and the fault that it reports otherwise (own).
 use Rattle.std.specs.Prelude.{ℕ, ◌≡◌, Bool, true, false, List, [], ◌∷◌, bytes_eq, codes}
 use Rattle.text.specs.Stop.{feed}
 use Rattle.text.specs.Parts.{pieces}
@@ -12,11 +12,11 @@ use Rattle.trace.specs.Audit.{IsFirstDifference, fault_at}
 use Rattle.trace.specs.Names.{names_of}
 use Rattle.trace.specs.SignedText.{signed_text}
 
--- the chronicle of the replay of the accesses that a text tells
+-- the chronicle of the replay of the accesses that a text lists
 unfoldable pub signed_chronicle_told : Scenario → List ℕ → Chronicle
 signed_chronicle_told s t = signed_chronicle_of (played s (replayed signed_kind s (names_of t)))
 
--- an audit replays the accesses in the order that the text tells, and compares the texts
+-- The text is what the audit expects: the text of the replay of the accesses that it lists.
 abbrev pub IsSoundSignedText : Scenario → List ℕ → Type 0
 IsSoundSignedText s t = t ≡ signed_text (signed_chronicle_told s t)
 
@@ -25,15 +25,16 @@ abbrev pub is_third : List (List ℕ) → Bool
 is_third [] = false
 is_third (line ∷ lines) = bytes_eq line (codes "chronicle 3")
 
+-- whether a text names the version of signed campaigns in its first line
 unfoldable pub is_third_version : List ℕ → Bool
 is_third_version t = is_third (pieces feed t)
 
--- the text differs there from that of its replay, or at once where it names another version
+-- The text first differs from the text of its replay at `place`. If the text names another version, `place` is 0.
 abbrev pub SignedDiffersAt : Scenario → List ℕ → Bool → ℕ → Type 0
 SignedDiffersAt s t false place = place ≡ 0
 SignedDiffersAt s t true place = IsFirstDifference t (signed_text (signed_chronicle_told s t)) place
 
--- why the text is not sound: the fault at its first difference
+-- `e` says why the text is not sound: it is the fault for its first difference.
 pub record IsSignedFaultOf (s : Scenario) (t : List ℕ) (e : TraceError) : Type 0 where
   pub place : ℕ
   pub differs : SignedDiffersAt s t (is_third_version t) place

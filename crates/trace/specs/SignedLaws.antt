@@ -1,4 +1,4 @@
--- What holds of every text of a signed campaign. Each statement is the contract of a function of this crate.
+-- Laws that hold for every text of a signed campaign. Each statement is the contract of a function of this crate.
 use Rattle.std.specs.Prelude.{◌≡◌, ◌<◌, ◌↔◌, ℕ, All, List, length}
 use Rattle.round.specs.Scenario.{Scenario, IsScenario}
 use Rattle.world.specs.declared.event.Event.{Event}
@@ -10,23 +10,23 @@ use Rattle.trace.specs.Names.{names_of}
 use Rattle.trace.specs.SignedAudit.{IsSoundSignedText}
 use Rattle.trace.specs.SignedText.{signed_text}
 
--- the names that the text tells are those of its accesses, round by round
+-- The generals that the access lines of a signed chronicle's text name are those of its accesses, round by round.
 abbrev pub SignedNamesAreTold : Type 0
 SignedNamesAreTold = (c : Chronicle) → All (λ a. a.general < 13) c.accesses →
     names_of (signed_text c) ≡ names_in 1 c.accesses (length c.letters)
 
--- the text of a complete run is that of the replay of its own accesses
+-- The text of a complete run is the text of the replay of its own accesses.
 abbrev pub SignedTextsAreReplays : Type 0
 SignedTextsAreReplays = (s : Scenario) (events : List Event) → IsScenario s → IsComplete signed_kind s events →
     signed_text (signed_chronicle_of (played s events))
     ≡ signed_text (signed_chronicle_of (replay_world signed_kind s (played s events).ledger))
 
--- the text of a complete run
+-- The text is that of a complete run.
 pub record IsSignedRunText (s : Scenario) (t : List ℕ) : Type 0 where
   pub events : List Event
   pub complete : IsComplete signed_kind s events
   pub same : t ≡ signed_text (signed_chronicle_of (played s events))
 
--- the texts that an audit finds sound are exactly those of complete runs
+-- The texts that an audit finds sound are exactly those of complete runs.
 abbrev pub SoundSignedTextsAreRuns : Type 0
 SoundSignedTextsAreRuns = (s : Scenario) (t : List ℕ) → IsScenario s → IsSoundSignedText s t ↔ IsSignedRunText s t

@@ -1,5 +1,5 @@
--- The text of a signed campaign's chronicle, the third version, line by line (own). Lines of rounds and accesses, the
--- first of a letter, those of decisions and of the verdict are those of the other versions.
+-- The text of a signed campaign's chronicle, the third version, line by line (own). The lines of rounds, accesses,
+-- decisions and the verdict, and the first line of a letter, are the same as in the other versions.
 use Rattle.std.specs.Prelude.{ℕ, List, [], ◌∷◌, ◌++◌, map, flat_map, decimal, codes}
 use Rattle.round.specs.Scenario.{Scenario}
 use Rattle.round.specs.Letters.{Letter}
@@ -8,19 +8,20 @@ use Rattle.signed.specs.Entries.{Dispatch}
 use Rattle.signed.specs.Sent.{Sent, sent_by, sent_in}
 use Rattle.trace.specs.Text.{Word, Line, author_line, steps_of, text, place, campaign_words, lines_behind}
 
--- generals joined by dots, or - for none
+-- generals joined by dots, or - if there are none
 abbrev pub dotted : List ℕ → Word
 dotted [] = codes "-"
 dotted (g ∷ gs) = decimal g ++ flat_map (λ h. 46 ∷ decimal h) gs
 
--- a chain, its signers in their order, and its receivers
+-- the line of a chain: its order, its signers in their order, and its receivers
 abbrev pub chain_line : Dispatch → Line
 chain_line x = codes "chain" ∷ decimal x.chain.order ∷ dotted x.chain.signers ∷ codes "to" ∷ dotted x.receivers ∷ []
 
--- a letter of a round, with the chains that were sent in it
+-- the lines of a letter of a round: its first line, and the chains that its general sent in the round
 abbrev pub letter_lines : Sent → ℕ → Letter → List Line
 letter_lines sent round l = author_line l.general (steps_of l) ∷ map chain_line (sent_by sent round l.general)
 
+-- the first two lines: the version and the campaign
 abbrev pub head_lines : Scenario → List Line
 head_lines s =
     (codes "chronicle" ∷ codes "3" ∷ [])
@@ -28,8 +29,10 @@ head_lines s =
     ∷ (campaign_words s.generals s.bound s.commander s.order ++ codes "patience" ∷ place s.patience ∷ []))
     ∷ []
 
+-- the lines of a signed campaign's chronicle
 unfoldable pub signed_lines : Chronicle → List Line
 signed_lines c = lines_behind (head_lines c.scenario) (letter_lines (sent_in c.scenario c.letters)) c
 
+-- the text of a signed campaign's chronicle
 unfoldable pub signed_text : Chronicle → List ℕ
 signed_text c = text (signed_lines c)

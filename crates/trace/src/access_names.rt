@@ -1,4 +1,4 @@
-//! Who makes the accesses of each round, as a chronicle's text tells it.
+//! Reads from a chronicle's text which generals make accesses in each round.
 ghost use Rattle.std.specs.Prelude.{◌≡◌, ◌<◌, ◌≤◌, ◌∷◌, ◌++◌, length, map, take, option_to_list, IfOk, IfSome};
 ghost use Rattle.text.specs.Stop.{space, feed};
 ghost use Rattle.text.specs.Parts.{pieces};
@@ -12,18 +12,18 @@ use memchr::{memchr2, memrchr};
 use std::alloc::{AllocError, Global};
 use text::{SPACE, piece};
 
-/// What a line says of rounds and accesses.
+/// What a line says about rounds and accesses.
 #[derive(Clone, Copy)]
 enum Mark {
-    /// A round begins.
+    /// The line begins a round.
     Round,
-    /// This general makes an access.
+    /// The line is an access by the general of this number.
     Access(u8),
-    /// Neither.
+    /// The line neither begins a round nor is an access by a general.
     Other,
 }
 
-/// The general of a number.
+/// Returns the number of a general (0 to 12) that a word spells in decimal, or `None` if it spells none.
 #[tactic(auto, using(crate::proofs::Generals::general_none))]
 fn general(word: &[u8]) -> Option<u8>
     ensures { option_to_list result ≡ general_of word.now }
@@ -31,7 +31,8 @@ fn general(word: &[u8]) -> Option<u8>
     Some(number_within(0, 12, word)? as u8)
 }
 
-/// What the line of an access says, by the number of its general.
+/// Returns the mark of an access line whose general is given by this word. A word that is not a general's number gives
+/// `Other`.
 fn access(number: &[u8]) -> Mark
     ensures { (rest : Named) → marked result rest ≡ (general_of number.now ++ rest.0, rest.1) }
 {
@@ -41,7 +42,7 @@ fn access(number: &[u8]) -> Mark
     }
 }
 
-/// What a line says.
+/// Returns what a line says about rounds and accesses.
 fn said(line: &[u8]) -> Mark
     ensures { (rest : Named) → marked result rest ≡ with_line (pieces space line.now) rest }
 {
@@ -58,8 +59,8 @@ fn said(line: &[u8]) -> Mark
     }
 }
 
-/// The text from the first line on with a `u` or an `s`, without which no line says `round` or `access`; none where no
-/// such line is left. Rows, which most lines are, have neither.
+/// Returns the text from the first line on that has a `u` or an `s`, or `None` if there is no such line. Only such a
+/// line can say `round` or `access`. Most lines are rows, which have neither letter.
 fn from_next(text: &[u8]) -> Option<&[u8]>
     ensures names { named (map (pieces space) (lines_left result)) ≡ named (map (pieces space) (pieces feed text.now)) }
     ensures no_longer { IfSome result (λ rest. length rest.now ≤ length text.now) }
@@ -71,12 +72,13 @@ fn from_next(text: &[u8]) -> Option<&[u8]>
     }
 }
 
-/// The generals of a text's accesses, in order: first those before the line of a round, then those behind each such
-/// line. There are at most so many lists, and no more is read than they need.
+/// Returns the generals who make the accesses of a text, in the order of its lines. The first list has those before the
+/// first round line, and each further list has those after one round line. There are at most `most` lists, and the text
+/// is read only as far as they need.
 ///
 /// # Errors
 ///
-/// `AllocError` where memory is refused.
+/// `AllocError` if an allocation fails.
 #[tactic(auto, using(crate::proofs::MarkLemmas::few_lists))]
 pub fn names(alloc: Global, text: &[u8], most: usize) -> Result<Vec<Vec<u8>>, AllocError>
     requires { 0 < most }

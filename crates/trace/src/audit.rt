@@ -1,4 +1,4 @@
-//! Audits of a chronicle's text.
+//! Audits a chronicle's text: replays its accesses, and compares the text with the chronicle of that replay.
 ghost use Rattle.std.specs.Prelude.{◌≡◌, ◌≢◌, IfOk, IfErr, IfSome, IfNone, None};
 ghost use Rattle.trace.specs.declared.fault.TraceError.TheVariants.{Memory};
 ghost use Rattle.trace.specs.Text.{text_in};
@@ -18,7 +18,7 @@ use std::alloc::{AllocError, Global};
 use text::{FEED, piece};
 use world::{Chronicle, Verdict, replay};
 
-/// The first version, where a campaign by this rule may be told in it.
+/// Returns the first version if a campaign with this rule may be written in it. Only the default rule may.
 fn first_version(rule: Rule) -> Option<Version>
     ensures { result ≡ first_version rule }
 {
@@ -29,7 +29,7 @@ fn first_version(rule: Rule) -> Option<Version>
     }
 }
 
-/// The version that a first line names, where a campaign by this rule may be told in it.
+/// Returns the version that a chronicle's first line names, if a campaign with this rule may be written in it.
 fn line_version(rule: Rule, line: &[u8]) -> Option<Version>
     ensures { result ≡ line_version rule line.now }
 {
@@ -42,7 +42,8 @@ fn line_version(rule: Rule, line: &[u8]) -> Option<Version>
     }
 }
 
-/// The version that a text names, where a campaign by this rule may be told in it.
+/// Returns the version that a chronicle's text names in its first line, if a campaign with this rule may be written in
+/// it.
 #[tactic(auto, unfolding(crate::specs::Audit::version_named))]
 pub(crate) fn version_named(rule: Rule, text: &[u8]) -> Option<Version>
     ensures { result ≡ version_named rule text.now }
@@ -51,7 +52,12 @@ pub(crate) fn version_named(rule: Rule, text: &[u8]) -> Option<Version>
     line_version(rule, line)
 }
 
-/// The chronicle of the campaign in which the generals make their accesses in the order that the text tells.
+/// Replays the campaign with the accesses in the order in which the text lists them, and returns the chronicle of that
+/// replay.
+///
+/// # Errors
+///
+/// `AllocError` if an allocation fails.
 #[tactic(auto, unfolding(crate::specs::Names::chronicle_told, crate::specs::Names::names_of))]
 pub(crate) fn replayed(
     alloc: Global,
@@ -60,13 +66,14 @@ pub(crate) fn replayed(
 ) -> Result<Chronicle, AllocError>
     ensures { IfOk result (λ chronicle. chronicle ≡ chronicle_told scenario.now text.now) }
 {
-    // The names before the first round, and those of each of the campaign's rounds.
+    // One list is for the accesses before the first round line, and one for each of the campaign's rounds.
     let most = scenario.bound() as usize + 2;
     let lists = names(alloc, text, most)?;
     replay(alloc, scenario.copy(alloc)?, &lists[1..])
 }
 
-/// Where a text first differs from that of a chronicle in this version; nowhere where they are the same.
+/// Returns the byte offset at which a text first differs from a chronicle's text in this version, or `None` if the two
+/// are the same.
 fn difference(text: &[u8], version: Version, chronicle: &Chronicle) -> Option<usize>
     ensures same { IfNone result (text.now ≡ text_in version chronicle.now) }
     ensures differs { IfSome result (IsFirstDifference text.now (text_in version chronicle.now)) }
@@ -76,12 +83,12 @@ fn difference(text: &[u8], version: Version, chronicle: &Chronicle) -> Option<us
     comparison.difference()
 }
 
-/// The audit of a text: the verdict of the campaign, if the text is the chronicle of one of the scenario's, in a
-/// version that its rule admits.
+/// Audits the text of a chronicle, and returns the verdict of its campaign. The text is sound if it is the chronicle of
+/// the replay of its own accesses, in a version that the scenario's rule admits.
 ///
 /// # Errors
 ///
-/// As `sound_chronicle`.
+/// The errors are those of `sound_chronicle`.
 pub fn check(alloc: Global, scenario: &Scenario, text: &str) -> Result<Verdict, TraceError>
     ensures sound { IfOk result (λ v. IsSoundText scenario.now text.now) }
     ensures verdict { IfOk result (λ v. v ≡ (chronicle_told scenario.now text.now).verdict) }
@@ -93,16 +100,16 @@ pub fn check(alloc: Global, scenario: &Scenario, text: &str) -> Result<Verdict, 
     Ok(chronicle.verdict())
 }
 
-/// The same audit: the chronicle itself.
+/// Audits the text of a chronicle, and returns the chronicle.
 ///
-/// The accesses are replayed in the order that the text tells, and the chronicle of that replay is compared with the
-/// text.
+/// The accesses are replayed in the order in which the text lists them, and the chronicle of that replay is compared
+/// with the text.
 ///
 /// # Errors
 ///
-/// `Line` with the first line of no shape, or without its LF; where there is none, `Scenario` or `Differs` with the
-/// line of the first difference, `Scenario` in the first two lines. `Memory` where memory is refused: a text that names
-/// no version asks for none.
+/// `At` with `Line` and the first line that has no valid shape or no LF. If there is no such line, `At` with the first
+/// line that differs and `Scenario` (in the first two lines) or `Differs` (after them). `Memory` if an allocation
+/// fails, which cannot happen if the text names no version that the scenario's rule admits.
 pub fn sound_chronicle(
     alloc: Global,
     scenario: &Scenario,

@@ -1,4 +1,4 @@
-//! The lines of signed chains, written to a sink.
+//! Writes the chains of a signed campaign to a sink, a line for each chain.
 ghost use Rattle.std.specs.Prelude.{◌≡◌, ◌∷◌, [], decimal, flat_map, map};
 ghost use Rattle.signed.specs.Sending.{dispatch_of, named};
 ghost use Rattle.trace.specs.Sinks.{Wrote};
@@ -10,7 +10,7 @@ use crate::sink::Sink;
 use crate::writer::{put_all, put_behind, put_headed, put_next};
 use signed::Chain;
 
-/// Generals, each behind a dot.
+/// Writes the generals' numbers, each after a dot.
 fn put_joined<S: Sink>(sink: &mut S, generals: &[u8])
     ensures { Wrote (S.contents sink.old) (S.has_failed sink.old) (flat_map (λ g. 46 ∷ decimal g) generals.now)
         (S.contents sink.new) (S.has_failed sink.new) }
@@ -20,7 +20,7 @@ fn put_joined<S: Sink>(sink: &mut S, generals: &[u8])
     }
 }
 
-/// Generals joined by dots, or a dash for none, behind a space.
+/// Writes a space, then the generals' numbers joined by dots, or a dash if there are none.
 fn put_dotted<S: Sink>(sink: &mut S, generals: &[u8])
     ensures { Wrote (S.contents sink.old) (S.has_failed sink.old) (32 ∷ dotted generals.now) (S.contents sink.new)
         (S.has_failed sink.new) }
@@ -34,7 +34,7 @@ fn put_dotted<S: Sink>(sink: &mut S, generals: &[u8])
     }
 }
 
-/// The generals among these bits joined by dots, or a dash for none, behind a space.
+/// Writes a space, then the generals whose bits are set joined by dots, or a dash if no bit is set. Bit g is general g.
 fn put_receivers<S: Sink>(sink: &mut S, receivers: u16)
     ensures { Wrote (S.contents sink.old) (S.has_failed sink.old) (32 ∷ dotted (named receivers)) (S.contents sink.new)
         (S.has_failed sink.new) }
@@ -43,7 +43,7 @@ fn put_receivers<S: Sink>(sink: &mut S, receivers: u16)
     put_dotted(sink, generals.as_slice());
 }
 
-/// The line of a chain, with its receivers.
+/// Writes the line of a chain: its order, its signers and its receivers. Bit g of `receivers` is general g.
 fn put_chain<S: Sink>(sink: &mut S, chain: &Chain, receivers: u16)
     ensures { Wrote (S.contents sink.old) (S.has_failed sink.old)
         (text (chain_line (dispatch_of (chain.now, receivers)) ∷ [])) (S.contents sink.new) (S.has_failed sink.new) }
@@ -55,7 +55,7 @@ fn put_chain<S: Sink>(sink: &mut S, chain: &Chain, receivers: u16)
     put_all(sink, b"\n");
 }
 
-/// The lines of chains, each with its receivers, in their order.
+/// Writes the lines of chains in their order, each with its receivers as bits.
 pub fn put_chains<S: Sink>(sink: &mut S, chains: &[(Chain, u16)])
     ensures { Wrote (S.contents sink.old) (S.has_failed sink.old) (text (map chain_line (map dispatch_of chains.now)))
         (S.contents sink.new) (S.has_failed sink.new) }

@@ -1,4 +1,4 @@
-//! Whole chronicles, written to a sink.
+//! Writes whole chronicles to a sink.
 ghost use Rattle.std.specs.Prelude.{◌≡◌, ◌∷◌, [], IfErr, OnOk, false, is_err};
 ghost use Rattle.std.specs.Io.KnownBytes.{Appends};
 ghost use Rattle.label.specs.Lieutenants.{lieutenants};
@@ -16,7 +16,7 @@ use crate::writer::put_all;
 use round::Scenario;
 use world::{Chronicle, Verdict};
 
-/// The campaign's numbers, which begin the second line.
+/// Writes the numbers that begin the second line: the generals, the bound, the commander and the order.
 pub(crate) fn put_campaign_of<S: Sink>(sink: &mut S, scenario: &Scenario)
     ensures { Wrote (S.contents sink.old) (S.has_failed sink.old)
         (spaced (campaign_words scenario.now.generals scenario.now.bound scenario.now.commander scenario.now.order))
@@ -31,7 +31,7 @@ pub(crate) fn put_campaign_of<S: Sink>(sink: &mut S, scenario: &Scenario)
     );
 }
 
-/// What the version tells behind the numbers.
+/// Writes what the version adds to the second line after the numbers: the patience and the rule, or nothing.
 fn put_further_of<S: Sink>(sink: &mut S, version: Version, scenario: &Scenario)
     ensures { Wrote (S.contents sink.old) (S.has_failed sink.old)
         (further (further_words version scenario.now.patience scenario.now.rule)) (S.contents sink.new)
@@ -40,7 +40,7 @@ fn put_further_of<S: Sink>(sink: &mut S, version: Version, scenario: &Scenario)
     put_further(sink, version, scenario.patience(), scenario.rule());
 }
 
-/// The first two lines: the version and the campaign.
+/// Writes the first two lines of a chronicle: the version and the campaign.
 fn put_head<S: Sink>(sink: &mut S, version: Version, scenario: &Scenario)
     ensures { Wrote (S.contents sink.old) (S.has_failed sink.old) (text (head_lines version scenario.now))
         (S.contents sink.new) (S.has_failed sink.new) }
@@ -51,7 +51,7 @@ fn put_head<S: Sink>(sink: &mut S, version: Version, scenario: &Scenario)
     put_all(sink, b"\n");
 }
 
-/// The lines of a chronicle, in this version.
+/// Writes the lines of a chronicle in this version.
 pub(crate) fn put_chronicle<S: Sink>(sink: &mut S, version: Version, chronicle: &Chronicle)
     ensures { Wrote (S.contents sink.old) (S.has_failed sink.old) (text_in version chronicle.now) (S.contents sink.new)
         (S.has_failed sink.new) }
@@ -62,7 +62,7 @@ pub(crate) fn put_chronicle<S: Sink>(sink: &mut S, version: Version, chronicle: 
     put_verdict(sink, chronicle.verdict());
 }
 
-/// The lines of a chronicle, in the version of its campaign.
+/// Writes the lines of a chronicle in the version of its campaign.
 fn put_whole<S: Sink>(sink: &mut S, chronicle: &Chronicle)
     ensures { Wrote (S.contents sink.old) (S.has_failed sink.old) (chronicle_text chronicle.now) (S.contents sink.new)
         (S.has_failed sink.new) }
@@ -72,7 +72,11 @@ fn put_whole<S: Sink>(sink: &mut S, chronicle: &Chronicle)
     put_chronicle(sink, version, chronicle);
 }
 
-/// Writes the text of a chronicle, in this version.
+/// Writes the text of a chronicle in this version.
+///
+/// # Errors
+///
+/// `Write` if the sink has failed.
 pub(crate) fn write_in<S: Sink>(
     version: Version,
     chronicle: &Chronicle,
@@ -84,12 +88,12 @@ pub(crate) fn write_in<S: Sink>(
     written(sink)
 }
 
-/// Writes the text of a chronicle, in the version of its campaign. It takes no memory.
+/// Writes the text of a chronicle in the version of its campaign. It allocates no memory.
 ///
 /// # Errors
 ///
-/// `Write` exactly where the sink has then failed: a beginning of the text went out, nothing where it had failed
-/// before.
+/// `Write` exactly if the sink has failed when the function returns. Then only a beginning of the text was written, and
+/// nothing if the sink had failed before.
 pub fn write_chronicle<S: Sink>(chronicle: &Chronicle, sink: &mut S) -> Result<(), TraceError>
     ensures written { OnOk result (Appends (S.contents sink.old) (S.contents sink.new) (chronicle_text chronicle.now)) }
     ensures beginning { Wrote (S.contents sink.old) (S.has_failed sink.old) (chronicle_text chronicle.now)
@@ -101,11 +105,11 @@ pub fn write_chronicle<S: Sink>(chronicle: &Chronicle, sink: &mut S) -> Result<(
     written(sink)
 }
 
-/// Writes the line of a verdict. It takes no memory.
+/// Writes the line of a verdict. It allocates no memory.
 ///
 /// # Errors
 ///
-/// `Write` exactly where the sink has then failed: a beginning of the line went out.
+/// `Write` exactly if the sink has failed when the function returns. Then only a beginning of the line was written.
 pub fn write_verdict<S: Sink>(verdict: Verdict, sink: &mut S) -> Result<(), TraceError>
     ensures written { OnOk result
         (Appends (S.contents sink.old) (S.contents sink.new) (text (verdict_line verdict ∷ []))) }
@@ -118,7 +122,11 @@ pub fn write_verdict<S: Sink>(verdict: Verdict, sink: &mut S) -> Result<(), Trac
     written(sink)
 }
 
-/// That all was written, or that the sink has failed.
+/// Checks that the sink has not failed, so that all was written.
+///
+/// # Errors
+///
+/// `Write` exactly if the sink has failed.
 pub(crate) fn written<S: Sink>(sink: &S) -> Result<(), TraceError>
     ensures ok { OnOk result (S.has_failed sink.now ≡ false) }
     ensures fault { IfErr result (λ e. e ≡ unwritten) }

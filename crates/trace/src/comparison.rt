@@ -1,19 +1,19 @@
-//! Two texts, compared as the one is written.
+//! Compares a text with another text while that is being written.
 ghost use Rattle.std.specs.Prelude.{◌≡◌, ◌≢◌, ◌<◌, ◌≤◌, ◌+◌, true, false, IfNone, IfSome, None, is_some, length, slice_get, take};
 ghost use Rattle.std.specs.Int.{to_le_bytes, w64};
 ghost use Rattle.trace.specs.Compared.{eight};
 
 use crate::sink::Sink;
 
-/// A sink that compares what it takes with a text, and keeps the first difference.
+/// A sink that compares the bytes it receives with a text, and keeps the first difference.
 #[derive(Drop)]
 pub struct ComparingSink<'a> {
     text: &'a [u8],
-    /// How many bytes of the text it has taken.
+    /// The number of received bytes that are the same as in the text.
     same: usize,
-    /// What it has taken in place of the next byte, or behind the last one.
+    /// The first received byte that differs from the text or comes after the text's end.
     other: Option<u8>,
-    /// Whether it has refused what came behind that.
+    /// Whether the sink has rejected bytes because an earlier byte differed.
     failed: bool,
     ghost within: { same ≤ length text.now },
     ghost differs: { slice_get text.now same ≡ other → other ≡ None },
@@ -21,7 +21,7 @@ pub struct ComparingSink<'a> {
 }
 
 impl<'a> ComparingSink<'a> {
-    /// A comparison with this text, which has taken nothing.
+    /// Returns a sink that compares with this text and has received nothing.
     pub fn new(text: &'a [u8]) -> ComparingSink<'a>
         ensures text { result.text.now ≡ text.now }
         ensures fresh { (result.same ≡ 0) × (result.other ≡ None) × (result.failed ≡ false) }
@@ -34,7 +34,8 @@ impl<'a> ComparingSink<'a> {
         }
     }
 
-    /// The place of the first difference, none where it has taken all of the text and nothing else.
+    /// Returns the byte offset of the first difference, or `None` if the sink has received exactly the text. If the
+    /// received bytes end too early, the offset is where they end.
     pub fn difference(&self) -> Option<usize>
         ensures none { IfNone result ((self.now.other ≡ None) × (self.now.same ≡ length self.now.text.now)) }
         ensures some { IfSome result (λ place. (place ≡ self.now.same)
@@ -51,7 +52,7 @@ impl<'a> ComparingSink<'a> {
 impl<'a> Sink for ComparingSink<'a> {
     ghost use Rattle.trace.specs.Compared.{compared, taken};
 
-    // What it has taken, behind the text itself: so the text is known to stay the same.
+    // The contents are the text and then the received bytes, so the contracts show that the text does not change.
     ghost contents = { λ c. compared c.text.now (taken c.text.now c.same c.other) };
 
     ghost has_failed = { λ c. c.failed };
@@ -78,7 +79,7 @@ impl<'a> Sink for ComparingSink<'a> {
     }
 }
 
-/// How many bytes are alike at the front of a text and of a piece.
+/// Returns the number of leading bytes in which a text and a piece agree.
 fn alike(text: &[u8], piece: &[u8]) -> usize
     ensures text { result ≤ length text.now }
     ensures piece { result ≤ length piece.now }
@@ -94,7 +95,8 @@ fn alike(text: &[u8], piece: &[u8]) -> usize
     most
 }
 
-/// How many bytes at the front are alike, eight by eight.
+/// Returns a multiple of 8 such that a text and a piece agree in that many leading bytes. It compares eight bytes at a
+/// time.
 fn alike_words(text: &[u8], piece: &[u8]) -> usize
     ensures text { result ≤ length text.now }
     ensures piece { result ≤ length piece.now }
@@ -110,7 +112,7 @@ fn alike_words(text: &[u8], piece: &[u8]) -> usize
     8 * words
 }
 
-/// The eight bytes from a place on, as a number.
+/// Returns the eight bytes from `place` on as a little-endian number.
 fn word_at(bytes: &[u8], place: usize) -> u64
     requires { place + 8 ≤ length bytes.now }
     ensures { to_le_bytes w64 result ≡ eight place bytes.now }

@@ -1,3 +1,4 @@
+//! The errors of schedules and chronicles: what is wrong with a text, and in which line.
 ghost use Rattle.std.specs.Prelude.{◌≡◌};
 ghost use Rattle.trace.specs.declared.fault.TraceError.TheVariants.{Memory};
 
@@ -5,14 +6,14 @@ use std::alloc::{AllocError, AllocFailed};
 use std::error::Error;
 use std::fmt;
 
-/// What is wrong with a line of a schedule or a chronicle.
+/// A fault in a line of a schedule or a chronicle.
 #[derive(Clone, Copy, Debug, PartialEq, Eq, Drop)]
 pub enum TraceFault {
-    /// A line of no shape.
+    /// The line is not a valid line of such a text.
     Line,
-    /// A first or second line that is missing or not the scenario's.
+    /// The first or second line is missing, or it is not the scenario's.
     Scenario,
-    /// Another difference.
+    /// A line after the second differs from the chronicle of the replay.
     Differs,
 }
 
@@ -33,13 +34,14 @@ impl fmt::Display for TraceFault {
 
 impl Error for TraceFault {}
 
-/// Why a text is no schedule or no chronicle of a scenario: the first fault with its line; or why one was not written.
+/// Why a text is not a schedule or not a chronicle of a scenario, or why a text was not written.
 #[derive(Clone, Copy, Debug, PartialEq, Eq, Drop)]
 pub enum TraceError {
-    /// A fault at a line, counted from 1.
+    /// The text has this fault in this line, counted from 1.
     At(TraceFault, u64),
-    /// The sink has failed.
+    /// The sink failed.
     Write,
+    /// An allocation failed.
     Memory,
 }
 

@@ -1,11 +1,11 @@
-//! The first line of a text, and the lines behind it.
+//! Splits a text after its first line.
 ghost use Rattle.std.specs.Prelude.{◌≡◌, ◌<◌, IfNone, IfSome, length};
 ghost use Rattle.text.specs.Stop.{feed};
 ghost use Rattle.text.specs.Parts.{GivesPieces, pieces};
 
 use memchr::memchr;
 
-/// The first line of a text, and what stands behind its line feed: none behind the last line.
+/// Returns the first line of a text without its LF, and the text after that LF, or `None` if the text has no LF.
 pub fn parted(text: &[u8]) -> (&[u8], Option<&[u8]>)
     ensures first { GivesPieces feed result.0.now result.1 (pieces feed text.now) }
     ensures last { IfNone result.1 (result.0.now ≡ text.now) }

@@ -1,4 +1,4 @@
-//! The first two lines of a chronicle, written to a sink.
+//! Writes the first two lines of a chronicle to a sink.
 ghost use Rattle.std.specs.Prelude.{◌≡◌, ◌∷◌, [], Option};
 ghost use Rattle.combine.specs.Rule.{rule_name};
 ghost use Rattle.trace.specs.Sinks.{Wrote};
@@ -10,7 +10,7 @@ use crate::version::Version;
 use crate::writer::{put_all, put_headed};
 use combine::Rule;
 
-/// The line of the version.
+/// Writes the line that names the version.
 pub fn put_version<S: Sink>(sink: &mut S, version: Version)
     ensures { Wrote (S.contents sink.old) (S.has_failed sink.old) (text (version_line version ∷ []))
         (S.contents sink.new) (S.has_failed sink.new) }
@@ -21,7 +21,7 @@ pub fn put_version<S: Sink>(sink: &mut S, version: Version)
     }
 }
 
-/// The campaign's numbers, which begin the second line.
+/// Writes the numbers that begin the second line: the generals, the bound, the commander and the order.
 pub fn put_campaign<S: Sink>(sink: &mut S, generals: u32, bound: u32, commander: u32, order: u32)
     ensures { Wrote (S.contents sink.old) (S.has_failed sink.old)
         (spaced (campaign_words generals bound commander order)) (S.contents sink.new) (S.has_failed sink.new) }
@@ -32,7 +32,7 @@ pub fn put_campaign<S: Sink>(sink: &mut S, generals: u32, bound: u32, commander:
     put_headed(sink, b" order", order as u64);
 }
 
-/// The rule's word, behind a space.
+/// Writes a space and the name of the rule.
 fn put_rule<S: Sink>(sink: &mut S, rule: Rule)
     ensures { Wrote (S.contents sink.old) (S.has_failed sink.old) (32 ∷ rule_name rule) (S.contents sink.new)
         (S.has_failed sink.new) }
@@ -41,7 +41,7 @@ fn put_rule<S: Sink>(sink: &mut S, rule: Rule)
     put_all(sink, rule.name().as_bytes());
 }
 
-/// The patience and the rule.
+/// Writes the patience and the rule, with their words, as the second version has them.
 fn put_conditions<S: Sink>(sink: &mut S, patience: Option<u32>, rule: Rule)
     ensures { Wrote (S.contents sink.old) (S.has_failed sink.old) (further (further_words Version.Second patience rule))
         (S.contents sink.new) (S.has_failed sink.new) }
@@ -52,7 +52,8 @@ fn put_conditions<S: Sink>(sink: &mut S, patience: Option<u32>, rule: Rule)
     put_rule(sink, rule);
 }
 
-/// What a version tells behind the numbers.
+/// Writes what a version adds to the second line after the numbers: the patience and the rule in the second version,
+/// nothing in the first.
 pub fn put_further<S: Sink>(sink: &mut S, version: Version, patience: Option<u32>, rule: Rule)
     ensures { Wrote (S.contents sink.old) (S.has_failed sink.old) (further (further_words version patience rule))
         (S.contents sink.new) (S.has_failed sink.new) }

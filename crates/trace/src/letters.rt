@@ -1,4 +1,4 @@
-//! The letters of a campaign and what the lieutenants decided, written to a sink.
+//! Writes the rounds of a campaign with their letters, and the lieutenants' decisions, to a sink.
 ghost use Rattle.std.specs.Prelude.{◌≡◌, ◌<◌, [], flat_map, length, slice_get, slice_index_or};
 ghost use Rattle.round.specs.Scenario.{is_traitor};
 ghost use Rattle.label.specs.Lieutenants.{lieutenants};
@@ -14,7 +14,7 @@ use board::Access;
 use outbox::Outbox;
 use round::{Letter, Round, Scenario};
 
-/// The lines of an outbox's rows, by rank.
+/// Writes the lines of an outbox's rows, ascending by rank.
 fn put_rows<S: Sink>(sink: &mut S, outbox: &Outbox)
     ensures { Wrote (S.contents sink.old) (S.has_failed sink.old) (text (row_lines 0 outbox.now.rows))
         (S.contents sink.new) (S.has_failed sink.new) }
@@ -26,21 +26,21 @@ fn put_rows<S: Sink>(sink: &mut S, outbox: &Outbox)
     put_all(sink, lines.as_slice());
 }
 
-/// Whose letter it is.
+/// Returns the number of the general who wrote the letter.
 pub(crate) fn general_of(letter: &Letter) -> u32
     ensures { result ≡ letter.now.general }
 {
     letter.general
 }
 
-/// Whom it tells what.
+/// Returns the letter's outbox, which holds the orders that its general sent.
 fn outbox_of(letter: &Letter) -> &Outbox
     ensures { result.now ≡ letter.now.outbox }
 {
     &letter.outbox
 }
 
-/// The steps of a traitor's letter; none where its general is loyal.
+/// Returns the number of steps that a traitor's program took for the letter, or `None` if its general is loyal.
 pub(crate) fn steps_of(letter: &Letter) -> Option<u32>
     ensures { result ≡ steps_of letter.now }
 {
@@ -50,7 +50,7 @@ pub(crate) fn steps_of(letter: &Letter) -> Option<u32>
     }
 }
 
-/// The lines of a letter.
+/// Writes the lines of a letter: its first line and its rows.
 fn put_letter<S: Sink>(sink: &mut S, letter: &Letter)
     ensures { Wrote (S.contents sink.old) (S.has_failed sink.old) (text (letter_lines letter.now)) (S.contents sink.new)
         (S.has_failed sink.new) }
@@ -59,7 +59,7 @@ fn put_letter<S: Sink>(sink: &mut S, letter: &Letter)
     put_rows(sink, outbox_of(letter));
 }
 
-/// The lines of a round's letters, in their order.
+/// Writes the lines of a round's letters, in their order.
 fn put_letters<S: Sink>(sink: &mut S, letters: &[Letter])
     ensures { Wrote (S.contents sink.old) (S.has_failed sink.old) (text (flat_map letter_lines letters.now))
         (S.contents sink.new) (S.has_failed sink.new) }
@@ -69,7 +69,7 @@ fn put_letters<S: Sink>(sink: &mut S, letters: &[Letter])
     }
 }
 
-/// The lines of a round: its own, its accesses and its letters.
+/// Writes the lines of a round: the round's own line, its accesses and its letters.
 fn put_one<S: Sink>(sink: &mut S, round: u64, accesses: &[Access], letters: &[Letter])
     ensures { Wrote (S.contents sink.old) (S.has_failed sink.old) (text (one_round round accesses.now letters.now))
         (S.contents sink.new) (S.has_failed sink.new) }
@@ -79,7 +79,7 @@ fn put_one<S: Sink>(sink: &mut S, round: u64, accesses: &[Access], letters: &[Le
     put_letters(sink, letters);
 }
 
-/// The letters of a round, counted from 0.
+/// Returns the letters of the round with this number, where the first round has the number 0.
 pub(crate) fn letters_of(rounds: &[Round], number: usize) -> &[Letter]
     requires { number < length rounds.now }
     ensures { result.now ≡ slice_index_or rounds.now number [] }
@@ -87,7 +87,7 @@ pub(crate) fn letters_of(rounds: &[Round], number: usize) -> &[Letter]
     rounds[number].letters()
 }
 
-/// The lines of the rounds from the first on: of each its own, its accesses and its letters.
+/// Writes the lines of all rounds from the first on: each round's own line, its accesses and its letters.
 pub fn put_rounds<S: Sink>(sink: &mut S, accesses: &[Access], rounds: &[Round])
     ensures { Wrote (S.contents sink.old) (S.has_failed sink.old) (text (round_lines 1 accesses.now rounds.now))
         (S.contents sink.new) (S.has_failed sink.new) }
@@ -102,14 +102,14 @@ pub fn put_rounds<S: Sink>(sink: &mut S, accesses: &[Access], rounds: &[Round])
     }
 }
 
-/// The decision at this place, where there is one.
+/// Returns the decision at this position of the list, or `None` if the list is shorter.
 fn decision_at(decisions: &[u32], place: usize) -> Option<u32>
     ensures { result ≡ slice_get decisions.now place }
 {
     decisions.get(place).copied()
 }
 
-/// The line of a lieutenant's decision, where he has one.
+/// Writes the line of a lieutenant's decision, or nothing if there is no decision.
 fn put_decided<S: Sink>(sink: &mut S, scenario: &Scenario, general: u8, decision: Option<u32>)
     requires { general < scenario.now.generals }
     ensures { Wrote (S.contents sink.old) (S.has_failed sink.old) (text (decided_lines scenario.now general decision))
@@ -123,7 +123,7 @@ fn put_decided<S: Sink>(sink: &mut S, scenario: &Scenario, general: u8, decision
     }
 }
 
-/// The lines of the lieutenants' decisions, ascending by number.
+/// Writes the lines of the lieutenants' decisions, ascending by the lieutenants' numbers.
 pub fn put_decisions<S: Sink>(sink: &mut S, scenario: &Scenario, decisions: &[u32])
     ensures { Wrote (S.contents sink.old) (S.has_failed sink.old)
         (text (decision_lines scenario.now (lieutenants scenario.now.generals scenario.now.commander) decisions.now))

@@ -1,4 +1,4 @@
-//! The texts of campaigns: chronicles and schedules.
+//! Reads and writes the texts of campaigns: reads schedules, and writes and audits chronicles.
 #![tactic(auto)]
 
 mod access_names;

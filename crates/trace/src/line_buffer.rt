@@ -1,4 +1,4 @@
-//! Lines that are put together before they are written.
+//! Collects lines in a buffer before they are written to a sink.
 ghost use Rattle.std.specs.Prelude.{◌≡◌, IsFalse, ◌+◌, ◌*◌, ◌≤◌, ◌++◌, ◌∷◌, ◌<◌, [], length, map, replicate, take, decimal};
 ghost use Rattle.trace.specs.Text.{further, place};
 ghost use Rattle.trace.specs.Lines.{repeated};
@@ -6,12 +6,12 @@ ghost use Rattle.trace.specs.Lines.{repeated};
 use itoa::write_digits;
 use std::marker::Model;
 
-/// The bytes of lines so far, at most 1,024. A label's row has at most 158: its rank and each of at most 13 orders take
-/// 11 bytes at most.
+/// A buffer of lines, which holds at most 1,024 bytes. The line of a label's row takes at most 158 of them: its rank
+/// and each of its at most 13 orders take at most 11.
 #[derive(Drop)]
 pub struct LineBuffer {
     bytes: [u8; 1024],
-    /// How many they are.
+    /// The number of bytes that are used.
     count: usize,
 }
 
@@ -26,7 +26,7 @@ impl Model for LineBuffer {
 }
 
 impl LineBuffer {
-    /// Lines of no bytes.
+    /// Returns an empty buffer.
     pub fn new() -> LineBuffer
         ensures { result ≡ [] }
     {
@@ -36,14 +36,14 @@ impl LineBuffer {
         }
     }
 
-    /// Begins anew.
+    /// Empties the buffer.
     pub fn clear(&mut self)
         ensures { self.new ≡ [] }
     {
         self.count = 0;
     }
 
-    /// Adds a piece.
+    /// Appends the bytes of a piece.
     pub fn add(&mut self, piece: &[u8])
         requires { length self.old + length piece.now ≤ 1024 }
         ensures { self.new ≡ self.old ++ piece.now }
@@ -51,7 +51,7 @@ impl LineBuffer {
         self.count = with_piece(&mut self.bytes, self.count, piece);
     }
 
-    /// Adds a space and a number.
+    /// Appends a space and a number in decimal.
     pub fn add_number(&mut self, number: u32)
         requires { length self.old + 11 ≤ 1024 }
         ensures added { self.new ≡ self.old ++ 32 ∷ decimal number }
@@ -60,7 +60,8 @@ impl LineBuffer {
         self.count = with_number(&mut self.bytes, self.count, number);
     }
 
-    /// Adds what receivers were told: orders, or dashes for nothing, each behind a space.
+    /// Appends the orders that were sent to the receivers of a label, each after a space. A dash means that none was
+    /// sent.
     pub fn add_orders(&mut self, orders: &[Option<u32>])
         requires { length self.old + 11 * length orders.now ≤ 1024 }
         ensures added { self.new ≡ self.old ++ further (map place orders.now) }
@@ -73,7 +74,8 @@ impl LineBuffer {
         self.count = count;
     }
 
-    /// Adds what so many receivers were told alike: an order, or dashes for nothing, each behind a space.
+    /// Appends the order that was sent to each of `times` receivers alike, `times` times and each time after a space. A
+    /// dash means that none was sent.
     pub fn add_alike(&mut self, order: Option<u32>, times: u32)
         requires { length self.old + 11 * times ≤ 1024 }
         ensures added { self.new ≡ self.old ++ further (map place (replicate times order)) }
@@ -82,14 +84,14 @@ impl LineBuffer {
         self.count = with_alike(&mut self.bytes, self.count, order, times);
     }
 
-    /// Whether there may be no room for a row more.
+    /// Returns whether the buffer may lack room for another row's line.
     pub fn is_full(&self) -> bool
         ensures { IsFalse result → length self.now + 158 ≤ 1024 }
     {
         self.count > 1024 - 158
     }
 
-    /// The bytes so far.
+    /// Returns the bytes that the buffer holds.
     pub fn as_slice(&self) -> &[u8]
         ensures { result.now ≡ self.now }
     {
@@ -97,7 +99,7 @@ impl LineBuffer {
     }
 }
 
-/// Writes a piece behind the first bytes: how many they then are.
+/// Writes a piece after the first `count` bytes, and returns the new count.
 fn with_piece(bytes: &mut [u8], count: usize, piece: &[u8]) -> usize
     requires { count + length piece.now ≤ length bytes.old }
     ensures count { result ≡ count + length piece.now }
@@ -108,7 +110,7 @@ fn with_piece(bytes: &mut [u8], count: usize, piece: &[u8]) -> usize
     end
 }
 
-/// Writes a space and a sign behind the first bytes: how many they then are.
+/// Writes a space and a sign after the first `count` bytes, and returns the new count.
 fn with_sign(bytes: &mut [u8], count: usize, sign: u8) -> usize
     requires { count + 2 ≤ length bytes.old }
     ensures count { result ≡ count + 2 }
@@ -119,7 +121,7 @@ fn with_sign(bytes: &mut [u8], count: usize, sign: u8) -> usize
     count + 2
 }
 
-/// Writes a space and a sign behind the first bytes, so many times: how many they then are.
+/// Writes a space and a sign `times` times after the first `count` bytes, and returns the new count.
 fn with_signs(bytes: &mut [u8], count: usize, sign: u8, times: u32) -> usize
     requires { count + 11 * times ≤ length bytes.old }
     ensures count { result ≤ count + 11 * times }
@@ -132,7 +134,7 @@ fn with_signs(bytes: &mut [u8], count: usize, sign: u8, times: u32) -> usize
     end
 }
 
-/// Writes a piece behind the first bytes, so many times: how many they then are.
+/// Writes a piece of at most 11 bytes `times` times after the first `count` bytes, and returns the new count.
 fn with_copies(bytes: &mut [u8], count: usize, piece: &[u8], times: u32) -> usize
     requires room { count + 11 * times ≤ length bytes.old }
     requires short { length piece.now ≤ 11 }
@@ -146,7 +148,7 @@ fn with_copies(bytes: &mut [u8], count: usize, piece: &[u8], times: u32) -> usiz
     end
 }
 
-/// Writes a space and a number behind the first bytes, so many times: how many they then are.
+/// Writes a space and a number `times` times after the first `count` bytes, and returns the new count.
 fn with_digits(bytes: &mut [u8], count: usize, number: u32, times: u32) -> usize
     requires { count + 11 * times ≤ length bytes.old }
     ensures count { result ≤ count + 11 * times }
@@ -158,7 +160,7 @@ fn with_digits(bytes: &mut [u8], count: usize, number: u32, times: u32) -> usize
     with_copies(bytes, count, &digits[start - 1..], times)
 }
 
-/// Writes a digit behind the first bytes: how many they then are.
+/// Writes a digit after the first `count` bytes, and returns the new count.
 fn with_digit(bytes: &mut [u8], count: usize, digit: u32) -> usize
     requires room { count < length bytes.old }
     requires digit { digit < 10 }
@@ -169,7 +171,7 @@ fn with_digit(bytes: &mut [u8], count: usize, digit: u32) -> usize
     count + 1
 }
 
-/// Writes a space and a number of at most two digits behind the first bytes: how many they then are.
+/// Writes a space and a number of one or two digits after the first `count` bytes, and returns the new count.
 fn with_two(bytes: &mut [u8], count: usize, number: u32) -> usize
     requires room { count + 3 ≤ length bytes.old }
     requires number { number < 100 }
@@ -184,7 +186,7 @@ fn with_two(bytes: &mut [u8], count: usize, number: u32) -> usize
     }
 }
 
-/// Writes a space and a number behind the first bytes: how many they then are.
+/// Writes a space and a number after the first `count` bytes, and returns the new count.
 fn with_number(bytes: &mut [u8], count: usize, number: u32) -> usize
     requires { count + 11 ≤ length bytes.old }
     ensures count { result ≤ count + 11 }
@@ -200,7 +202,7 @@ fn with_number(bytes: &mut [u8], count: usize, number: u32) -> usize
     }
 }
 
-/// Writes a space and an order, or a dash for nothing, behind the first bytes: how many they then are.
+/// Writes a space and an order, or a dash for no order, after the first `count` bytes, and returns the new count.
 fn with_place(bytes: &mut [u8], count: usize, order: Option<u32>) -> usize
     requires { count + 11 ≤ length bytes.old }
     ensures count { result ≤ count + 11 }
@@ -212,8 +214,8 @@ fn with_place(bytes: &mut [u8], count: usize, order: Option<u32>) -> usize
     }
 }
 
-/// Writes an order, or a dash for nothing, each behind a space, so many times behind the first bytes: how many they
-/// then are.
+/// Writes a space and an order, or a dash for no order, `times` times after the first `count` bytes. Returns the new
+/// count.
 fn with_alike(bytes: &mut [u8], count: usize, order: Option<u32>, times: u32) -> usize
     requires { count + 11 * times ≤ length bytes.old }
     ensures count { result ≤ count + 11 * times }

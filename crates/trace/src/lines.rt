@@ -1,4 +1,4 @@
-//! The lines of a chronicle, written to a sink.
+//! Writes single lines of a chronicle to a sink.
 ghost use Rattle.std.specs.Prelude.{◌≡◌, ◌==◌, ◌<◌, ◌≤◌, ◌+◌, ◌++◌, ◌∷◌, [], ℕ, decimal, codes, length, map, filter, Option, slice_index_or};
 ghost use Rattle.semantics.specs.Replies.{words_in};
 ghost use Rattle.trace.specs.Sinks.{Wrote, WroteBut};
@@ -13,7 +13,7 @@ use outbox::{Outbox, ReceiverOrders};
 use semantics::{Reply, Request};
 use world::Verdict;
 
-/// Numbers, each behind a space.
+/// Writes the numbers, each after a space.
 fn put_numbers<S: Sink>(sink: &mut S, numbers: &[u64])
     ensures { Wrote (S.contents sink.old) (S.has_failed sink.old) (further (map decimal numbers.now))
         (S.contents sink.new) (S.has_failed sink.new) }
@@ -23,7 +23,7 @@ fn put_numbers<S: Sink>(sink: &mut S, numbers: &[u64])
     }
 }
 
-/// A word and numbers, each behind a space.
+/// Writes a word and numbers, each after a space.
 fn put_words<S: Sink>(sink: &mut S, word: &[u8], numbers: &[u64])
     ensures { Wrote (S.contents sink.old) (S.has_failed sink.old) (further (word.now ∷ map decimal numbers.now))
         (S.contents sink.new) (S.has_failed sink.new) }
@@ -33,7 +33,7 @@ fn put_words<S: Sink>(sink: &mut S, word: &[u8], numbers: &[u64])
     put_numbers(sink, numbers);
 }
 
-/// What was asked: the word and the numbers.
+/// Writes a request: its word and its numbers, each after a space.
 fn put_question<S: Sink>(sink: &mut S, request: &Request)
     ensures { Wrote (S.contents sink.old) (S.has_failed sink.old) (further (question request.now)) (S.contents sink.new)
         (S.has_failed sink.new) }
@@ -42,7 +42,7 @@ fn put_question<S: Sink>(sink: &mut S, request: &Request)
     put_words(sink, worded(request).word.as_bytes(), &numbers[..count]);
 }
 
-/// The words of a reply, each behind a space.
+/// Writes the words of a reply, each after a space.
 fn put_reply<S: Sink>(sink: &mut S, reply: &Reply)
     ensures { Wrote (S.contents sink.old) (S.has_failed sink.old) (further (map decimal (words_in reply.now)))
         (S.contents sink.new) (S.has_failed sink.new) }
@@ -53,7 +53,7 @@ fn put_reply<S: Sink>(sink: &mut S, reply: &Reply)
     }
 }
 
-/// The line of an access.
+/// Writes the line of an access: its general, the request and the reply.
 pub fn put_access<S: Sink>(sink: &mut S, access: &Access)
     ensures { Wrote (S.contents sink.old) (S.has_failed sink.old) (text (access_line access.now ∷ []))
         (S.contents sink.new) (S.has_failed sink.new) }
@@ -65,7 +65,7 @@ pub fn put_access<S: Sink>(sink: &mut S, access: &Access)
     put_all(sink, b"\n");
 }
 
-/// The line of an access, where it is one of this round.
+/// Writes the line of an access if it was made in this round, and nothing otherwise.
 fn put_access_in<S: Sink>(sink: &mut S, round: u64, access: &Access)
     ensures { Wrote (S.contents sink.old) (S.has_failed sink.old)
         (text (map access_line (filter (λ a. a.round == round) (access.now ∷ [])))) (S.contents sink.new)
@@ -76,7 +76,7 @@ fn put_access_in<S: Sink>(sink: &mut S, round: u64, access: &Access)
     }
 }
 
-/// The lines of the accesses of a round, in their order.
+/// Writes the lines of the accesses that were made in this round, in their order.
 pub fn put_accesses<S: Sink>(sink: &mut S, round: u64, accesses: &[Access])
     ensures { Wrote (S.contents sink.old) (S.has_failed sink.old)
         (text (map access_line (filter (λ a. a.round == round) accesses.now))) (S.contents sink.new)
@@ -87,7 +87,7 @@ pub fn put_accesses<S: Sink>(sink: &mut S, round: u64, accesses: &[Access])
     }
 }
 
-/// The line of a round.
+/// Writes the line that begins a round.
 pub fn put_round<S: Sink>(sink: &mut S, round: u64)
     ensures { Wrote (S.contents sink.old) (S.has_failed sink.old) (text (round_line round ∷ [])) (S.contents sink.new)
         (S.has_failed sink.new) }
@@ -96,7 +96,7 @@ pub fn put_round<S: Sink>(sink: &mut S, round: u64)
     put_all(sink, b"\n");
 }
 
-/// An order, or a dash for nothing, behind a space.
+/// Writes a space and an order, or a dash for no order.
 pub fn put_order<S: Sink>(sink: &mut S, order: Option<u32>)
     ensures { Wrote (S.contents sink.old) (S.has_failed sink.old) (32 ∷ place order) (S.contents sink.new)
         (S.has_failed sink.new) }
@@ -107,8 +107,8 @@ pub fn put_order<S: Sink>(sink: &mut S, order: Option<u32>)
     }
 }
 
-/// Adds what the receivers of a label were told, by its rank: orders, or dashes for nothing, each behind a space. They
-/// are 13 at most, of 11 bytes each: 143 bytes.
+/// Appends the orders that were sent to the receivers of the label of this rank, each after a space. A dash means that
+/// none was sent. There are at most 13 receivers and 11 bytes for each, so at most 143 bytes.
 fn add_orders(line: &mut LineBuffer, outbox: &Outbox, rank: u32)
     requires rank { rank < length outbox.now.rows }
     requires room { length line.old + 143 ≤ 1024 }
@@ -121,7 +121,7 @@ fn add_orders(line: &mut LineBuffer, outbox: &Outbox, rank: u32)
     }
 }
 
-/// Adds the line of a label's row: its rank, and what its receivers were told.
+/// Appends the line of a label's row: its rank, and the orders that were sent to its receivers.
 fn add_row(lines: &mut LineBuffer, outbox: &Outbox, rank: u32)
     requires rank { rank < length outbox.now.rows }
     requires room { length lines.old + 158 ≤ 1024 }
@@ -133,7 +133,7 @@ fn add_row(lines: &mut LineBuffer, outbox: &Outbox, rank: u32)
     lines.add(b"\n");
 }
 
-/// Writes the lines, and begins them anew, where there may be no room for a row more.
+/// Writes the buffered lines and empties the buffer, if it may lack room for another row's line.
 fn put_full<S: Sink>(sink: &mut S, lines: &mut LineBuffer)
     ensures put { WroteBut (S.contents sink.old) (S.has_failed sink.old) lines.old (S.contents sink.new)
         (S.has_failed sink.new) lines.new }
@@ -145,7 +145,8 @@ fn put_full<S: Sink>(sink: &mut S, lines: &mut LineBuffer)
     }
 }
 
-/// The line of a label's row behind these lines: what is not written yet is kept in them.
+/// Appends the line of a label's row to the buffered lines, and writes them if the buffer may lack room for another
+/// row. Lines that are not written yet stay in the buffer.
 pub fn put_row<S: Sink>(sink: &mut S, lines: &mut LineBuffer, outbox: &Outbox, rank: u32)
     requires rank { rank < length outbox.now.rows }
     requires room { length lines.old + 158 ≤ 1024 }
@@ -158,7 +159,8 @@ pub fn put_row<S: Sink>(sink: &mut S, lines: &mut LineBuffer, outbox: &Outbox, r
     put_full(sink, lines);
 }
 
-/// The first line of a letter: a loyal general's, or a traitor's with the steps that he took.
+/// Writes the first line of a letter. A traitor's letter has the number of steps that his program took, and a loyal
+/// general's has none.
 pub fn put_author<S: Sink>(sink: &mut S, general: u32, steps: Option<u32>)
     ensures { Wrote (S.contents sink.old) (S.has_failed sink.old) (text (author_line general steps ∷ []))
         (S.contents sink.new) (S.has_failed sink.new) }
@@ -173,7 +175,7 @@ pub fn put_author<S: Sink>(sink: &mut S, general: u32, steps: Option<u32>)
     }
 }
 
-/// What marks a traitor's decision.
+/// Writes the word that marks a traitor's decision, or nothing for a loyal lieutenant.
 fn put_mark<S: Sink>(sink: &mut S, is_traitor: bool)
     ensures { Wrote (S.contents sink.old) (S.has_failed sink.old) (further (mark is_traitor)) (S.contents sink.new)
         (S.has_failed sink.new) }
@@ -183,7 +185,7 @@ fn put_mark<S: Sink>(sink: &mut S, is_traitor: bool)
     }
 }
 
-/// The line of a lieutenant's decision.
+/// Writes the line of a lieutenant's decision.
 pub fn put_decision<S: Sink>(sink: &mut S, general: u32, is_traitor: bool, decision: u32)
     ensures { Wrote (S.contents sink.old) (S.has_failed sink.old)
         (text (decision_line general is_traitor decision ∷ [])) (S.contents sink.new) (S.has_failed sink.new) }
@@ -194,7 +196,7 @@ pub fn put_decision<S: Sink>(sink: &mut S, general: u32, is_traitor: bool, decis
     put_all(sink, b"\n");
 }
 
-/// Yes or no, behind a space.
+/// Writes a space and `yes` or `no`.
 fn put_yes_no<S: Sink>(sink: &mut S, is_so: bool)
     ensures { Wrote (S.contents sink.old) (S.has_failed sink.old) (32 ∷ yes_no is_so) (S.contents sink.new)
         (S.has_failed sink.new) }
@@ -206,7 +208,7 @@ fn put_yes_no<S: Sink>(sink: &mut S, is_so: bool)
     }
 }
 
-/// Yes, no, or a dash, behind a space.
+/// Writes a space and `yes`, `no` or a dash.
 fn put_yes_no_none<S: Sink>(sink: &mut S, is_so: Option<bool>)
     ensures { Wrote (S.contents sink.old) (S.has_failed sink.old) (32 ∷ yes_no_none is_so) (S.contents sink.new)
         (S.has_failed sink.new) }
@@ -217,7 +219,7 @@ fn put_yes_no_none<S: Sink>(sink: &mut S, is_so: Option<bool>)
     }
 }
 
-/// The line of the verdict.
+/// Writes the line of the verdict.
 pub fn put_verdict<S: Sink>(sink: &mut S, verdict: Verdict)
     ensures { Wrote (S.contents sink.old) (S.has_failed sink.old) (text (verdict_line verdict ∷ []))
         (S.contents sink.new) (S.has_failed sink.new) }

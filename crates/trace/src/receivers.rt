@@ -1,11 +1,11 @@
-//! Receivers as bits: bit g for general g.
+//! Reads sets of generals that are stored as bits: bit g is general g.
 ghost use Rattle.std.specs.Prelude.{◌≡◌, ◌<◌, ◌==◌};
 ghost use Rattle.std.specs.Int.{bit_at};
 ghost use Rattle.signed.specs.Sending.{named};
 
 use arrayvec::ArrayVec;
 
-/// Whether the general is among them.
+/// Returns whether the bit of this general is set.
 fn has(bits: u16, general: u8) -> bool
     requires { general < 16 }
     ensures { result ≡ (bit_at bits general == 1) }
@@ -13,7 +13,7 @@ fn has(bits: u16, general: u8) -> bool
     (bits >> general) & 1 == 1
 }
 
-/// The numbers of the bits among them, ascending.
+/// Returns the numbers of the set bits, in ascending order.
 pub fn named(bits: u16) -> ArrayVec<u8, 16>
     ensures { result.items ≡ named bits }
 {

@@ -1,11 +1,11 @@
-//! Why a text is not sound.
+//! Finds why an audit rejects a text: the fault and its line.
 ghost use Rattle.std.specs.Prelude.{◌≡◌, ◌≤◌, ◌==◌, count_by, length};
 ghost use Rattle.trace.specs.Audit.{differing, fault_at, line_at};
 
 use crate::fault::{TraceError, TraceFault};
 use crate::shapes::unshaped;
 
-/// How many line feeds stand in a text.
+/// Returns the number of line feeds in a text.
 fn feeds(text: &[u8]) -> usize
     ensures value { result ≡ count_by (λ c. c == 10) text.now }
     ensures bound { result ≤ length text.now }
@@ -17,7 +17,7 @@ fn feeds(text: &[u8]) -> usize
     count
 }
 
-/// The line of a place, counted from 1.
+/// Returns the number of the line, counted from 1, that contains a byte offset of the text.
 fn line_at(text: &[u8], place: usize) -> u64
     requires { place ≤ length text.now }
     ensures { result ≡ line_at text.now place }
@@ -25,7 +25,7 @@ fn line_at(text: &[u8], place: usize) -> u64
     feeds(&text[..place]) as u64 + 1
 }
 
-/// A first or second line that differs is not the scenario's.
+/// Returns the fault of a line that differs: `Scenario` in the first two lines, `Differs` after them.
 fn differing(line: u64) -> TraceFault
     ensures { result ≡ differing line }
 {
@@ -36,7 +36,8 @@ fn differing(line: u64) -> TraceFault
     }
 }
 
-/// The fault of a text that differs at this place: a line of no shape comes first.
+/// Returns the error for a text that differs from the expected chronicle at the byte offset `place`. If a line has no
+/// valid shape, the first such line is reported instead of the difference.
 #[tactic(auto, unfolding(crate::specs::Audit::fault_at))]
 pub fn refusal(text: &[u8], place: usize) -> TraceError
     requires { place ≤ length text.now }

@@ -1,4 +1,4 @@
-//! The text that a campaign has in place of one that is not sound.
+//! Computes the text that a campaign should have in place of one that is not sound.
 ghost use Rattle.std.specs.Prelude.{◌≡◌, IfOk, OnOk};
 ghost use Rattle.std.specs.Io.KnownBytes.{Appends};
 ghost use Rattle.trace.specs.Again.{text_again, told_again, signed_told_again};
@@ -15,7 +15,11 @@ use signed::SignedChronicle;
 use std::alloc::{AllocError, Global};
 use world::Chronicle;
 
-/// The text of a chronicle, in this version or, without one, in that of its campaign.
+/// Returns the text of a chronicle in the given version, or in the version of its campaign if none is given.
+///
+/// # Errors
+///
+/// `AllocError` if an allocation fails.
 fn text_again(
     alloc: Global,
     version: Option<Version>,
@@ -34,12 +38,13 @@ fn text_again(
     }
 }
 
-/// The text of the chronicle of the campaign in which the generals make their accesses in the order that this text
-/// tells, in the version that it names.
+/// Replays the campaign with the accesses in the order in which the text lists them, and returns the text of that
+/// replay's chronicle. The version is the one that the text names, or the campaign's if the text names no version that
+/// the scenario's rule admits.
 ///
 /// # Errors
 ///
-/// `AllocError` where memory is refused.
+/// `AllocError` if an allocation fails.
 pub fn told_again(alloc: Global, scenario: &Scenario, text: &[u8]) -> Result<Vec<u8>, AllocError>
     ensures { IfOk result (λ again. again.items ≡ told_again scenario.now text.now) }
 {
@@ -47,7 +52,11 @@ pub fn told_again(alloc: Global, scenario: &Scenario, text: &[u8]) -> Result<Vec
     text_again(alloc, version_named(scenario.rule(), text), &chronicle)
 }
 
-/// The text of a signed chronicle.
+/// Returns the text of a signed chronicle.
+///
+/// # Errors
+///
+/// `AllocError` if an allocation fails.
 fn signed_again(alloc: Global, chronicle: &SignedChronicle) -> Result<Vec<u8>, AllocError>
     ensures { IfOk result (λ again. again.items ≡ signed_text chronicle.now) }
 {
@@ -58,11 +67,12 @@ fn signed_again(alloc: Global, chronicle: &SignedChronicle) -> Result<Vec<u8>, A
     }
 }
 
-/// The same of a signed campaign, which has one version.
+/// Replays the signed campaign with the accesses in the order in which the text lists them, and returns the text of
+/// that replay's chronicle. Signed chronicles have only one version.
 ///
 /// # Errors
 ///
-/// `AllocError` where memory is refused.
+/// `AllocError` if an allocation fails.
 pub fn signed_told_again(
     alloc: Global,
     scenario: &Scenario,

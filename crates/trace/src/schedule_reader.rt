@@ -1,4 +1,4 @@
-//! Schedules, read from their text.
+//! Reads schedules from their text.
 ghost use Rattle.std.specs.Prelude.{◌≡◌, ◌≢◌, ◌≤◌, ◌<◌, ◌^◌, ◌++◌, ◌∷◌, [], IfOk, IfErr, IfSome, Ok, Err, None, Some};
 ghost use Rattle.text.specs.Parts.{pieces, lines_of};
 ghost use Rattle.trace.specs.declared.fault.TraceError.TheVariants.{Memory};
@@ -11,13 +11,13 @@ use world::{Repeat, Schedule, ScheduleLine};
 
 const STAR: Stop = Stop::Byte(b'*');
 
-/// The most bytes of a schedule.
+/// The greatest length of a schedule, in bytes.
 pub const MOST_SCHEDULE_BYTES: usize = 1_048_576;
 
-/// The most lines of a schedule: one for each round.
+/// The greatest number of lines of a schedule, which has a line for each round.
 const MOST_LINES: u64 = 5;
 
-/// A decimal number between two others.
+/// Returns the number that a text spells in decimal, if it is from `least` to `most`.
 #[tactic(auto, unfolding(crate::specs::Schedules::number_within))]
 pub(crate) fn number_within(least: u16, most: u16, part: &[u8]) -> Option<u16>
     ensures value { result ≡ number_within least most part.now }
@@ -31,7 +31,7 @@ pub(crate) fn number_within(least: u16, most: u16, part: &[u8]) -> Option<u16>
     }
 }
 
-/// An entry, `G` or `G*K`.
+/// Parses an entry of a schedule, `G` or `G*K`: general G (0 to 12), K times (1 to 4096) or once.
 #[tactic(auto, using(crate::proofs::EntryLemmas::entry_too_long))]
 fn entry(part: &[u8]) -> Option<Repeat>
     ensures { result ≡ entry_of (pieces star part.now) }
@@ -49,7 +49,12 @@ fn entry(part: &[u8]) -> Option<Repeat>
     Some(Repeat { general, times })
 }
 
-/// The entries of a line; none where a part of it is no entry.
+/// Parses the entries of a line, which a space separates. Returns `None` if a part of the line is not an entry. An
+/// empty line has no entries.
+///
+/// # Errors
+///
+/// `AllocError` if an allocation fails.
 fn entries(alloc: Global, line: &[u8]) -> Result<Option<ScheduleLine>, AllocError>
     ensures { IfOk result (λ told. told ≡ line_told line.now) }
 {
@@ -69,12 +74,12 @@ fn entries(alloc: Global, line: &[u8]) -> Result<Option<ScheduleLine>, AllocErro
     Ok(Some(ScheduleLine { repeats }))
 }
 
-/// The schedule that a text tells.
+/// Reads a schedule from its text.
 ///
 /// # Errors
 ///
-/// `Line` with the first line that tells no entries; a text above 1,048,576 bytes has its fault at line 1, and a sixth
-/// line is one. `Memory` where there is none for a further entry.
+/// `At` with `Line` and the first line that is not a list of entries, or that is the sixth line. A text of more than
+/// 1,048,576 bytes has this fault in line 1. `Memory` if an allocation fails.
 #[tactic(auto, unfolding(crate::specs::Schedules::schedule_told))]
 pub fn read_schedule(alloc: Global, text: &str) -> Result<Schedule, TraceError>
     ensures told { IfOk result (λ s. schedule_told text.now ≡ Ok s) }

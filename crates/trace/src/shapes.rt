@@ -1,4 +1,5 @@
-//! The shapes of a chronicle's lines.
+//! Checks the shapes of a chronicle's lines. A shape is the words of a line, where a capital letter matches any word of
+//! one kind.
 ghost use Rattle.std.specs.Prelude.{◌≡◌, ◌&&◌, ◌==◌, Some, option_map, codes, length, map};
 ghost use Rattle.std.specs.List.{list_all, list_any};
 ghost use Rattle.text.specs.Stop.{dot, space, feed};
@@ -11,21 +12,21 @@ use board::{Wording, wordings};
 use combine::Rule;
 use text::{DOT, FEED, SPACE, decimal, piece};
 
-/// Whether a word is a number, or a dash for nothing.
+/// Returns whether a word is a number, or a dash for nothing.
 fn is_place(word: &[u8]) -> bool
     ensures { result ≡ is_place word.now }
 {
     word == b"-".as_slice() || decimal(word).is_some()
 }
 
-/// Whether a word is yes or no.
+/// Returns whether a word is `yes` or `no`.
 fn is_yes_no(word: &[u8]) -> bool
     ensures { result ≡ is_yes_no word.now }
 {
     word == b"yes".as_slice() || word == b"no".as_slice()
 }
 
-/// Whether a word is numbers joined by dots.
+/// Returns whether a word is one or more numbers joined by dots.
 fn are_joined(word: &[u8]) -> bool
     ensures { result ≡ are_joined word.now }
 {
@@ -40,16 +41,16 @@ fn are_joined(word: &[u8]) -> bool
     true
 }
 
-/// Whether a word is numbers joined by dots, or a dash for none.
+/// Returns whether a word is numbers joined by dots, or a dash for no receivers.
 fn are_receivers(word: &[u8]) -> bool
     ensures { result ≡ are_receivers word.now }
 {
     word == b"-".as_slice() || are_joined(word)
 }
 
-/// Whether a word is what a word of a shape stands for: `N` for a number, `P` for a number or a dash, `A` for yes or
-/// no, `B` for these or a dash, `S` for numbers joined by dots, `R` for these or a dash, `C` for a rule's word, any
-/// other for itself.
+/// Returns whether a word matches a word of a shape. `N` matches a number, and `P` a number or a dash. `A` matches
+/// `yes` or `no`, and `B` these or a dash. `S` matches numbers joined by dots, and `R` these or a dash. `C` matches the
+/// name of a rule. Any other word matches itself only.
 #[tactic(auto, unfolding(crate::specs::Shapes::stands_for))]
 fn stands_for(kind: &[u8], word: &[u8]) -> bool
     ensures { result ≡ stands_for kind.now word.now }
@@ -73,7 +74,8 @@ fn stands_for(kind: &[u8], word: &[u8]) -> bool
     }
 }
 
-/// What is left of a line behind the words of a shape, where it begins with them.
+/// Returns what is left of a line after the words of a shape, or `None` if the line does not begin with them. The inner
+/// value is `None` if no word is left.
 #[tactic(auto, unfolding(crate::specs::Shapes::behind_shape))]
 fn behind<'a>(shape: &[u8], line: &'a [u8]) -> Option<Option<&'a [u8]>>
     ensures { option_map (left space) result ≡ behind_shape shape.now (pieces space line.now) }
@@ -92,7 +94,7 @@ fn behind<'a>(shape: &[u8], line: &'a [u8]) -> Option<Option<&'a [u8]>>
     Some(words)
 }
 
-/// Whether a line has the words of a shape and no others.
+/// Returns whether a line has the words of a shape and no others.
 #[tactic(auto, using(crate::proofs::ShapeLemmas::more_left), unfolding(crate::specs::Shapes::fits))]
 fn fits(shape: &[u8], line: &[u8]) -> bool
     ensures { result ≡ fits shape.now (pieces space line.now) }
@@ -103,7 +105,7 @@ fn fits(shape: &[u8], line: &[u8]) -> bool
     }
 }
 
-/// Whether a line is that of a version.
+/// Returns whether a line is the one that names a version.
 #[tactic(auto, unfolding(crate::specs::Shapes::is_version))]
 fn is_version(line: &[u8]) -> bool
     ensures { result ≡ is_version (pieces space line.now) }
@@ -111,7 +113,7 @@ fn is_version(line: &[u8]) -> bool
     fits(b"chronicle 1", line) || fits(b"chronicle 2", line) || fits(b"chronicle 3", line)
 }
 
-/// Whether a line is that of a campaign, in any version.
+/// Returns whether a line is the one that describes a campaign, in any version.
 #[tactic(auto, unfolding(crate::specs::Shapes::is_campaign))]
 fn is_campaign(line: &[u8]) -> bool
     ensures { result ≡ is_campaign (pieces space line.now) }
@@ -127,7 +129,7 @@ fn is_campaign(line: &[u8]) -> bool
         )
 }
 
-/// Whether all of these words are numbers or dashes.
+/// Returns whether each of these words is a number or a dash.
 fn are_places(words: &[u8]) -> bool
     ensures { result ≡ list_all is_place (pieces space words.now) }
 {
@@ -142,7 +144,7 @@ fn are_places(words: &[u8]) -> bool
     true
 }
 
-/// Whether a line is a label's row, which has a place for each receiver, at least one.
+/// Returns whether a line is a label's row, which has a number or a dash for each receiver and at least one receiver.
 #[tactic(auto, using(crate::proofs::ShapeLemmas::no_places, crate::proofs::ShapeLemmas::some_places))]
 fn is_row(line: &[u8]) -> bool
     ensures { result ≡ are_places (behind_shape (codes "row N") (pieces space line.now)) }
@@ -153,7 +155,7 @@ fn is_row(line: &[u8]) -> bool
     }
 }
 
-/// Whether a line is a round's, or one of a letter's: its first, a signed chain's, a label's row.
+/// Returns whether a line begins a round, or is part of a letter: its first line, a signed chain or a label's row.
 #[tactic(auto, unfolding(crate::specs::Shapes::is_told))]
 fn is_told(line: &[u8]) -> bool
     ensures { result ≡ is_told (pieces space line.now) }
@@ -165,7 +167,7 @@ fn is_told(line: &[u8]) -> bool
         || is_row(line)
 }
 
-/// Whether so many words are left, all of them numbers.
+/// Returns whether exactly `count` words are left, and all of them are numbers.
 fn is_count(count: u128, words: Option<&[u8]>) -> bool
     ensures { result ≡ is_count (Some count) (left space words.entry) }
 {
@@ -182,7 +184,7 @@ fn is_count(count: u128, words: Option<&[u8]>) -> bool
     count == met
 }
 
-/// Whether what is left of a line tells how many words are copied, and the words.
+/// Returns whether the rest of a line is the number of copied words, an equals sign and that many numbers.
 fn is_copied(words: Option<&[u8]>) -> bool
     ensures { result ≡ is_copied (Some (left space words.entry)) }
 {
@@ -202,7 +204,8 @@ fn is_copied(words: Option<&[u8]>) -> bool
     }
 }
 
-/// Whether a line has the words of a shape, and behind them how many words are copied, and the words.
+/// Returns whether a line has the words of a shape, and after them the number of copied words, an equals sign and that
+/// many numbers.
 fn is_copy(shape: &[u8], line: &[u8]) -> bool
     ensures { result ≡ is_copied (behind_shape shape.now (pieces space line.now)) }
 {
@@ -212,7 +215,7 @@ fn is_copy(shape: &[u8], line: &[u8]) -> bool
     }
 }
 
-/// Whether a line is an access of a request that is worded so.
+/// Returns whether a line is an access with a request of this wording.
 fn is_worded(wording: &Wording, line: &[u8]) -> bool
     ensures { result ≡ is_worded (row_of wording.now) (pieces space line.now) }
 {
@@ -224,7 +227,7 @@ fn is_worded(wording: &Wording, line: &[u8]) -> bool
     }
 }
 
-/// Whether a line is an access of a request that is worded as one of these.
+/// Returns whether a line is an access with a request of one of these wordings.
 fn is_any(wordings: &[Wording], line: &[u8]) -> bool
     ensures { result ≡ list_any (λ r. is_worded r (pieces space line.now)) (map row_of wordings.now) }
 {
@@ -236,7 +239,7 @@ fn is_any(wordings: &[Wording], line: &[u8]) -> bool
     false
 }
 
-/// Whether a line is an access.
+/// Returns whether a line is an access with any request that the board knows.
 #[tactic(auto, unfolding(crate::specs::Shapes::is_access))]
 fn is_access(line: &[u8]) -> bool
     ensures { result ≡ is_access (pieces space line.now) }
@@ -244,7 +247,7 @@ fn is_access(line: &[u8]) -> bool
     is_any(wordings(), line)
 }
 
-/// Whether a line is a decision or the verdict.
+/// Returns whether a line is a decision or the verdict.
 #[tactic(auto, unfolding(crate::specs::Shapes::is_end))]
 fn is_end(line: &[u8]) -> bool
     ensures { result ≡ is_end (pieces space line.now) }
@@ -254,7 +257,7 @@ fn is_end(line: &[u8]) -> bool
         || fits(b"verdict alike A obeyed B bound A", line)
 }
 
-/// Whether a line has one of the shapes.
+/// Returns whether a line has one of the shapes that a chronicle's lines have.
 #[tactic(auto, unfolding(crate::specs::Shapes::is_shaped))]
 fn is_shaped(line: &[u8]) -> bool
     ensures { result ≡ is_shaped line.now }
@@ -262,7 +265,8 @@ fn is_shaped(line: &[u8]) -> bool
     is_version(line) || is_campaign(line) || is_told(line) || is_access(line) || is_end(line)
 }
 
-/// The first line of a text, counted from 1, that has no shape or no line feed behind it; an empty text has one.
+/// Returns the number of the first line, counted from 1, that has no valid shape or no LF after it. Returns `None` if
+/// there is no such line. In an empty text, the first line is such a line.
 #[tactic(auto, using(crate::proofs::ShapeLemmas::shaped_line, crate::proofs::ShapeLemmas::unshaped_line))]
 pub fn unshaped(text: &[u8]) -> Option<u64>
     ensures { result ≡ unshaped_from 1 (pieces feed text.now) }

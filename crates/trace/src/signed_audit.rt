@@ -1,4 +1,4 @@
-//! Audits of a signed chronicle's text.
+//! Audits a signed chronicle's text: replays its accesses, and compares the text with the chronicle of that replay.
 ghost use Rattle.std.specs.Prelude.{◌≡◌, ◌≢◌, IfOk, IfErr, IfSome, IfNone, false};
 ghost use Rattle.trace.specs.declared.fault.TraceError.TheVariants.{Memory};
 ghost use Rattle.trace.specs.Audit.{IsFirstDifference};
@@ -16,7 +16,7 @@ use std::alloc::{AllocError, Global};
 use text::{FEED, piece};
 use world::Verdict;
 
-/// Whether a text names the version of signed campaigns.
+/// Returns whether the first line of a text names version 3, that of signed campaigns.
 #[tactic(auto, unfolding(crate::specs::SignedAudit::is_third_version))]
 fn is_third_version(text: &[u8]) -> bool
     ensures { result ≡ is_third_version text.now }
@@ -25,7 +25,12 @@ fn is_third_version(text: &[u8]) -> bool
     line == b"chronicle 3".as_slice()
 }
 
-/// The chronicle of the signed campaign in which the generals make their accesses in the order that the text tells.
+/// Replays the signed campaign with the accesses in the order in which the text lists them, and returns the chronicle
+/// of that replay.
+///
+/// # Errors
+///
+/// `AllocError` if an allocation fails.
 pub(crate) fn signed_replayed(
     alloc: Global,
     scenario: &Scenario,
@@ -33,13 +38,14 @@ pub(crate) fn signed_replayed(
 ) -> Result<SignedChronicle, AllocError>
     ensures { IfOk result (λ chronicle. chronicle ≡ signed_chronicle_told scenario.now text.now) }
 {
-    // The names before the first round, and those of each of the campaign's rounds.
+    // One list is for the accesses before the first round line, and one for each of the campaign's rounds.
     let most = scenario.bound() as usize + 2;
     let lists = names(alloc, text, most)?;
     replay_signed(alloc, scenario.copy(alloc)?, &lists[1..])
 }
 
-/// Where a text first differs from that of a chronicle; nowhere where they are the same.
+/// Returns the byte offset at which a text first differs from a signed chronicle's text, or `None` if the two are the
+/// same.
 fn signed_difference(text: &[u8], chronicle: &SignedChronicle) -> Option<usize>
     ensures same { IfNone result (text.now ≡ signed_text chronicle.now) }
     ensures differs { IfSome result (IsFirstDifference text.now (signed_text chronicle.now)) }
@@ -49,17 +55,17 @@ fn signed_difference(text: &[u8], chronicle: &SignedChronicle) -> Option<usize>
     comparison.difference()
 }
 
-/// The audit of a signed campaign's text: the verdict of the campaign, if the text is the chronicle of one of the
-/// scenario's.
+/// Audits the text of a signed campaign's chronicle, and returns the verdict of the campaign.
 ///
-/// The accesses are replayed in the order that the text tells, and the chronicle of that replay is compared with the
-/// text.
+/// The accesses are replayed in the order in which the text lists them, and the chronicle of that replay is compared
+/// with the text.
 ///
 /// # Errors
 ///
-/// `Line` with the first line of no shape, or without its LF; where there is none, `Scenario` or `Differs` with the
-/// line of the first difference, `Scenario` in the first two lines; the first one differs where its version is another.
-/// `Memory` where memory is refused: a text of another version asks for none.
+/// `At` with `Line` and the first line that has no valid shape or no LF. If there is no such line, `At` with the first
+/// line that differs and `Scenario` (in the first two lines) or `Differs` (after them). If the first line names another
+/// version, it is the line that differs. `Memory` if an allocation fails, which cannot happen if the text names another
+/// version.
 pub fn check_signed(alloc: Global, scenario: &Scenario, text: &str) -> Result<Verdict, TraceError>
     ensures sound { IfOk result (λ v. IsSoundSignedText scenario.now text.now) }
     ensures verdict { IfOk result (λ v. v ≡ (signed_chronicle_told scenario.now text.now).verdict) }
@@ -71,11 +77,11 @@ pub fn check_signed(alloc: Global, scenario: &Scenario, text: &str) -> Result<Ve
     Ok(chronicle.verdict())
 }
 
-/// The same audit: the chronicle itself.
+/// Audits the text of a signed campaign's chronicle, and returns the chronicle.
 ///
 /// # Errors
 ///
-/// Those of `check_signed`.
+/// The errors are those of `check_signed`.
 pub fn sound_signed_chronicle(
     alloc: Global,
     scenario: &Scenario,

@@ -1,4 +1,4 @@
-//! Whole chronicles of signed campaigns, written to a sink.
+//! Writes whole chronicles of signed campaigns to a sink.
 ghost use Rattle.std.specs.Prelude.{◌≡◌, IfErr, OnOk, is_err};
 ghost use Rattle.std.specs.Io.KnownBytes.{Appends};
 ghost use Rattle.trace.specs.declared.fault.TraceError.TheVariants.{Write as unwritten};
@@ -16,7 +16,7 @@ use crate::writer::put_all;
 use round::Scenario;
 use signed::SignedChronicle;
 
-/// The first two lines: the version and the campaign.
+/// Writes the first two lines of a signed campaign's chronicle: the version and the campaign.
 fn put_signed_head<S: Sink>(sink: &mut S, scenario: &Scenario)
     ensures { Wrote (S.contents sink.old) (S.has_failed sink.old) (text (head_lines scenario.now)) (S.contents sink.new)
         (S.has_failed sink.new) }
@@ -28,7 +28,7 @@ fn put_signed_head<S: Sink>(sink: &mut S, scenario: &Scenario)
     put_all(sink, b"\n");
 }
 
-/// The lines of a signed campaign's chronicle.
+/// Writes the lines of a signed campaign's chronicle.
 pub(crate) fn put_signed<S: Sink>(sink: &mut S, chronicle: &SignedChronicle)
     ensures { Wrote (S.contents sink.old) (S.has_failed sink.old) (signed_text chronicle.now) (S.contents sink.new)
         (S.has_failed sink.new) }
@@ -39,12 +39,12 @@ pub(crate) fn put_signed<S: Sink>(sink: &mut S, chronicle: &SignedChronicle)
     put_verdict(sink, chronicle.verdict());
 }
 
-/// Writes the text of a signed campaign's chronicle, which is version 3. It takes no memory.
+/// Writes the text of a signed campaign's chronicle, in version 3. It allocates no memory.
 ///
 /// # Errors
 ///
-/// `Write` exactly where the sink has then failed: a beginning of the text went out, nothing where it had failed
-/// before.
+/// `Write` exactly if the sink has failed when the function returns. Then only a beginning of the text was written, and
+/// nothing if the sink had failed before.
 pub fn write_signed<S: Sink>(chronicle: &SignedChronicle, sink: &mut S) -> Result<(), TraceError>
     ensures written { OnOk result (Appends (S.contents sink.old) (S.contents sink.new) (signed_text chronicle.now)) }
     ensures beginning { Wrote (S.contents sink.old) (S.has_failed sink.old) (signed_text chronicle.now)

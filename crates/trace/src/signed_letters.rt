@@ -1,4 +1,4 @@
-//! The rounds of a campaign of signed messages, written to a sink.
+//! Writes the rounds of a signed campaign with their letters to a sink.
 ghost use Rattle.std.specs.Prelude.{◌≡◌, flat_map, map};
 ghost use Rattle.signed.specs.Sending.{dispatch_of};
 ghost use Rattle.signed.specs.Sent.{sent_by, sent_in};
@@ -14,7 +14,7 @@ use crate::sink::Sink;
 use round::Letter;
 use signed::{Chain, SignedChronicle};
 
-/// Whose letter it is: one of at most 13 generals.
+/// Returns the number of the general who wrote the letter. There are at most 13 generals, so it fits in a byte.
 fn number_of(letter: &Letter) -> u8
     ensures { result ≡ letter.now.general }
 {
@@ -23,7 +23,7 @@ fn number_of(letter: &Letter) -> u8
     letter.general as u8
 }
 
-/// The chains that a letter sent in a round, each with its receivers.
+/// Returns the chains that the general of a letter sent in this round, each with its receivers as bits.
 fn sent_by<'a>(chronicle: &'a SignedChronicle, round: usize, letter: &Letter) -> &'a [(Chain, u16)]
     ensures { map dispatch_of result.now
         ≡ sent_by (sent_in chronicle.now.scenario chronicle.now.letters) round letter.now.general }
@@ -31,7 +31,7 @@ fn sent_by<'a>(chronicle: &'a SignedChronicle, round: usize, letter: &Letter) ->
     chronicle.sent(number_of(letter), round)
 }
 
-/// The lines of a letter of a round.
+/// Writes the lines of a letter of this round: its first line and the chains sent.
 fn put_letter<S: Sink>(sink: &mut S, chronicle: &SignedChronicle, round: usize, letter: &Letter)
     ensures { Wrote (S.contents sink.old) (S.has_failed sink.old)
         (text (letter_lines (sent_in chronicle.now.scenario chronicle.now.letters) round letter.now))
@@ -41,7 +41,7 @@ fn put_letter<S: Sink>(sink: &mut S, chronicle: &SignedChronicle, round: usize, 
     put_chains(sink, sent_by(chronicle, round, letter));
 }
 
-/// The lines of a round's letters, in their order.
+/// Writes the lines of this round's letters, in their order.
 fn put_letters<S: Sink>(sink: &mut S, chronicle: &SignedChronicle, round: usize, letters: &[Letter])
     ensures { Wrote (S.contents sink.old) (S.has_failed sink.old)
         (text (flat_map (letter_lines (sent_in chronicle.now.scenario chronicle.now.letters) round) letters.now))
@@ -52,7 +52,7 @@ fn put_letters<S: Sink>(sink: &mut S, chronicle: &SignedChronicle, round: usize,
     }
 }
 
-/// The lines of a round: its own, its accesses and these letters.
+/// Writes the lines of a round: the round's own line, its accesses and these letters.
 fn put_one<S: Sink>(sink: &mut S, chronicle: &SignedChronicle, round: usize, letters: &[Letter])
     ensures { Wrote (S.contents sink.old) (S.has_failed sink.old)
         (text (round_told (letter_lines
@@ -64,7 +64,7 @@ fn put_one<S: Sink>(sink: &mut S, chronicle: &SignedChronicle, round: usize, let
     put_letters(sink, chronicle, round, letters);
 }
 
-/// The lines of the rounds from the first on: of each its own, its accesses and its letters.
+/// Writes the lines of all rounds from the first on: each round's own line, its accesses and its letters.
 pub fn put_signed_rounds<S: Sink>(sink: &mut S, chronicle: &SignedChronicle)
     ensures { Wrote (S.contents sink.old) (S.has_failed sink.old)
         (text (rounds_told (letter_lines

@@ -1,21 +1,22 @@
-//! Where texts go.
+//! Defines the sinks to which texts are written.
 ghost use Rattle.std.specs.Prelude.{◌≡◌, false};
 
 use std::io::Write;
 
-/// A stream of bytes that remembers a failure.
+/// A stream of bytes that remembers whether it has failed.
 pub trait Sink {
     ghost use Rattle.std.specs.Prelude.{◌≡◌, ◌<◌, ◌≤◌, ℕ, Bool, true, List, Option, Some, IfSome, IfNone, is_none, length, take};
     ghost use Rattle.std.specs.Io.KnownBytes.{Appends, Keeps};
 
-    // The bytes that it has taken, where they are known.
+    // The bytes that the sink has accepted, if they are known.
     ghost contents: { Self → Option (List ℕ) };
 
-    // Whether it has failed.
+    // Whether the sink has failed.
     ghost has_failed: { Self → Bool };
 
-    /// Takes a beginning of the piece, at least one byte, and says how many; or takes none, and has failed.
-    /// An empty piece changes nothing. What has failed has failed for good.
+    /// Accepts a beginning of the piece, at least one byte, and returns the number of accepted bytes. Returns `None` if
+    /// it accepts none, and the sink has then failed. An empty piece changes nothing and returns `Some(0)`. A sink that
+    /// has failed stays failed.
     fn put(&mut self, piece: &[u8]) -> Option<usize>
         ensures taken { IfSome result (λ n. (n ≤ length piece.now)
             × Appends (contents self.old) (contents self.new) (take n piece.now)) }
@@ -25,12 +26,13 @@ pub trait Sink {
         ensures empty { length piece.now ≡ 0 → (result ≡ Some 0) × (self.new ≡ self.old) }
         ensures lasting { has_failed self.old ≡ true → has_failed self.new ≡ true };
 
-    /// Whether it has failed.
+    /// Returns whether the sink has failed.
     fn failed(&self) -> bool
         ensures { result ≡ has_failed self.now };
 }
 
-/// A sink over a writer: an error, or no byte taken of a piece that has some, is its failure.
+/// A sink that passes its bytes to a writer. It fails if the writer returns an error, or accepts no byte of a piece
+/// that is not empty.
 #[derive(Drop)]
 pub struct Latch<W> {
     writer: W,
@@ -38,7 +40,7 @@ pub struct Latch<W> {
 }
 
 impl<W: Write> Latch<W> {
-    /// A sink that has not failed.
+    /// Returns a sink over this writer that has not failed.
     pub fn new(writer: W) -> Latch<W>
         ensures { result ≡ record { writer = writer; failed = false } }
     {
@@ -48,7 +50,7 @@ impl<W: Write> Latch<W> {
         }
     }
 
-    /// The writer again.
+    /// Returns the writer.
     pub fn into_writer(self) -> W
         ensures { result ≡ self.writer }
     {

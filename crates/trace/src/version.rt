@@ -1,18 +1,20 @@
+//! Defines the versions of a chronicle's text, and chooses the one for a campaign.
 ghost use Rattle.std.specs.Prelude.{◌≡◌};
 ghost use Rattle.trace.specs.Text.{version_by};
 
 use combine::Rule;
 
-/// The versions of a chronicle.
+/// A version of the chronicles of oral campaigns.
 #[derive(Clone, Copy, PartialEq, Eq)]
 pub enum Version {
-    /// Without the patience and the rule.
+    /// The version that has neither the patience nor the rule.
     First,
-    /// With them.
+    /// The version that has the patience and the rule.
     Second,
 }
 
-/// The version in which a campaign is told: the first without a patience, by the rule where none is named.
+/// Returns the version in which a campaign is written: the first for the default rule without a patience, and otherwise
+/// the second.
 pub fn version_by(patience: Option<u32>, rule: Rule) -> Version
     ensures { result ≡ version_by patience rule }
 {

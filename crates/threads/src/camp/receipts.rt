@@ -1,19 +1,19 @@
-//! What was done at the inboxes of all generals, one after another.
+//! Collects the evidence that each general was given his task, or that each inbox was closed.
 ghost use Rattle.std.specs.Prelude.{◌≡◌, ◌+◌};
 
 use crate::inbox::{Given, Shut};
 
-/// That, of so many generals' tasks, those from one general on were each put into an inbox.
+/// Evidence that, among `tasks` tasks, those of the generals from one number on were each put into an inbox.
 #[derive(Drop)]
 pub(crate) struct AllGiven {
-    /// The first of these generals.
+    /// The lowest of these generals, or the number of tasks if there is none yet.
     from: usize,
-    /// How many tasks there are in all.
+    /// The number of all tasks.
     tasks: usize,
 }
 
 impl AllGiven {
-    /// Of so many tasks none.
+    /// Returns the evidence for `tasks` tasks of which none was put into an inbox yet.
     pub(super) fn none_of(tasks: usize) -> AllGiven
         ensures from { result.from ≡ tasks }
         ensures tasks { result.tasks ≡ tasks }
@@ -21,7 +21,7 @@ impl AllGiven {
         AllGiven { from: tasks, tasks }
     }
 
-    /// That of the general before them too.
+    /// Adds the task of the general before the lowest of these.
     pub(super) fn and(self, given: Given) -> AllGiven
         requires { given.general + 1 ≡ self.from }
         ensures from { result.from ≡ given.general }
@@ -34,21 +34,21 @@ impl AllGiven {
     }
 }
 
-/// That the inboxes of so many generals, from 0 on, were each closed.
+/// Evidence that the inboxes of this number of generals, from general 0 on, were each closed.
 #[derive(Drop)]
 pub(crate) struct AllShut {
     inboxes: usize,
 }
 
 impl AllShut {
-    /// None so far.
+    /// Returns the evidence that holds before any inbox was closed.
     pub(super) fn none() -> AllShut
         ensures { result.inboxes ≡ 0 }
     {
         AllShut { inboxes: 0 }
     }
 
-    /// That of the next general too.
+    /// Adds the inbox of the next general.
     pub(super) fn and(self, shut: Shut) -> AllShut
         requires { shut.general ≡ self.inboxes }
         ensures { result.inboxes ≡ self.inboxes + 1 }

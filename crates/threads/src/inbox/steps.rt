@@ -1,4 +1,4 @@
-//! How an inbox is given a task, and closed: either leaves a receipt, which nothing else can make.
+//! Gives an inbox a task, or closes it. Each step returns evidence that nothing else can create.
 ghost use Rattle.std.specs.Prelude.{◌≡◌};
 ghost use Rattle.threads.specs.declared.inbox.Phase.TheVariants.{Given as Tasked, Closed as NoMore};
 
@@ -6,15 +6,15 @@ use crate::camp::Home;
 use crate::inbox::Phase;
 use crate::task::Task;
 
-/// That a task was given, as `Phase::give` alone tells.
+/// Evidence that a task was given. Only `Phase::give` creates one.
 #[derive(Drop)]
 pub(crate) struct Given {
-    /// Whose it is.
+    /// The general whose task it is.
     general: u32,
 }
 
 impl Given {
-    /// Whose it is.
+    /// Returns the general whose task it is.
     pub(crate) fn general(&self) -> u32
         ensures { result ≡ self.now.general }
     {
@@ -22,15 +22,15 @@ impl Given {
     }
 }
 
-/// That an inbox was closed, as `Phase::close` alone tells.
+/// Evidence that an inbox was closed. Only `Phase::close` creates one.
 #[derive(Drop)]
 pub(crate) struct Shut {
-    /// Whose it is.
+    /// The general whose inbox it is.
     general: u32,
 }
 
 impl Shut {
-    /// Whose it is.
+    /// Returns the general whose inbox it is.
     pub(crate) fn general(&self) -> u32
         ensures { result ≡ self.now.general }
     {
@@ -39,7 +39,7 @@ impl Shut {
 }
 
 impl Phase {
-    /// A task is to be done.
+    /// Sets the task to be done, and returns the evidence that it was given.
     pub(super) fn give(&mut self, task: Task) -> Given
         ensures task { self.new ≡ Tasked task }
         ensures given { result.general ≡ task.general }
@@ -49,7 +49,7 @@ impl Phase {
         Given { general }
     }
 
-    /// No task will come any more; whose inbox it is, its caller says.
+    /// Sets that no more tasks will come, and returns the evidence for it. The caller says whose inbox it is.
     pub(super) fn close(&mut self, general: u32, home: Home) -> Shut
         ensures home { self.new ≡ NoMore home }
         ensures shut { result.general ≡ general }

@@ -1,4 +1,4 @@
-//! How far the generals have come in a round.
+//! Counts the letters posted in a round, and records whether a general has failed.
 ghost use Rattle.std.specs.Prelude.{◌≡◌, ◌↔◌, ◌⊎◌, ◌+◌, ◌≤◌, min, None, Some, IsSome, IsTrue, IfOk, OnOk, IfErr};
 
 mod uncounted_letter;
@@ -8,16 +8,16 @@ use crate::poster::Poster;
 use crate::resident::Failed;
 pub(crate) use uncounted_letter::{Uncounted, send};
 
-/// That all generals have posted their letters of a round, as `begin_again` alone tells.
+/// Evidence that all generals have posted their letters of a round. Only `Count::begin_again` creates one.
 #[derive(Drop)]
 pub(crate) struct AllPosted {
     letters: usize,
-    /// For which tasks.
+    /// The evidence for the tasks for which they posted.
     out: HandedOut,
 }
 
 impl AllPosted {
-    /// How many letters they have posted.
+    /// Returns the number of letters that they have posted.
     pub(crate) fn letters(&self) -> usize
         ensures { result ≡ self.now.letters }
     {
@@ -25,19 +25,19 @@ impl AllPosted {
     }
 }
 
-/// That a general has failed, as `begin_again` alone tells.
+/// Evidence that a general has failed. Only `Count::begin_again` creates one.
 #[derive(Clone, Copy)]
 pub(crate) struct SomeoneFailed {
     failed: Failed,
 }
 
-/// That a failure was counted, as `Count::fail` alone tells.
+/// Evidence that a failure was recorded. Only `Count::fail` creates one.
 #[derive(Clone, Copy)]
 pub(super) struct Counted {
     failed: Failed,
 }
 
-/// How many letters of a round are posted, and whether a general has failed.
+/// The number of letters of a round that are posted, and why a general has failed, if one has.
 #[derive(Drop)]
 pub(super) struct Count {
     posted: usize,
@@ -45,7 +45,7 @@ pub(super) struct Count {
 }
 
 impl Count {
-    /// No letter is posted, and nobody has failed.
+    /// Returns a count without posted letters and without a failure.
     pub(super) fn new() -> Count
         ensures posted { result.posted ≡ 0 }
         ensures failed { result.failed ≡ None }
@@ -56,7 +56,7 @@ impl Count {
         }
     }
 
-    /// One more letter is posted, and its poster given back.
+    /// Counts one more posted letter, and returns its poster.
     pub(super) fn add(&mut self, uncounted: Uncounted) -> Poster
         ensures count { self.new ≡ record self.old { posted = min (self.old.posted + 1) 0xffff_ffff_ffff_ffff } }
         ensures poster { result ≡ uncounted.poster }
@@ -66,7 +66,7 @@ impl Count {
         poster
     }
 
-    /// A general has failed.
+    /// Records that a general has failed.
     pub(super) fn fail(&mut self, failed: Failed) -> Counted
         ensures count { self.new ≡ record self.old { failed = Some failed } }
         ensures counted { result.failed ≡ failed }
@@ -75,7 +75,11 @@ impl Count {
         Counted { failed }
     }
 
-    /// Begins the next round, where none of so many has to be waited for: all have posted, unless one has failed.
+    /// Begins the next round. All `generals` generals must have posted, or one must have failed.
+    ///
+    /// # Errors
+    ///
+    /// `SomeoneFailed` if a general has failed.
     pub(super) fn begin_again(
         &mut self,
         generals: usize,
@@ -96,7 +100,7 @@ impl Count {
         }
     }
 
-    /// Whether nobody has to be waited for: so many have posted, or one has failed.
+    /// Returns whether the wait is over: at least `generals` letters are posted, or a general has failed.
     pub(super) fn is_over(&self, generals: usize) -> bool
         ensures { IsTrue result ↔ ((generals ≤ self.now.posted) ⊎ IsSome self.now.failed) }
     {

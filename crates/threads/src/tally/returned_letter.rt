@@ -1,16 +1,20 @@
-//! A letter that came back.
+//! Defines the evidence that the post returned a letter.
 ghost use Rattle.std.specs.Prelude.{◌≡◌, Ok, IsErrAnd, MatchResult};
 
 use round::Letter;
 
-/// That a letter came back from the post, which had no room for it, as `posted` alone tells.
+/// Evidence that the post returned a letter, for which it had no room. Only `posted` creates one.
 #[derive(Clone, Copy)]
 pub(crate) struct Returned {
-    /// Whose it is.
+    /// The general whose letter it is.
     general: u32,
 }
 
-/// Where a letter was not posted, it came back.
+/// Checks that a letter was posted.
+///
+/// # Errors
+///
+/// `Returned` if the post returned it.
 pub(super) fn posted(sent: Result<(), Letter>) -> Result<(), Returned>
     ensures { MatchResult sent (λ _. result ≡ Ok tt) (λ back. IsErrAnd result (λ r. r.general ≡ back.general)) }
 {

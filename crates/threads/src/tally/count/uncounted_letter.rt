@@ -1,4 +1,4 @@
-//! A letter that is posted, and not yet counted.
+//! Posts a letter, and keeps its poster until the letter is counted.
 ghost use Rattle.std.specs.Prelude.{◌≡◌, ◌++◌, ◌∷◌, [], IfOk, IfErr};
 
 use crate::claim::Claim;
@@ -8,18 +8,18 @@ use crate::tally::returned_letter::{Returned, posted};
 use round::Letter;
 use std::sync::Wait;
 
-/// A poster with which a letter was posted that is not yet counted: `send` alone makes one, and `Count::add` alone
-/// gives the poster back.
+/// A poster with which a letter was posted that is not counted yet. Only `send` creates one, and only `Count::add`
+/// returns the poster.
 #[derive(Drop)]
 pub(crate) struct Uncounted {
     pub(super) poster: Poster,
 }
 
-/// Posts a letter, which is then to be counted.
+/// Posts a letter, which must then be counted.
 ///
 /// # Errors
 ///
-/// `Returned` where the post is full.
+/// `Returned` if the post is full.
 pub(crate) fn send<R: Wait, C: Claim>(
     rt: &R,
     post: &PostOf<C>,
