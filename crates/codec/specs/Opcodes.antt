@@ -27,8 +27,8 @@ left_out = 0x20 ∷ 0x28 ∷ 0x30 ∷ 0x40 ∷ 0x48 ∷ 0x50 ∷ 0xc3 ∷ 0xdb �
 abbrev pub is_left_out : ℕ → Bool
 is_left_out n = list_any (λ opcode. n == opcode) left_out
 
--- the instruction is not supported, because of its opcode or its source register: a wide instruction with a source
--- register loads something other than a number (section 5.4), and a call with one calls something other than a helper
+-- the instruction is not supported. Its opcode is one of the unsupported ones, or its src field is not zero: then a
+-- wide instruction loads something other than a number (section 5.4), and a call calls something other than a helper
 -- (section 4.3.1)
 abbrev pub IsLeftOut : Fields → Type 0
 IsLeftOut f =

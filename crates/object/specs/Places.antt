@@ -15,10 +15,10 @@ use Rattle.object.specs.Tables.{lines_in, line_strings_in, strings_in, origins_i
 -- ---- rows
 
 -- the rows of a program with this header; there are none if the program breaks off
--- the rows of an object's line number program; there are none if it has no supported header
 abbrev pub AreRowsBy : Header → List ℕ → Origins → List LineRow → Type 0
 AreRowsBy header bytes origins rows = HasRows header bytes origins rows ⊎ (BreaksOff header bytes origins × (rows ≡ []))
 
+-- the rows of an object's line number program; there are none if it has no supported header
 abbrev pub AreRows : List ℕ → ℕ → Option Header → List LineRow → Type 0
 AreRows object section None rows = rows ≡ []
 AreRows object section (Some header) rows =
