@@ -258,8 +258,8 @@ fn search(all: &[Mnemonic], word: &[u8]) -> Option<Mnemonic>
     None
 }
 
-/// Returns the first index and the end of the mnemonics in the table that begin with this letter. If there are none, it
-/// returns the whole table.
+/// Returns the range of the table that has the mnemonics with this first letter, as its first index and its end. If
+/// there are none, it returns the whole table.
 fn bounds_by_letter(letter: u8) -> (usize, usize)
     ensures order { result.0 ≤ result.1 }
     ensures end { result.1 ≤ 86 }
@@ -284,8 +284,8 @@ fn bounds_by_letter(letter: u8) -> (usize, usize)
     }
 }
 
-/// Returns the first index and the end of a part of the table that contains the mnemonics with the beginning of this
-/// word. If there are none, it returns the whole table.
+/// Returns a range of the table, as its first index and its end. It has the mnemonics with the same beginning as the
+/// word. If there are none, it is the whole table.
 fn bounds(word: &[u8]) -> (usize, usize)
     ensures order { result.0 ≤ result.1 }
     ensures end { result.1 ≤ 86 }

@@ -37,7 +37,7 @@ IsLeftOut f =
     ⊎ (f.opcode ≡ 0x85) × (f.src ≢ 0))
 
 -- the opcode is reported as unknown exactly if no well-formed instruction is encoded with it and it is not one of the
--- unsupported ones, and an instruction is reported as unsupported exactly if it is
+-- unsupported ones; an instruction is reported as unsupported exactly if it is
 pub record OpcodesAreTold : Type 0 where
   pub unknown : (bytes : List ℕ) →
       (fault_at bytes ≡ Some faults.Opcode)

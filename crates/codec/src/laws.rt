@@ -28,7 +28,7 @@ pub fn no_fault_in_programs()
 {}
 
 /// States that an opcode is reported as unknown exactly if no instruction is encoded with it and it is not one of the
-/// unsupported ones.
+/// unsupported ones. An instruction is reported as unsupported exactly if it is.
 pub fn opcodes_are_told()
     ensures { OpcodesAreTold }
 {}

@@ -32,7 +32,7 @@ abbrev pub left : Stop → Option (Bor (List ℕ)) → List (List ℕ)
 left stop None = []
 left stop (Some rest) = pieces stop rest.now
 
--- the number of bytes left of the text, plus one for the stop before them
+-- the number of bytes left of the text, plus one for the stop before them; 0 if there was no stop
 abbrev pub left_len : Option (Bor (List ℕ)) → ℕ
 left_len None = 0
 left_len (Some rest) = length rest.now + 1

@@ -14,7 +14,7 @@ use codec::encode;
 use std::alloc::Global;
 use text::{Stop, cut};
 
-/// Assembles a text into bytes, line by line. A line has an instruction, or `.unit 0x..` with the eight bytes of a
+/// Assembles a text into bytes, line by line. A line may have an instruction, or `.unit 0x..` with the eight bytes of a
 /// unit. Each line is assembled by itself, so that a jump to a name of another line is a fault.
 ///
 /// # Errors

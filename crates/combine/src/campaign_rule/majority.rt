@@ -36,7 +36,7 @@ impl Combine for Majority {
     ghost most_decide = { λ _. majority_is_rule };
 }
 
-/// Returns the order in more than half of the places, or `None` if there is none.
+/// Returns the order in more than half of the places, if there is one.
 pub(crate) fn most(orders: &[u32]) -> Option<u32>
     ensures { result ≡ find (is_most orders.now) orders.now }
 {
