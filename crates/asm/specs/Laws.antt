@@ -63,8 +63,8 @@ pub record IsFirstJump (lines : List (List ℕ)) (fault : AsmFault) (number : �
   pub own : insn_of read.names (sum_by placed_units front) jump.source ≡ Err fault
   pub is : number ≡ jump.line
 
--- a text is rejected with its first fault and that fault's line: the first faulty line, else the number of units, else
--- the first jump that cannot be resolved
+-- a text is rejected with its first fault and that fault's line: that of the first faulty line; if no line is faulty,
+-- the number of units; and if that is allowed, the first jump that cannot be resolved
 pub record FaultsAreFirst : Type 0 where
   pub only : (text : List ℕ) (fault : AsmFault) (number : ℕ) → said text ≡ Err (At fault number)
       → IsFirstLine (lines_of text) fault number

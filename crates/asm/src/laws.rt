@@ -22,8 +22,8 @@ pub fn jumps_lead_to_names()
     ensures { JumpsLeadToNames }
 {}
 
-/// States that a text is rejected with its first fault and that fault's line: the first faulty line, else the number of
-/// units, else the first jump that cannot be resolved.
+/// States that a text is rejected with its first fault and that fault's line. Faults of single lines come first, then
+/// the number of units, then jumps that cannot be resolved.
 pub fn faults_are_first()
     ensures { FaultsAreFirst }
 {}

@@ -40,7 +40,7 @@ pub enum Insn {
         dst: Reg,
         src: Reg,
     },
-    /// Puts the low bytes of `dst` in the given byte order.
+    /// Puts the low bytes of `dst` in the given byte order, and clears the bytes above them.
     Swap {
         order: ByteOrder,
         size: SwapSize,

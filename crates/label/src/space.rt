@@ -5,7 +5,7 @@ use std::fmt;
 /// A space of labels: those of a campaign that lack one lieutenant.
 #[derive(Clone, Copy)]
 pub struct Space {
-    /// The number of generals, 2 to 13.
+    /// The number of generals, at most 13.
     pub generals: u8,
     /// The number of the commander.
     pub commander: u8,

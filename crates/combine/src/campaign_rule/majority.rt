@@ -19,8 +19,9 @@ impl Combine for Majority {
         most(orders).unwrap_or(0)
     }
 
-    /// Returns the majority of the orders of others and one's own. It makes no list if one's own order has the
-    /// majority, or the only other order has it. Otherwise it lists and counts all orders.
+    /// Returns the order to which the majority rule combines the received orders and one's own. It makes no list if
+    /// one's own order is in more than half of the places, or if the only other order is. Otherwise it lists and counts
+    /// all orders.
     fn combine_told(&self, told: &[u32], place: usize, own: u32) -> u32 {
         if is_in_most_told(told, own, own) {
             return own;
