@@ -11,7 +11,7 @@ use insn::Program;
 use std::alloc::Global;
 
 /// Makes the program of a text whose lines were read. It fails with `Count` unless there are 1 to 4,096 units, and with
-/// the first jump that cannot be resolved.
+/// the fault of the first jump that cannot be resolved.
 fn finish(alloc: Global, reading: &Reading<'_>) -> Result<Program, AsmError>
     requires units { reading.now.units ≤ 4096 → reading.now.units ≡ units_kept reading.now.sources.items }
     requires well { reading.now.units ≤ 4096 → AreWellKept reading.now.sources.items }

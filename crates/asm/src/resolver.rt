@@ -97,7 +97,8 @@ fn resolve(
     }
 }
 
-/// Returns the instructions of all statements that were read. It fails with the first jump that cannot be resolved.
+/// Returns the instructions of all statements that were read. It fails with the fault of the first jump that cannot be
+/// resolved.
 pub fn resolve_all(alloc: Global, reading: &Reading<'_>) -> Result<Vec<Insn>, AsmError>
     requires bound { reading.now.units ≤ 4096 }
     requires units { reading.now.units ≡ units_kept reading.now.sources.items }
