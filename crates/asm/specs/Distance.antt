@@ -1,11 +1,11 @@
--- Names, and the distances to them.
+-- Names that jumps go to, and the distances to them.
 use Rattle.std.specs.Prelude.{ℕ, ◌+◌, ◌-◌, List, [], ◌∷◌, true, false, nat_le, if◌then◌else◌, Option, Some, None}
 use Rattle.std.specs.Str.{bytes_eq}
 use Rattle.text.specs.Options.{◌>>=◌}
 use Rattle.asm.specs.declared.number.Number.{Number}
 use Rattle.asm.specs.Operand.{Goal, Away, Named}
 
--- where a name is defined
+-- the unit at which a name is defined
 abbrev pub defined : List (List ℕ × ℕ) → List ℕ → Option ℕ
 defined [] name = None
 defined (d ∷ ds) name = if bytes_eq d.0 name then Some d.1 else defined ds name
@@ -15,7 +15,7 @@ abbrev pub between : ℕ → ℕ → Number
 between start target = if nat_le start target then record { negative = false; magnitude = target - start }
     else record { negative = true; magnitude = start - target }
 
--- a name's distance is counted from the unit behind the jump
+-- the distance of a jump, counted from the unit after the jump; nothing if its name is not defined
 unfoldable pub distance_of : List (List ℕ × ℕ) → ℕ → Goal → Option Number
 distance_of names unit (Away n) = Some n
 distance_of names unit (Named name) = defined names name >>= λ target. Some (between (unit + 1) target)

@@ -4,13 +4,13 @@ use Rattle.asm.specs.declared.fault.AsmFault.{AsmFault}
 use Rattle.asm.specs.declared.fault.AsmError.{AsmError}
 use Rattle.asm.specs.declared.fault.AsmError.TheVariants.{At}
 
--- one check behind another that found no fault
+-- a second check, which is made only if the first one found no fault
 infixl 10 ◌>>=◌
 abbrev pub ◌>>=◌ : {A B F : Type 0} → Result A F → (A → Result B F) → Result B F
 (Ok x) >>= f = f x
 (Err e) >>= f = Err e
 
--- what the checks of a line give, a fault with the line's number
+-- the result of the checks of a line, where a fault gets the line's number
 abbrev pub at_line : {A : Type 0} → ℕ → Result A AsmFault → Result A AsmError
 at_line line (Ok x) = Ok x
 at_line line (Err fault) = Err (At fault line)

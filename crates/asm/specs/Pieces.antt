@@ -1,4 +1,4 @@
--- Bytes as pieces: at each unit the instruction that is spelled there, or else the unit alone.
+-- Bytes as a sequence of pieces: at each unit the instruction that is encoded there, or else that unit only.
 use Rattle.std.specs.Prelude.{ℕ, ◌≡◌, List, [], ◌∷◌, ◌++◌, Some, length}
 use Rattle.insn.specs.declared.insn.Insn.{Insn}
 use Rattle.insn.specs.Insn.{IsInsn}
@@ -6,17 +6,17 @@ use Rattle.codec.specs.declared.fault.CodecFault.{CodecFault}
 use Rattle.codec.specs.Spelling.{instruction_bytes}
 use Rattle.codec.specs.Reading.{fault_at}
 
--- an instruction, or eight bytes with which none begins, by this fault
+-- a piece: an instruction, or the eight bytes of a unit with which no instruction begins, and the fault
 pub data Piece : Type 0 where
   Spelled : Insn → Piece
   Raw : List ℕ → CodecFault → Piece
 
--- the bytes begin with the piece, and this is the rest
+-- the bytes begin with the piece, and `rest` is what follows
 abbrev pub IsFirst : List ℕ → Piece → List ℕ → Type 0
 IsFirst bytes (Spelled insn) rest = IsInsn insn × (bytes ≡ instruction_bytes insn ++ rest)
 IsFirst bytes (Raw unit fault) rest = (length unit ≡ 8) × (fault_at bytes ≡ Some fault) × (bytes ≡ unit ++ rest)
 
--- the bytes are these pieces, one behind the other
+-- the bytes consist of these pieces, in order
 abbrev pub ArePieces : List Piece → List ℕ → Type 0
 ArePieces [] bytes = bytes ≡ []
 ArePieces (piece ∷ pieces) bytes = (rest : List ℕ) × IsFirst bytes piece rest × ArePieces pieces rest

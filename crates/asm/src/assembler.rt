@@ -1,4 +1,4 @@
-//! The assembler.
+//! The assembler: turns a text into a program, or finds its first fault.
 
 ghost use Rattle.std.specs.Prelude.{◌≡◌, ◌≤◌, Some, IfOk};
 ghost use Rattle.asm.specs.Program.{Read, said, program_of, program_in};
@@ -10,7 +10,8 @@ use crate::resolver::resolve_all;
 use insn::Program;
 use std::alloc::Global;
 
-/// The program of what was read.
+/// Makes the program of a text whose lines were read. It fails with `Count` unless there are 1 to 4,096 units, and with
+/// the fault of the first jump that cannot be resolved.
 fn finish(alloc: Global, reading: &Reading<'_>) -> Result<Program, AsmError>
     requires units { reading.now.units ≤ 4096 → reading.now.units ≡ units_kept reading.now.sources.items }
     requires well { reading.now.units ≤ 4096 → AreWellKept reading.now.sources.items }
@@ -26,13 +27,17 @@ fn finish(alloc: Global, reading: &Reading<'_>) -> Result<Program, AsmError>
     Ok(Program::new(alloc, insns)?)
 }
 
-/// The program that the text says. Of several faults it answers the first: lines in order, in each
-/// its outline (A1), a name defined twice (A5), the mnemonic (A2), the operands' number and kinds
-/// (A3), their ranges (A6); then the number of units (A7); then, in line order, names that are not
-/// defined (A4) and distances (A6).
+/// Assembles a text into a program.
+///
+/// # Errors
+///
+/// The first of several faults. Lines are checked in order, and each line for its outline (A1), a name defined twice
+/// (A5), its mnemonic (A2), the number and kinds of its operands (A3), and their ranges (A6). Then the number of units
+/// is checked (A7). Then jumps are checked in line order for names that are not defined (A4) and distances (A6).
+/// `Memory` if out of memory.
 #[tactic(auto, unfolding(crate::specs::Program::said))]
 pub fn assemble(alloc: Global, text: &str) -> Result<Program, AsmError>
-    // The program that is said, or, but for want of memory, the first fault with its line.
+    // The result is the program of the text or, unless memory runs out, the first fault with its line.
     ensures said { Answers result (said text.now) }
     ensures program { IfOk result (λ p. program_of text.now ≡ Some p) }
 {

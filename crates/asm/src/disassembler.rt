@@ -1,4 +1,4 @@
-//! The disassembler.
+//! The disassembler: turns a program into text.
 
 ghost use Rattle.std.specs.Prelude.{◌≡◌, ◌≤◌, ◌++◌, codes, decimal, length, string_bytes, IfOk, OnOk, Some};
 ghost use Rattle.insn.specs.Program.{slots_of};
@@ -10,7 +10,7 @@ use crate::text_parts::{put, put_unsigned};
 use insn::{Insn, Program};
 use std::alloc::{AllocError, Global};
 
-/// Adds the instructions, one a line.
+/// Appends the instructions, one on each line.
 fn put_lines(out: &mut String, insns: &[Insn]) -> Result<(), AllocError>
     ensures { OnOk result (string_bytes out.new ≡ string_bytes out.old ++ text_of insns.now) }
 {
@@ -20,11 +20,11 @@ fn put_lines(out: &mut String, insns: &[Insn]) -> Result<(), AllocError>
     Ok(())
 }
 
-/// The text of a program: one instruction a line.
+/// Disassembles a program into text, with one instruction on each line. It fails only when out of memory.
 pub fn disassemble(alloc: Global, program: &Program) -> Result<String, AllocError>
     ensures text { IfOk result (λ s. string_bytes s ≡ text_of program.now) }
 
-    // The text says this program, and no other.
+    // The text assembles to this program.
     ensures again { IfOk result (λ s. program_of (string_bytes s) ≡ Some program.now) }
 {
     let mut out = String::with_capacity(alloc, 16 * program.units())?;
@@ -32,7 +32,8 @@ pub fn disassemble(alloc: Global, program: &Program) -> Result<String, AllocErro
     Ok(out)
 }
 
-/// The text of a program with the unit before each instruction: `UNIT INSTRUCTION` on each line.
+/// Disassembles a program into text with `UNIT INSTRUCTION` on each line, where `UNIT` is the unit of the instruction.
+/// It fails only when out of memory.
 pub fn disassemble_units(alloc: Global, program: &Program) -> Result<String, AllocError>
     ensures { IfOk result (λ s. string_bytes s ≡ unit_lines 0 program.now) }
 {
@@ -41,7 +42,7 @@ pub fn disassemble_units(alloc: Global, program: &Program) -> Result<String, All
     Ok(out)
 }
 
-/// Adds the instructions of a program, one a line, each behind its unit.
+/// Appends the instructions of a program, one on each line, each after its unit.
 fn put_unit_lines(out: &mut String, insns: &[Insn]) -> Result<(), AllocError>
     requires { length (slots_of insns.now) ≤ 4096 }
     ensures { OnOk result (string_bytes out.new ≡ string_bytes out.old ++ unit_lines 0 insns.now) }
@@ -55,7 +56,7 @@ fn put_unit_lines(out: &mut String, insns: &[Insn]) -> Result<(), AllocError>
     Ok(())
 }
 
-/// Adds the unit, and a space.
+/// Appends the number of a unit, and a space.
 fn put_unit(out: &mut String, unit: u16) -> Result<(), AllocError>
     ensures { OnOk result (string_bytes out.new ≡ string_bytes out.old ++ decimal unit ++ codes " ") }
 {

@@ -1,4 +1,4 @@
-//! Statements as they are kept.
+//! Statements as the assembler stores them until it knows the distances of jumps.
 
 ghost use Rattle.std.specs.Prelude.{◌≡◌, ◌≤◌};
 ghost use Rattle.asm.specs.Program.{source_units};
@@ -8,7 +8,7 @@ use crate::operand::Aim;
 use insn::{Insn, Operand, Reg};
 use word::{Condition, Width};
 
-/// An instruction, a jump's distance left open.
+/// An instruction, or a jump whose distance is not yet known.
 #[derive(Clone, Copy)]
 pub enum DraftInstruction {
     Plain(Insn),
@@ -17,21 +17,21 @@ pub enum DraftInstruction {
     Branch(Width, Condition, Reg, Operand, Aim),
 }
 
-/// A draft with the name of its goal (empty where it has none).
+/// A statement: its draft, and the name that it jumps to, which is empty if there is none.
 #[derive(Clone, Copy)]
 pub struct Statement<'a> {
     pub draft: DraftInstruction,
     pub name: &'a [u8],
 }
 
-/// A statement with its line.
+/// A statement with the number of its line.
 #[derive(Clone, Copy)]
 pub struct Kept<'a> {
     pub statement: Statement<'a>,
     pub line: u64,
 }
 
-/// How many units the statement takes: 1 or 2.
+/// Returns the number of units that the statement takes: 1 or 2.
 pub fn units(statement: &Statement<'_>) -> u64
     ensures units { result ≡ source_units (source_view statement.now) }
     ensures bound { result ≤ 2 }

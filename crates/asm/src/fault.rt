@@ -1,4 +1,4 @@
-//! Why a text is no program.
+//! Faults of assembly texts, and the errors of the assembler.
 
 ghost use Rattle.std.specs.Prelude.{◌≡◌, ◌≢◌, OnErr, OnOk};
 ghost use Rattle.asm.specs.declared.fault.AsmError.TheVariants.{Memory as OutOfMemory};
@@ -11,19 +11,19 @@ use std::fmt;
 /// What is wrong with a line, or with the text as a whole.
 #[derive(Clone, Copy, Debug, PartialEq, Eq, Drop)]
 pub enum AsmFault {
-    /// The line's outline, or a character past ASCII outside a comment.
+    /// A1: the line does not have the form of a line, or has a character past ASCII outside a comment.
     Line,
-    /// An unknown mnemonic.
+    /// A2: the mnemonic is unknown.
     Mnemonic,
-    /// The number or kind of the operands.
+    /// A3: the number or the kind of the operands is wrong.
     Operand,
-    /// A name that is defined nowhere.
+    /// A4: the name is not defined.
     Label,
-    /// A name that was defined before.
+    /// A5: the name is already defined.
     Twice,
-    /// A number or distance outside its range.
+    /// A6: a number or distance is outside its range.
     Range,
-    /// No unit, or more than 4,096.
+    /// A7: the program has no unit, or more than 4,096.
     Count,
 }
 
@@ -48,16 +48,16 @@ impl fmt::Display for AsmFault {
 
 impl Error for AsmFault {}
 
-/// The first fault with its line, counted from 1, or want of memory.
+/// Why assembling failed: the first fault with its line, counted from 1, or out of memory.
 #[derive(Clone, Copy, Debug, PartialEq, Eq, Drop)]
 pub enum AsmError {
-    /// A fault at a line; for a count it is the number of lines, at least 1.
+    /// A fault at a line. For a wrong number of units, this is the number of lines, at least 1.
     At(AsmFault, u64),
     Memory,
 }
 
 impl AsmError {
-    /// Want of memory, where it is that; a fault is none.
+    /// Returns `Err` if the error is out of memory, and `Ok` if it is a fault.
     pub(crate) fn want_of_memory(self) -> Result<(), AllocError>
         ensures fault { OnOk result (self ≢ OutOfMemory) }
         ensures memory { OnErr result (self ≡ OutOfMemory) }
@@ -85,7 +85,7 @@ impl fmt::Display for AsmError {
 
 impl Error for AsmError {}
 
-/// A fault in a line, or want of memory.
+/// Why reading a line failed: a fault, or out of memory.
 #[derive(Clone, Copy, Drop)]
 pub enum LineError {
     Memory,
@@ -93,7 +93,7 @@ pub enum LineError {
 }
 
 impl LineError {
-    /// Want of memory, where it is that; a fault is none.
+    /// Returns `Err` if the error is out of memory, and `Ok` if it is a fault.
     pub(crate) fn want_of_memory(self) -> Result<(), AllocError>
         ensures fault { OnOk result (self ≢ Memory) }
         ensures memory { OnErr result (self ≡ Memory) }

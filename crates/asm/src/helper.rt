@@ -1,9 +1,9 @@
-//! The helpers' names.
+//! The names of the helpers.
 
 ghost use Rattle.std.specs.Prelude.{◌≡◌};
 ghost use Rattle.asm.specs.Helper.{helper_of};
 
-/// The number of a helper's name.
+/// Returns the number of the helper with this name, 1 to 11, or `None` if there is no such helper.
 #[tactic(auto, unfolding(crate::specs::Helper::helper_of))]
 pub fn helper_named(name: &[u8]) -> Option<i32>
     ensures { result ≡ helper_of name.now }

@@ -1,29 +1,29 @@
-//! Laws of the tables: each function does nothing, and its contract is the law.
+//! Laws of the assembler. Each function does nothing, and its contract is the law.
 ghost use Rattle.asm.specs.Laws.{RegistersAreNumbered, MnemonicsAreNamed, HelpersAreNumbered, FaultsAreFirst};
 ghost use Rattle.asm.specs.Names.{JumpsLeadToNames};
 
-/// A register is its letter and its number, 0 to 10.
+/// States that a register is written as its letter and its number, 0 to 10, and read from that text only.
 pub fn registers_are_numbered()
     ensures { RegistersAreNumbered }
 {}
 
-/// Each mnemonic of the table is read from its word, and from no other.
+/// States that each mnemonic of the table is read from its word, and from no other word.
 pub fn mnemonics_are_named()
     ensures { MnemonicsAreNamed }
 {}
 
-/// Each helper is read from its name, as its place in the list, from 1 on, and from no other.
+/// States that each helper is read from its name, and from no other word, as its place in the list, counted from 1.
 pub fn helpers_are_numbered()
     ensures { HelpersAreNumbered }
 {}
 
-/// A jump to a name leads to the unit of what follows the name, on its line or behind it.
+/// States that a jump to a name leads to the next unit that is written after the name, on the same line or later.
 pub fn jumps_lead_to_names()
     ensures { JumpsLeadToNames }
 {}
 
-/// A text is refused by its first fault, at its line: that of a line by itself, behind lines that have none; behind all
-/// lines that of the count; behind the count that of a jump, behind jumps that have none.
+/// States that a text is rejected with its first fault and that fault's line. Faults of single lines come first, then
+/// the number of units, then jumps that cannot be resolved.
 pub fn faults_are_first()
     ensures { FaultsAreFirst }
 {}

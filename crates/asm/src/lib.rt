@@ -1,5 +1,5 @@
-//! Assembly: reads programs as text, and writes them as text. The module `partial` does so for bytes that are not all
-//! instructions.
+//! Assembly: reads programs as text, and writes them as text. The module `partial` does so for bytes that cannot all be
+//! decoded.
 #![tactic(auto)]
 
 mod assembler;

@@ -1,4 +1,4 @@
-//! The table of mnemonics.
+//! The table of mnemonics: their words, and the search for a word.
 
 ghost use Rattle.std.specs.Prelude.{◌≡◌, ◌≤◌, ◌-◌, ◌∷◌, ℕ, List, take, drop};
 ghost use Rattle.asm.specs.Table.{name_of, first_named, mnemonic_of, mnemonics};
@@ -6,7 +6,7 @@ ghost use Rattle.asm.specs.Table.{name_of, first_named, mnemonic_of, mnemonics};
 use insn::Size;
 use word::{ByteOrder, Condition, Narrow, Operation, SwapSize, Width};
 
-/// The first word of a statement.
+/// A mnemonic, which is the first word of a statement.
 #[derive(Clone, Copy)]
 pub enum Mnemonic {
     Arithmetic(Width, Operation),
@@ -25,7 +25,7 @@ pub enum Mnemonic {
     Exit,
 }
 
-/// All mnemonics, by their first letters.
+/// All mnemonics, in an order in which those with the same first letter are adjacent.
 static MNEMONICS: [Mnemonic; 86] = [
     Mnemonic::Arithmetic(Width::W64, Operation::Add),
     Mnemonic::Arithmetic(Width::W32, Operation::Add),
@@ -115,7 +115,7 @@ static MNEMONICS: [Mnemonic; 86] = [
     Mnemonic::Arithmetic(Width::W32, Operation::Xor),
 ];
 
-/// Its word.
+/// Returns the word of a mnemonic.
 pub fn name(mnemonic: Mnemonic) -> &'static str
     ensures { result.now ≡ name_of mnemonic }
 {
@@ -149,7 +149,7 @@ pub fn name(mnemonic: Mnemonic) -> &'static str
     }
 }
 
-/// The word of an operation.
+/// Returns the word of an arithmetic operation.
 fn arithmetic_name(width: Width, operation: Operation) -> &'static str
     ensures { result.now ≡ name_of (Mnemonic.Arithmetic width operation) }
 {
@@ -185,7 +185,7 @@ fn arithmetic_name(width: Width, operation: Operation) -> &'static str
     }
 }
 
-/// The word of a conditional jump.
+/// Returns the word of a conditional jump.
 fn branch_name(width: Width, condition: Condition) -> &'static str
     ensures { result.now ≡ name_of (Mnemonic.Branch width condition) }
 {
@@ -215,7 +215,7 @@ fn branch_name(width: Width, condition: Condition) -> &'static str
     }
 }
 
-/// The word of a sign extension.
+/// Returns the word of a move with sign extension.
 fn sign_extend_name(width: Width, part: Narrow) -> &'static str
     ensures { result.now ≡ name_of (Mnemonic.SignExtend width part) }
 {
@@ -229,7 +229,7 @@ fn sign_extend_name(width: Width, part: Narrow) -> &'static str
     }
 }
 
-/// The word of a change of byte order.
+/// Returns the word of a byte swap.
 fn swap_name(order: ByteOrder, size: SwapSize) -> &'static str
     ensures { result.now ≡ name_of (Mnemonic.Swap order size) }
 {
@@ -246,7 +246,7 @@ fn swap_name(order: ByteOrder, size: SwapSize) -> &'static str
     }
 }
 
-/// The first of these mnemonics whose word it is.
+/// Returns the first of these mnemonics that has this word.
 fn search(all: &[Mnemonic], word: &[u8]) -> Option<Mnemonic>
     ensures { result ≡ first_named word.now all.now }
 {
@@ -258,7 +258,8 @@ fn search(all: &[Mnemonic], word: &[u8]) -> Option<Mnemonic>
     None
 }
 
-/// From where to where those stand in the table that begin with this letter; all of it where none does.
+/// Returns the range of the table that has the mnemonics with this first letter, as its first index and its end. If
+/// there are none, it returns the whole table.
 fn bounds_by_letter(letter: u8) -> (usize, usize)
     ensures order { result.0 ≤ result.1 }
     ensures end { result.1 ≤ 86 }
@@ -283,7 +284,8 @@ fn bounds_by_letter(letter: u8) -> (usize, usize)
     }
 }
 
-/// From where to where those stand in the table that begin as this word does; all of it where none begins so.
+/// Returns a range of the table, as its first index and its end. It has the mnemonics with the same beginning as the
+/// word. If there are none, it is the whole table.
 fn bounds(word: &[u8]) -> (usize, usize)
     ensures order { result.0 ≤ result.1 }
     ensures end { result.1 ≤ 86 }
@@ -298,8 +300,7 @@ fn bounds(word: &[u8]) -> (usize, usize)
     }
 }
 
-/// The mnemonics of the table that begin as this word does; all of them where none begins so, and then none is the
-/// word.
+/// Returns a part of the table in which the mnemonic of this word is found, if the table has it.
 fn section(word: &[u8]) -> &'static [Mnemonic]
     ensures { first_named word.now result.now ≡ mnemonic_of word.now }
 {
@@ -307,7 +308,7 @@ fn section(word: &[u8]) -> &'static [Mnemonic]
     &MNEMONICS[start..end]
 }
 
-/// The mnemonic of a word.
+/// Returns the mnemonic that has this word, or `None` if there is none.
 pub fn read_mnemonic(word: &[u8]) -> Option<Mnemonic>
     ensures { result ≡ mnemonic_of word.now }
 {

@@ -1,18 +1,18 @@
-//! Numbers with a sign.
+//! Numbers with a sign: reads them, and converts them to 16, 32 or 64 bits.
 
 ghost use Rattle.std.specs.Prelude.{◌≡◌, ◌^◌};
 ghost use Rattle.asm.specs.Number.{number_of, signed_within, bits_within};
 
 use text::magnitude;
 
-/// A number as it is written; a magnitude of 2^64 stands for each that is greater.
+/// A number as it is written: a sign and a magnitude. The magnitude is 2^64 for every greater number.
 #[derive(Clone, Copy)]
 pub struct Number {
     pub negative: bool,
     pub magnitude: u128,
 }
 
-/// A number with an optional minus.
+/// Reads a number with an optional minus. It returns `None` if the text is not such a number.
 #[tactic(auto, unfolding(crate::specs::Number::number_of))]
 pub fn read_number(text: &[u8]) -> Option<Number>
     ensures { result ≡ number_of text.now }
@@ -31,7 +31,7 @@ pub fn read_number(text: &[u8]) -> Option<Number>
     })
 }
 
-/// The number in 16 bits.
+/// Returns the number as a signed 16-bit number, or `None` if it does not fit.
 #[tactic(auto, unfolding(crate::specs::Number::signed_within))]
 pub fn fit16(number: Number) -> Option<i16>
     ensures { result ≡ signed_within (2 ^ 15) number }
@@ -49,7 +49,7 @@ pub fn fit16(number: Number) -> Option<i16>
     }
 }
 
-/// The number in 32 bits.
+/// Returns the number as a signed 32-bit number, or `None` if it does not fit.
 #[tactic(auto, unfolding(crate::specs::Number::signed_within))]
 pub fn fit32(number: Number) -> Option<i32>
     ensures { result ≡ signed_within (2 ^ 31) number }
@@ -67,7 +67,7 @@ pub fn fit32(number: Number) -> Option<i32>
     }
 }
 
-/// The 64 bits of a number from -2^63 to 2^64 - 1.
+/// Returns the number as a 64-bit word, or `None` if it is not in the range from -2^63 to 2^64 - 1.
 #[tactic(auto, unfolding(crate::specs::Number::bits_within))]
 pub fn fit64(number: Number) -> Option<u64>
     ensures { result ≡ bits_within number }

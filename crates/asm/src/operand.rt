@@ -1,4 +1,4 @@
-//! Operands: registers, numbers, places in memory, targets of jumps.
+//! Operands: reads registers, numbers, memory operands and jump targets.
 
 ghost use Rattle.std.specs.Prelude.{◌≡◌, Some, None};
 ghost use Rattle.asm.specs.Operand.{register_of, raw_of, fitted, signed_of, offset_of, inside, place_of, is_letter, are_name, is_name as named_well, goal_of};
@@ -8,21 +8,21 @@ use crate::number::{Number, fit32, read_number};
 use insn::{Operand, Reg};
 use text::{Stop, cut, magnitude};
 
-/// A register, or a number as it is written.
+/// An operand as it is written: a register, or a number.
 #[derive(Clone, Copy)]
 pub enum Raw {
     Register(Reg),
     Number(Number),
 }
 
-/// Where a jump goes: so many units away, or to a name that is kept apart.
+/// The target of a jump: a number of units away, or a name that is stored separately.
 #[derive(Clone, Copy)]
 pub enum Aim {
     Away(Number),
     Named,
 }
 
-/// `r0` to `r10`.
+/// Reads a register, `r0` to `r10`.
 #[tactic(auto, unfolding(crate::specs::Operand::register_of))]
 pub fn register(text: &[u8]) -> Option<Reg>
     ensures { result ≡ register_of text.now }
@@ -34,7 +34,7 @@ pub fn register(text: &[u8]) -> Option<Reg>
     }
 }
 
-/// A register or a number.
+/// Reads a register or a number.
 #[tactic(auto, unfolding(crate::specs::Operand::raw_of))]
 pub fn read_raw(text: &[u8]) -> Option<Raw>
     ensures { result ≡ raw_of text.now }
@@ -47,7 +47,7 @@ pub fn read_raw(text: &[u8]) -> Option<Raw>
     Some(Raw::Number(n))
 }
 
-/// The operand, its number in 32 bits.
+/// Returns the operand, or `None` if it is a number that does not fit in 32 bits.
 #[tactic(auto, unfolding(crate::specs::Operand::fitted))]
 pub fn fit(raw: Raw) -> Option<Operand>
     ensures { result ≡ fitted raw }
@@ -61,7 +61,7 @@ pub fn fit(raw: Raw) -> Option<Operand>
     }
 }
 
-/// `+k` or `-k`.
+/// Reads a number that is written as `+k` or `-k`.
 #[tactic(auto, unfolding(crate::specs::Operand::signed_of))]
 fn signed(text: &[u8]) -> Option<Number>
     ensures { result ≡ signed_of text.now }
@@ -86,7 +86,7 @@ fn signed(text: &[u8]) -> Option<Number>
     None
 }
 
-/// Nothing, `+k` or `-k`.
+/// Reads an offset that is written as `+k` or `-k`. An empty text is the offset 0.
 fn offset(text: &[u8]) -> Option<Number>
     ensures { result ≡ offset_of text.now }
 {
@@ -99,7 +99,7 @@ fn offset(text: &[u8]) -> Option<Number>
     signed(text)
 }
 
-/// What stands between the brackets.
+/// Returns the text between the brackets, or `None` if there are no brackets.
 fn inner(text: &[u8]) -> Option<&[u8]>
     ensures { GivesOption (λ r. r.now) result (inside text.now) }
 {
@@ -113,7 +113,7 @@ fn inner(text: &[u8]) -> Option<&[u8]>
     None
 }
 
-/// `[rN]`, `[rN+k]` or `[rN-k]`.
+/// Reads a memory operand: `[rN]`, `[rN+k]` or `[rN-k]`. It returns the register and the offset.
 #[tactic(auto, unfolding(crate::specs::Operand::place_of))]
 pub fn place(text: &[u8]) -> Option<(Reg, Number)>
     ensures { result ≡ place_of text.now }
@@ -125,14 +125,14 @@ pub fn place(text: &[u8]) -> Option<(Reg, Number)>
     Some((base, offset))
 }
 
-/// A letter or `_`.
+/// Returns whether the byte is a letter or `_`.
 pub fn letter(byte: u8) -> bool
     ensures { result ≡ is_letter byte }
 {
     (b'a' <= byte && byte <= b'z') || (b'A' <= byte && byte <= b'Z') || byte == b'_'
 }
 
-/// Letters, digits, `_`.
+/// Returns whether the text has only letters, digits and `_`.
 fn name_bytes(text: &[u8]) -> bool
     ensures { result ≡ are_name text.now }
 {
@@ -144,14 +144,14 @@ fn name_bytes(text: &[u8]) -> bool
     true
 }
 
-/// A letter or `_`, then letters, digits, `_`.
+/// Returns whether the text is a name: a letter or `_`, then letters, digits or `_`.
 pub fn is_name(text: &[u8]) -> bool
     ensures { result ≡ named_well text.now }
 {
     text.len() >= 1 && letter(text[0]) && name_bytes(text)
 }
 
-/// A target: a name, `+k` or `-k`. The bytes are the name.
+/// Reads a jump target: a name, `+k` or `-k`. The returned bytes are the name, and empty for a distance.
 #[tactic(auto, unfolding(crate::specs::Operand::goal_of))]
 pub fn target(text: &[u8]) -> Option<(Aim, &[u8])>
     ensures { GivesOption (λ t. aim_view t.0 t.1.now) result (goal_of text.now) }

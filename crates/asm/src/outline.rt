@@ -1,4 +1,4 @@
-//! Lines in parts: a name, a word, its operands.
+//! The outline of a line: its name, its mnemonic and its operands, as words.
 
 ghost use Rattle.std.specs.Prelude.{◌≡◌, [], map, drop};
 ghost use Rattle.text.specs.declared.stop.Stop.TheVariants.{Solid};
@@ -11,7 +11,7 @@ use crate::fault::{AsmFault, LineError};
 use crate::operand::{is_name, letter};
 use text::{Stop, cut, find, piece};
 
-/// Whether nothing stands past ASCII, and no carriage return.
+/// Returns whether the text has only ASCII characters and no carriage return.
 fn token_bytes(text: &[u8]) -> bool
     ensures { result ≡ is_token text.now }
 {
@@ -23,7 +23,7 @@ fn token_bytes(text: &[u8]) -> bool
     true
 }
 
-/// Whether there are letters, digits, `_` and `.` alone.
+/// Returns whether the text has only letters, digits, `_` and `.`.
 fn word_bytes(text: &[u8]) -> bool
     ensures { result ≡ is_word text.now }
 {
@@ -35,20 +35,21 @@ fn word_bytes(text: &[u8]) -> bool
     true
 }
 
-/// The text from its first byte that is no space or tab.
+/// Returns the text from its first byte on that is not a space or tab.
 fn skip_blank(text: &[u8]) -> &[u8]
     ensures { result.now ≡ from Solid text.now }
 {
     cut(Stop::Solid, text).1
 }
 
+/// Returns whether the text has only spaces and tabs.
 fn all_blank(text: &[u8]) -> bool
     ensures { result ≡ is_all_blank text.now }
 {
     skip_blank(text).is_empty()
 }
 
-/// The one word of an operand, white space round it.
+/// Returns the single word of an operand, which may have white space around it.
 fn token(piece: &[u8]) -> Option<&[u8]>
     ensures { GivesOption (λ r. r.now) result (token_of piece.now) }
 {
@@ -63,7 +64,7 @@ fn token(piece: &[u8]) -> Option<&[u8]>
     }
 }
 
-/// Adds the words of the operands.
+/// Appends the operands, which commas separate, to the words. It fails with `Line` if an operand is not a single word.
 fn push_operands<'a>(words: &mut Vec<&'a [u8]>, text: &'a [u8]) -> Result<(), LineError>
     ensures { GivesWords words.new.items result (tokens_on (map (λ r. r.now) words.old.items) (pieces comma text.now)) }
 {
@@ -79,7 +80,7 @@ fn push_operands<'a>(words: &mut Vec<&'a [u8]>, text: &'a [u8]) -> Result<(), Li
     Ok(())
 }
 
-/// The word and its operands.
+/// Appends the mnemonic and its operands to the words. It fails with `Line` if the text has another form.
 #[tactic(auto, unfolding(crate::specs::Line::line_words))]
 fn push_words<'a>(words: &mut Vec<&'a [u8]>, body: &'a [u8]) -> Result<(), LineError>
     requires { words.old.items ≡ [] }
@@ -99,7 +100,7 @@ fn push_words<'a>(words: &mut Vec<&'a [u8]>, body: &'a [u8]) -> Result<(), LineE
     push_operands(words, rest)
 }
 
-/// What stands behind the first byte.
+/// Returns the text after its first byte, or the empty text.
 fn behind_first(text: &[u8]) -> &[u8]
     ensures { result.now ≡ drop 1 text.now }
 {
@@ -109,7 +110,7 @@ fn behind_first(text: &[u8]) -> &[u8]
     }
 }
 
-/// The name of a line that has one, and its words.
+/// Returns the name of a line that has one, and appends the other words of the line.
 #[tactic(auto, unfolding(crate::specs::Line::named))]
 fn read_named<'a>(words: &mut Vec<&'a [u8]>, code: &'a [u8]) -> Result<Option<&'a [u8]>, LineError>
     requires { words.old.items ≡ [] }
@@ -125,6 +126,7 @@ fn read_named<'a>(words: &mut Vec<&'a [u8]>, code: &'a [u8]) -> Result<Option<&'
     }
 }
 
+/// Returns the name of a line without its comment, if it has one, and appends its other words.
 #[tactic(auto, unfolding(crate::specs::Line::outlined))]
 fn read_outlined<'a>(
     words: &mut Vec<&'a [u8]>,
@@ -143,7 +145,8 @@ fn read_outlined<'a>(
     }
 }
 
-/// The name of a line, if it has one; its word and operands are written into `words`.
+/// Reads the outline of a line. It returns the name, if the line has one, and replaces the contents of `words` by the
+/// mnemonic and its operands.
 #[tactic(auto, unfolding(crate::specs::Line::outline_of))]
 pub fn read_outline<'a>(
     words: &mut Vec<&'a [u8]>,

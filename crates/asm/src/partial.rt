@@ -1,4 +1,4 @@
-//! Bytecode of which not all can be decoded, as text: a unit with which no instruction begins stands there as its
+//! Assembly of bytecode that cannot be decoded completely. A unit with which no instruction begins is written as its
 //! bytes.
 mod assembler;
 mod disassembler;

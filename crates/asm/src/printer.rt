@@ -1,4 +1,4 @@
-//! Instructions as text.
+//! Writes instructions as text.
 
 ghost use Rattle.std.specs.Prelude.{◌≡◌, ◌++◌, [], ◌∷◌, codes, decimal, string_bytes, OnOk};
 ghost use Rattle.std.specs.Fmt.{signed_decimal};
@@ -9,14 +9,14 @@ use crate::text_parts::{put, put_number, put_unsigned};
 use insn::{Insn, Operand, Reg};
 use std::alloc::AllocError;
 
-/// A comma and a space.
+/// Appends a comma and a space.
 fn put_comma(out: &mut String) -> Result<(), AllocError>
     ensures { OnOk result (string_bytes out.new ≡ string_bytes out.old ++ codes ", ") }
 {
     put(out, ", ")
 }
 
-/// `rN`.
+/// Appends a register as `rN`.
 fn put_register(out: &mut String, reg: Reg) -> Result<(), AllocError>
     ensures { OnOk result (string_bytes out.new ≡ string_bytes out.old ++ register_text reg) }
 {
@@ -24,7 +24,7 @@ fn put_register(out: &mut String, reg: Reg) -> Result<(), AllocError>
     put_unsigned(out, reg.number() as u64)
 }
 
-/// `rN`, or a number.
+/// Appends an operand: a register as `rN`, or a number.
 fn put_operand(out: &mut String, operand: Operand) -> Result<(), AllocError>
     ensures { OnOk result (string_bytes out.new ≡ string_bytes out.old ++ operand_text operand) }
 {
@@ -34,7 +34,7 @@ fn put_operand(out: &mut String, operand: Operand) -> Result<(), AllocError>
     }
 }
 
-/// `+k` or `-k`.
+/// Appends a number as `+k` or `-k`.
 fn put_signed(out: &mut String, number: i64) -> Result<(), AllocError>
     ensures { OnOk result (string_bytes out.new ≡ string_bytes out.old ++ signed_text number) }
 {
@@ -44,7 +44,7 @@ fn put_signed(out: &mut String, number: i64) -> Result<(), AllocError>
     put_number(out, number)
 }
 
-/// `[rN+k]` or `[rN-k]`.
+/// Appends a memory operand as `[rN+k]` or `[rN-k]`.
 fn put_place(out: &mut String, base: Reg, offset: i16) -> Result<(), AllocError>
     ensures { OnOk result (string_bytes out.new ≡ string_bytes out.old ++ place_text base offset) }
 {
@@ -54,7 +54,7 @@ fn put_place(out: &mut String, base: Reg, offset: i16) -> Result<(), AllocError>
     put(out, "]")
 }
 
-/// The mnemonic of an instruction.
+/// Returns the mnemonic of an instruction.
 fn mnemonic_for(insn: &Insn) -> Mnemonic
     ensures { result ≡ word_of insn.now }
 {
@@ -92,7 +92,7 @@ fn mnemonic_for(insn: &Insn) -> Mnemonic
     }
 }
 
-/// A register alone.
+/// Appends a register as the only operand.
 fn put_target(out: &mut String, dst: Reg) -> Result<(), AllocError>
     ensures { OnOk result (string_bytes out.new ≡ string_bytes out.old ++ operands_text (register_text dst ∷ [])) }
 {
@@ -100,7 +100,7 @@ fn put_target(out: &mut String, dst: Reg) -> Result<(), AllocError>
     put_register(out, dst)
 }
 
-/// A register and an operand.
+/// Appends a register and a second operand.
 fn put_pair(out: &mut String, dst: Reg, operand: Operand) -> Result<(), AllocError>
     ensures { OnOk result (string_bytes out.new ≡ string_bytes out.old
         ++ operands_text (register_text dst ∷ operand_text operand ∷ [])) }
@@ -111,7 +111,7 @@ fn put_pair(out: &mut String, dst: Reg, operand: Operand) -> Result<(), AllocErr
     put_operand(out, operand)
 }
 
-/// A register and a number of 64 bits.
+/// Appends a register and a 64-bit number.
 fn put_wide(out: &mut String, dst: Reg, number: u64) -> Result<(), AllocError>
     ensures { OnOk result (string_bytes out.new ≡ string_bytes out.old
         ++ operands_text (register_text dst ∷ decimal number ∷ [])) }
@@ -122,7 +122,7 @@ fn put_wide(out: &mut String, dst: Reg, number: u64) -> Result<(), AllocError>
     put_unsigned(out, number)
 }
 
-/// A distance alone.
+/// Appends a distance as the only operand.
 fn put_distance(out: &mut String, distance: i64) -> Result<(), AllocError>
     ensures { OnOk result (string_bytes out.new ≡ string_bytes out.old ++ operands_text (signed_text distance ∷ [])) }
 {
@@ -130,7 +130,7 @@ fn put_distance(out: &mut String, distance: i64) -> Result<(), AllocError>
     put_signed(out, distance)
 }
 
-/// What a branch compares, and its distance.
+/// Appends the operands of a branch: the two that it compares, and its distance.
 fn put_branch(out: &mut String, dst: Reg, operand: Operand, distance: i16) -> Result<(), AllocError>
     ensures { OnOk result (string_bytes out.new ≡ string_bytes out.old
         ++ operands_text (register_text dst ∷ operand_text operand ∷ signed_text distance ∷ [])) }
@@ -143,7 +143,7 @@ fn put_branch(out: &mut String, dst: Reg, operand: Operand, distance: i16) -> Re
     put_signed(out, distance as i64)
 }
 
-/// A register, and the place that it is loaded from.
+/// Appends the operands of a load: the register, and the memory operand.
 fn put_load(out: &mut String, dst: Reg, base: Reg, offset: i16) -> Result<(), AllocError>
     ensures { OnOk result (string_bytes out.new ≡ string_bytes out.old
         ++ operands_text (register_text dst ∷ place_text base offset ∷ [])) }
@@ -154,7 +154,7 @@ fn put_load(out: &mut String, dst: Reg, base: Reg, offset: i16) -> Result<(), Al
     put_place(out, base, offset)
 }
 
-/// A place, and what is stored there.
+/// Appends the operands of a store: the memory operand, and the source.
 fn put_store(out: &mut String, base: Reg, offset: i16, source: Operand) -> Result<(), AllocError>
     ensures { OnOk result (string_bytes out.new ≡ string_bytes out.old
         ++ operands_text (place_text base offset ∷ operand_text source ∷ [])) }
@@ -165,7 +165,7 @@ fn put_store(out: &mut String, base: Reg, offset: i16, source: Operand) -> Resul
     put_operand(out, source)
 }
 
-/// A helper's number.
+/// Appends the number of a helper.
 fn put_helper(out: &mut String, helper: i32) -> Result<(), AllocError>
     ensures { OnOk result (string_bytes out.new ≡ string_bytes out.old ++ operands_text (signed_decimal helper ∷ [])) }
 {
@@ -173,7 +173,7 @@ fn put_helper(out: &mut String, helper: i32) -> Result<(), AllocError>
     put_number(out, helper as i64)
 }
 
-/// The operands, a comma and a space between them.
+/// Appends the operands of an instruction, with a comma and a space between them.
 fn put_operands(out: &mut String, insn: &Insn) -> Result<(), AllocError>
     ensures { OnOk result (string_bytes out.new ≡ string_bytes out.old ++ operands_text (operands_of insn.now)) }
 {
@@ -214,7 +214,7 @@ fn put_operands(out: &mut String, insn: &Insn) -> Result<(), AllocError>
     }
 }
 
-/// Adds an instruction: its mnemonic and its operands.
+/// Appends an instruction: its mnemonic and its operands.
 #[tactic(auto, unfolding(crate::specs::Printing::insn_text))]
 pub fn put_instruction(out: &mut String, insn: &Insn) -> Result<(), AllocError>
     ensures { OnOk result (string_bytes out.new ≡ string_bytes out.old ++ insn_text insn.now) }
@@ -223,7 +223,7 @@ pub fn put_instruction(out: &mut String, insn: &Insn) -> Result<(), AllocError>
     put_operands(out, insn)
 }
 
-/// The instruction and a line feed.
+/// Appends an instruction and a line feed.
 pub fn put_line(out: &mut String, insn: &Insn) -> Result<(), AllocError>
     ensures { OnOk result (string_bytes out.new ≡ string_bytes out.old ++ line_text insn.now) }
 {

@@ -1,4 +1,4 @@
-//! What the lines of a text say, one line after the other.
+//! Reads the lines of a text in order, and stores their names and statements.
 
 ghost use Rattle.std.specs.Prelude.{◌≡◌, ◌+◌, ◌^◌, ◌<◌, ◌≤◌, ◌++◌, ◌∷◌, [], map, length, OnOk, IfErr, IfOk, Some, None};
 ghost use Rattle.asm.specs.Program.{Read, line_read, with_words, with_name, with_source, read_on, nothing, lines_of};
@@ -14,23 +14,23 @@ use insn::Program;
 use std::alloc::Global;
 use std::collections::BTreeMap;
 
-/// The greatest number of units of a program; statements past them are counted, and not kept.
+/// The greatest number of units of a program. Further statements are counted, but not stored.
 pub const MOST_UNITS: u64 = Program::MOST_UNITS as u64;
 
-/// What the lines so far say.
+/// The result of reading the lines of a text so far.
 #[derive(Drop)]
 pub struct Reading<'a> {
-    /// The unit that each name stands for.
+    /// The unit for which each name is defined.
     pub names: BTreeMap<&'a [u8], u64>,
-    /// How many units the statements take.
+    /// The number of units that the statements take.
     pub units: u64,
-    /// The statements, as long as they take at most 4,096 units; past those none is added.
+    /// The statements, as long as they take at most 4,096 units. Later statements are not added.
     pub sources: Vec<Kept<'a>>,
-    /// How many lines there are.
+    /// The number of lines of the text.
     pub lines: u64,
 }
 
-/// Defines a name as the unit of what follows.
+/// Defines a name as the next unit. It fails with `Twice` if the name is already defined.
 fn put_name<'a>(reading: &mut Reading<'a>, name: &'a [u8]) -> Result<(), LineError>
     ensures read { (r : Read) → Keeps reading.old r → GivesRead result reading.new (with_name r (Some name.now)) }
     ensures units { reading.new.units ≡ reading.old.units }
@@ -42,6 +42,7 @@ fn put_name<'a>(reading: &mut Reading<'a>, name: &'a [u8]) -> Result<(), LineErr
     Ok(())
 }
 
+/// Defines the name of a line as the next unit, if the line has one.
 fn read_name<'a>(reading: &mut Reading<'a>, name: Option<&'a [u8]>) -> Result<(), LineError>
     ensures read { (r : Read) → Keeps reading.old r →
         GivesRead result reading.new (with_name r (name_view name.entry)) }
@@ -53,6 +54,7 @@ fn read_name<'a>(reading: &mut Reading<'a>, name: Option<&'a [u8]>) -> Result<()
     }
 }
 
+/// Appends a statement and its line to the stored statements.
 fn push_kept<'a>(
     sources: &mut Vec<Kept<'a>>,
     draft: DraftInstruction,
@@ -71,7 +73,7 @@ fn push_kept<'a>(
     Ok(())
 }
 
-/// Counts a statement, and keeps it where the program has room for it.
+/// Counts the units of a statement, and stores it if the program has room for it.
 fn put_source<'a>(
     reading: &mut Reading<'a>,
     statement: &Statement<'a>,
@@ -89,7 +91,7 @@ fn put_source<'a>(
     Ok(())
 }
 
-/// Adds the statement of these words, if there are any.
+/// Reads the statement of these words, if there are any, and adds it.
 #[tactic(auto, unfolding(crate::specs::Program::with_words))]
 fn put_words<'a>(reading: &mut Reading<'a>, words: &[&'a [u8]], line: u64) -> Result<(), LineError>
     requires { reading.old.units + 2 < 2 ^ 64 }
@@ -104,7 +106,7 @@ fn put_words<'a>(reading: &mut Reading<'a>, words: &[&'a [u8]], line: u64) -> Re
     }
 }
 
-/// Adds what a line says.
+/// Reads a line, and adds its name and its statement.
 #[tactic(auto, unfolding(crate::specs::Program::line_read, crate::specs::Program::with_line))]
 fn read_line<'a>(
     reading: &mut Reading<'a>,
@@ -127,7 +129,7 @@ fn read_line<'a>(
     put_words(reading, words, line)
 }
 
-/// What the lines of the text say.
+/// Reads all lines of a text. It fails with the fault of the first line that has one.
 pub fn gather<'a>(alloc: Global, text: &'a [u8]) -> Result<Reading<'a>, AsmError>
     ensures read { GivesGathered result (read_on nothing 1 (lines_of text.now)) }
     ensures units { IfOk result (λ reading. reading.units ≤ 4096 → reading.units ≡ units_kept reading.sources.items) }

@@ -1,4 +1,4 @@
-//! The instructions of what was read: names become distances.
+//! Turns statements into instructions: names become distances.
 
 ghost use Rattle.std.specs.Prelude.{◌≡◌, ◌+◌, ◌^◌, ◌<◌, ◌≤◌, [], List, ℕ, length, IfOk};
 ghost use Rattle.std.specs.List.{AllByRecursion};
@@ -19,7 +19,8 @@ use insn::Insn;
 use std::alloc::Global;
 use std::collections::BTreeMap;
 
-/// The distance to a goal, counted from the unit behind the jump.
+/// Returns the distance to the target of a jump, counted from the unit after the jump. It returns `None` if the name is
+/// not defined.
 #[tactic(auto)]
 fn distance(names: &BTreeMap<&[u8], u64>, unit: u64, aim: &Aim, name: &[u8]) -> Option<Number>
     requires { unit < 4096 }
@@ -45,7 +46,8 @@ fn distance(names: &BTreeMap<&[u8], u64>, unit: u64, aim: &Aim, name: &[u8]) -> 
     }
 }
 
-/// The instruction, its jump's distance filled in.
+/// Returns the instruction of a statement, with the distance of its jump. It fails with `Label` if the name is not
+/// defined, and with `Range` if the distance is too great.
 fn resolve(
     names: &BTreeMap<&[u8], u64>,
     unit: u64,
@@ -95,7 +97,8 @@ fn resolve(
     }
 }
 
-/// The instructions of what was read.
+/// Returns the instructions of all statements that were read. It fails with the fault of the first jump that cannot be
+/// resolved.
 pub fn resolve_all(alloc: Global, reading: &Reading<'_>) -> Result<Vec<Insn>, AsmError>
     requires bound { reading.now.units ≤ 4096 }
     requires units { reading.now.units ≡ units_kept reading.now.sources.items }

@@ -1,4 +1,4 @@
-//! Statements: a mnemonic and its operands, one function a row of the table.
+//! Reads statements: a mnemonic and its operands, with one function for each kind of instruction.
 
 ghost use Rattle.std.specs.Prelude.{◌≡◌, map, [], Some, None, IfSome, IfNone};
 ghost use Rattle.asm.specs.declared.mnemonic.Mnemonic.TheVariants as words;
@@ -14,6 +14,7 @@ use crate::operand::{fit, letter, place, read_raw, register, target};
 use insn::{Insn, Operand, Size};
 use word::{ByteOrder, Condition, Narrow, Operation, SwapSize, Width};
 
+/// Returns `Some` if there are no operands.
 #[tactic(auto, unfolding(crate::specs::Statement::none_of))]
 fn no_operand<'a>(operands: &[&'a [u8]]) -> Option<()>
     ensures some { IfSome result (λ _. none_of (map (λ r. r.now) operands.now) ≡ Some []) }
@@ -25,6 +26,7 @@ fn no_operand<'a>(operands: &[&'a [u8]]) -> Option<()>
     }
 }
 
+/// Returns the operand, if there is exactly one.
 #[tactic(auto, unfolding(crate::specs::Statement::one_of))]
 fn one_operand<'a>(operands: &[&'a [u8]]) -> Option<&'a [u8]>
     ensures { GivesOption (λ r. r.now) result (one_of (map (λ r. r.now) operands.now)) }
@@ -36,6 +38,7 @@ fn one_operand<'a>(operands: &[&'a [u8]]) -> Option<&'a [u8]>
     }
 }
 
+/// Returns the operands, if there are exactly two.
 #[tactic(auto, unfolding(crate::specs::Statement::two_of))]
 fn two_operands<'a>(operands: &[&'a [u8]]) -> Option<(&'a [u8], &'a [u8])>
     ensures { GivesOption (λ r. (r.0.now, r.1.now)) result (two_of (map (λ r. r.now) operands.now)) }
@@ -48,6 +51,7 @@ fn two_operands<'a>(operands: &[&'a [u8]]) -> Option<(&'a [u8], &'a [u8])>
     }
 }
 
+/// Returns the operands, if there are exactly three.
 #[tactic(auto, unfolding(crate::specs::Statement::three_of))]
 fn three_operands<'a>(operands: &[&'a [u8]]) -> Option<(&'a [u8], &'a [u8], &'a [u8])>
     ensures { GivesOption (λ r. (r.0.now, r.1.now, r.2.now)) result (three_of (map (λ r. r.now) operands.now)) }
@@ -61,7 +65,7 @@ fn three_operands<'a>(operands: &[&'a [u8]]) -> Option<(&'a [u8], &'a [u8], &'a 
     }
 }
 
-/// An instruction that is no jump by a name or distance.
+/// Makes the statement of an instruction whose distance, if it has one, is known.
 fn plain<'a>(insn: Insn) -> Statement<'a>
     ensures { source_view result ≡ Plain insn }
 {
@@ -71,7 +75,7 @@ fn plain<'a>(insn: Insn) -> Statement<'a>
     }
 }
 
-/// `rD, rS` or `rD, imm`
+/// Reads the operands of an arithmetic instruction: `rD, rS` or `rD, imm`.
 fn arithmetic<'a>(
     width: Width,
     operation: Operation,
@@ -100,7 +104,7 @@ fn arithmetic<'a>(
     }))
 }
 
-/// `rD`
+/// Reads the operand of a negation: `rD`.
 fn negate<'a>(width: Width, operands: &[&'a [u8]]) -> Result<Statement<'a>, AsmFault>
     ensures { GivesResult source_view result (source_of (words.Negate width) (map (λ r. r.now) operands.now)) }
 {
@@ -113,7 +117,7 @@ fn negate<'a>(width: Width, operands: &[&'a [u8]]) -> Result<Statement<'a>, AsmF
     Ok(plain(Insn::Negate { width, dst }))
 }
 
-/// `rD, rS`
+/// Reads the operands of a move with sign extension: `rD, rS`.
 fn sign_extend<'a>(
     width: Width,
     part: Narrow,
@@ -138,7 +142,7 @@ fn sign_extend<'a>(
     }))
 }
 
-/// `rD`
+/// Reads the operand of a byte swap: `rD`.
 fn swap<'a>(
     order: ByteOrder,
     size: SwapSize,
@@ -155,7 +159,7 @@ fn swap<'a>(
     Ok(plain(Insn::Swap { order, size, dst }))
 }
 
-/// `rD, number`
+/// Reads the operands of the wide instruction: `rD, number`.
 fn load_immediate<'a>(operands: &[&'a [u8]]) -> Result<Statement<'a>, AsmFault>
     ensures { GivesResult source_view result (source_of words.LoadImmediate (map (λ r. r.now) operands.now)) }
 {
@@ -174,7 +178,7 @@ fn load_immediate<'a>(operands: &[&'a [u8]]) -> Result<Statement<'a>, AsmFault>
     Ok(plain(Insn::LoadImmediate { dst, number }))
 }
 
-/// A target.
+/// Reads the operand of a jump: its target.
 fn jump<'a>(operands: &[&'a [u8]]) -> Result<Statement<'a>, AsmFault>
     ensures { GivesResult source_view result (source_of words.Jump (map (λ r. r.now) operands.now)) }
 {
@@ -190,7 +194,7 @@ fn jump<'a>(operands: &[&'a [u8]]) -> Result<Statement<'a>, AsmFault>
     })
 }
 
-/// A target.
+/// Reads the operand of a long jump: its target.
 fn long_jump<'a>(operands: &[&'a [u8]]) -> Result<Statement<'a>, AsmFault>
     ensures { GivesResult source_view result (source_of words.LongJump (map (λ r. r.now) operands.now)) }
 {
@@ -206,7 +210,7 @@ fn long_jump<'a>(operands: &[&'a [u8]]) -> Result<Statement<'a>, AsmFault>
     })
 }
 
-/// `rD, rS or imm, target`
+/// Reads the operands of a branch: `rD, rS, target` or `rD, imm, target`.
 fn branch<'a>(
     width: Width,
     condition: Condition,
@@ -236,7 +240,7 @@ fn branch<'a>(
     })
 }
 
-/// `rD, [rS+k]`
+/// Reads the operands of a load: `rD, [rS+k]`.
 fn load<'a>(size: Size, operands: &[&'a [u8]]) -> Result<Statement<'a>, AsmFault>
     ensures { GivesResult source_view result (source_of (words.Load size) (map (λ r. r.now) operands.now)) }
 {
@@ -260,7 +264,7 @@ fn load<'a>(size: Size, operands: &[&'a [u8]]) -> Result<Statement<'a>, AsmFault
     }))
 }
 
-/// `rD, [rS+k]`
+/// Reads the operands of a sign-extending load: `rD, [rS+k]`.
 fn load_signed<'a>(part: Narrow, operands: &[&'a [u8]]) -> Result<Statement<'a>, AsmFault>
     ensures { GivesResult source_view result (source_of (words.LoadSigned part) (map (λ r. r.now) operands.now)) }
 {
@@ -284,7 +288,7 @@ fn load_signed<'a>(part: Narrow, operands: &[&'a [u8]]) -> Result<Statement<'a>,
     }))
 }
 
-/// `[rD+k], rS`
+/// Reads the operands of a store of a register: `[rD+k], rS`.
 fn store_register<'a>(size: Size, operands: &[&'a [u8]]) -> Result<Statement<'a>, AsmFault>
     ensures { GivesResult source_view result (source_of (words.StoreRegister size) (map (λ r. r.now) operands.now)) }
 {
@@ -308,7 +312,7 @@ fn store_register<'a>(size: Size, operands: &[&'a [u8]]) -> Result<Statement<'a>
     }))
 }
 
-/// `[rD+k], imm`
+/// Reads the operands of a store of a number: `[rD+k], imm`.
 fn store_number<'a>(size: Size, operands: &[&'a [u8]]) -> Result<Statement<'a>, AsmFault>
     ensures { GivesResult source_view result (source_of (words.StoreNumber size) (map (λ r. r.now) operands.now)) }
 {
@@ -335,7 +339,7 @@ fn store_number<'a>(size: Size, operands: &[&'a [u8]]) -> Result<Statement<'a>, 
     }))
 }
 
-/// A number, or a helper's name.
+/// Reads the operand of a call: a number, or the name of a helper.
 fn call<'a>(operands: &[&'a [u8]]) -> Result<Statement<'a>, AsmFault>
     ensures { GivesResult source_view result (source_of words.Call (map (λ r. r.now) operands.now)) }
 {
@@ -357,7 +361,7 @@ fn call<'a>(operands: &[&'a [u8]]) -> Result<Statement<'a>, AsmFault>
     Ok(plain(Insn::Call { helper }))
 }
 
-/// None.
+/// Reads the operands of an exit, which has none.
 fn exit<'a>(operands: &[&'a [u8]]) -> Result<Statement<'a>, AsmFault>
     ensures { GivesResult source_view result (source_of words.Exit (map (λ r. r.now) operands.now)) }
 {
@@ -367,7 +371,7 @@ fn exit<'a>(operands: &[&'a [u8]]) -> Result<Statement<'a>, AsmFault>
     }
 }
 
-/// The instruction of a mnemonic and its operands.
+/// Reads the operands of a mnemonic, and returns the statement. It fails with `Operand` or `Range`.
 fn read_source<'a>(mnemonic: Mnemonic, operands: &[&'a [u8]]) -> Result<Statement<'a>, AsmFault>
     ensures { GivesResult source_view result (source_of mnemonic (map (λ r. r.now) operands.now)) }
 {
@@ -389,7 +393,7 @@ fn read_source<'a>(mnemonic: Mnemonic, operands: &[&'a [u8]]) -> Result<Statemen
     }
 }
 
-/// The statement of these words, if there are any.
+/// Reads the statement of these words, if there are any. It fails with `Mnemonic` if the first word is not a mnemonic.
 pub fn read_statement<'a>(words: &[&'a [u8]]) -> Result<Option<Statement<'a>>, AsmFault>
     ensures { GivesResult statement_view result (statement_of (map (λ r. r.now) words.now)) }
 {

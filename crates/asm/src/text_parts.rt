@@ -1,12 +1,11 @@
-//! Parts of texts. Each is one function that is called: a text that is added in place of a call takes ten times the
-//! code.
+//! Appends parts of texts. The functions are not inlined, because an inlined call takes ten times as much code.
 ghost use Rattle.std.specs.Prelude.{◌≡◌, ◌++◌, decimal, string_bytes, OnOk};
 ghost use Rattle.std.specs.Fmt.{signed_decimal};
 
 use itoa::Buffer;
 use std::alloc::AllocError;
 
-/// Adds a text.
+/// Appends a text.
 #[inline(never)]
 pub fn put(out: &mut String, text: &str) -> Result<(), AllocError>
     ensures { OnOk result (string_bytes out.new ≡ string_bytes out.old ++ text.now) }
@@ -14,7 +13,7 @@ pub fn put(out: &mut String, text: &str) -> Result<(), AllocError>
     out.push_str(text)
 }
 
-/// Adds a decimal number, with a minus where it is negative.
+/// Appends a decimal number, with a minus if it is negative.
 #[inline(never)]
 pub fn put_number(out: &mut String, number: i64) -> Result<(), AllocError>
     ensures { OnOk result (string_bytes out.new ≡ string_bytes out.old ++ signed_decimal number) }
@@ -23,7 +22,7 @@ pub fn put_number(out: &mut String, number: i64) -> Result<(), AllocError>
     put(out, buffer.format(number))
 }
 
-/// Adds a decimal number.
+/// Appends a decimal number.
 #[inline(never)]
 pub fn put_unsigned(out: &mut String, number: u64) -> Result<(), AllocError>
     ensures { OnOk result (string_bytes out.new ≡ string_bytes out.old ++ decimal number) }

@@ -1,4 +1,4 @@
-//! Where the units of a program are written in its text.
+//! The lines on which the units of a program are written.
 ghost use Rattle.std.specs.Prelude.{◌≡◌, ◌++◌, ◌∷◌, [], map, string_bytes, IfOk, OnOk};
 ghost use Rattle.std.specs.List.{flat_map};
 ghost use Rattle.asm.specs.Places.{AreWritten, kept_places, line_text, own_places};
@@ -9,14 +9,14 @@ use crate::draft::{Kept, units};
 use crate::reader::{Reading, gather};
 use std::alloc::{AllocError, Global};
 
-/// `line N`.
+/// Returns the text `line N`.
 fn line_text(alloc: Global, line: u64) -> Result<String, AllocError>
     ensures { IfOk result (λ text. string_bytes text ≡ line_text line) }
 {
     format!(in alloc; "line {line}")
 }
 
-/// Adds the line of a unit.
+/// Appends the line of a unit.
 fn put_place(alloc: Global, places: &mut Vec<String>, line: u64) -> Result<(), AllocError>
     ensures { OnOk result (map string_bytes places.new.items ≡ map string_bytes places.old.items
         ++ line_text line ∷ []) }
@@ -25,7 +25,7 @@ fn put_place(alloc: Global, places: &mut Vec<String>, line: u64) -> Result<(), A
     Ok(())
 }
 
-/// Adds those of a statement's units.
+/// Appends the lines of a statement's units.
 fn put_places(alloc: Global, places: &mut Vec<String>, kept: &Kept<'_>) -> Result<(), AllocError>
     ensures { OnOk result (map string_bytes places.new.items ≡ map string_bytes places.old.items
         ++ own_places (kept_view kept.now)) }
@@ -37,7 +37,7 @@ fn put_places(alloc: Global, places: &mut Vec<String>, kept: &Kept<'_>) -> Resul
     Ok(())
 }
 
-/// Those of what was read.
+/// Returns the lines of the units of all statements that were read.
 fn all_places(alloc: Global, reading: &Reading<'_>) -> Result<Vec<String>, AllocError>
     ensures { IfOk result (λ places. map string_bytes places.items ≡ flat_map kept_places reading.now.sources.items) }
 {
@@ -48,12 +48,13 @@ fn all_places(alloc: Global, reading: &Reading<'_>) -> Result<Vec<String>, Alloc
     Ok(places)
 }
 
-/// Where each unit of the program that a text says is written, as `line N`, the lines being counted from 1; an `lddw`
-/// has two units. Nothing of a text that has a fault.
+/// Returns for each unit of the program in a text the line on which it is written, as `line N`, with lines counted from
+/// 1. An `lddw` has two units. The list is empty if a line of the text has a fault of its own. The contract says
+/// nothing of a text with more than 4,096 units.
 ///
 /// # Errors
 ///
-/// Want of memory.
+/// `AllocError` if out of memory.
 #[tactic(auto, using(crate::proofs::PlaceLemmas::places_refused))]
 pub fn places(alloc: Global, text: &str) -> Result<Vec<String>, AllocError>
     ensures { IfOk result (λ places. AreWritten (read_on nothing 1 (lines_of text.now))

@@ -1,4 +1,4 @@
-//! How the units of a program are written in its text.
+//! The statements with which the units of a program are written.
 ghost use Rattle.std.specs.Prelude.{◌≡◌, ◌++◌, map, string_bytes, IfOk, MatchOption, Ok, OnOk, Some, true, false};
 ghost use Rattle.std.specs.List.{list_all};
 ghost use Rattle.asm.specs.Places.{for_units, is_visible, line_statements, statement_text, statements_of, word_text};
@@ -13,21 +13,21 @@ use crate::statement::read_statement;
 use crate::text_parts::put;
 use std::alloc::{AllocError, Global};
 
-/// Whether a byte is a visible character, or a space.
+/// Returns whether a byte is a visible character of ASCII or a space.
 fn is_visible(byte: u8) -> bool
     ensures { result ≡ is_visible byte }
 {
     32 <= byte && byte < 127
 }
 
-/// Whether all bytes of a word are.
+/// Returns whether all bytes of a word are visible characters of ASCII or spaces.
 fn are_visible(word: &[u8]) -> bool
     ensures { result ≡ list_all is_visible word.now }
 {
     word.iter().all(|byte| is_visible(*byte))
 }
 
-/// A word that can be told on a line, as text.
+/// Returns a word as text, or `None` if it has an invisible character.
 fn visible(word: &[u8]) -> Option<&str>
     ensures { MatchOption result (list_all is_visible word.now ≡ false) (λ text. (list_all is_visible word.now ≡ true)
         × (text.now ≡ word.now)) }
@@ -41,7 +41,7 @@ fn visible(word: &[u8]) -> Option<&str>
     }
 }
 
-/// Adds a word as it stands there.
+/// Appends a word as it is written, or nothing if it has an invisible character.
 fn put_word(out: &mut String, word: &[u8]) -> Result<(), AllocError>
     ensures { OnOk result (string_bytes out.new ≡ string_bytes out.old ++ word_text word.now) }
 {
@@ -51,7 +51,7 @@ fn put_word(out: &mut String, word: &[u8]) -> Result<(), AllocError>
     }
 }
 
-/// Adds the operands behind the first.
+/// Appends the operands after the first, each after a comma and a space.
 fn put_more(out: &mut String, operands: &[&[u8]]) -> Result<(), AllocError>
     ensures { OnOk result (string_bytes out.new ≡ string_bytes out.old
         ++ more_text (map word_text (map (λ w. w.now) operands.now))) }
@@ -64,7 +64,7 @@ fn put_more(out: &mut String, operands: &[&[u8]]) -> Result<(), AllocError>
     put_more(out, rest)
 }
 
-/// Adds the operands.
+/// Appends the operands of a statement.
 fn put_operands(out: &mut String, operands: &[&[u8]]) -> Result<(), AllocError>
     ensures { OnOk result (string_bytes out.new ≡ string_bytes out.old
         ++ operands_text (map word_text (map (λ w. w.now) operands.now))) }
@@ -77,7 +77,7 @@ fn put_operands(out: &mut String, operands: &[&[u8]]) -> Result<(), AllocError>
     put_more(out, rest)
 }
 
-/// Adds a mnemonic and its operands.
+/// Appends a mnemonic and its operands.
 fn put_words(out: &mut String, words: &[&[u8]]) -> Result<(), AllocError>
     ensures { OnOk result (string_bytes out.new ≡ string_bytes out.old ++ statement_text (map (λ w. w.now) words.now)) }
 {
@@ -88,7 +88,7 @@ fn put_words(out: &mut String, words: &[&[u8]]) -> Result<(), AllocError>
     put_operands(out, operands)
 }
 
-/// A statement in its words.
+/// Returns the text of a statement, in the words of its line.
 fn statement_text(alloc: Global, words: &[&[u8]]) -> Result<String, AllocError>
     ensures { IfOk result (λ text. string_bytes text ≡ statement_text (map (λ w. w.now) words.now)) }
 {
@@ -97,7 +97,7 @@ fn statement_text(alloc: Global, words: &[&[u8]]) -> Result<String, AllocError>
     Ok(text)
 }
 
-/// Adds it for each of its units.
+/// Appends the text of a statement once for each of its units.
 fn put_units(
     alloc: Global,
     statements: &mut Vec<String>,
@@ -114,7 +114,8 @@ fn put_units(
     Ok(())
 }
 
-/// The same, if the words are those of a statement.
+/// Appends the text of the statement of these words once for each of its units. It appends nothing if the words are not
+/// a statement.
 fn put_statement(
     alloc: Global,
     statements: &mut Vec<String>,
@@ -129,7 +130,7 @@ fn put_statement(
     }
 }
 
-/// Adds those of a line.
+/// Appends the text of the statement of a line once for each of its units.
 #[tactic(auto, using(crate::proofs::WordingLemmas::nothing_added))]
 fn put_line<'a>(
     alloc: Global,
@@ -146,12 +147,12 @@ fn put_line<'a>(
     }
 }
 
-/// How each unit of the program that a text says is written there: `mnemonic a, b, c` with the words of its line, twice
-/// of an `lddw`, which has two units.
+/// Returns for each unit of the program in a text the statement with which it is written: `mnemonic a, b, c`, in the
+/// words of its line. An `lddw` has two units, so its statement is there twice.
 ///
 /// # Errors
 ///
-/// Want of memory.
+/// `AllocError` if out of memory.
 pub fn statements(alloc: Global, text: &str) -> Result<Vec<String>, AllocError>
     ensures { IfOk result (λ statements. map string_bytes statements.items ≡ statements_of text.now) }
 {

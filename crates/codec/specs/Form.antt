@@ -1,4 +1,4 @@
--- What an opcode stands for (RFC 9669, section 3.3: the low three bits are the class).
+-- The form of instruction that an opcode selects (RFC 9669, section 3.3: the low three bits are the class).
 use Rattle.std.specs.Prelude.{ℕ, ◌≡◌, ◌+◌, ◌*◌, ◌/◌, ◌%◌, ◌==◌, ◌||◌, if◌then◌else◌, Option, Some, None}
 use Rattle.word.specs.declared.Width.{Width}
 use Rattle.word.specs.declared.Width.TheVariants.{W32, W64}
@@ -17,7 +17,8 @@ use Rattle.codec.specs.declared.form.Form.{Form}
 use Rattle.codec.specs.declared.form.Form.TheVariants as forms
 use Rattle.codec.specs.Spelling.{alu_class, jump_class, operation_code, operation_offset, condition_code, size_code, part_code, swap_code}
 
--- the operations whose offset is unused, by the opcode's high four bits (section 4.1); a move is read apart
+-- the operation that the opcode's high four bits select, for the operations whose offset is unused (section 4.1); a
+-- move is not among them
 abbrev pub operation_of : ℕ → Option Operation
 operation_of n =
     if n == 0x0 then Some op.Add else
@@ -31,13 +32,15 @@ operation_of n =
     if n == 0xc then Some op.ArithmeticShiftRight else
     None
 
+-- the division that the opcode's high four bits select, for the operations whose offset chooses between unsigned and
+-- signed (section 4.1)
 abbrev pub division_of : ℕ → Option Division
 division_of n =
     if n == 0x3 then Some Quotient else
     if n == 0x9 then Some Remainder else
     None
 
--- the conditions of jumps, by the same bits (section 4.3)
+-- the condition of a jump that the opcode's high four bits select (section 4.3)
 abbrev pub condition_of : ℕ → Option Condition
 condition_of n =
     if n == 0x1 then Some c.Equal else
@@ -53,14 +56,14 @@ condition_of n =
     if n == 0xd then Some c.SignedAtMost else
     None
 
--- class LD (section 5.4, and the packet instructions of section 5.5, which are left out)
+-- the forms of class LD (section 5.4); the packet instructions of section 5.5 are not supported
 abbrev pub wide_form : ℕ → Form
 wide_form n =
     if n == 0x18 then forms.LoadImmediate else
     if n == 0x20 || n == 0x28 || n == 0x30 || n == 0x40 || n == 0x48 || n == 0x50 then forms.LeftOut else
     forms.Unknown
 
--- class LDX (sections 5.1 and 5.2)
+-- the forms of class LDX (sections 5.1 and 5.2)
 abbrev pub load_form : ℕ → Form
 load_form n =
     if n == 0x61 then forms.Load size.Word else
@@ -72,7 +75,7 @@ load_form n =
     if n == 0x91 then forms.LoadSigned narrow.Byte else
     forms.Unknown
 
--- class ST (section 5.1)
+-- the forms of class ST (section 5.1)
 abbrev pub store_form : ℕ → Form
 store_form n =
     if n == 0x62 then forms.StoreImmediate size.Word else
@@ -81,7 +84,7 @@ store_form n =
     if n == 0x7a then forms.StoreImmediate size.Double else
     forms.Unknown
 
--- class STX (section 5.1, and the atomic instructions of section 5.3, which are left out)
+-- the forms of class STX (section 5.1); the atomic instructions of section 5.3 are not supported
 abbrev pub store_register_form : ℕ → Form
 store_register_form n =
     if n == 0x63 then forms.StoreRegister size.Word else
@@ -91,11 +94,12 @@ store_register_form n =
     if n == 0xc3 || n == 0xdb then forms.LeftOut else
     forms.Unknown
 
+-- the byte swap without the source bit: to little-endian in class ALU, and a reversal in class ALU64
 abbrev pub swap_form : Width → Form
 swap_form W32 = forms.Swap Little
 swap_form W64 = forms.Swap Reversed
 
--- classes ALU and ALU64 without the source bit, by the high four bits
+-- the form in classes ALU and ALU64 without the source bit, given the operation or division of the high four bits
 abbrev pub immediate_or : Width → ℕ → Option Operation → Option Division → Form
 immediate_or width n (Some operation) division = forms.Immediate width operation
 immediate_or width n None (Some division) = forms.DivideImmediate width division
@@ -105,14 +109,16 @@ immediate_or width n None None =
     if n == 0xd then swap_form width else
     forms.Unknown
 
+-- the form in classes ALU and ALU64 without the source bit, by the high four bits
 abbrev pub immediate_form : Width → ℕ → Form
 immediate_form width n = immediate_or width n (operation_of n) (division_of n)
 
+-- the byte swap with the source bit: to big-endian in class ALU, and none in class ALU64
 abbrev pub swap_register_form : Width → Form
 swap_register_form W32 = forms.Swap Big
 swap_register_form W64 = forms.Unknown
 
--- the same with the source bit
+-- the form in classes ALU and ALU64 with the source bit, given the operation or division of the high four bits
 abbrev pub register_or : Width → ℕ → Option Operation → Option Division → Form
 register_or width n (Some operation) division = forms.Register width operation
 register_or width n None (Some division) = forms.DivideRegister width division
@@ -121,10 +127,11 @@ register_or width n None None =
     if n == 0xd then swap_register_form width else
     forms.Unknown
 
+-- the form in classes ALU and ALU64 with the source bit, by the high four bits
 abbrev pub register_form : Width → ℕ → Form
 register_form width n = register_or width n (operation_of n) (division_of n)
 
--- classes JMP and JMP32 without the source bit
+-- the form in classes JMP and JMP32 without the source bit, given the condition of the high four bits
 abbrev pub jump_or : Width → ℕ → Option Condition → Form
 jump_or width n (Some condition) = forms.BranchImmediate width condition
 jump_or W32 n None = if n == 0x0 then forms.LongJump else forms.Unknown
@@ -134,18 +141,20 @@ jump_or W64 n None =
     if n == 0x9 then forms.Exit else
     forms.Unknown
 
+-- the form in classes JMP and JMP32 without the source bit, by the high four bits
 abbrev pub jump_form : Width → ℕ → Form
 jump_form width n = jump_or width n (condition_of n)
 
+-- the form in classes JMP and JMP32 with the source bit, given the condition of the high four bits
 abbrev pub branch_or : Width → Option Condition → Form
 branch_or width (Some condition) = forms.BranchRegister width condition
 branch_or width None = forms.Unknown
 
--- the same with the source bit
+-- the form in classes JMP and JMP32 with the source bit, by the high four bits
 abbrev pub jump_register_form : Width → ℕ → Form
 jump_register_form width n = branch_or width (condition_of n)
 
--- what an opcode stands for; in arithmetic and jumps bit 3 is the source bit and the high four bits are the code
+-- the form that an opcode selects; in arithmetic and jumps bit 3 is the source bit and the high four bits are the code
 abbrev pub form_of : ℕ → Form
 form_of n =
     if n % 16 == 0x0 || n % 16 == 0x8 then wide_form n else
@@ -161,12 +170,12 @@ form_of n =
     if n % 16 == 0xe then jump_register_form W32 (n / 16) else
     register_form W64 (n / 16)
 
--- the operation that the offset chooses: signed where it is 1 (section 4.1)
+-- the operation that the offset chooses: signed if it is 1, else unsigned (section 4.1)
 abbrev pub divided : Division → ℕ → Operation
 divided Quotient n = if n == 1 then op.SignedDiv else op.Div
 divided Remainder n = if n == 1 then op.SignedMod else op.Mod
 
--- the opcode is the one that instructions of the form are spelled with
+-- instructions of this form are encoded with this opcode; for unsupported and unknown forms it says nothing
 abbrev pub IsOpcode : Form → ℕ → Type 0
 IsOpcode (forms.Immediate width operation) n =
     (n ≡ operation_code operation + alu_class width) × (operation_offset operation ≡ 0)

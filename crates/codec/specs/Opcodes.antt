@@ -1,4 +1,5 @@
--- Which opcodes begin no instruction, and which one that is left out (RFC 9669, sections 5.3 to 5.5).
+-- The opcodes with which no instruction begins, and the instructions that are not supported (RFC 9669, sections 5.3 to
+-- 5.5).
 use Rattle.std.specs.Prelude.{ℕ, ◌≡◌, ◌≢◌, ◌≤◌, ◌⊎◌, ◌↔◌, List, [], ◌∷◌, Some, Bool, true, false, ◌==◌}
 use Rattle.std.specs.List.{list_any}
 use Rattle.insn.specs.declared.insn.Insn.{Insn}
@@ -13,27 +14,30 @@ abbrev pub opcode_in : List Fields → ℕ
 opcode_in [] = 0
 opcode_in (first ∷ rest) = first.opcode
 
--- an instruction is spelled with it
+-- some well-formed instruction is encoded with this opcode
 abbrev pub IsUsed : ℕ → Type 0
 IsUsed n = (insn : Insn) × IsInsn insn × (opcode_in (spelling insn) ≡ n)
 
--- packets by an absolute and an indirect place (section 5.5), and atomic operations of 4 and 8 bytes (section 5.3)
+-- the unsupported opcodes: packet access at an absolute and an indirect place (section 5.5), and atomic operations of 4
+-- and 8 bytes (section 5.3)
 abbrev pub left_out : List ℕ
 left_out = 0x20 ∷ 0x28 ∷ 0x30 ∷ 0x40 ∷ 0x48 ∷ 0x50 ∷ 0xc3 ∷ 0xdb ∷ []
 
+-- the opcode is one of the unsupported ones
 abbrev pub is_left_out : ℕ → Bool
 is_left_out n = list_any (λ opcode. n == opcode) left_out
 
--- the instruction is left out for its opcode; or as a number that stands for something else (section 5.4), or a call of
--- no helper (section 4.3.1), which are told by the source register
+-- the instruction is not supported. Its opcode is one of the unsupported ones, or its src field is not zero: then a
+-- wide instruction loads something other than a number (section 5.4), and a call calls something other than a helper
+-- (section 4.3.1)
 abbrev pub IsLeftOut : Fields → Type 0
 IsLeftOut f =
     (is_left_out f.opcode ≡ true)
     ⊎ ((f.opcode ≡ 0x18) × (f.dst ≤ 10) × (f.src ≢ 0)
     ⊎ (f.opcode ≡ 0x85) × (f.src ≢ 0))
 
--- the opcode is unknown exactly where no well-formed instruction is spelled with it, and it is not on the list of those
--- that are left out
+-- the opcode is reported as unknown exactly if no well-formed instruction is encoded with it and it is not one of the
+-- unsupported ones; an instruction is reported as unsupported exactly if it is
 pub record OpcodesAreTold : Type 0 where
   pub unknown : (bytes : List ℕ) →
       (fault_at bytes ≡ Some faults.Opcode)

@@ -1,3 +1,4 @@
+//! Decodes arithmetic instructions: operations, divisions, moves, negation and byte swaps.
 ghost use Rattle.std.specs.Prelude.{◌≡◌, ◌≤◌, ◌<◌, ◌+◌, ◌*◌, true, false, [], ◌∷◌, IfOk, IfErr, Some, ℕ, List};
 ghost use Rattle.insn.specs.Insn.{IsInsn};
 ghost use Rattle.word.specs.Arithmetic.{swapped_bytes};
@@ -12,7 +13,7 @@ use crate::form::Division;
 use insn::{Insn, Operand};
 use word::{ByteOrder, Narrow, Operation, SwapSize, Width};
 
-/// Arithmetic with a number.
+/// Decodes an arithmetic instruction whose operand is a number.
 pub fn immediate(width: Width, operation: Operation, fields: Fields) -> Result<Insn, CodecFault>
     requires opcode { fields.opcode ≡ operation_code operation + alu_class width }
     requires offset { operation_offset operation ≡ 0 }
@@ -32,7 +33,7 @@ pub fn immediate(width: Width, operation: Operation, fields: Fields) -> Result<I
     })
 }
 
-/// Arithmetic with a register.
+/// Decodes an arithmetic instruction whose operand is a register.
 pub fn register(width: Width, operation: Operation, fields: Fields) -> Result<Insn, CodecFault>
     requires opcode { fields.opcode ≡ operation_code operation + 8 + alu_class width }
     requires offset { operation_offset operation ≡ 0 }
@@ -53,7 +54,8 @@ pub fn register(width: Width, operation: Operation, fields: Fields) -> Result<In
     })
 }
 
-/// The operation that the offset chooses: unsigned where it is 0, signed where it is 1 (section 4.1).
+/// Returns the operation that the offset chooses: unsigned if it is 0, signed if it is 1 (section 4.1). It fails with
+/// `Operand` for any other offset.
 fn chosen(division: Division, offset: u16) -> Result<Operation, CodecFault>
     ensures found { IfOk result (λ o. (offset ≤ 1) × (o ≡ divided division offset)) }
     ensures fault { IfErr result (λ e. (e ≡ CodecFault.Operand) × (1 < offset)) }
@@ -71,7 +73,7 @@ fn chosen(division: Division, offset: u16) -> Result<Operation, CodecFault>
     }
 }
 
-/// Division by a number.
+/// Decodes a division by a number.
 pub fn divide_immediate(
     width: Width,
     division: Division,
@@ -95,7 +97,7 @@ pub fn divide_immediate(
     })
 }
 
-/// Division by a register.
+/// Decodes a division by a register.
 pub fn divide_register(width: Width, division: Division, fields: Fields) -> Result<Insn, CodecFault>
     requires opcode { fields.opcode ≡ operation_code (divided division 0) + 8 + alu_class width }
     ensures found { IfOk result (λ i. IsInsn i × (spelling i ≡ fields ∷ [])) }
@@ -116,7 +118,8 @@ pub fn divide_register(width: Width, division: Division, fields: Fields) -> Resu
     })
 }
 
-/// The part of the source whose sign is extended, which the offset chooses; none where all of it is moved.
+/// Returns the part of the source that the offset selects for sign extension, or `None` for a plain move. It fails with
+/// `Operand` if the offset selects neither.
 fn part(width: Width, offset: u16) -> Result<Option<Narrow>, CodecFault>
     ensures found { IfOk result (λ p. (is_no_part width offset ≡ false) × IsMoved width p offset) }
     ensures fault { IfErr result (λ e. (e ≡ CodecFault.Operand) × (is_no_part width offset ≡ true)) }
@@ -133,7 +136,7 @@ fn part(width: Width, offset: u16) -> Result<Option<Narrow>, CodecFault>
     }
 }
 
-/// A move of a register, or one that extends the sign of a part of it.
+/// Decodes a move from a register, either plain or with sign extension.
 pub fn move_register(width: Width, fields: Fields) -> Result<Insn, CodecFault>
     requires opcode { fields.opcode ≡ 0xb8 + alu_class width }
     ensures found { IfOk result (λ i. IsInsn i × (spelling i ≡ fields ∷ [])) }
@@ -162,7 +165,7 @@ pub fn move_register(width: Width, fields: Fields) -> Result<Insn, CodecFault>
     })
 }
 
-/// The negative of a register.
+/// Decodes the negation of a register.
 pub fn negate(width: Width, fields: Fields) -> Result<Insn, CodecFault>
     requires opcode { fields.opcode ≡ 0x80 + alu_class width }
     ensures found { IfOk result (λ i. IsInsn i × (spelling i ≡ fields ∷ [])) }
@@ -176,7 +179,8 @@ pub fn negate(width: Width, fields: Fields) -> Result<Insn, CodecFault>
     Ok(Insn::Negate { width, dst })
 }
 
-/// How many bits are swapped, which imm chooses (section 4.2).
+/// Returns the swap size that the `imm` field chooses: 16, 32 or 64 bits (section 4.2). It fails with `Operand` for any
+/// other number.
 fn swap_size(bits: u32) -> Result<SwapSize, CodecFault>
     ensures found { IfOk result (λ s. (is_no_swap bits ≡ false) × (bits ≡ 8 * swapped_bytes s)) }
     ensures fault { IfErr result (λ e. (e ≡ CodecFault.Operand) × (is_no_swap bits ≡ true)) }
@@ -189,7 +193,7 @@ fn swap_size(bits: u32) -> Result<SwapSize, CodecFault>
     }
 }
 
-/// The bytes of a register in another order.
+/// Decodes a byte swap of a register.
 pub fn swap(order: ByteOrder, fields: Fields) -> Result<Insn, CodecFault>
     requires opcode { fields.opcode ≡ swap_code order }
     ensures found { IfOk result (λ i. IsInsn i × (spelling i ≡ fields ∷ [])) }

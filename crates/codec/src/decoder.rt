@@ -1,3 +1,4 @@
+//! Decodes bytes to instructions and programs, and finds the first fault of bytes that do not encode one.
 ghost use Rattle.std.specs.Prelude.{◌≡◌, ◌≤◌, ◌<◌, ◌+◌, ◌*◌, ◌/◌, length, take, drop, IfOk, IfErr, MatchOption, MatchResult, Ok, Err, Some, List};
 ghost use Rattle.insn.specs.declared.insn.Insn.{Insn as InsnValue};
 ghost use Rattle.insn.specs.Insn.{IsInsn, units_of};
@@ -14,8 +15,8 @@ use insn::{Insn, Operand, Program, Reg};
 use std::alloc::{AllocError, Global};
 use word::{Operation, Width};
 
-/// Puts the instruction that was read into the place, and gives how many units it takes; none is put where there is a
-/// fault.
+/// Stores a decoded instruction in the place, and returns the number of its units. If decoding failed, it stores
+/// nothing and fails with the same fault.
 #[inline(always)]
 fn put(place: &mut Insn, read: Result<Insn, CodecFault>) -> Result<u16, CodecFault>
     ensures { MatchResult result (λ n. (read ≡ Ok place.new) × (n ≡ units_of place.new)) (λ e. read ≡ Err e) }
@@ -29,8 +30,8 @@ fn put(place: &mut Insn, read: Result<Insn, CodecFault>) -> Result<u16, CodecFau
     }
 }
 
-/// Puts the instruction that the bytes begin with into the place, and gives how many units it takes. The fields are
-/// read in each case, so that none is read where it is not used.
+/// Decodes the instruction with which the bytes begin into the place, and returns the number of its units. Each case
+/// reads the fields itself, so that no field is read where it is not used.
 #[inline(always)]
 fn meaning(place: &mut Insn, bytes: &[u8]) -> Result<u16, CodecFault>
     requires { 8 ≤ length bytes.now }
@@ -86,8 +87,8 @@ fn meaning(place: &mut Insn, bytes: &[u8]) -> Result<u16, CodecFault>
     }
 }
 
-/// Puts the instruction that the bytes begin with into the place, whatever stands behind it, and gives how many units
-/// it takes.
+/// Decodes the instruction with which the bytes begin into the place, and returns the number of its units. Any bytes
+/// may follow the instruction.
 #[inline(always)]
 fn read(place: &mut Insn, bytes: &[u8]) -> Result<u16, CodecFault>
     requires { 8 ≤ length bytes.now }
@@ -100,11 +101,11 @@ fn read(place: &mut Insn, bytes: &[u8]) -> Result<u16, CodecFault>
     meaning(place, bytes)
 }
 
-/// The instruction that the bytes begin with, whatever stands behind it.
+/// Decodes the instruction with which the bytes begin. Any bytes may follow it.
 ///
 /// # Errors
 ///
-/// The first fault of their first unit, or of the wide instruction that begins there.
+/// The first fault of the first unit, or of the wide instruction that begins there.
 pub fn instruction(bytes: &[u8]) -> Result<Insn, CodecFault>
     requires { 8 ≤ length bytes.now }
     ensures well_formed { IfOk result (λ i. IsInsn i) }
@@ -119,7 +120,7 @@ pub fn instruction(bytes: &[u8]) -> Result<Insn, CodecFault>
     }
 }
 
-/// So many places. What stands there at first is of zeros alone, so all are made at once.
+/// Makes a list of `units` blank instructions. Each consists of zero bytes only, so that all are made at once.
 fn blank_places(alloc: Global, units: usize) -> Result<Vec<Insn>, AllocError>
     ensures { IfOk result (λ v. length v.items ≡ units) }
 {
@@ -135,7 +136,8 @@ fn blank_places(alloc: Global, units: usize) -> Result<Vec<Insn>, AllocError>
     vec![in alloc; blank; units]
 }
 
-/// Puts the instructions that the bytes spell into the first places, and gives how many there are.
+/// Decodes the instructions of the bytes into the first places, and returns their number. It fails with the first fault
+/// of the bytes.
 #[inline(never)]
 fn fill(places: &mut [Insn], bytes: &[u8]) -> Result<usize, CodecError>
     requires whole { length bytes.now ≡ 8 * length places.old }
@@ -159,7 +161,8 @@ fn fill(places: &mut [Insn], bytes: &[u8]) -> Result<usize, CodecError>
     Ok(count)
 }
 
-/// The instructions that so many units spell, or the first fault.
+/// Decodes the instructions of bytes that have `units` units. It fails with the first fault of the bytes, or when out
+/// of memory.
 fn instructions(alloc: Global, bytes: &[u8], units: usize) -> Result<Vec<Insn>, CodecError>
     requires whole { length bytes.now ≡ 8 * units }
     requires some { 0 < units }
@@ -174,18 +177,18 @@ fn instructions(alloc: Global, bytes: &[u8], units: usize) -> Result<Vec<Insn>, 
     Ok(places)
 }
 
-/// The program that the bytes spell.
+/// Decodes the program that the bytes encode.
 ///
 /// # Errors
 ///
-/// The first fault with its unit: the length, the number of units (1 to 4,096), then the instructions
-/// in order; or want of memory.
+/// The first fault and its unit: the length is checked first, then the number of units (1 to 4,096), then the
+/// instructions in order. `Memory` if out of memory.
 pub fn decode(alloc: Global, bytes: &[u8]) -> Result<Program, CodecError>
-    // What is read is spelled so.
+    // The bytes encode the program that is returned.
     ensures found { IfOk result (λ p. SpellsProgram bytes.now p) }
     // An error is the first fault, unless memory runs out.
     ensures fault { IfErr result (λ e. IsAnswered bytes.now e) }
-    // What spells a program is read as that, unless memory runs out.
+    // If the bytes encode a program, that program is returned, unless memory runs out.
     ensures only { (p : List InsnValue) → SpellsProgram bytes.now p →
         MatchResult result (λ q. q ≡ p) (λ e. e ≡ CodecError.Memory) }
 {
@@ -199,8 +202,8 @@ pub fn decode(alloc: Global, bytes: &[u8]) -> Result<Program, CodecError>
     Ok(Program::of_units(alloc, instructions(alloc, bytes, units)?, units)?)
 }
 
-/// The first fault of the bytes with its unit, as `decode` tells it; none exactly where they spell a program. So every
-/// list of bytes spells a program or has a first fault. It takes no memory.
+/// Returns the first fault of the bytes and its unit, as `decode` reports it, or `None` exactly if the bytes encode a
+/// program. Therefore every list of bytes encodes a program or has a first fault. The function allocates no memory.
 pub fn first_fault(bytes: &[u8]) -> Option<(CodecFault, usize)>
     ensures { MatchOption result ((p : List InsnValue)
         × SpellsProgram bytes.now p) (λ found. IsFirstFault bytes.now found.0 found.1) }
@@ -215,7 +218,8 @@ pub fn first_fault(bytes: &[u8]) -> Option<(CodecFault, usize)>
     first_fault_of(bytes, units)
 }
 
-/// The first fault of the instructions of so many units, with its unit.
+/// Returns the first fault of the instructions of bytes that have `units` units, and its unit, or `None` if there is
+/// none.
 fn first_fault_of(bytes: &[u8], units: usize) -> Option<(CodecFault, usize)>
     requires whole { length bytes.now ≡ 8 * units }
     requires some { 0 < units }

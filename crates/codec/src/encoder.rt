@@ -1,3 +1,4 @@
+//! Encodes programs as bytes.
 ghost use Rattle.std.specs.Prelude.{◌≡◌, ◌≤◌, ◌<◌, ◌*◌, ◌++◌, length, IfOk, OnOk};
 ghost use Rattle.codec.specs.Spelling.{instruction_bytes, program_bytes};
 ghost use Rattle.codec.specs.Program.{SpellsProgram};
@@ -7,7 +8,7 @@ use crate::spelling::units;
 use insn::{Insn, Program};
 use std::alloc::{AllocError, Global};
 
-/// Adds the bytes of an instruction.
+/// Appends the bytes of an instruction.
 fn push_insn(bytes: &mut Vec<u8>, insn: &Insn) -> Result<(), AllocError>
     ensures { OnOk result (bytes.new.items ≡ bytes.old.items ++ instruction_bytes insn.now) }
 {
@@ -19,15 +20,15 @@ fn push_insn(bytes: &mut Vec<u8>, insn: &Insn) -> Result<(), AllocError>
     Ok(())
 }
 
-/// The bytes that spell the program: eight for each unit.
+/// Encodes a program as bytes, eight for each unit.
 ///
 /// # Errors
 ///
-/// Want of memory.
+/// `AllocError` if out of memory.
 pub fn encode(alloc: Global, program: &Program) -> Result<Vec<u8>, AllocError>
-    // They are the program's bytes.
+    // The result has exactly the bytes of the program.
     ensures spelled { IfOk result (λ v. v.items ≡ program_bytes program.now) }
-    // They spell it, so decoding them gives it back.
+    // The bytes encode the program, so decoding them returns it.
     ensures spells { IfOk result (λ v. SpellsProgram v.items program.now) }
 {
     let mut bytes = Vec::with_capacity(alloc, 8 * program.units())?;

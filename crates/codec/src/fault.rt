@@ -1,3 +1,4 @@
+//! Faults of bytecode, and the errors of decoding.
 ghost use Rattle.std.specs.Prelude.{◌≡◌};
 ghost use Rattle.codec.specs.declared.fault.CodecError.TheVariants.{Memory};
 
@@ -5,24 +6,24 @@ use std::alloc::{AllocError, AllocFailed};
 use std::error::Error;
 use std::fmt;
 
-/// What is wrong with the bytes of an instruction, or with how many there are.
+/// What is wrong with the bytes of an instruction, or with the length of a program.
 #[derive(Clone, Copy, Debug, PartialEq, Eq, Drop)]
 pub enum CodecFault {
-    /// C1: the length is no multiple of 8.
+    /// C1: the length is not a multiple of 8.
     Length,
     /// C2: no instruction has this opcode.
     Opcode,
-    /// C3: an unused field, or the reserved bits of a wide instruction, are not zero.
+    /// C3: an unused field, or a reserved bit of a wide instruction, is not zero.
     Reserved,
     /// C4: the second half of a wide instruction is missing.
     WideCut,
-    /// C5: a used register above r10.
+    /// C5: the instruction uses a register above r10.
     Register,
-    /// C6: an instruction of the standard that is left out.
+    /// C6: the instruction is in the standard, but is not supported.
     LeftOut,
     /// C7: an operand that chooses the instruction has a value that chooses none.
     Operand,
-    /// C8: no unit, or more than 4,096.
+    /// C8: the program has no unit, or more than 4,096.
     Count,
 }
 
@@ -48,10 +49,11 @@ impl fmt::Display for CodecFault {
 
 impl Error for CodecFault {}
 
-/// The first fault with its unit, or want of memory.
+/// Why decoding failed: the first fault with its unit, or out of memory.
 #[derive(Clone, Copy, Debug, PartialEq, Eq, Drop)]
 pub enum CodecError {
-    /// A fault at an instruction's first unit; for a length it is the unit that is cut, for a count 0.
+    /// The fault at the first unit of an instruction. For a wrong length, this is the incomplete unit, and for a wrong
+    /// number of units it is 0.
     At(CodecFault, usize),
     Memory,
 }

@@ -1,3 +1,4 @@
+//! The fields of a 64-bit unit: reads them from bytes and writes them as bytes.
 ghost use Rattle.std.specs.Prelude.{◌≡◌, ◌≤◌, ◌<◌, [], ◌∷◌, length, slice_index, IfOk, IfErr, Some, Bool, List};
 ghost use Rattle.std.specs.Int.{w16, w32, from_le_bytes, to_le_bytes};
 ghost use Rattle.codec.specs.declared.fault.CodecFault.{CodecFault as FaultValue};
@@ -8,7 +9,7 @@ use crate::fault::CodecFault;
 use byteorder::{ByteOrder, LittleEndian};
 use insn::Reg;
 
-/// The fields of a unit, unsigned (RFC 9669, section 3.1):
+/// The fields of a 64-bit unit, as unsigned numbers (RFC 9669, section 3.1):
 ///
 /// ```text
 /// byte   0        1            2  3     4  5  6  7
@@ -23,7 +24,7 @@ pub struct Fields {
     pub imm: u32,
 }
 
-/// The fields of the first eight bytes.
+/// Reads the fields of the first eight bytes.
 #[inline(always)]
 pub fn read_fields(bytes: &[u8]) -> Fields
     requires { 8 ≤ length bytes.now }
@@ -38,7 +39,7 @@ pub fn read_fields(bytes: &[u8]) -> Fields
     }
 }
 
-/// The number in the first two bytes.
+/// Reads the number in the first two bytes, the lowest byte first.
 fn read_half(bytes: &[u8]) -> u16
     requires { 2 ≤ length bytes.now }
     ensures { result ≡ from_le_bytes w16 (slice_index bytes.now 0 ∷ slice_index bytes.now 1 ∷ []) }
@@ -46,7 +47,7 @@ fn read_half(bytes: &[u8]) -> u16
     LittleEndian::read_u16(bytes)
 }
 
-/// The number in the first four bytes.
+/// Reads the number in the first four bytes, the lowest byte first.
 fn read_word(bytes: &[u8]) -> u32
     requires { 4 ≤ length bytes.now }
     ensures { result ≡ from_le_bytes w32
@@ -55,7 +56,7 @@ fn read_word(bytes: &[u8]) -> u32
     LittleEndian::read_u32(bytes)
 }
 
-/// The eight bytes of the fields.
+/// Returns the eight bytes of a unit with these fields. The register fields must be below 16.
 pub fn to_bytes(fields: Fields) -> [u8; 8]
     requires dst { fields.dst < 16 }
     requires src { fields.src < 16 }
@@ -75,7 +76,7 @@ pub fn to_bytes(fields: Fields) -> [u8; 8]
     ]
 }
 
-/// The two bytes of a number.
+/// Returns the two bytes of a number, the lowest first.
 fn half_bytes(n: u16) -> [u8; 2]
     ensures { result ≡ to_le_bytes w16 n }
 {
@@ -84,7 +85,7 @@ fn half_bytes(n: u16) -> [u8; 2]
     bytes
 }
 
-/// The four bytes of a number.
+/// Returns the four bytes of a number, the lowest first.
 fn word_bytes(n: u32) -> [u8; 4]
     ensures { result ≡ to_le_bytes w32 n }
 {
@@ -93,7 +94,7 @@ fn word_bytes(n: u32) -> [u8; 4]
     bytes
 }
 
-/// The register of a used field.
+/// Returns the register that a field names. It fails with `Register` if the number is above 10.
 pub fn used(number: u8) -> Result<Reg, CodecFault>
     ensures found { IfOk result (λ r. (r ≡ number) × (number ≤ 10)) }
     ensures fault { IfErr result (λ e. (e ≡ CodecFault.Register) × (10 < number)) }
@@ -101,7 +102,8 @@ pub fn used(number: u8) -> Result<Reg, CodecFault>
     Reg::new(number).ok_or(CodecFault::Register)
 }
 
-/// The register of a used dst beside an unused src: the two are one byte, which is then at most 10.
+/// Returns the register that `dst` names in an instruction that does not use `src`. The two fields share a byte, so one
+/// comparison checks both. It fails with `Register` if `dst` is above 10, and with `Reserved` if `src` is not zero.
 #[inline(always)]
 pub fn alone(fields: Fields) -> Result<Reg, CodecFault>
     ensures found { IfOk result (λ r. (r ≡ fields.dst) × (fields.dst ≤ 10) × (fields.src ≡ 0)) }

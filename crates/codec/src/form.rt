@@ -1,24 +1,25 @@
+//! The form of instruction that each opcode selects, as a table.
 ghost use Rattle.std.specs.Prelude.{◌≡◌};
 ghost use Rattle.codec.specs.Form.{form_of, IsOpcode};
 
 use insn::Size;
 use word::{ByteOrder, Condition, Narrow, Operation, Width};
 
-/// The operations whose offset chooses between unsigned and signed (RFC 9669, section 4.1).
+/// A division, whose offset field chooses between unsigned and signed (RFC 9669, section 4.1).
 #[derive(Clone, Copy)]
 pub enum Division {
     Quotient,
     Remainder,
 }
 
-/// What an opcode stands for.
+/// The form of instruction that an opcode selects.
 #[derive(Clone, Copy)]
 pub enum Form {
     Immediate(Width, Operation),
     Register(Width, Operation),
     DivideImmediate(Width, Division),
     DivideRegister(Width, Division),
-    /// The offset chooses between a move and one that extends the sign.
+    /// A plain move or one with sign extension, as the offset field chooses.
     MoveRegister(Width),
     Negate(Width),
     Swap(ByteOrder),
@@ -33,13 +34,13 @@ pub enum Form {
     StoreRegister(Size),
     Call,
     Exit,
-    /// Of the standard, and left out here.
+    /// An instruction that is in the standard, but is not supported.
     LeftOut,
     Unknown,
 }
 
-/// What each opcode stands for: the low three bits are the class, in arithmetic and jumps the next is
-/// the source bit and the high four are the code (section 3.3).
+/// The form that each opcode selects. The low three bits are the class. In arithmetic and jumps, the next bit is the
+/// source bit and the high four bits are the code (section 3.3).
 static FORMS: [Form; 256] = [
     Form::Unknown, // 0x00
     Form::Unknown, // 0x01
@@ -299,7 +300,7 @@ static FORMS: [Form; 256] = [
     Form::Unknown, // 0xff
 ];
 
-/// What the opcode stands for.
+/// Returns the form that the opcode selects.
 #[inline(always)]
 pub fn form_at(opcode: u8) -> &'static Form
     ensures form { result.now ≡ form_of opcode }

@@ -1,3 +1,4 @@
+//! Decodes jumps, branches, calls and exits.
 ghost use Rattle.std.specs.Prelude.{◌≡◌, ◌+◌, [], ◌∷◌, IfOk, IfErr, Some, ℕ, List};
 ghost use Rattle.insn.specs.Insn.{IsInsn};
 ghost use Rattle.codec.specs.declared.form.Form.TheVariants as forms;
@@ -9,7 +10,7 @@ use crate::fields::{Fields, alone, used};
 use insn::{Insn, Operand};
 use word::{Condition, Width};
 
-/// A jump by the offset.
+/// Decodes a jump whose distance is in the `offset` field.
 pub fn near(fields: Fields) -> Result<Insn, CodecFault>
     requires opcode { fields.opcode ≡ 0x05 }
     ensures found { IfOk result (λ i. IsInsn i × (spelling i ≡ fields ∷ [])) }
@@ -23,7 +24,7 @@ pub fn near(fields: Fields) -> Result<Insn, CodecFault>
     })
 }
 
-/// A jump by imm.
+/// Decodes a jump whose distance is in the `imm` field.
 pub fn long(fields: Fields) -> Result<Insn, CodecFault>
     requires opcode { fields.opcode ≡ 0x06 }
     ensures found { IfOk result (λ i. IsInsn i × (spelling i ≡ fields ∷ [])) }
@@ -38,7 +39,7 @@ pub fn long(fields: Fields) -> Result<Insn, CodecFault>
     })
 }
 
-/// A jump on a condition of a register and a number.
+/// Decodes a branch that compares a register with a number.
 pub fn branch_immediate(
     width: Width,
     condition: Condition,
@@ -59,7 +60,7 @@ pub fn branch_immediate(
     })
 }
 
-/// A jump on a condition of two registers.
+/// Decodes a branch that compares two registers.
 pub fn branch_register(
     width: Width,
     condition: Condition,
@@ -84,7 +85,8 @@ pub fn branch_register(
     })
 }
 
-/// A call of a helper; another src asks for a call of another kind, which is left out.
+/// Decodes a call of a helper. It fails with `LeftOut` if the `src` field asks for another kind of call, which is not
+/// supported.
 pub fn call(fields: Fields) -> Result<Insn, CodecFault>
     requires opcode { fields.opcode ≡ 0x85 }
     ensures found { IfOk result (λ i. IsInsn i × (spelling i ≡ fields ∷ [])) }
@@ -101,7 +103,7 @@ pub fn call(fields: Fields) -> Result<Insn, CodecFault>
     })
 }
 
-/// The end of the program.
+/// Decodes an exit.
 pub fn exit(fields: Fields) -> Result<Insn, CodecFault>
     requires opcode { fields.opcode ≡ 0x95 }
     ensures found { IfOk result (λ i. IsInsn i × (spelling i ≡ fields ∷ [])) }

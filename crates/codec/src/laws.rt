@@ -1,33 +1,34 @@
-//! Laws of spelling: each function does nothing, and its contract is the law.
+//! Laws of the encoding. Each function does nothing, and its contract is the law.
 ghost use Rattle.codec.specs.Laws.{OneInstruction, OneProgram, OneSpelling, OneFirstFault, NoFaultInPrograms};
 ghost use Rattle.codec.specs.Opcodes.{OpcodesAreTold};
 
-/// No two well-formed instructions are spelled alike.
+/// States that two different well-formed instructions have different encodings.
 pub fn one_instruction()
     ensures { OneInstruction }
 {}
 
-/// No bytes spell two programs: what is encoded is decoded to itself.
+/// States that bytes encode at most one program, so decoding an encoded program returns it.
 pub fn one_program()
     ensures { OneProgram }
 {}
 
-/// No program has two spellings: what is decoded is encoded to the same bytes.
+/// States that a program has at most one encoding, so encoding a decoded program returns the same bytes.
 pub fn one_spelling()
     ensures { OneSpelling }
 {}
 
-/// No bytes have two first faults.
+/// States that bytes have at most one first fault.
 pub fn one_first_fault()
     ensures { OneFirstFault }
 {}
 
-/// A program's bytes have no first fault.
+/// States that bytes that encode a program have no first fault.
 pub fn no_fault_in_programs()
     ensures { NoFaultInPrograms }
 {}
 
-/// An opcode is unknown exactly where no instruction is spelled with it, unless it is one of those that are left out.
+/// States that an opcode is reported as unknown exactly if no instruction is encoded with it and it is not one of the
+/// unsupported ones. An instruction is reported as unsupported exactly if it is.
 pub fn opcodes_are_told()
     ensures { OpcodesAreTold }
 {}

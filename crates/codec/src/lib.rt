@@ -1,4 +1,5 @@
-//! Programs as bytes (RFC 9669, section 3): each program has one spelling, and each spelling one program.
+//! Decodes and encodes programs as bytes (RFC 9669, section 3). Each program has one encoding, and each encoding
+//! belongs to one program.
 #![tactic(auto)]
 
 mod arithmetic;

@@ -1,3 +1,4 @@
+//! Decodes loads, stores and the wide instruction that loads a 64-bit number.
 ghost use Rattle.std.specs.Prelude.{◌≡◌, ◌+◌, ◌≤◌, [], ◌∷◌, length, drop, IfOk, IfErr, Some, ℕ, List};
 ghost use Rattle.insn.specs.Insn.{IsInsn};
 ghost use Rattle.codec.specs.declared.form.Form.TheVariants as forms;
@@ -9,7 +10,7 @@ use crate::fields::{Fields, alone, read_fields, used};
 use insn::{Insn, Operand, Size};
 use word::Narrow;
 
-/// A load of an unsigned number.
+/// Decodes a load of an unsigned number.
 pub fn load(size: Size, fields: Fields) -> Result<Insn, CodecFault>
     requires opcode { fields.opcode ≡ 0x61 + size_code size }
     ensures found { IfOk result (λ i. IsInsn i × (spelling i ≡ fields ∷ [])) }
@@ -29,7 +30,7 @@ pub fn load(size: Size, fields: Fields) -> Result<Insn, CodecFault>
     })
 }
 
-/// A load of a signed number.
+/// Decodes a load of a signed number.
 pub fn load_signed(part: Narrow, fields: Fields) -> Result<Insn, CodecFault>
     requires opcode { fields.opcode ≡ 0x81 + part_code part }
     ensures found { IfOk result (λ i. IsInsn i × (spelling i ≡ fields ∷ [])) }
@@ -49,7 +50,7 @@ pub fn load_signed(part: Narrow, fields: Fields) -> Result<Insn, CodecFault>
     })
 }
 
-/// A store of a number.
+/// Decodes a store of a number.
 pub fn store_immediate(size: Size, fields: Fields) -> Result<Insn, CodecFault>
     requires opcode { fields.opcode ≡ 0x62 + size_code size }
     ensures found { IfOk result (λ i. IsInsn i × (spelling i ≡ fields ∷ [])) }
@@ -65,7 +66,7 @@ pub fn store_immediate(size: Size, fields: Fields) -> Result<Insn, CodecFault>
     })
 }
 
-/// A store of a register.
+/// Decodes a store of a register.
 pub fn store_register(size: Size, fields: Fields) -> Result<Insn, CodecFault>
     requires opcode { fields.opcode ≡ 0x63 + size_code size }
     ensures found { IfOk result (λ i. IsInsn i × (spelling i ≡ fields ∷ [])) }
@@ -85,7 +86,7 @@ pub fn store_register(size: Size, fields: Fields) -> Result<Insn, CodecFault>
     })
 }
 
-/// The wide instruction, whose second half stands behind the fields (section 3.2).
+/// Decodes the wide instruction, whose second half follows the fields (section 3.2).
 pub fn load_immediate(fields: Fields, behind: &[u8]) -> Result<Insn, CodecFault>
     requires opcode { fields.opcode ≡ 0x18 }
     ensures found { IfOk result (λ i. IsInsn i × (8 ≤ length behind.now)

@@ -1,3 +1,4 @@
+//! Encodes each instruction as the fields of one or two units.
 ghost use Rattle.std.specs.Prelude.{◌≡◌, ◌≤◌, [], ◌∷◌, IfSome};
 ghost use Rattle.std.specs.Int.{w16, cast_unsigned};
 ghost use Rattle.word.specs.Arithmetic.{swapped_bytes};
@@ -9,6 +10,7 @@ use crate::fields::Fields;
 use insn::{Insn, Operand, Reg, Size};
 use word::{ByteOrder, Condition, Narrow, Operation, SwapSize, Width};
 
+/// Returns the class of arithmetic instructions of this width.
 fn arithmetic_class(width: Width) -> u8
     ensures class { result ≡ alu_class width }
     ensures few { result ≤ 7 }
@@ -19,6 +21,7 @@ fn arithmetic_class(width: Width) -> u8
     }
 }
 
+/// Returns the class of branches of this width.
 fn branch_class(width: Width) -> u8
     ensures class { result ≡ jump_class width }
     ensures few { result ≤ 6 }
@@ -29,7 +32,7 @@ fn branch_class(width: Width) -> u8
     }
 }
 
-/// The high four bits of an operation.
+/// Returns the opcode's high four bits for an operation.
 fn operation_bits(operation: Operation) -> u8
     ensures code { result ≡ operation_code operation }
     ensures few { result ≤ 0xc0 }
@@ -52,7 +55,7 @@ fn operation_bits(operation: Operation) -> u8
     }
 }
 
-/// The offset that chooses the operation.
+/// Returns the `offset` field of an operation: 1 for signed division and modulo, else 0.
 fn offset_bits(operation: Operation) -> u16
     ensures { result ≡ operation_offset operation }
 {
@@ -62,7 +65,7 @@ fn offset_bits(operation: Operation) -> u16
     }
 }
 
-/// The high four bits of a condition.
+/// Returns the opcode's high four bits for a condition.
 fn condition_bits(condition: Condition) -> u8
     ensures code { result ≡ condition_code condition }
     ensures few { result ≤ 0xd0 }
@@ -82,6 +85,7 @@ fn condition_bits(condition: Condition) -> u8
     }
 }
 
+/// Returns the size bits of the opcode of a load or store.
 fn size_bits(size: Size) -> u8
     ensures code { result ≡ size_code size }
     ensures few { result ≤ 0x18 }
@@ -94,6 +98,7 @@ fn size_bits(size: Size) -> u8
     }
 }
 
+/// Returns the size bits of the opcode of a sign-extending load.
 fn part_bits(part: Narrow) -> u8
     ensures code { result ≡ part_code part }
     ensures few { result ≤ 0x10 }
@@ -105,6 +110,7 @@ fn part_bits(part: Narrow) -> u8
     }
 }
 
+/// Returns the fields of an arithmetic instruction.
 fn arithmetic(width: Width, operation: Operation, dst: Reg, operand: Operand) -> Fields
     ensures spelled { spelling (i.Arithmetic width operation dst operand) ≡ result ∷ [] }
     ensures registers { (result.dst ≤ 10) × (result.src ≤ 10) }
@@ -130,6 +136,7 @@ fn arithmetic(width: Width, operation: Operation, dst: Reg, operand: Operand) ->
     }
 }
 
+/// Returns the fields of a move with sign extension.
 fn sign_extend(width: Width, part: Narrow, dst: Reg, src: Reg) -> Fields
     ensures spelled { spelling (i.SignExtend width part dst src) ≡ result ∷ [] }
     ensures registers { (result.dst ≤ 10) × (result.src ≤ 10) }
@@ -147,6 +154,7 @@ fn sign_extend(width: Width, part: Narrow, dst: Reg, src: Reg) -> Fields
     }
 }
 
+/// Returns the fields of a byte swap.
 fn swap(order: ByteOrder, size: SwapSize, dst: Reg) -> Fields
     ensures spelled { spelling (i.Swap order size dst) ≡ result ∷ [] }
     ensures registers { (result.dst ≤ 10) × (result.src ≤ 10) }
@@ -168,6 +176,7 @@ fn swap(order: ByteOrder, size: SwapSize, dst: Reg) -> Fields
     }
 }
 
+/// Returns the fields of a branch.
 fn branch(width: Width, condition: Condition, dst: Reg, operand: Operand, distance: i16) -> Fields
     ensures spelled { spelling (i.Branch width condition dst operand distance) ≡ result ∷ [] }
     ensures registers { (result.dst ≤ 10) × (result.src ≤ 10) }
@@ -193,6 +202,7 @@ fn branch(width: Width, condition: Condition, dst: Reg, operand: Operand, distan
     }
 }
 
+/// Returns the fields of a store.
 fn store(size: Size, base: Reg, offset: i16, source: Operand) -> Fields
     ensures spelled { spelling (i.Store size base offset source) ≡ result ∷ [] }
     ensures registers { (result.dst ≤ 10) × (result.src ≤ 10) }
@@ -218,7 +228,7 @@ fn store(size: Size, base: Reg, offset: i16, source: Operand) -> Fields
     }
 }
 
-/// A load with this opcode.
+/// Returns the fields of a load with this opcode.
 fn load(opcode: u8, dst: Reg, base: Reg, offset: i16) -> Fields
     ensures fields { result ≡ fields opcode dst base (cast_unsigned w16 offset) 0 }
     ensures registers { (result.dst ≤ 10) × (result.src ≤ 10) }
@@ -232,7 +242,7 @@ fn load(opcode: u8, dst: Reg, base: Reg, offset: i16) -> Fields
     }
 }
 
-/// The fields of an instruction without registers.
+/// Returns the fields of an instruction that uses no registers.
 fn plain(opcode: u8, offset: u16, imm: u32) -> Fields
     ensures fields { result ≡ fields opcode 0 0 offset imm }
 {
@@ -245,7 +255,7 @@ fn plain(opcode: u8, offset: u16, imm: u32) -> Fields
     }
 }
 
-/// The fields of an instruction's units, of which the wide one alone has a second.
+/// Returns the fields of an instruction's units. Only the wide instruction has a second unit.
 pub fn units(insn: &Insn) -> (Fields, Option<Fields>)
     ensures spelled { spelling insn.now ≡ units_list result }
     ensures first { (result.0.dst ≤ 10) × (result.0.src ≤ 10) }

@@ -7,47 +7,47 @@ use Rattle.combine.specs.declared.campaign_rule.Rule.TheVariants.{Majority, Medi
 use Rattle.combine.specs.declared.outcome.Outcome.{Outcome}
 use Rattle.combine.specs.declared.outcome.Outcome.TheVariants.{Middle}
 
--- the order stands in more than half of the places
+-- the order is in more than half of the places
 abbrev pub is_most : List ℕ → ℕ → Bool
 is_most xs v = nat_lt (length xs) (2 * count_by (λ x. x == v) xs)
 
--- the order in more than half of the places, else 0
+-- the order in more than half of the places, or 0 if there is none
 unfoldable pub majority : List ℕ → ℕ
 majority xs = unwrap_or (find (is_most xs) xs) 0
 
--- at most half of the places have less, and more than half have no more
+-- the order is in the middle: at most half of the places have less, and more than half have at most as much
 unfoldable pub is_middle : List ℕ → ℕ → Bool
 is_middle xs v =
     nat_le (count_by (λ x. nat_lt x v) xs) (length xs / 2) && nat_lt (length xs / 2) (count_by (λ x. nat_le x v) xs)
 
--- the median of a list, 0 of the empty one
+-- the median of a list, or 0 if the list is empty
 unfoldable pub median : List ℕ → ℕ
 median xs = unwrap_or (find (is_middle xs) xs) 0
 
--- all rules, in the order in which their words are listed
+-- all rules, in the order in which their names are listed
 abbrev pub every_rule : List Rule
 every_rule = Majority ∷ Median ∷ []
 
--- the word of a rule
+-- the name of a rule
 abbrev pub rule_name : Rule → List ℕ
 rule_name Majority = codes "majority"
 rule_name Median = codes "median"
 
--- the order that a list comes to by a rule
+-- the order to which a rule combines a list of orders
 abbrev pub combined_by : Rule → List ℕ → ℕ
 combined_by Majority = majority
 combined_by Median = median
 
--- and how
+-- the outcome to which a rule combines a list of orders: the order, and how the rule found it
 abbrev pub outcome_of : Rule → List ℕ → Outcome
 outcome_of Majority orders = agreed_or 0 (find (is_most orders) orders)
 outcome_of Median orders = Middle (median orders)
 
--- an order in more than half of the places is the result
+-- the function returns the order in more than half of the places, whenever there is one
 abbrev pub IsMajorityRule : (List ℕ → ℕ) → Type 0
 IsMajorityRule f = (xs : List ℕ) (v : ℕ) → length xs < 2 * count_by (λ x. x == v) xs → f xs ≡ v
 
--- where no order stands in more than half of the places, the majority is RETREAT, which is 0
+-- if no order is in more than half of the places, the majority is RETREAT, which is 0
 abbrev pub NoMajorityIsRetreat : Type 0
 NoMajorityIsRetreat = (xs : List ℕ) → ((v : ℕ) → 2 * count_by (λ x. x == v) xs ≤ length xs) → majority xs ≡ 0
 
@@ -56,6 +56,6 @@ abbrev pub MedianIsMiddle : Type 0
 MedianIsMiddle = (xs ys : List ℕ) → IsPermutation xs ys → IsNonDecreasing ys → 0 < length xs →
     median xs ≡ slice_index ys (length xs / 2)
 
--- what a list comes to by a rule has the order that the rule combines it to
+-- the outcome of a rule has the order to which the rule combines the list
 abbrev pub OutcomesCombine : Type 0
 OutcomesCombine = (rule : Rule) (orders : List ℕ) → outcome_order (outcome_of rule orders) ≡ combined_by rule orders

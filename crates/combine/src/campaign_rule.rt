@@ -1,3 +1,4 @@
+//! The rule of a campaign: majority or median, with its name.
 ghost use Rattle.std.specs.Prelude.{◌≡◌};
 ghost use Rattle.combine.specs.Names.{is_default, rule_named, rule_names};
 ghost use Rattle.combine.specs.Outcome.{outcome_order};
@@ -13,10 +14,10 @@ pub use majority::Majority;
 pub(crate) use majority::most;
 pub use median::Median;
 
-/// The rule of a campaign.
+/// The rule by which the lieutenants of a campaign combine orders.
 #[derive(Clone, Copy, PartialEq, Eq)]
 pub enum Rule {
-    /// The order in more than half of the places, else RETREAT.
+    /// The order in more than half of the places, or RETREAT if there is none.
     Majority,
     /// The middle of the sorted orders.
     Median,
@@ -43,13 +44,13 @@ impl Combine for Rule {
 }
 
 impl Rule {
-    /// All rules, in the order in which their words are listed.
+    /// All rules, in the order in which their names are listed.
     pub const ALL: [Rule; 2] = [Rule::Majority, Rule::Median];
 
-    /// The rule where none is named.
+    /// The rule of a campaign that names none.
     pub const DEFAULT: Rule = Rule::Majority;
 
-    /// The word of the rule, as texts have it.
+    /// Returns the name of the rule, as campaign files write it.
     pub fn name(self) -> &'static str
         ensures { result.now ≡ rule_name self }
     {
@@ -59,14 +60,14 @@ impl Rule {
         }
     }
 
-    /// The words of all rules, as a sentence lists them.
+    /// Returns the names of all rules, as a sentence lists them.
     pub fn names() -> &'static str
         ensures { result.now ≡ rule_names }
     {
         "majority or median"
     }
 
-    /// What a list comes to by the rule.
+    /// Returns the outcome to which the rule combines a list of orders.
     #[tactic(auto, using(crate::proofs::Most::agreed_order), unfolding(crate::specs::Rule::majority))]
     pub fn outcome(self, orders: &[u32]) -> Outcome
         ensures value { result ≡ outcome_of self orders.now }
@@ -78,7 +79,7 @@ impl Rule {
         }
     }
 
-    /// The rule of a word, if it is one's.
+    /// Returns the rule with this name, or `None` if no rule has it.
     pub fn named(word: &[u8]) -> Option<Rule>
         ensures { result ≡ rule_named word.now }
     {
@@ -88,7 +89,7 @@ impl Rule {
             .find(|rule| rule.name().as_bytes() == word)
     }
 
-    /// Whether it is the rule where none is named.
+    /// Returns whether the rule is the default rule.
     pub fn is_default(self) -> bool
         ensures { result ≡ is_default self }
     {

@@ -1,4 +1,4 @@
-//! Rules by which a list of orders becomes one (TOPLAS 1982, section 3).
+//! Rules that combine a list of orders into one order: majority and median (TOPLAS 1982, section 3).
 #![tactic(auto)]
 
 mod campaign_rule;

@@ -1,9 +1,9 @@
-//! Orders that were told, and one's own among them.
+//! A general's own order, inserted among the orders that he received.
 ghost use Rattle.std.specs.Prelude.{◌≡◌, ◌<◌, ◌≤◌, insert, length};
 
 use arrayvec::ArrayVec;
 
-/// What was told, with one's own order at its place among it.
+/// Returns the received orders with one's own order inserted at its place. There are at most 12 received orders.
 pub fn orders_of(told: &[u32], place: usize, own: u32) -> ArrayVec<u32, 13>
     requires place { place ≤ length told.now }
     requires few { length told.now < 13 }

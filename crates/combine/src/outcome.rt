@@ -1,23 +1,23 @@
-//! What a list of orders comes to.
+//! Outcomes: the result of combining a list of orders.
 ghost use Rattle.std.specs.Prelude.{◌≡◌, find};
 ghost use Rattle.combine.specs.Outcome.{agreed_or, outcome_order, outcome_head};
 ghost use Rattle.combine.specs.Rule.{is_most};
 
 use crate::campaign_rule::most;
 
-/// What a list of orders comes to: its order, and how.
+/// The result of combining a list of orders: the order, and how the rule found it.
 #[derive(Clone, Copy, Drop)]
 pub enum Outcome {
-    /// This order stands in more than half of the places.
+    /// The order is in more than half of the places.
     Agreed(u32),
-    /// No order stands in more than half of the places, so it is this one.
+    /// No order is in more than half of the places, so this order is taken.
     Divided(u32),
-    /// This order is the middle of the sorted list.
+    /// The order is the middle of the sorted list.
     Middle(u32),
 }
 
 impl Outcome {
-    /// The order, 0 for RETREAT.
+    /// Returns the order of the outcome, which is 0 for RETREAT.
     pub fn order(self) -> u32
         ensures { result ≡ outcome_order self }
     {
@@ -26,7 +26,7 @@ impl Outcome {
         }
     }
 
-    /// How it is told: the words before the order.
+    /// Returns the words that describe the outcome, before its order.
     pub fn head(self) -> &'static str
         ensures { result.now ≡ outcome_head self }
     {
@@ -38,7 +38,8 @@ impl Outcome {
     }
 }
 
-/// The order in more than half of the places, or that none is and it is the other one.
+/// Returns the order in more than half of the places as `Agreed`. If there is none, it returns the other order as
+/// `Divided`.
 pub(crate) fn by_most(orders: &[u32], other: u32) -> Outcome
     ensures { result ≡ agreed_or other (find (is_most orders.now) orders.now) }
 {

@@ -1,19 +1,20 @@
+//! The trait of rules that combine a list of orders into one.
 ghost use Rattle.std.specs.Prelude.{◌≡◌, ◌<◌, ◌≤◌, ℕ, List, insert, length};
 ghost use Rattle.combine.specs.Rule.{IsMajorityRule};
 
 use crate::orders::orders_of;
 
-/// A rule of combination: its result depends on the rule and the list alone.
+/// A rule of combination, whose result depends only on the rule and the list.
 pub trait Combine {
-    /// The order that a list of orders comes to.
+    /// The order to which the rule combines a list of orders.
     ghost combined: { Self → List ℕ → ℕ };
 
-    /// The order that these orders come to, without memory.
+    /// Returns the order to which the rule combines these orders. It allocates no memory.
     fn combine(&self, orders: &[u32]) -> u32
         ensures { result ≡ combined self.now orders.now };
 
-    /// The order that up to 12 orders of others come to, with one's own at its place among them.
-    /// Without memory.
+    /// Returns the order to which the rule combines up to 12 received orders, with one's own order inserted at its
+    /// place. It allocates no memory.
     fn combine_told(&self, told: &[u32], place: usize, own: u32) -> u32
         requires place { place ≤ length told.now }
         requires few { length told.now < 13 }
@@ -23,6 +24,6 @@ pub trait Combine {
         self.combine(orders.as_slice())
     }
 
-    /// An order in more than half of the places is the result.
+    /// The rule returns the order in more than half of the places, whenever there is one.
     ghost most_decide: { (rule : Self) → IsMajorityRule (combined rule) };
 }

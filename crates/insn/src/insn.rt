@@ -1,14 +1,15 @@
+//! The instructions of a program, and the operands and sizes that they use.
 use crate::reg::Reg;
 use word::{ByteOrder, Condition, Narrow, Operation, SwapSize, Width};
 
-/// The second operand of an instruction.
+/// The second operand of an instruction: a register or an immediate number.
 #[derive(Clone, Copy, PartialEq, Eq)]
 pub enum Operand {
     Register(Reg),
     Immediate(i32),
 }
 
-/// How much is loaded or stored: 1, 2, 4 or 8 bytes.
+/// The size of a load or store: 1, 2, 4 or 8 bytes.
 #[derive(Clone, Copy, PartialEq, Eq)]
 pub enum Size {
     Byte,
@@ -17,48 +18,48 @@ pub enum Size {
     Double,
 }
 
-/// An instruction.
+/// An instruction of a program. Jump distances count units from the next instruction, and memory offsets count bytes.
 #[derive(Clone, Copy)]
 pub enum Insn {
-    /// dst becomes the operation's result.
+    /// Sets `dst` to the result of the operation on `dst` and the operand.
     Arithmetic {
         width: Width,
         operation: Operation,
         dst: Reg,
         operand: Operand,
     },
-    /// dst becomes its negative.
+    /// Negates `dst`.
     Negate {
         width: Width,
         dst: Reg,
     },
-    /// dst becomes the low bits of src, extended by their sign.
+    /// Sets `dst` to the low bits of `src`, sign-extended to the width.
     SignExtend {
         width: Width,
         part: Narrow,
         dst: Reg,
         src: Reg,
     },
-    /// dst becomes its low bytes in another order.
+    /// Puts the low bytes of `dst` in the given byte order, and clears the bytes above them.
     Swap {
         order: ByteOrder,
         size: SwapSize,
         dst: Reg,
     },
-    /// dst becomes the number.
+    /// Sets `dst` to a 64-bit number. This is the wide instruction, which takes two units.
     LoadImmediate {
         dst: Reg,
         number: u64,
     },
-    /// The program goes on elsewhere.
+    /// Jumps by `distance` units.
     Jump {
         distance: i16,
     },
-    /// The same, with a wider distance.
+    /// Jumps by `distance` units, with a distance of 32 bits.
     LongJump {
         distance: i32,
     },
-    /// The program goes on elsewhere where the condition holds.
+    /// Jumps by `distance` units if `dst` and the operand meet the condition.
     Branch {
         width: Width,
         condition: Condition,
@@ -66,32 +67,32 @@ pub enum Insn {
         operand: Operand,
         distance: i16,
     },
-    /// dst becomes what stands in memory.
+    /// Loads 1, 2, 4 or 8 bytes at `base` plus `offset` into `dst`.
     Load {
         size: Size,
         dst: Reg,
         base: Reg,
         offset: i16,
     },
-    /// The same, extended by its sign.
+    /// Loads 1, 2 or 4 bytes at `base` plus `offset` into `dst`, sign-extended to 64 bits.
     LoadSigned {
         part: Narrow,
         dst: Reg,
         base: Reg,
         offset: i16,
     },
-    /// Memory becomes the source.
+    /// Stores the low bytes of the source at `base` plus `offset`.
     Store {
         size: Size,
         base: Reg,
         offset: i16,
         source: Operand,
     },
-    /// A helper is called.
+    /// Calls a helper by its number.
     Call {
         helper: i32,
     },
-    /// The program ends with r0.
+    /// Ends the program with the value of r0.
     Exit,
 }
 
@@ -99,7 +100,8 @@ impl Insn {
     ghost use Rattle.std.specs.Prelude.{◌≡◌, ◌≤◌, ◌↔◌, IsTrue};
     ghost use Rattle.insn.specs.Insn.{units_of, IsWell};
 
-    /// Whether a program may have it: none extends the sign of 32 bits to 32 (RFC 9669, section 4.1).
+    /// Returns whether the instruction is allowed in a program. An instruction that sign-extends 32 bits to 32 is not
+    /// (RFC 9669, section 4.1).
     pub fn is_well(&self) -> bool
         ensures { IsTrue result ↔ IsWell self.now }
     {
@@ -113,7 +115,7 @@ impl Insn {
         }
     }
 
-    /// How many units of 64 bits it takes: 2 where it is wide, else 1 (RFC 9669, section 3.2).
+    /// Returns the number of 64-bit units that the instruction takes: 2 if it is wide, else 1 (RFC 9669, section 3.2).
     pub fn units(&self) -> u16
         ensures units { result ≡ units_of self.now }
         ensures some { 1 ≤ result }

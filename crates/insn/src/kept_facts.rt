@@ -1,4 +1,4 @@
-//! What the types of an instruction keep.
+//! Facts that the types of an instruction's fields guarantee. Each function does nothing, and its contract is the fact.
 ghost use Rattle.std.specs.Prelude.{◌≤◌, FitsSigned};
 ghost use Rattle.std.specs.Int.{w16, w32};
 ghost use Rattle.insn.specs.Insn.{IsInsn, IsOperand, IsWell};
@@ -6,8 +6,8 @@ ghost use Rattle.insn.specs.Insn.{IsInsn, IsOperand, IsWell};
 use crate::insn::{Insn, Operand};
 use crate::reg::Reg;
 
-/// Registers and numbers are within their types, so it is well formed if it does not extend the sign
-/// of 32 bits to 32.
+/// States that an instruction is well formed if it does not sign-extend 32 bits to 32. The types of its fields
+/// guarantee the rest.
 pub(crate) fn recall_insn(insn: &Insn)
     requires { IsWell insn.now }
     ensures { IsInsn insn.now }
@@ -69,6 +69,7 @@ pub(crate) fn recall_insn(insn: &Insn)
     }
 }
 
+/// States that the type of an operand keeps its register or number in range.
 fn recall_operand(operand: Operand)
     ensures { IsOperand operand }
 {
@@ -78,16 +79,19 @@ fn recall_operand(operand: Operand)
     }
 }
 
+/// States that a register is one of r0 to r10.
 fn recall_register(register: Reg)
     ensures { register ≤ 10 }
 {
     let _number = register.number();
 }
 
+/// States that the number fits in 16 bits.
 fn recall_short(number: i16)
     ensures { FitsSigned w16 number }
 {}
 
+/// States that the number fits in 32 bits.
 fn recall_long(number: i32)
     ensures { FitsSigned w32 number }
 {}

@@ -1,4 +1,4 @@
-//! Instructions and programs (RFC 9669, section 3).
+//! Instructions, registers and well-formed programs (RFC 9669, section 3).
 #![tactic(auto)]
 
 mod insn;

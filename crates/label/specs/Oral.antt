@@ -1,9 +1,9 @@
--- Oral messages, over functions of labels and receivers (TOPLAS 1982, section 3; Lynch, Distributed Algorithms, chapter
+-- Oral messages, as functions of a label and a receiver (TOPLAS 1982, section 3; Lynch, Distributed Algorithms, chapter
 -- 6).
 use Rattle.std.specs.Prelude.{ℕ, zero, suc, ◌*◌, ◌<◌, ◌≤◌, ◌≡◌, ◌≢◌, ◌==◌, Bool, true, false, cond, List, [], ◌∷◌, ◌++◌, map, length, count_by, Option, None, Some}
 use Rattle.label.specs.Labels.{on, is_distinct, generals, others}
 
--- each is a general
+-- each number in the list is that of a general
 abbrev pub AllBelow : ℕ → List ℕ → Type 0
 AllBelow n [] = Unit {0}
 AllBelow n (x ∷ xs) = (x < n) × AllBelow n xs
@@ -13,52 +13,54 @@ abbrev pub BeginsWith : ℕ → List ℕ → Type 0
 BeginsWith c [] = ⊥
 BeginsWith c (x ∷ xs) = x ≡ c
 
--- a label: different generals, the commander first
+-- a label: the commander, then distinct generals
 pub record IsLabel (n c : ℕ) (w : List ℕ) : Type 0 where
   pub first : BeginsWith c w
   pub below : AllBelow n w
   pub distinct : is_distinct w ≡ true
 
--- what a message says: nothing counts as RETREAT
+-- the order in a message; a missing message counts as RETREAT, which is 0
 abbrev pub order_of : Option ℕ → ℕ
 order_of None = 0
 order_of (Some v) = v
 
--- for a label and a receiver, what the last of the label told the receiver of the rest
+-- all messages: for a label and a receiver, the order that the last general of the label sent to the receiver about the
+-- rest of the label, or nothing
 abbrev pub Messages : Type 0
 Messages = List ℕ → ℕ → Option ℕ
 
--- the order that a receiver takes of a label
+-- the order that a receiver takes from the message about a label
 abbrev pub taken : Messages → List ℕ → ℕ → ℕ
 taken M w p = order_of (M w p)
 
--- what a general took of a label: of the empty one his order (the commander alone relays it)
+-- the order that a general took for a label; for the empty label, which only the commander relays, it is his own order
 abbrev pub heard : Messages → ℕ → List ℕ → ℕ → ℕ
 heard M order [] g = order
 heard M order (x ∷ xs) g = taken M (x ∷ xs) g
 
--- the decision of p about the label w, with k relays left
+-- the decision of p about the label w by OM(k), with k relays left
 unfoldable pub om : (List ℕ → ℕ) → ℕ → Messages → ℕ → List ℕ → ℕ → ℕ
 om f n M zero w p = taken M w p
 om f n M (suc k) w p = f (map (λ j. cond (j == p) (taken M w p) (om f n M k (w ++ j ∷ []) p)) (others n w))
 
--- a general tells each receiver what he took
+-- general g follows the protocol: he sends each receiver the order that he took
 abbrev pub IsFaithful : ℕ → ℕ → ℕ → ℕ → Messages → ℕ → Type 0
 IsFaithful n c m order M g =
     (u : List ℕ) (p : ℕ) → IsLabel n c (u ++ g ∷ []) → length u ≤ m → p < n → on (u ++ g ∷ []) p ≡ false
     → M (u ++ g ∷ []) p ≡ Some (heard M order u g)
 
+-- the general is a loyal lieutenant
 pub record IsLoyalLieutenant (n c : ℕ) (traitor : ℕ → Bool) (p : ℕ) : Type 0 where
   pub general : p < n
   pub lieutenant : p ≢ c
   pub loyal : traitor p ≡ false
 
--- all loyal lieutenants decide alike, and on the order of a loyal commander
+-- all loyal lieutenants decide alike, and they obey the order of a loyal commander
 pub record Agree (n c order : ℕ) (traitor : ℕ → Bool) (decision : ℕ → ℕ) : Type 0 where
   pub alike : (p q : ℕ) → IsLoyalLieutenant n c traitor p → IsLoyalLieutenant n c traitor q → decision p ≡ decision q
   pub obeyed : traitor c ≡ false → (p : ℕ) → IsLoyalLieutenant n c traitor p → decision p ≡ order
 
--- more than three times as many generals as traitors are provided for, and no more traitors than these
+-- the bound holds: there are more than 3m generals, and at most m of them are traitors
 pub record IsBound (n m : ℕ) (traitor : ℕ → Bool) : Type 0 where
   pub enough : 3 * m < n
   pub few : count_by traitor (generals n) ≤ m

@@ -1,3 +1,4 @@
+//! Labels: the generals that an order passed through.
 ghost use Rattle.std.specs.Prelude.{◌≡◌, ◌<◌, ◌≤◌, [], ◌∷◌, ◌++◌, false, length, bytes_eq};
 ghost use Rattle.label.specs.Labels.{on};
 ghost use Rattle.label.specs.Generals.{IsGenerals};
@@ -5,7 +6,7 @@ ghost use Rattle.label.specs.Generals.{IsGenerals};
 use arrayvec::ArrayVec;
 use std::marker::Model;
 
-/// Whom an order came through: a list of 1 to 13 different generals, each below 13.
+/// A label: the generals that an order passed through, as a list of 1 to 13 distinct generals, each below 13.
 #[derive(Drop)]
 pub struct Label {
     generals: ArrayVec<u8, 13>,
@@ -23,7 +24,7 @@ impl Model for Label {
 }
 
 impl Label {
-    /// The label of one general.
+    /// Makes the label of one general, who must be below 13.
     pub fn of(general: u8) -> Label
         requires { general < 13 }
         ensures { result ≡ general ∷ [] }
@@ -33,7 +34,7 @@ impl Label {
         Label { generals: only }
     }
 
-    /// The number of generals on it, 1 to 13.
+    /// Returns the number of generals on the label, 1 to 13.
     pub fn len(&self) -> usize
         ensures value { result ≡ length self.now }
         ensures some { 0 < result }
@@ -41,21 +42,21 @@ impl Label {
         self.generals.len()
     }
 
-    /// Whether the general stands on it.
+    /// Returns whether the general is on the label.
     pub fn has(&self, general: u8) -> bool
         ensures { result ≡ on self.now general }
     {
         has_general(self.generals(), general)
     }
 
-    /// Whether the two are the same.
+    /// Returns whether the two labels are equal.
     pub fn same(&self, other: &Label) -> bool
         ensures { result ≡ bytes_eq self.now other.now }
     {
         self.generals() == other.generals()
     }
 
-    /// The generals, in order.
+    /// Returns the generals on the label, in order.
     pub fn generals(&self) -> &[u8]
         ensures value { result.now ≡ self.now }
         ensures kind { IsGenerals self.now }
@@ -64,7 +65,7 @@ impl Label {
         self.generals.as_slice()
     }
 
-    /// The label with one general more.
+    /// Returns the label extended by a general who is not on it. The general must be below 13.
     pub fn with(&self, general: u8) -> Label
         requires below { general < 13 }
         requires fresh { on self.now general ≡ false }
@@ -78,14 +79,14 @@ impl Label {
     }
 }
 
-/// Whether the general stands in the list.
+/// Returns whether the general is in the list.
 pub(crate) fn has_general(generals: &[u8], general: u8) -> bool
     ensures { result ≡ on generals.now general }
 {
     generals.iter().any(|x| *x == general)
 }
 
-/// The list, kept apart.
+/// Copies a list of at most 13 generals.
 fn copied(generals: &[u8]) -> ArrayVec<u8, 13>
     requires { length generals.now ≤ 13 }
     ensures { result.items ≡ generals.now }

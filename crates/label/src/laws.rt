@@ -1,37 +1,39 @@
-//! Laws of the list of labels, and of the recursion over it: each function does nothing, and its contract is the law.
+//! Laws of the list of labels, and of the recursion over it. Each function does nothing, and its contract is the law.
 ghost use Rattle.label.specs.Laws.{ChildrenStand, DecisionsReadOwn, LabelsAreCounted, LabelsAreExact, LabelsAscend, LabelsDiffer, LevelsDecide};
 
-/// The list of a length has exactly the labels of that length that lack the general.
+/// States that the list of labels of a length has exactly the labels of that length that lack the general.
 pub fn labels_are_exact()
     ensures { LabelsAreExact }
 {}
 
-/// No label stands twice in the list.
+/// States that no label occurs twice in the list of labels of a length.
 pub fn labels_differ()
     ensures { LabelsDiffer }
 {}
 
-/// The list ascends in lexicographic order.
+/// States that the list of labels of a length is in ascending lexicographic order.
 pub fn labels_ascend()
     ensures { LabelsAscend }
 {}
 
-/// As many labels as the product says.
+/// States how many labels of each length there are: one of length 1, and for each further length the previous number
+/// times the number of generals that may be appended.
 pub fn labels_are_counted()
     ensures { LabelsAreCounted }
 {}
 
-/// The children of a label stand together in the list of the next length.
+/// States that the children of a label are consecutive in the list of labels of the next length.
 pub fn children_stand()
     ensures { ChildrenStand }
 {}
 
-/// A decision reads no more of the messages than the general's own.
+/// States that the decision of a general depends only on the messages that he received.
 pub fn decisions_read_own()
     ensures { DecisionsReadOwn }
 {}
 
-/// One level of the recursion: what is decided about the children, with the own value among it.
+/// States one level of the recursion: a general combines his decisions about the children of a label, with his own
+/// value inserted at his place among them.
 pub fn levels_decide()
     ensures { LevelsDecide }
 {}

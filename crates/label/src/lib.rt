@@ -1,4 +1,4 @@
-//! Labels of relayed orders, and oral messages over them. What is said of them stands in specs/.
+//! Labels of relayed orders: their lists, their ranks, and oral messages over them. The files in specs/ define them.
 #![tactic(auto)]
 
 mod label;

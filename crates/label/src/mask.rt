@@ -1,16 +1,16 @@
-//! Sets of generals as bit masks: bit g says whether general g is free, that is not on a list.
+//! Sets of generals as bit masks. Bit `g` is set if general `g` is free, which means that he is not on a list.
 ghost use Rattle.std.specs.Prelude.{◌≡◌, ◌<◌, ◌∷◌, ◌++◌, [], length, ℕ, List};
 ghost use Rattle.label.specs.Labels.{others};
 ghost use Rattle.label.specs.Mask.{IsFree};
 
-/// All are free.
+/// Returns the mask in which every general is free.
 pub(crate) fn all_free() -> u32
     ensures { IsFree result [] }
 {
     u32::MAX
 }
 
-/// Those that are free beside this general, who is below 32.
+/// Returns the mask without this general, who must be below 32.
 pub(crate) fn without(free: u32, general: u8) -> u32
     requires { general < 32 }
     ensures { (v : List ℕ) → IsFree free v → IsFree result (v ++ general ∷ []) }
@@ -18,7 +18,7 @@ pub(crate) fn without(free: u32, general: u8) -> u32
     free & !(1 << general)
 }
 
-/// How many of the free ones are below this general, who is below 32.
+/// Returns the number of free generals below this general, who must be below 32.
 pub(crate) fn free_below(free: u32, general: u8) -> u32
     requires { general < 32 }
     ensures { (v : List ℕ) → IsFree free v → result ≡ length (others general v) }

@@ -1,3 +1,4 @@
+//! Ranks labels: counts the labels of a length, and converts between a label and its rank.
 ghost use Rattle.std.specs.Prelude.{◌≡◌, ◌<◌, ◌≤◌, ◌∷◌, false, length, ℕ, IfOk, IfErr, Some, slice_get, nat_lt};
 ghost use Rattle.std.specs.List.{list_all};
 ghost use Rattle.label.specs.Labels.{on, others};
@@ -9,8 +10,8 @@ use crate::label::{Label, has_general};
 use crate::mask::{all_free, free_below, without};
 use crate::space::{LabelError, Space};
 
-/// How many labels of this length there are: 0 where they would be longer than there are generals to
-/// stand on them, and where the general is the commander, who stands on every label.
+/// Returns the number of labels of this length that lack the general. It is 0 if the length is 0 or at least the number
+/// of generals, and if the general is the commander, who is on every label.
 pub fn count(space: Space, size: u8) -> u32
     requires { IsWithinLimits space }
     ensures { result ≡ length (labels_of space size) }
@@ -21,7 +22,7 @@ pub fn count(space: Space, size: u8) -> u32
     product(space, size)
 }
 
-/// How many labels of this length there are, by one factor for each general behind the commander.
+/// Returns the number of labels of this length, as a product with a factor for each general after the commander.
 fn product(space: Space, size: u8) -> u32
     requires space { IsSpace space }
     requires some { 0 < size }
@@ -35,11 +36,11 @@ fn product(space: Space, size: u8) -> u32
     all
 }
 
-/// The place of the label in the list of those of its length, from 0.
+/// Returns the rank of the label: its index, from 0, in the list of labels of its length.
 ///
 /// # Errors
 ///
-/// `NotALabel` exactly where it does not stand in that list.
+/// `NotALabel` exactly if the label is not in that list.
 pub fn rank(space: Space, label: &Label) -> Result<u32, LabelError>
     requires { IsWithinLimits space }
     ensures ok { IfOk result (HasRank space label.now) }
@@ -52,11 +53,11 @@ pub fn rank(space: Space, label: &Label) -> Result<u32, LabelError>
     Ok(rank_of(space, generals))
 }
 
-/// The label at a place, from 0, of the list of those of a length.
+/// Returns the label with this rank: the label at this index, from 0, in the list of labels of this length.
 ///
 /// # Errors
 ///
-/// `Rank` exactly where the list has no such place.
+/// `Rank` exactly if the rank is not below the length of that list.
 pub fn unrank(space: Space, size: u8, rank: u32) -> Result<Label, LabelError>
     requires { IsWithinLimits space }
     ensures ok { IfOk result (λ w. slice_get (labels_of space size) rank ≡ Some w) }
@@ -68,7 +69,7 @@ pub fn unrank(space: Space, size: u8, rank: u32) -> Result<Label, LabelError>
     Ok(label_at(space, size, rank))
 }
 
-/// Whether the label is one of those that lack the general.
+/// Returns whether the label is one of those that lack the general of the space.
 fn is_label(space: Space, generals: &[u8]) -> bool
     ensures { result ≡ is_label_of space generals.now }
 {
@@ -77,6 +78,7 @@ fn is_label(space: Space, generals: &[u8]) -> bool
         && !has_general(generals, space.general)
 }
 
+/// Returns whether the list begins with the commander.
 fn begins_with(generals: &[u8], commander: u8) -> bool
     ensures { result ≡ begins_with commander generals.now }
 {
@@ -86,14 +88,15 @@ fn begins_with(generals: &[u8], commander: u8) -> bool
     }
 }
 
+/// Returns whether every general in the list is below the limit.
 fn all_below(generals: &[u8], limit: u8) -> bool
     ensures { result ≡ list_all (λ x. nat_lt x limit) generals.now }
 {
     generals.iter().all(|x| *x < limit)
 }
 
-/// The rank, by one product for each general behind the commander: so many of those that are free
-/// are below him.
+/// Computes the rank of a label. For each general after the commander it multiplies the rank by the number of choices
+/// and adds the number of free generals below him.
 fn rank_of(space: Space, generals: &[u8]) -> u32
     requires space { IsSpace space }
     requires label { IsLabel space.generals space.commander generals.now }
@@ -112,7 +115,7 @@ fn rank_of(space: Space, generals: &[u8]) -> u32
     rank
 }
 
-/// The label at a rank, by one quotient for each general.
+/// Computes the label with this rank, by one division for each general after the commander.
 fn label_at(space: Space, size: u8, rank: u32) -> Label
     requires space { IsSpace space }
     requires some { 0 < size }
@@ -135,7 +138,7 @@ fn label_at(space: Space, size: u8, rank: u32) -> Label
     parent.with(last)
 }
 
-/// The general at a place among those that are neither the lieutenant nor on the list.
+/// Returns the general at this index, from 0, among those who are neither the receiver nor in the list.
 #[tactic(auto, using(crate::proofs::Bounds::others_length_more, crate::proofs::Bounds::others_here))]
 fn general_at(prefix: &[u8], receiver: u8, generals: u8, place: u32) -> u8
     requires within { place < length (others generals (receiver ∷ prefix.now)) }
@@ -153,7 +156,7 @@ fn general_at(prefix: &[u8], receiver: u8, generals: u8, place: u32) -> u8
     unreachable!()
 }
 
-/// Whether the general is the lieutenant or on the list.
+/// Returns whether the general is the receiver or in the list.
 fn is_out(prefix: &[u8], receiver: u8, general: u8) -> bool
     ensures { result ≡ on (receiver ∷ prefix.now) general }
 {

@@ -1,9 +1,11 @@
-/// Whose relay it is: the general's, in this round, among so many generals under this commander.
+//! The relay of one general in one round.
+
+/// A relay: which general relays orders in which round, among how many generals, and under which commander.
 #[derive(Clone, Copy, PartialEq, Eq)]
 pub struct Shape {
-    /// How many generals there are, at most 13.
+    /// The number of generals, at most 13.
     pub generals: u32,
-    /// The commander's number.
+    /// The number of the commander.
     pub commander: u32,
     /// The number of the general who relays.
     pub general: u32,

@@ -1,23 +1,24 @@
+//! The space of labels that lack one lieutenant, and the errors of ranking in it.
 use std::error::Error;
 use std::fmt;
 
-/// Which labels are ranked: those of a campaign that lack one lieutenant.
+/// A space of labels: those of a campaign that lack one lieutenant.
 #[derive(Clone, Copy)]
 pub struct Space {
-    /// How many generals there are, 2 to 13.
+    /// The number of generals, at most 13.
     pub generals: u8,
-    /// The commander's number.
+    /// The number of the commander.
     pub commander: u8,
     /// The number of the lieutenant whom the labels lack.
     pub general: u8,
 }
 
-/// Why there is no rank or no label.
+/// The reason why a label has no rank, or why there is no label with a rank.
 #[derive(Clone, Copy, Debug, PartialEq, Eq)]
 pub enum LabelError {
-    /// L1: no label of the space.
+    /// L1: the list is not a label of the space.
     NotALabel,
-    /// L2: no rank below the number of labels.
+    /// L2: the rank is not below the number of labels.
     Rank,
 }
 

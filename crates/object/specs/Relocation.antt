@@ -1,6 +1,6 @@
--- Relocations (System V ABI, "Relocation": Elf64_Rel, Elf64_Rela): which symbol a place of a section names.
--- In code for BPF these are R_BPF_64_64, the 64 bits of an lddw, and R_BPF_64_32, the number of a call (LLVM, "BPF
--- Relocation Types").
+-- Relocations (System V ABI, "Relocation": Elf64_Rel, Elf64_Rela), each of which says which symbol a place of a section
+-- names. In code for BPF these are R_BPF_64_64, the 64 bits of an lddw, and R_BPF_64_32, the number of a call (LLVM,
+-- "BPF Relocation Types").
 use Rattle.std.specs.Prelude.{ℕ, ◌+◌, ◌*◌, ◌/◌, ◌-◌, List, length, Bool, ◌==◌, ◌&&◌, nat_lt, nat_le, if◌then◌else◌}
 use Rattle.std.specs.Prelude.{Option, Some, None}
 use Rattle.object.specs.declared.section.SectionHeader.{SectionHeader}
@@ -13,24 +13,24 @@ use Rattle.object.specs.First.{first_some}
 use Rattle.object.specs.Section.{section_at, section_bytes, is_code, is_relocations}
 use Rattle.object.specs.Symbol.{symbol_at}
 
--- the size of a relocation: SHT_REL has 16 bytes, SHT_RELA 24
+-- the size of a relocation in bytes: 16 in SHT_REL, and 24 in SHT_RELA
 abbrev pub relocation_size : SectionHeader → ℕ
 relocation_size section = if section.kind == 9 then 16 else 24
 
--- r_offset, and the symbol in the upper half of r_info
+-- the relocation with this index: r_offset, and the symbol in the upper half of r_info
 abbrev pub relocation_at : ℕ → ℕ → List ℕ → Relocation
 relocation_at size index relocations = record {
   place = number_at 8 (size * index) relocations;
   symbol = number_at 4 (size * index + 12) relocations;
 }
 
--- it changes the function's code
+-- the relocation changes the function's code
 abbrev pub is_within : Relocation → Symbol → Bool
 is_within relocation function =
     nat_le function.value relocation.place && nat_lt relocation.place (function.value + function.size)
 
--- what is wrong with a place of the function's code that names the symbol: a machine without calls of functions
--- leaves its function, and data is not there at all
+-- the fault of a unit whose code names the symbol: it leaves the function if the symbol is code, because the machine
+-- has no calls of functions, and otherwise it names data, which the machine does not have
 abbrev pub named_at : List ℕ → Symbol → ℕ → ObjectFault
 named_at table symbol unit = if is_code (section_at symbol.section table) then Leaves unit else Names unit
 
@@ -52,9 +52,10 @@ relocations_fault object table symbols function index =
     (length (section_bytes object (section_at index table)) / relocation_size (section_at index table))
     else None
 
--- a unit that calls a function of the program: opcode 0x85 with src 1 (RFC 9669, section 4.3.2)
+-- the unit calls a function of the program: its opcode is 0x85, and its src is 1 (RFC 9669, section 4.3.2)
 abbrev pub is_call : List ℕ → ℕ → Bool
 is_call code unit = (number_at 1 (8 * unit) code == 133) && (number_at 1 (8 * unit + 1) code / 16 == 1)
 
+-- the fault of a unit that calls a function of the program
 abbrev pub call_fault : List ℕ → ℕ → Option ObjectFault
 call_fault code unit = if is_call code unit then Some (Leaves unit) else None

@@ -1,30 +1,32 @@
--- The header and the sections of an object, as far as they are looked at (System V ABI, "ELF Header" and "Sections":
+-- The header and the sections of an object, as far as they are read (System V ABI, "ELF Header" and "Sections":
 -- Elf64_Ehdr, Elf64_Shdr).
 use Rattle.std.specs.Prelude.{ℕ, ◌+◌, ◌*◌, ◌/◌, ◌%◌, List, [], length, Bool, ◌==◌, ◌&&◌, ◌||◌, nat_le, if◌then◌else◌}
 use Rattle.object.specs.declared.section.SectionHeader.{SectionHeader}
 use Rattle.object.specs.Number.{number_at, window}
 
--- 7f 45 4c 46 (e_ident), 64 bits (2), little-endian (1), relocatable (e_type 1), for BPF (e_machine 247)
+-- the file is an object for BPF: 7f 45 4c 46 (e_ident), 64 bits (2), little-endian (1), relocatable (e_type 1), for BPF
+-- (e_machine 247)
 abbrev pub is_bpf_object : List ℕ → Bool
 is_bpf_object object =
     (number_at 4 0 object == 1179403647) && (number_at 1 4 object == 2) && (number_at 1 5 object == 1) &&
     (number_at 2 16 object == 1) && (number_at 2 18 object == 247)
 
--- e_shnum
+-- the number of sections (e_shnum)
 abbrev pub section_count : List ℕ → ℕ
 section_count object = number_at 2 60 object
 
--- the headers of the sections: so many of 64 bytes each, from e_shoff on
+-- the headers of the sections, of 64 bytes each, from e_shoff on
 abbrev pub section_table : List ℕ → List ℕ
 section_table object = window (number_at 8 40 object) (64 * section_count object) object
 
--- the header is there, e_shentsize is 64, and the headers of the sections are there
+-- the object has a header, e_shentsize is 64, and the headers of the sections are within the file
 abbrev pub is_table_whole : List ℕ → Bool
 is_table_whole object =
     nat_le 64 (length object) && (number_at 2 58 object == 64)
     && (length (section_table object) == 64 * section_count object)
 
--- sh_type, sh_flags, sh_offset, sh_size, sh_link and sh_info; zeros past the table
+-- the header of the section with this index: sh_type, sh_flags, sh_offset, sh_size, sh_link and sh_info; past the table
+-- the fields are zero
 abbrev pub section_at : ℕ → List ℕ → SectionHeader
 section_at index table = record {
   kind = number_at 4 (64 * index + 4) table;
@@ -35,18 +37,18 @@ section_at index table = record {
   info = number_at 4 (64 * index + 44) table;
 }
 
--- SHT_NULL or SHT_NOBITS: it has no bytes in the file
+-- the section has no bytes in the file (SHT_NULL or SHT_NOBITS)
 abbrev pub has_no_bytes : SectionHeader → Bool
 has_no_bytes section = (section.kind == 0) || (section.kind == 8)
 
--- its part of the file; none where that is not all there
+-- the bytes of a section, or none if they are not within the file
 unfoldable pub section_bytes : List ℕ → SectionHeader → List ℕ
 section_bytes object section = if has_no_bytes section then [] else window section.start section.size object
 
--- SHT_PROGBITS with SHF_EXECINSTR
+-- the section has executable code (SHT_PROGBITS with SHF_EXECINSTR)
 abbrev pub is_code : SectionHeader → Bool
 is_code section = (section.kind == 1) && (section.flags / 4 % 2 == 1)
 
--- SHT_REL or SHT_RELA
+-- the section has relocations (SHT_REL or SHT_RELA)
 abbrev pub is_relocations : SectionHeader → Bool
 is_relocations section = (section.kind == 9) || (section.kind == 4)

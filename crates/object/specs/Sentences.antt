@@ -1,10 +1,10 @@
--- The sentences of the faults.
+-- The sentences that explain faults of objects.
 use Rattle.std.specs.Prelude.{ℕ, List, codes}
 use Rattle.object.specs.declared.fault.Damage.TheVariants.{Sections, Section, Symbol, Relocations}
 use Rattle.object.specs.declared.fault.ObjectFault.{ObjectFault}
 use Rattle.object.specs.declared.fault.ObjectFault.TheVariants.{NoObject, Damaged, NoFunction, Several, Names, Leaves}
 
--- what a fault means, and what helps
+-- what a fault means, and what to do about it
 abbrev pub sentence_of : ObjectFault → List ℕ
 sentence_of NoObject = codes "this is no relocatable ELF object of 64 bits, little-endian, for BPF (machine 247)"
 sentence_of (Damaged Sections) = codes "the header is cut off, or those of the sections are not within the file"

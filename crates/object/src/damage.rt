@@ -1,3 +1,4 @@
+//! Checks an object for damage: parts that are not within the file, or not within the part that contains them.
 ghost use Rattle.std.specs.Prelude.{◌≡◌, ◌<◌, ◌≤◌, ◌+◌, ◌*◌, ◌/◌, ◌^◌, length};
 ghost use Rattle.object.specs.First.{first_some};
 ghost use Rattle.object.specs.Damage.{is_section_whole, section_damage, is_symbol_whole, symbol_damage, relocation_damage, relocations_damage, tables_damage};
@@ -7,7 +8,7 @@ use crate::relocation::Relocation;
 use crate::section::SectionHeader;
 use crate::symbol::Symbol;
 
-/// Whether the bytes of a section are in the file.
+/// Returns whether the section has no bytes in the file, or its bytes are within the file.
 fn has_section(object: &[u8], section: SectionHeader) -> bool
     ensures { result ≡ is_section_whole object.now section }
 {
@@ -15,7 +16,7 @@ fn has_section(object: &[u8], section: SectionHeader) -> bool
     section.has_no_bytes() || (section.size <= length && section.start <= length - section.size)
 }
 
-/// What is damaged of a section.
+/// Returns the damage of a section, if its bytes are not within the file.
 fn of_section(object: &[u8], table: &[u8], index: usize) -> Option<Damage>
     requires { index < 2 ^ 32 }
     ensures { result ≡ section_damage object.now table.now index }
@@ -27,7 +28,7 @@ fn of_section(object: &[u8], table: &[u8], index: usize) -> Option<Damage>
     }
 }
 
-/// The first section whose bytes are not in the file.
+/// Returns the damage of the first section whose bytes are not within the file.
 fn first_section(object: &[u8], table: &[u8], count: usize) -> Option<Damage>
     requires { count < 2 ^ 32 }
     ensures { result ≡ first_some (section_damage object.now table.now) count }
@@ -41,7 +42,7 @@ fn first_section(object: &[u8], table: &[u8], count: usize) -> Option<Damage>
     None
 }
 
-/// Whether a function's name begins within the strings, and its code lies within its section.
+/// Returns whether a function's name begins within the strings, and its code is within its section.
 fn has_symbol(table: &[u8], strings: &[u8], symbol: Symbol) -> bool
     ensures { result ≡ is_symbol_whole table.now strings.now symbol }
 {
@@ -51,7 +52,7 @@ fn has_symbol(table: &[u8], strings: &[u8], symbol: Symbol) -> bool
         && symbol.value <= room - symbol.size
 }
 
-/// What is damaged of a symbol, if it is a function.
+/// Returns the damage of a symbol, if it is a function whose name or code is not in its place.
 fn of_symbol(table: &[u8], symbols: &[u8], strings: &[u8], index: usize) -> Option<Damage>
     requires { 24 * index + 24 < 2 ^ 64 }
     ensures { result ≡ symbol_damage table.now symbols.now strings.now index }
@@ -64,7 +65,7 @@ fn of_symbol(table: &[u8], symbols: &[u8], strings: &[u8], index: usize) -> Opti
     }
 }
 
-/// The first function whose name or code is not there.
+/// Returns the damage of the first function whose name or code is not in its place.
 fn first_symbol(table: &[u8], symbols: &[u8], strings: &[u8]) -> Option<Damage>
     ensures { result ≡ first_some (symbol_damage table.now symbols.now strings.now) (length symbols.now / 24) }
 {
@@ -77,7 +78,7 @@ fn first_symbol(table: &[u8], symbols: &[u8], strings: &[u8]) -> Option<Damage>
     None
 }
 
-/// What is damaged of a relocation.
+/// Returns the damage of a relocation, if its symbol does not exist.
 fn of_relocation(
     section: usize,
     symbols: usize,
@@ -95,7 +96,7 @@ fn of_relocation(
     }
 }
 
-/// The first of these relocations whose symbol is not there.
+/// Returns the damage of the first of these relocations whose symbol does not exist.
 fn first_relocation(
     section: usize,
     symbols: usize,
@@ -115,7 +116,8 @@ fn first_relocation(
     None
 }
 
-/// What is damaged of a section's relocations.
+/// Returns the damage of a section's relocations. They must belong to the table of symbols, and their symbols must
+/// exist.
 fn of_relocations(
     object: &[u8],
     table: &[u8],
@@ -141,7 +143,7 @@ fn of_relocations(
     )
 }
 
-/// The first section whose relocations are damaged.
+/// Returns the damage of the first section whose relocations are damaged.
 fn first_relocations(
     object: &[u8],
     table: &[u8],
@@ -161,7 +163,8 @@ fn first_relocations(
     None
 }
 
-/// The first of an object's parts that is not there.
+/// Returns the first damage of an object. It checks the sections, then the functions among the symbols, then the
+/// relocations.
 pub fn first_damage(
     object: &[u8],
     table: &[u8],

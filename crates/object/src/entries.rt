@@ -1,44 +1,44 @@
-//! EntryTable of the tables of directories and files.
+//! The tables of directories and files of DWARF 5: their formats and entries.
 ghost use Rattle.std.specs.Prelude.{◌≡◌, ◌≤◌, ◌+◌, length, IfSome};
 ghost use Rattle.object.specs.Entries.{size_of, within, behind_block, behind_number, behind_varying, behind_value, format_behind, format_at, behind_formats, behind_entry, path_in, behind_entries, entries_by, entries_behind, entries_at};
 
 use crate::leb128::{Read, string_at, unsigned_at};
 use crate::number::byte_at;
 
-/// What one value of an entry is.
+/// The format of one value of an entry.
 #[derive(Clone, Copy)]
 pub struct Format {
-    /// Its content: 1 is the path (DW_LNCT_path).
+    /// The content of the value: 1 is the path (DW_LNCT_path).
     pub content: u64,
-    /// Its form (DW_FORM_..).
+    /// The form of the value (DW_FORM_..).
     pub form: u64,
-    /// The place behind both.
+    /// The place after the content and the form.
     pub next: usize,
 }
 
 /// A table of entries.
 #[derive(Clone, Copy)]
 pub struct EntryTable {
-    /// How many formats an entry has.
+    /// The number of formats of an entry.
     pub formats: u8,
-    /// Where they stand.
+    /// The place of the formats.
     pub from: usize,
-    /// How many entries there are.
+    /// The number of entries.
     pub count: u64,
-    /// Where the first stands.
+    /// The place of the first entry.
     pub first: usize,
 }
 
-/// A path.
+/// The path of a file: a value and its form.
 #[derive(Clone, Copy)]
 pub struct Path {
-    /// Its form.
+    /// The form of the value.
     pub form: u64,
-    /// Where its value stands.
+    /// The place of the value.
     pub place: usize,
 }
 
-/// How many bytes a form of a fixed size has, else 0.
+/// Returns the number of bytes of a value in a form of fixed size, or 0 if the form has no fixed size.
 fn size_of(form: u64) -> usize
     ensures size { result ≡ size_of form }
     ensures bound { result ≤ 16 }
@@ -58,7 +58,7 @@ fn size_of(form: u64) -> usize
     }
 }
 
-/// The place so many bytes behind one, if it is not past the end.
+/// Returns the place `size` bytes after a place, or `None` if it is past the end.
 fn within(bytes: &[u8], place: usize, size: u64) -> Option<usize>
     requires { place ≤ length bytes.now }
     ensures read { result ≡ within bytes.now (place + size) }
@@ -71,7 +71,7 @@ fn within(bytes: &[u8], place: usize, size: u64) -> Option<usize>
     }
 }
 
-/// Behind a block, whose size stands at a place.
+/// Returns the place after a block, which begins with its size.
 fn behind_block(bytes: &[u8], place: usize) -> Option<usize>
     ensures read { result ≡ behind_block place bytes.now }
     ensures within { IfSome result (λ next. next ≤ length bytes.now) }
@@ -80,7 +80,7 @@ fn behind_block(bytes: &[u8], place: usize) -> Option<usize>
     within(bytes, size.next, size.value)
 }
 
-/// Behind a number.
+/// Returns the place after a number in LEB128.
 fn behind_number(bytes: &[u8], place: usize) -> Option<usize>
     ensures read { result ≡ behind_number place bytes.now }
     ensures within { IfSome result (λ next. next ≤ length bytes.now) }
@@ -89,7 +89,7 @@ fn behind_number(bytes: &[u8], place: usize) -> Option<usize>
     Some(number.next)
 }
 
-/// Behind a value of no fixed size.
+/// Returns the place after a value of no fixed size: a string, a number or a block.
 fn behind_varying(bytes: &[u8], form: u64, place: usize) -> Option<usize>
     requires few { length bytes.now ≤ 65536 }
     requires inside { place ≤ length bytes.now }
@@ -107,7 +107,7 @@ fn behind_varying(bytes: &[u8], form: u64, place: usize) -> Option<usize>
     }
 }
 
-/// The place behind a value in a form.
+/// Returns the place after a value in a form.
 fn behind_value(bytes: &[u8], form: u64, place: usize) -> Option<usize>
     requires few { length bytes.now ≤ 65536 }
     requires inside { place ≤ length bytes.now }
@@ -122,7 +122,7 @@ fn behind_value(bytes: &[u8], form: u64, place: usize) -> Option<usize>
     }
 }
 
-/// The format at a place.
+/// Reads the format at a place.
 fn format_at(formats: &[u8], place: usize) -> Option<Format>
     ensures { result ≡ format_at place formats.now }
 {
@@ -130,7 +130,7 @@ fn format_at(formats: &[u8], place: usize) -> Option<Format>
     format_behind(formats, content)
 }
 
-/// The format whose content was read.
+/// Reads the form of a format whose content was read.
 fn format_behind(formats: &[u8], content: Read) -> Option<Format>
     ensures { result ≡ format_behind formats.now content }
 {
@@ -142,7 +142,7 @@ fn format_behind(formats: &[u8], content: Read) -> Option<Format>
     })
 }
 
-/// Behind so many formats.
+/// Returns the place after `count` formats.
 #[tactic(auto, using(crate::proofs::EntryLemmas::formats_none, crate::proofs::EntryLemmas::formats_some))]
 fn behind_formats(formats: &[u8], count: u8, place: usize) -> Option<usize>
     ensures { result ≡ behind_formats count place formats.now }
@@ -156,7 +156,7 @@ fn behind_formats(formats: &[u8], count: u8, place: usize) -> Option<usize>
     }
 }
 
-/// Behind an entry with so many formats, which stand from a place on.
+/// Returns the place after an entry with `count` formats, which begin at `from`.
 #[tactic(auto, using(crate::proofs::EntryLemmas::entry_none, crate::proofs::EntryLemmas::entry_some))]
 fn behind_entry(formats: &[u8], count: u8, from: usize, bytes: &[u8], place: usize) -> Option<usize>
     requires few { length bytes.now ≤ 65536 }
@@ -176,7 +176,8 @@ fn behind_entry(formats: &[u8], count: u8, from: usize, bytes: &[u8], place: usi
     }
 }
 
-/// The path of such an entry.
+/// Returns the path of the entry at a place, or `None` if it has none. The entry has `count` formats, which begin at
+/// `from`.
 #[tactic(auto, using(crate::proofs::EntryLemmas::path_none, crate::proofs::EntryLemmas::path_some))]
 pub fn path_in(formats: &[u8], count: u8, from: usize, bytes: &[u8], place: usize) -> Option<Path>
     requires few { length bytes.now ≤ 65536 }
@@ -203,7 +204,7 @@ pub fn path_in(formats: &[u8], count: u8, from: usize, bytes: &[u8], place: usiz
     }
 }
 
-/// Behind so many entries.
+/// Returns the place after `entries` entries.
 #[tactic(auto, using(crate::proofs::EntryLemmas::entries_none))]
 pub fn behind_entries(
     entries: u64,
@@ -229,7 +230,7 @@ pub fn behind_entries(
     Some(next)
 }
 
-/// The table whose number of entries was read.
+/// Returns the table whose number of entries was read, or `None` if there are more entries than bytes.
 fn entries_by(bytes: &[u8], formats: u8, from: usize, count: Read) -> Option<EntryTable>
     requires { count.next ≤ length bytes.now }
     ensures read { result ≡ entries_by formats from bytes.now count }
@@ -247,7 +248,7 @@ fn entries_by(bytes: &[u8], formats: u8, from: usize, count: Read) -> Option<Ent
     })
 }
 
-/// The table whose formats end at a place.
+/// Reads the number of entries of a table whose formats end at a place.
 fn entries_behind(bytes: &[u8], formats: u8, from: usize, next: usize) -> Option<EntryTable>
     ensures read { result ≡ entries_behind formats from bytes.now next }
     ensures few { IfSome result (λ entries. entries.count ≤ length bytes.now) }
@@ -257,7 +258,7 @@ fn entries_behind(bytes: &[u8], formats: u8, from: usize, next: usize) -> Option
     entries_by(bytes, formats, from, count)
 }
 
-/// The table of entries at a place.
+/// Reads the table of entries at a place.
 pub fn entries_at(bytes: &[u8], place: usize) -> Option<EntryTable>
     requires few { length bytes.now ≤ 65536 }
     requires inside { place ≤ length bytes.now }

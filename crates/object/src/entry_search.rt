@@ -1,3 +1,4 @@
+//! Finds the entry function of an object, and its code.
 ghost use Rattle.std.specs.Prelude.{◌≡◌, ◌<◌, ◌≤◌, ◌+◌, ◌*◌, ◌/◌, ◌^◌, length, Ok, Err, IfSome, IfOk, MatchResult};
 ghost use Rattle.object.specs.First.{first_some};
 ghost use Rattle.object.specs.Section.{section_table};
@@ -11,7 +12,7 @@ use crate::relocation::{first_call, first_named};
 use crate::section::{SectionHeader, count_sections, has_table, is_for_bpf, read_table};
 use crate::symbol::{Symbol, find_symbols};
 
-/// The table of symbols.
+/// Returns the table of symbols.
 fn symbols_of<'a>(object: &'a [u8], table: &[u8], home: usize) -> &'a [u8]
     requires { home < 2 ^ 32 }
     ensures { result.now ≡ symbols_in object.now table.now home }
@@ -19,7 +20,7 @@ fn symbols_of<'a>(object: &'a [u8], table: &[u8], home: usize) -> &'a [u8]
     SectionHeader::read(table, home).bytes(object)
 }
 
-/// The strings that the table of symbols links.
+/// Returns the strings to which the table of symbols links.
 fn strings_of<'a>(object: &'a [u8], table: &[u8], home: usize) -> &'a [u8]
     requires { home < 2 ^ 32 }
     ensures { result.now ≡ strings_in object.now table.now home }
@@ -28,7 +29,7 @@ fn strings_of<'a>(object: &'a [u8], table: &[u8], home: usize) -> &'a [u8]
     SectionHeader::read(table, link).bytes(object)
 }
 
-/// What is wrong with an object, whatever is asked of it.
+/// Returns the first fault of an object, whichever function is asked for.
 fn fault_of(object: &[u8]) -> Option<ObjectFault>
     ensures { result ≡ object_fault object.now }
 {
@@ -49,7 +50,7 @@ fn fault_of(object: &[u8]) -> Option<ObjectFault>
     }
 }
 
-/// The number of a symbol, from a least one on, if it is a function that fits.
+/// Returns the index of a symbol, if it is at least `least` and the symbol is a function that fits.
 fn entry_at(
     table: &[u8],
     symbols: &[u8],
@@ -70,7 +71,7 @@ fn entry_at(
     }
 }
 
-/// The first function from a least number on that fits.
+/// Returns the index of the first function from `least` on that fits.
 fn first_entry(
     table: &[u8],
     symbols: &[u8],
@@ -90,7 +91,7 @@ fn first_entry(
     None
 }
 
-/// The one function that fits.
+/// Returns the index of the only function that fits. It fails with `NoFunction` or `Several`.
 fn choose(
     table: &[u8],
     symbols: &[u8],
@@ -109,7 +110,7 @@ fn choose(
     }
 }
 
-/// The code of a function.
+/// Returns the code of a function.
 fn code_of<'a>(object: &'a [u8], table: &[u8], function: Symbol) -> &'a [u8]
     ensures { result.now ≡ code_in object.now table.now function }
 {
@@ -120,7 +121,7 @@ fn code_of<'a>(object: &'a [u8], table: &[u8], function: Symbol) -> &'a [u8]
     )
 }
 
-/// What is wrong with a function's code.
+/// Returns the first fault of a function's code: a relocation that changes it, or a call of a function.
 fn fault_in(
     object: &[u8],
     table: &[u8],
@@ -138,7 +139,7 @@ fn fault_in(
     first_call(code_of(object, table, function))
 }
 
-/// The entry of a whole object.
+/// Returns the entry function of an object that has no fault of its own.
 fn find_entry(object: &[u8], name: Option<&[u8]>) -> Result<Symbol, ObjectFault>
     ensures { result ≡ found_in object.now (parts_of object.now) (asked name.entry) }
 {
@@ -155,12 +156,12 @@ fn find_entry(object: &[u8], name: Option<&[u8]>) -> Result<Symbol, ObjectFault>
     }
 }
 
-/// The function that is the entry: the one of this name, or the only global one.
+/// Returns the entry function: the function with this name or, if no name is given, the only global function.
 ///
 /// # Errors
 ///
-/// The first fault: no object, what is damaged of it, no such function or several, the first relocation of its code,
-/// the first call of a function of the object.
+/// The first fault: the file is not an object for BPF, a part is damaged, there is no such function or several, a
+/// relocation changes its code, or it calls a function of the object.
 pub fn function(object: &[u8], name: Option<&[u8]>) -> Result<Symbol, ObjectFault>
     ensures { result ≡ function_of object.now (asked name.entry) }
 {
@@ -170,11 +171,12 @@ pub fn function(object: &[u8], name: Option<&[u8]>) -> Result<Symbol, ObjectFaul
     }
 }
 
-/// The code of the entry, a part of the object: the function of this name, or the only global one.
+/// Returns the code of the entry function, as a part of the object. The entry is the function with this name or, if no
+/// name is given, the only global function.
 ///
 /// # Errors
 ///
-/// The first fault, as of [`function`].
+/// The first fault, as [`function`] reports it.
 pub fn entry<'a>(object: &'a [u8], name: Option<&[u8]>) -> Result<&'a [u8], ObjectFault>
     ensures { MatchResult result (λ code. entry_of object.now (asked name.entry) ≡ Ok code.now)
         (λ fault. entry_of object.now (asked name.entry) ≡ Err fault) }

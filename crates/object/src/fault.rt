@@ -1,32 +1,33 @@
+//! Faults of ELF objects, and the sentences that explain them.
 ghost use Rattle.std.specs.Prelude.{◌≡◌};
 ghost use Rattle.object.specs.Sentences.{sentence_of};
 
 use std::error::Error;
 use std::fmt;
 
-/// What of an object does not lie within the file, or within what it is a part of.
+/// The part of an object that is not within the file, or not within the part that contains it.
 #[derive(Clone, Copy, Debug, PartialEq, Eq, Drop)]
 pub enum Damage {
-    /// The header, or the table of the sections.
+    /// The header of the object, or the headers of its sections.
     Sections,
-    /// This section.
+    /// The section with this index.
     Section(usize),
-    /// This symbol, which is a function: its name, or its code.
+    /// The function with this index among the symbols: its name, or its code.
     Symbol(usize),
-    /// The symbols of a relocation of this section.
+    /// The relocations in the section with this index, or a symbol that they name.
     Relocations(usize),
 }
 
-/// Why an object has no code to be run.
+/// Why an object has no code that can be run.
 #[derive(Clone, Copy, Debug, PartialEq, Eq, Drop)]
 pub enum ObjectFault {
-    /// O1: no relocatable ELF object of 64 bits, little-endian, for BPF.
+    /// O1: the file is not a relocatable ELF object of 64 bits, little-endian, for BPF.
     NoObject,
-    /// O2: an offset or a size leads out of the file.
+    /// O2: a part of the object is not within the file, or not within the part that contains it.
     Damaged(Damage),
-    /// O3: no function of this name, or no global one.
+    /// O3: there is no function with the given name or, if no name is given, no global function.
     NoFunction,
-    /// O4: several functions, and none is named.
+    /// O4: there are several functions with the given name or, if no name is given, several global functions.
     Several,
     /// O5: the unit names data, or a function that is not in the object.
     Names(usize),
@@ -70,7 +71,7 @@ impl fmt::Display for ObjectFault {
 
 impl Error for ObjectFault {}
 
-/// The sentence that says what a fault means, and what helps.
+/// Returns a sentence that says what a fault means, and what to do about it.
 pub fn sentence(fault: ObjectFault) -> &'static str
     ensures { result.now ≡ sentence_of fault }
 {

@@ -4,28 +4,28 @@ ghost use Rattle.object.specs.Header.{fields_of, widened, header_from, header_in
 
 use crate::number::{byte_at, half_at, word_at};
 
-/// The header, as far as addresses, files and lines need it.
+/// The header of a line number program, as far as addresses, files and lines need it.
 #[derive(Clone, Copy)]
 pub struct Header {
-    /// version: 4 or 5.
+    /// The version: 4 or 5.
     pub version: u16,
-    /// minimum_instruction_length.
+    /// The field minimum_instruction_length.
     pub shortest: u8,
-    /// line_base, modulo 2^64.
+    /// The field line_base, modulo 2^64.
     pub base: u64,
-    /// line_range.
+    /// The field line_range.
     pub range: u8,
-    /// opcode_base: one more than the standard opcodes.
+    /// The field opcode_base: one more than the number of standard opcodes.
     pub opcodes: u8,
-    /// Where the tables of directories and files stand.
+    /// The place of the tables of directories and files.
     pub tables: usize,
-    /// Where the program begins.
+    /// The place where the program begins.
     pub program: usize,
-    /// Where it ends.
+    /// The place where the program ends.
     pub end: usize,
 }
 
-/// Where minimum_instruction_length stands.
+/// Returns the place of minimum_instruction_length.
 fn fields_of(version: u16) -> usize
     ensures place { result ≡ fields_of version }
     ensures low { 10 ≤ result }
@@ -34,7 +34,7 @@ fn fields_of(version: u16) -> usize
     if version == 5 { 12 } else { 10 }
 }
 
-/// A signed byte, modulo 2^64.
+/// Returns a signed byte, modulo 2^64.
 fn widened(byte: u8) -> u64
     ensures { result ≡ widened byte }
 {
@@ -45,7 +45,7 @@ fn widened(byte: u8) -> u64
     }
 }
 
-/// The fields from minimum_instruction_length on.
+/// Reads the header, given the place of minimum_instruction_length.
 fn header_from(bytes: &[u8], version: u16, fields: usize) -> Header
     requires low { 10 ≤ fields }
     requires high { fields ≤ 12 }
@@ -64,7 +64,7 @@ fn header_from(bytes: &[u8], version: u16, fields: usize) -> Header
     }
 }
 
-/// Whether a header is one that is read, and its program within the bytes.
+/// Returns whether a header is supported, and its program is within the bytes.
 fn is_read(header: Header, bytes: &[u8]) -> bool
     ensures { result ≡ is_read header bytes.now }
 {
@@ -78,7 +78,7 @@ fn is_read(header: Header, bytes: &[u8]) -> bool
         && header.end <= bytes.len()
 }
 
-/// The header of the first line number program.
+/// Returns the header of the first line number program, or `None` if it is not supported.
 pub fn header_of(bytes: &[u8]) -> Option<Header>
     ensures read { result ≡ header_of bytes.now }
     ensures range { IfSome result (λ header. 0 < header.range) }

@@ -1,23 +1,23 @@
-//! Numbers and strings of line number information.
+//! Reads the numbers and strings of line number information.
 ghost use Rattle.std.specs.Prelude.{◌≡◌, ◌<◌, ◌≤◌, length, drop, IfSome};
 ghost use Rattle.object.specs.Numbers.{last_byte, joined, number_in, unsigned_at, signed_at, string_at};
 
 use crate::number::byte_at;
 use text::{Stop, cut};
 
-/// The most bytes of a number in LEB128 that is read.
+/// The greatest number of bytes of a number in LEB128 that is read.
 const MOST: u8 = 10;
 
-/// A number that was read.
+/// A number that was read, and the place after it.
 #[derive(Clone, Copy)]
 pub struct Read {
     /// The number, modulo 2^64.
     pub value: u64,
-    /// The place behind it.
+    /// The place after the number.
     pub next: usize,
 }
 
-/// What the last byte of a number is worth.
+/// Returns the value of the last byte of a number.
 fn last_byte(signed: bool, byte: u8) -> u64
     requires { byte < 128 }
     ensures { result ≡ last_byte signed byte }
@@ -29,7 +29,7 @@ fn last_byte(signed: bool, byte: u8) -> u64
     }
 }
 
-/// A number of which one more byte stands before the rest.
+/// Returns the number whose lowest seven bits are in this byte, and whose other bits follow.
 fn joined(byte: u8, more: Read) -> Read
     requires { 128 ≤ byte }
     ensures { result ≡ joined byte more }
@@ -41,7 +41,7 @@ fn joined(byte: u8, more: Read) -> Read
     }
 }
 
-/// A number in LEB128 of at most so many bytes at a place.
+/// Reads a number in LEB128 at a place. It returns `None` if the number has more than `most` bytes or does not end.
 #[tactic(auto, using(crate::proofs::NumberLemmas::number_none, crate::proofs::NumberLemmas::number_some))]
 fn number_in(signed: bool, most: u8, bytes: &[u8], place: usize) -> Option<Read>
     ensures read { result ≡ number_in signed most place bytes.now }
@@ -64,7 +64,7 @@ fn number_in(signed: bool, most: u8, bytes: &[u8], place: usize) -> Option<Read>
     }
 }
 
-/// An unsigned number in LEB128 at a place.
+/// Reads an unsigned number in LEB128 at a place.
 pub fn unsigned_at(bytes: &[u8], place: usize) -> Option<Read>
     ensures read { result ≡ unsigned_at place bytes.now }
     ensures on { IfSome result (λ number. place < number.next) }
@@ -73,7 +73,7 @@ pub fn unsigned_at(bytes: &[u8], place: usize) -> Option<Read>
     number_in(false, MOST, bytes, place)
 }
 
-/// A signed number in LEB128 at a place.
+/// Reads a signed number in LEB128 at a place.
 pub fn signed_at(bytes: &[u8], place: usize) -> Option<Read>
     ensures read { result ≡ signed_at place bytes.now }
     ensures on { IfSome result (λ number. place < number.next) }
@@ -82,7 +82,7 @@ pub fn signed_at(bytes: &[u8], place: usize) -> Option<Read>
     number_in(true, MOST, bytes, place)
 }
 
-/// What stands from a place on.
+/// Returns the bytes from a place on, or none if the place is past the end.
 fn rest(bytes: &[u8], place: usize) -> &[u8]
     ensures { result.now ≡ drop place bytes.now }
 {
@@ -93,7 +93,7 @@ fn rest(bytes: &[u8], place: usize) -> &[u8]
     }
 }
 
-/// The bytes from a place on, up to the first zero.
+/// Returns the bytes from a place on, up to the first zero.
 pub fn string_at(bytes: &[u8], place: usize) -> &[u8]
     ensures read { result.now ≡ string_at place bytes.now }
     ensures bound { length result.now ≤ length bytes.now }

@@ -1,5 +1,5 @@
-//! ELF objects for BPF: the code of one function, or the first fault (System V ABI, "Object Files"; LLVM's BPF
-//! relocations), and for each unit of a function the file and line of its source (DWARF 5 and 4, "Line Number
+//! Reads ELF objects for BPF. Finds the code of one function, or the first fault (System V ABI, "Object Files"; LLVM's
+//! BPF relocations). Finds for each unit of a function the file and line of its source (DWARF 5 and 4, "Line Number
 //! Information").
 #![tactic(auto)]
 

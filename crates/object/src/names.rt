@@ -1,4 +1,4 @@
-//! The name of a file by its number.
+//! The names of source files, by their numbers in line number information.
 ghost use Rattle.std.specs.Prelude.{◌≡◌, ◌<◌, ◌≤◌, ◌+◌, ◌-◌, length, false, true, IfSome, MatchOption};
 ghost use Rattle.std.specs.List.{list_all};
 ghost use Rattle.object.specs.First.{first_some};
@@ -9,11 +9,11 @@ use crate::header::Header;
 use crate::leb128::string_at;
 use crate::number::{byte_at, word_at};
 
-/// The formats of version 4's files, in the words of version 5: the path (DW_FORM_string), and directory, time and size
+/// The formats of version 4's files, as version 5 writes them: the path (DW_FORM_string), and directory, time and size
 /// (DW_FORM_udata).
 const FILE_FORMATS: [u8; 8] = [1, 8, 2, 15, 3, 15, 4, 15];
 
-/// The path of the entry at a place.
+/// Returns the path of the entry at a place.
 fn path_of_entry(bytes: &[u8], files: EntryTable, place: usize) -> Option<Path>
     requires few { length bytes.now ≤ 65536 }
     requires inside { place ≤ length bytes.now }
@@ -22,7 +22,7 @@ fn path_of_entry(bytes: &[u8], files: EntryTable, place: usize) -> Option<Path>
     path_in(bytes, files.formats, files.from, bytes, place)
 }
 
-/// The path of the entry of this number.
+/// Returns the path of the file with this number in a table of version 5.
 fn path_among(bytes: &[u8], file: u64, files: EntryTable) -> Option<Path>
     requires few { length bytes.now ≤ 65536 }
     requires inside { files.first ≤ length bytes.now }
@@ -35,7 +35,7 @@ fn path_among(bytes: &[u8], file: u64, files: EntryTable) -> Option<Path>
     path_of_entry(bytes, files, place)
 }
 
-/// The table of files behind that of directories.
+/// Returns the table of files, which follows the table of directories.
 fn files_behind(bytes: &[u8], directories: EntryTable) -> Option<EntryTable>
     requires few { length bytes.now ≤ 65536 }
     requires inside { directories.first ≤ length bytes.now }
@@ -52,7 +52,7 @@ fn files_behind(bytes: &[u8], directories: EntryTable) -> Option<EntryTable>
     entries_at(bytes, place)
 }
 
-/// The table of files of version 5, whose tables stand at a place.
+/// Returns the table of files of version 5, where the two tables begin at `tables`.
 fn files_at(bytes: &[u8], tables: usize) -> Option<EntryTable>
     requires few { length bytes.now ≤ 65536 }
     requires inside { tables ≤ length bytes.now }
@@ -63,7 +63,7 @@ fn files_at(bytes: &[u8], tables: usize) -> Option<EntryTable>
     files_behind(bytes, directories)
 }
 
-/// The path of a file in version 5.
+/// Returns the path of a file in version 5.
 fn path_in_five(bytes: &[u8], tables: usize, file: u64) -> Option<Path>
     requires few { length bytes.now ≤ 65536 }
     requires inside { tables ≤ length bytes.now }
@@ -73,7 +73,7 @@ fn path_in_five(bytes: &[u8], tables: usize, file: u64) -> Option<Path>
     path_among(bytes, file, files)
 }
 
-/// The place so many bytes behind one, if an empty string of a list of strings stands there.
+/// Returns the place `n` bytes after the beginning of a list of strings, if there is an empty string of the list.
 fn empty_here(bytes: &[u8], tables: usize, n: usize) -> Option<usize>
     requires few { length bytes.now ≤ 65536 }
     requires inside { tables + n < length bytes.now }
@@ -88,7 +88,7 @@ fn empty_here(bytes: &[u8], tables: usize, n: usize) -> Option<usize>
     }
 }
 
-/// The empty string that ends the directories of version 4.
+/// Returns the place of the empty string that ends the directories of version 4.
 fn directories_end(bytes: &[u8], tables: usize) -> Option<usize>
     requires few { length bytes.now ≤ 65536 }
     requires inside { tables ≤ length bytes.now }
@@ -104,7 +104,7 @@ fn directories_end(bytes: &[u8], tables: usize) -> Option<usize>
     None
 }
 
-/// The path of the file that has so many before it in version 4, whose directories end at a place.
+/// Returns the path of the file after `before` others in version 4, where the directories end at `end`.
 fn path_behind(bytes: &[u8], before: u64, end: usize) -> Option<Path>
     requires few { length bytes.now ≤ 65536 }
     requires inside { end < length bytes.now }
@@ -114,7 +114,7 @@ fn path_behind(bytes: &[u8], before: u64, end: usize) -> Option<Path>
     path_in(&FILE_FORMATS, 4, 0, bytes, place)
 }
 
-/// The path of a file in version 4.
+/// Returns the path of a file in version 4.
 fn path_in_four(bytes: &[u8], tables: usize, file: u64) -> Option<Path>
     requires few { length bytes.now ≤ 65536 }
     requires inside { tables ≤ length bytes.now }
@@ -127,7 +127,7 @@ fn path_in_four(bytes: &[u8], tables: usize, file: u64) -> Option<Path>
     path_behind(bytes, file - 1, end)
 }
 
-/// The path of a file.
+/// Returns the path of a file, in the version of the header.
 fn path_of(header: Header, bytes: &[u8], file: u64) -> Option<Path>
     requires few { length bytes.now ≤ 65536 }
     requires inside { header.tables ≤ length bytes.now }
@@ -140,7 +140,7 @@ fn path_of(header: Header, bytes: &[u8], file: u64) -> Option<Path>
     }
 }
 
-/// The name of a path.
+/// Returns the name of a path. It is empty if the form is not one of a string.
 fn name_at<'a>(bytes: &'a [u8], line_strings: &'a [u8], strings: &'a [u8], path: Path) -> &'a [u8]
     ensures { result.now ≡ name_at bytes.now line_strings.now strings.now path }
 {
@@ -155,7 +155,7 @@ fn name_at<'a>(bytes: &'a [u8], line_strings: &'a [u8], strings: &'a [u8], path:
     }
 }
 
-/// The name of a file; none where the tables do not have it.
+/// Returns the name of a file, or the empty text if the tables do not have it.
 pub fn name_of<'a>(
     header: Header,
     bytes: &'a [u8],
@@ -173,28 +173,28 @@ pub fn name_of<'a>(
     }
 }
 
-/// Whether a byte is a visible character of ASCII, or a blank.
+/// Returns whether a byte is a visible character of ASCII or a space.
 fn is_visible(byte: u8) -> bool
     ensures { result ≡ is_visible byte }
 {
     32 <= byte && byte < 127
 }
 
-/// Whether all bytes are.
+/// Returns whether all bytes are visible characters of ASCII or spaces.
 fn are_visible(name: &[u8]) -> bool
     ensures { result ≡ list_all is_visible name.now }
 {
     name.iter().all(|byte| is_visible(*byte))
 }
 
-/// Whether a name can be told on a line.
+/// Returns whether a name can be printed on a line: it has 1 to 255 visible characters or spaces.
 fn is_plain(name: &[u8]) -> bool
     ensures { result ≡ is_plain name.now }
 {
     !name.is_empty() && name.len() <= 255 && are_visible(name)
 }
 
-/// A name that can be told on a line, as text.
+/// Returns a name as text, or `None` if it cannot be printed on a line.
 pub fn plain(name: &[u8]) -> Option<&str>
     ensures { MatchOption result (is_plain name.now ≡ false) (λ text. (is_plain name.now ≡ true)
         × (text.now ≡ name.now)) }

@@ -1,17 +1,17 @@
-//! Numbers and windows of bytes, where they are there.
+//! Reads numbers and windows of bytes, if the bytes exist.
 ghost use Rattle.std.specs.Prelude.{◌≡◌, ◌+◌, length, nat_le};
 ghost use Rattle.object.specs.Number.{number_at, window};
 
 use byteorder::{ByteOrder, LittleEndian};
 
-/// Whether so many bytes stand at a place.
+/// Returns whether `bytes` has at least `size` bytes from `place` on.
 fn has(bytes: &[u8], place: usize, size: usize) -> bool
     ensures { result ≡ nat_le (place + size) (length bytes.now) }
 {
     size <= bytes.len() && place <= bytes.len() - size
 }
 
-/// The byte at a place; 0 where there is none.
+/// Returns the byte at a place, or 0 if there is none.
 pub fn byte_at(bytes: &[u8], place: usize) -> u8
     ensures { result ≡ number_at 1 place bytes.now }
 {
@@ -22,7 +22,7 @@ pub fn byte_at(bytes: &[u8], place: usize) -> u8
     }
 }
 
-/// The number in two bytes at a place, the lowest first; 0 where they are not there.
+/// Returns the number in two bytes at a place, the lowest first, or 0 if they do not exist.
 pub fn half_at(bytes: &[u8], place: usize) -> u16
     ensures { result ≡ number_at 2 place bytes.now }
 {
@@ -33,7 +33,7 @@ pub fn half_at(bytes: &[u8], place: usize) -> u16
     }
 }
 
-/// The number in four bytes at a place, the lowest first; 0 where they are not there.
+/// Returns the number in four bytes at a place, the lowest first, or 0 if they do not exist.
 pub fn word_at(bytes: &[u8], place: usize) -> u32
     ensures { result ≡ number_at 4 place bytes.now }
 {
@@ -44,7 +44,7 @@ pub fn word_at(bytes: &[u8], place: usize) -> u32
     }
 }
 
-/// The number in eight bytes at a place, the lowest first; 0 where they are not there.
+/// Returns the number in eight bytes at a place, the lowest first, or 0 if they do not exist.
 pub fn double_at(bytes: &[u8], place: usize) -> u64
     ensures { result ≡ number_at 8 place bytes.now }
 {
@@ -55,7 +55,7 @@ pub fn double_at(bytes: &[u8], place: usize) -> u64
     }
 }
 
-/// So many bytes from a start; none where they are not all there.
+/// Returns the `size` bytes from `start` on, or none if not all of them exist.
 pub fn window(bytes: &[u8], start: u64, size: u64) -> &[u8]
     ensures { result.now ≡ window start size bytes.now }
 {

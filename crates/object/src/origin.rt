@@ -1,4 +1,4 @@
-//! Where in the function's section an address of the line number program lies.
+//! The addresses in the function's section to which the operands of a line number program refer.
 ghost use Rattle.std.specs.Prelude.{◌≡◌, ◌<◌, ◌≤◌, ◌+◌, ◌*◌, ◌/◌, ◌^◌, length};
 ghost use Rattle.object.specs.First.{first_some};
 ghost use Rattle.object.specs.Origin.{addend_of, address_in, origin_here, origin_of};
@@ -7,7 +7,7 @@ use crate::number::double_at;
 use crate::relocation::Relocation;
 use crate::symbol::Symbol;
 
-/// What is added to the symbol's value.
+/// Returns the number that a relocation adds to its symbol's value.
 fn addend_of(bytes: &[u8], size: usize, relocations: &[u8], index: usize, place: usize) -> u64
     requires { size * index + 24 < 2 ^ 64 }
     ensures { result ≡ addend_of size index relocations.now place bytes.now }
@@ -19,7 +19,7 @@ fn addend_of(bytes: &[u8], size: usize, relocations: &[u8], index: usize, place:
     }
 }
 
-/// The address in the section of this number, if the symbol lies there.
+/// Returns the address in the section with this number, or `None` if the symbol is not in that section.
 fn address_in(section: u16, symbol: Symbol, addend: u64) -> Option<u64>
     ensures { result ≡ address_in section symbol addend }
 {
@@ -30,7 +30,8 @@ fn address_in(section: u16, symbol: Symbol, addend: u64) -> Option<u64>
     }
 }
 
-/// The address of a place by the relocation of this number.
+/// Returns the address that the relocation with this index gives to a place, or `None` if it changes another place or
+/// its symbol is in another section.
 fn origin_here(
     bytes: &[u8],
     symbols: &[u8],
@@ -52,7 +53,7 @@ fn origin_here(
     address_in(section, symbol, addend)
 }
 
-/// The address of the operand at a place, if it is one of the section of this number.
+/// Returns the address of the operand at a place, or `None` if it is not in the section with this number.
 pub fn origin_of(
     bytes: &[u8],
     symbols: &[u8],

@@ -1,3 +1,4 @@
+//! Relocations, and the faults of code that names symbols or calls functions.
 ghost use Rattle.std.specs.Prelude.{◌≡◌, ◌<◌, ◌≤◌, ◌+◌, ◌*◌, ◌/◌, ◌^◌, length};
 ghost use Rattle.object.specs.First.{first_some};
 ghost use Rattle.object.specs.Relocation.{named_at, relocation_fault, relocations_fault, is_call, call_fault};
@@ -7,12 +8,12 @@ use crate::number::{byte_at, double_at, word_at};
 use crate::section::SectionHeader;
 use crate::symbol::Symbol;
 
-/// A place of a section that names a symbol (Elf64_Rel, Elf64_Rela).
+/// A relocation: a place of a section, and the symbol that it names (Elf64_Rel, Elf64_Rela).
 #[derive(Clone, Copy)]
 pub struct Relocation {
-    /// r_offset: the place in its section.
+    /// The place in its section, in bytes (r_offset).
     pub place: u64,
-    /// The upper half of r_info: the symbol.
+    /// The index of the symbol (the upper half of r_info).
     pub symbol: u32,
 }
 
@@ -20,14 +21,14 @@ impl Relocation {
     ghost use Rattle.std.specs.Prelude.{◌≡◌, ◌<◌, ◌≤◌, ◌+◌, ◌*◌, ◌^◌};
     ghost use Rattle.object.specs.Relocation.{relocation_size, relocation_at, is_within};
 
-    /// How many bytes each relocation of a section has.
+    /// Returns the number of bytes of each relocation in a section: 16 or 24.
     pub fn size(section: SectionHeader) -> usize
         ensures { result ≡ relocation_size section }
     {
         if section.kind == 9 { 16 } else { 24 }
     }
 
-    /// The relocation of this number; zeros past the table.
+    /// Returns the relocation with this index. Past the table its fields are zero.
     pub fn read(relocations: &[u8], size: usize, index: usize) -> Relocation
         requires { size * index + 16 < 2 ^ 64 }
         ensures { result ≡ relocation_at size index relocations.now }
@@ -39,7 +40,7 @@ impl Relocation {
         }
     }
 
-    /// Whether it changes the function's code.
+    /// Returns whether the relocation changes the function's code.
     fn is_in(self, function: Symbol) -> bool
         ensures { result ≡ is_within self function }
     {
@@ -47,7 +48,7 @@ impl Relocation {
     }
 }
 
-/// What is wrong with a unit of the function's code that names the symbol.
+/// Returns the fault of a unit of the function's code that names the symbol.
 fn fault_of(table: &[u8], symbol: Symbol, unit: usize) -> ObjectFault
     ensures { result ≡ named_at table.now symbol unit }
 {
@@ -58,7 +59,7 @@ fn fault_of(table: &[u8], symbol: Symbol, unit: usize) -> ObjectFault
     }
 }
 
-/// The fault of a relocation, if it changes the function's code.
+/// Returns the fault of a relocation, if it changes the function's code.
 fn fault_at(
     table: &[u8],
     symbols: &[u8],
@@ -80,7 +81,7 @@ fn fault_at(
     }
 }
 
-/// The first fault of these relocations.
+/// Returns the fault of the first of these relocations that changes the function's code.
 fn first_fault(
     table: &[u8],
     symbols: &[u8],
@@ -101,7 +102,7 @@ fn first_fault(
     None
 }
 
-/// The first fault of a section's relocations, if they change the function's section.
+/// Returns the first fault of a section's relocations, if they change the function's section.
 fn section_fault(
     object: &[u8],
     table: &[u8],
@@ -126,7 +127,7 @@ fn section_fault(
     }
 }
 
-/// The first fault of the relocations that change the function's code.
+/// Returns the first fault of all relocations that change the function's code.
 pub fn first_named(
     object: &[u8],
     table: &[u8],
@@ -146,7 +147,7 @@ pub fn first_named(
     None
 }
 
-/// Whether a unit calls a function of the program.
+/// Returns whether a unit calls a function of the program.
 fn calls(code: &[u8], unit: usize) -> bool
     requires { 8 * unit + 8 < 2 ^ 64 }
     ensures { result ≡ is_call code.now unit }
@@ -154,7 +155,7 @@ fn calls(code: &[u8], unit: usize) -> bool
     byte_at(code, 8 * unit) == 0x85 && byte_at(code, 8 * unit + 1) / 16 == 1
 }
 
-/// What is wrong with a unit that calls a function of the program.
+/// Returns the fault of a unit, if it calls a function of the program.
 fn fault_of_call(code: &[u8], unit: usize) -> Option<ObjectFault>
     requires { 8 * unit + 8 < 2 ^ 64 }
     ensures { result ≡ call_fault code.now unit }
@@ -166,7 +167,7 @@ fn fault_of_call(code: &[u8], unit: usize) -> Option<ObjectFault>
     }
 }
 
-/// The first unit that calls a function of the program.
+/// Returns the fault of the first unit that calls a function of the program.
 pub fn first_call(code: &[u8]) -> Option<ObjectFault>
     ensures { result ≡ first_some (call_fault code.now) (length code.now / 8) }
 {

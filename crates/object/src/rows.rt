@@ -1,4 +1,4 @@
-//! The state machine of a line number program.
+//! The state machine of a line number program, which appends rows.
 ghost use Rattle.std.specs.Prelude.{◌≡◌, ◌<◌, ◌≤◌, ◌++◌, length, IfOk, OnOk, option_to_list};
 ghost use Rattle.object.specs.Rows.{GivesRows, advanced, after, at_start, row_by, started};
 ghost use Rattle.object.specs.Sources.{IsSource, origins_of};
@@ -10,7 +10,7 @@ use crate::source::LineSections;
 use crate::step::{Step, step_at};
 use std::alloc::{AllocError, Global};
 
-/// The registers as a sequence begins.
+/// Returns the registers at the beginning of a sequence.
 fn at_start() -> LineRegisters
     ensures { result ≡ at_start }
 {
@@ -22,7 +22,7 @@ fn at_start() -> LineRegisters
     }
 }
 
-/// The registers with address and line advanced.
+/// Returns the registers with address and line advanced, modulo 2^64.
 fn advanced(registers: LineRegisters, address: u64, line: u64) -> LineRegisters
     ensures { result ≡ advanced registers address line }
 {
@@ -32,7 +32,7 @@ fn advanced(registers: LineRegisters, address: u64, line: u64) -> LineRegisters
     next
 }
 
-/// The registers with an address that begins a sequence.
+/// Returns the registers with a new address, or marked as outside the function's section if there is none.
 fn started(registers: LineRegisters, address: Option<u64>) -> LineRegisters
     ensures { result ≡ started registers address }
 {
@@ -47,7 +47,7 @@ fn started(registers: LineRegisters, address: Option<u64>) -> LineRegisters
     next
 }
 
-/// The row that an instruction adds.
+/// Returns the row that an instruction appends, if it appends one.
 fn row_by(registers: LineRegisters, step: Step) -> Option<LineRow>
     ensures { result ≡ row_by registers step }
 {
@@ -64,7 +64,7 @@ fn row_by(registers: LineRegisters, step: Step) -> Option<LineRow>
     }
 }
 
-/// Adds the row that an instruction adds.
+/// Appends the row of an instruction, if it has one.
 fn put_row(rows: &mut Vec<LineRow>, registers: LineRegisters, step: Step) -> Result<(), AllocError>
     ensures { OnOk result (rows.new.items ≡ rows.old.items ++ option_to_list (row_by registers step)) }
 {
@@ -77,7 +77,7 @@ fn put_row(rows: &mut Vec<LineRow>, registers: LineRegisters, step: Step) -> Res
     }
 }
 
-/// The registers behind an instruction.
+/// Returns the registers after an instruction.
 fn after(source: &LineSections, registers: LineRegisters, step: Step) -> LineRegisters
     requires { IsSource source.now }
     ensures { result ≡ after (origins_of source.now) registers step }
@@ -97,7 +97,7 @@ fn after(source: &LineSections, registers: LineRegisters, step: Step) -> LineReg
     }
 }
 
-/// The address of the operand at a place, if it is one of the function's section.
+/// Returns the address of the operand at a place, or `None` if it is not in the function's section.
 fn origin(source: &LineSections, place: usize) -> Option<u64>
     requires { IsSource source.now }
     ensures { result ≡ origins_of source.now place }
@@ -112,11 +112,12 @@ fn origin(source: &LineSections, place: usize) -> Option<u64>
     )
 }
 
-/// The rows of a program that ends with the bytes; none of one that breaks off before.
+/// Returns the rows of a program that ends exactly at the end of the bytes. It returns `None` if the program breaks off
+/// before.
 ///
 /// # Errors
 ///
-/// Want of memory.
+/// `AllocError` if out of memory.
 pub fn read_rows(
     alloc: Global,
     header: Header,

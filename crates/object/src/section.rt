@@ -1,9 +1,10 @@
+//! The header and the sections of an ELF object.
 ghost use Rattle.std.specs.Prelude.{◌≡◌, ◌<◌, ◌^◌};
 ghost use Rattle.object.specs.Section.{is_bpf_object, section_count, section_table, is_table_whole};
 
 use crate::number::{byte_at, double_at, half_at, window, word_at};
 
-/// Whether it is a relocatable object of 64 bits, little-endian, for BPF (Elf64_Ehdr).
+/// Returns whether the file is a relocatable object of 64 bits, little-endian, for BPF (Elf64_Ehdr).
 pub fn is_for_bpf(object: &[u8]) -> bool
     ensures { result ≡ is_bpf_object object.now }
 {
@@ -14,7 +15,7 @@ pub fn is_for_bpf(object: &[u8]) -> bool
         && half_at(object, 18) == 247
 }
 
-/// How many sections there are.
+/// Returns the number of sections.
 pub fn count_sections(object: &[u8]) -> usize
     ensures count { result ≡ section_count object.now }
     ensures bound { result < 2 ^ 16 }
@@ -22,7 +23,7 @@ pub fn count_sections(object: &[u8]) -> usize
     usize::from(half_at(object, 60))
 }
 
-/// The headers of the sections; none where they are not all there.
+/// Returns the headers of the sections, or none if they are not all within the file.
 pub fn read_table(object: &[u8]) -> &[u8]
     ensures { result.now ≡ section_table object.now }
 {
@@ -33,7 +34,7 @@ pub fn read_table(object: &[u8]) -> &[u8]
     )
 }
 
-/// Whether the header and those of the sections are there.
+/// Returns whether the headers of the object and of its sections are within the file.
 pub fn has_table(object: &[u8]) -> bool
     ensures { result ≡ is_table_whole object.now }
 {
@@ -42,20 +43,21 @@ pub fn has_table(object: &[u8]) -> bool
         && read_table(object).len() == 64 * count_sections(object)
 }
 
-/// What is looked at of a section's header (Elf64_Shdr).
+/// The header of a section, as far as it is read (Elf64_Shdr).
 #[derive(Clone, Copy)]
 pub struct SectionHeader {
-    /// sh_type.
+    /// The type of the section (sh_type).
     pub kind: u32,
-    /// sh_flags.
+    /// The flags of the section (sh_flags).
     pub flags: u64,
-    /// sh_offset: where it begins in the file.
+    /// The place where the section begins in the file (sh_offset).
     pub start: u64,
-    /// sh_size, in bytes.
+    /// The size of the section in bytes (sh_size).
     pub size: u64,
-    /// sh_link: of a table of symbols its strings, of a table of relocations its symbols.
+    /// The strings of a table of symbols, or the symbols of a table of relocations, as the index of a section
+    /// (sh_link).
     pub link: u32,
-    /// sh_info: of a table of relocations the section that they change.
+    /// The section that a table of relocations changes, as its index (sh_info).
     pub info: u32,
 }
 
@@ -63,7 +65,7 @@ impl SectionHeader {
     ghost use Rattle.std.specs.Prelude.{◌≡◌, ◌<◌, ◌^◌};
     ghost use Rattle.object.specs.Section.{section_at, section_bytes, has_no_bytes, is_code, is_relocations};
 
-    /// The header of this number; zeros past the table.
+    /// Returns the header of the section with this index. Past the table its fields are zero.
     pub fn read(table: &[u8], index: usize) -> SectionHeader
         requires { index < 2 ^ 32 }
         ensures { result ≡ section_at index table.now }
@@ -79,14 +81,14 @@ impl SectionHeader {
         }
     }
 
-    /// Whether it has no bytes in the file (SHT_NULL, SHT_NOBITS).
+    /// Returns whether the section has no bytes in the file (SHT_NULL, SHT_NOBITS).
     pub fn has_no_bytes(self) -> bool
         ensures { result ≡ has_no_bytes self }
     {
         self.kind == 0 || self.kind == 8
     }
 
-    /// Its part of the file; none where that is not all there.
+    /// Returns the bytes of the section, or none if they are not all within the file.
     #[tactic(auto, unfolding(crate::specs::Section::section_bytes))]
     pub fn bytes(self, object: &[u8]) -> &[u8]
         ensures { result.now ≡ section_bytes object.now self }
@@ -97,14 +99,14 @@ impl SectionHeader {
         window(object, self.start, self.size)
     }
 
-    /// Whether it holds code to be run.
+    /// Returns whether the section has executable code.
     pub fn holds_code(self) -> bool
         ensures { result ≡ is_code self }
     {
         self.kind == 1 && self.flags / 4 % 2 == 1
     }
 
-    /// Whether it holds relocations.
+    /// Returns whether the section has relocations.
     pub fn holds_relocations(self) -> bool
         ensures { result ≡ is_relocations self }
     {

@@ -1,4 +1,4 @@
-//! The instructions of a line number program.
+//! Reads the instructions of a line number program.
 ghost use Rattle.std.specs.Prelude.{◌≡◌, ◌<◌, ◌≤◌, ◌-◌, ◌*◌, ◌^◌, length, IfSome};
 ghost use Rattle.object.specs.Steps.{address_advance, special, by_number, advance_step, no_step, fixed_advance, alone, standard, extended_step, extended_of, extended, step_at};
 ghost use Rattle.object.specs.Numbers.{unsigned_at, signed_at};
@@ -7,35 +7,36 @@ use crate::header::Header;
 use crate::leb128::{Read, signed_at, unsigned_at};
 use crate::number::{byte_at, half_at};
 
-/// What an instruction says of addresses, files and lines.
+/// The effect of an instruction on addresses, files and lines.
 #[derive(Clone, Copy)]
 pub enum Step {
-    /// Address and line advance by so much, and a row is added: a special opcode, or DW_LNS_copy.
+    /// Advances the address and the line, and appends a row: a special opcode, or DW_LNS_copy.
     Row(u64, u64),
-    /// The address advances.
+    /// Advances the address, modulo 2^64.
     Address(u64),
-    /// The line advances, modulo 2^64.
+    /// Advances the line, modulo 2^64.
     Line(u64),
-    /// The file of this number.
+    /// Sets the number of the file.
     File(u64),
-    /// The address is the operand at this place.
+    /// Sets the address to the operand at this place.
     Start(usize),
-    /// A row is added that ends the sequence.
+    /// Appends a row that ends the sequence.
     End,
-    /// Nothing.
+    /// Has no effect on addresses, files and lines.
     Other,
 }
 
-/// An instruction that was read.
+/// An instruction that was read, and the place after it.
 #[derive(Clone, Copy)]
 pub struct Stepped {
     /// The instruction.
     pub step: Step,
-    /// The place behind it.
+    /// The place after the instruction.
     pub next: usize,
 }
 
-/// By how much a special opcode, so many above the standard ones, advances the address.
+/// Returns the distance by which a special opcode advances the address. `above` is its distance from the first special
+/// opcode.
 fn address_advance(header: Header, above: u8) -> u64
     requires { 0 < header.range }
     ensures { result ≡ address_advance header above }
@@ -43,7 +44,7 @@ fn address_advance(header: Header, above: u8) -> u64
     u64::from(header.shortest) * u64::from(above / header.range)
 }
 
-/// A special opcode, so many above the standard ones.
+/// Returns the instruction of a special opcode. `above` is its distance from the first special opcode.
 fn special(header: Header, above: u8) -> Step
     requires { 0 < header.range }
     ensures { result ≡ special header above }
@@ -52,7 +53,7 @@ fn special(header: Header, above: u8) -> Step
     Step::Row(address_advance(header, above), line)
 }
 
-/// DW_LNS_advance_pc, of which the operand stands at a place.
+/// Reads DW_LNS_advance_pc, whose operand is at a place.
 fn advance_pc(header: Header, bytes: &[u8], place: usize) -> Option<Stepped>
     ensures read { result ≡ by_number (advance_step header) (unsigned_at place bytes.now) }
     ensures on { IfSome result (λ s. place < s.next) }
@@ -66,7 +67,7 @@ fn advance_pc(header: Header, bytes: &[u8], place: usize) -> Option<Stepped>
     })
 }
 
-/// DW_LNS_advance_line, of which the operand stands at a place.
+/// Reads DW_LNS_advance_line, whose operand is at a place.
 fn advance_line(bytes: &[u8], place: usize) -> Option<Stepped>
     ensures read { result ≡ by_number Step.Line (signed_at place bytes.now) }
     ensures on { IfSome result (λ s. place < s.next) }
@@ -79,7 +80,7 @@ fn advance_line(bytes: &[u8], place: usize) -> Option<Stepped>
     })
 }
 
-/// DW_LNS_set_file, of which the operand stands at a place.
+/// Reads DW_LNS_set_file, whose operand is at a place.
 fn set_file(bytes: &[u8], place: usize) -> Option<Stepped>
     ensures read { result ≡ by_number Step.File (unsigned_at place bytes.now) }
     ensures on { IfSome result (λ s. place < s.next) }
@@ -92,7 +93,7 @@ fn set_file(bytes: &[u8], place: usize) -> Option<Stepped>
     })
 }
 
-/// An opcode that says nothing, of which the operand, a number, stands at a place.
+/// Reads an opcode without effect, whose operand, a number, is at a place.
 fn pass_number(bytes: &[u8], place: usize) -> Option<Stepped>
     ensures read { result ≡ by_number no_step (unsigned_at place bytes.now) }
     ensures on { IfSome result (λ s. place < s.next) }
@@ -105,7 +106,7 @@ fn pass_number(bytes: &[u8], place: usize) -> Option<Stepped>
     })
 }
 
-/// DW_LNS_fixed_advance_pc, of which the operand stands at a place.
+/// Reads DW_LNS_fixed_advance_pc, whose operand is at a place.
 fn fixed_advance(bytes: &[u8], place: usize) -> Option<Stepped>
     ensures read { result ≡ fixed_advance place bytes.now }
     ensures on { IfSome result (λ s. place ≤ s.next) }
@@ -121,7 +122,7 @@ fn fixed_advance(bytes: &[u8], place: usize) -> Option<Stepped>
     }
 }
 
-/// A standard opcode, whose operands stand at a place.
+/// Reads a standard opcode, whose operands are at a place.
 fn standard(header: Header, opcode: u8, bytes: &[u8], place: usize) -> Option<Stepped>
     requires range { 0 < header.range }
     requires opcodes { header.opcodes ≤ 13 }
@@ -151,7 +152,7 @@ fn standard(header: Header, opcode: u8, bytes: &[u8], place: usize) -> Option<St
     })
 }
 
-/// A standard opcode that has no operands.
+/// Returns the instruction of a standard opcode that has no operands.
 fn alone(header: Header, opcode: u8) -> Step
     requires range { 0 < header.range }
     requires opcodes { header.opcodes ≤ 13 }
@@ -166,7 +167,7 @@ fn alone(header: Header, opcode: u8) -> Step
     }
 }
 
-/// An extended opcode of so many bytes, whose operands stand at a place.
+/// Returns the instruction of an extended opcode of `size` bytes, whose operands are at a place.
 fn extended_step(size: u64, opcode: u8, place: usize) -> Step
     ensures { result ≡ extended_step size opcode place }
 {
@@ -179,7 +180,7 @@ fn extended_step(size: u64, opcode: u8, place: usize) -> Step
     }
 }
 
-/// An extended opcode behind its size.
+/// Reads an extended opcode after its size.
 fn extended_of(bytes: &[u8], size: Read) -> Option<Stepped>
     requires { size.next ≤ length bytes.now }
     ensures read { result ≡ extended_of bytes.now size }
@@ -196,7 +197,7 @@ fn extended_of(bytes: &[u8], size: Read) -> Option<Stepped>
     })
 }
 
-/// An extended opcode, whose size stands at a place.
+/// Reads an extended opcode, whose size is at a place.
 fn extended(bytes: &[u8], place: usize) -> Option<Stepped>
     ensures read { result ≡ extended place bytes.now }
     ensures on { IfSome result (λ s. place < s.next) }
@@ -206,7 +207,7 @@ fn extended(bytes: &[u8], place: usize) -> Option<Stepped>
     extended_of(bytes, size)
 }
 
-/// The instruction at a place.
+/// Reads the instruction at a place. It returns `None` if there is no complete instruction.
 #[tactic(auto, unfolding(crate::specs::Steps::step_at))]
 pub fn step_at(header: Header, bytes: &[u8], place: usize) -> Option<Stepped>
     requires range { 0 < header.range }

@@ -1,3 +1,4 @@
+//! The symbols of an ELF object.
 ghost use Rattle.std.specs.Prelude.{◌≡◌, ◌<◌, ◌≤◌, ◌+◌, ◌*◌, ◌^◌, drop, IfSome};
 ghost use Rattle.object.specs.First.{first_some};
 ghost use Rattle.object.specs.Symbol.{symbols_here, symbols_section, begins_with_name};
@@ -5,18 +6,18 @@ ghost use Rattle.object.specs.Symbol.{symbols_here, symbols_section, begins_with
 use crate::number::{byte_at, double_at, half_at, word_at};
 use crate::section::SectionHeader;
 
-/// What is looked at of a symbol (Elf64_Sym).
+/// A symbol, as far as it is read (Elf64_Sym).
 #[derive(Clone, Copy)]
 pub struct Symbol {
-    /// st_name: where its name begins in the strings.
+    /// The place where the symbol's name begins in the strings (st_name).
     pub name: u32,
-    /// st_info: binding and kind.
+    /// The binding and the kind of the symbol (st_info).
     pub info: u8,
-    /// st_shndx: its section.
+    /// The index of the symbol's section (st_shndx).
     pub section: u16,
-    /// st_value: where it begins in its section.
+    /// The place where the symbol begins in its section (st_value).
     pub value: u64,
-    /// st_size, in bytes.
+    /// The size of the symbol in bytes (st_size).
     pub size: u64,
 }
 
@@ -25,7 +26,7 @@ impl Symbol {
     ghost use Rattle.object.specs.Symbol.{symbol_at, is_function, is_global, asked, fits};
     ghost use Rattle.object.specs.Section.{section_at};
 
-    /// The symbol of this number; zeros past the table.
+    /// Returns the symbol with this index. Past the table its fields are zero.
     pub fn read(symbols: &[u8], index: usize) -> Symbol
         requires { 24 * index + 24 < 2 ^ 64 }
         ensures { result ≡ symbol_at index symbols.now }
@@ -40,28 +41,28 @@ impl Symbol {
         }
     }
 
-    /// Its section.
+    /// Returns the header of the symbol's section.
     pub fn home(self, table: &[u8]) -> SectionHeader
         ensures { result ≡ section_at self.section table.now }
     {
         SectionHeader::read(table, usize::from(self.section))
     }
 
-    /// Whether it is a function in a section of code.
+    /// Returns whether the symbol is a function in a section of code.
     pub fn is_code(self, table: &[u8]) -> bool
         ensures { result ≡ is_function table.now self }
     {
         self.info % 16 == 2 && self.home(table).holds_code()
     }
 
-    /// Whether other objects see it.
+    /// Returns whether the symbol is global, so that other objects see it.
     pub fn is_seen(self) -> bool
         ensures { result ≡ is_global self }
     {
         self.info / 16 == 1 || self.info / 16 == 2
     }
 
-    /// Whether it has this name; where none is asked, whether it is global.
+    /// Returns whether the symbol has the given name or, if none is given, whether it is global.
     pub fn answers(self, strings: &[u8], name: Option<&[u8]>) -> bool
         ensures { result ≡ fits strings.now self (asked name.entry) }
     {
@@ -72,7 +73,7 @@ impl Symbol {
     }
 }
 
-/// What stands from a place on.
+/// Returns the bytes from a place on, or none if the place is past the end.
 fn rest(bytes: &[u8], place: usize) -> &[u8]
     ensures { result.now ≡ drop place bytes.now }
 {
@@ -83,7 +84,7 @@ fn rest(bytes: &[u8], place: usize) -> &[u8]
     }
 }
 
-/// Whether the bytes begin with a name and a zero.
+/// Returns whether the bytes begin with a name and a zero.
 fn begins(bytes: &[u8], name: &[u8]) -> bool
     ensures { result ≡ begins_with_name bytes.now name.now }
 {
@@ -91,7 +92,7 @@ fn begins(bytes: &[u8], name: &[u8]) -> bool
     length < bytes.len() && &bytes[..length] == name && bytes[length] == 0
 }
 
-/// The first table of symbols, by its section; the count where there is none.
+/// Returns the index of the first section that is a table of symbols, or the number of sections if there is none.
 pub fn find_symbols(table: &[u8], count: usize) -> usize
     requires { count < 2 ^ 16 }
     ensures section { result ≡ symbols_section table.now count }
@@ -103,7 +104,7 @@ pub fn find_symbols(table: &[u8], count: usize) -> usize
     }
 }
 
-/// The number of the section, if it is a table of symbols.
+/// Returns the index of the section, if it is a table of symbols.
 fn symbols_at(table: &[u8], index: usize) -> Option<usize>
     requires { index < 2 ^ 32 }
     ensures here { result ≡ symbols_here table.now index }
@@ -116,7 +117,7 @@ fn symbols_at(table: &[u8], index: usize) -> Option<usize>
     }
 }
 
-/// The first table of symbols, by its section.
+/// Returns the index of the first section that is a table of symbols, if there is one.
 fn first_symbols(table: &[u8], count: usize) -> Option<usize>
     requires { count < 2 ^ 16 }
     ensures first { result ≡ first_some (symbols_here table.now) count }

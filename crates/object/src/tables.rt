@@ -1,4 +1,4 @@
-//! The sections of an object that have its line number information.
+//! Finds the sections of an object that contain its line number information.
 ghost use Rattle.std.specs.Prelude.{◌≡◌, ◌<◌, ◌≤◌, ◌^◌, codes, length, IfSome};
 ghost use Rattle.object.specs.First.{first_some};
 ghost use Rattle.object.specs.Section.{section_at, section_count, section_table};
@@ -12,10 +12,10 @@ use crate::section::{SectionHeader, count_sections, read_table};
 use crate::source::LineSections;
 use crate::symbol::find_symbols;
 
-/// The most bytes of a section that is read.
+/// The greatest number of bytes of a section that is read.
 const MOST: usize = 65_536;
 
-/// The bytes of a section; none of one of more than 2^16 bytes.
+/// Returns the bytes of a section, or none if there are more than 2^16.
 fn short(bytes: &[u8]) -> &[u8]
     ensures short { result.now ≡ short bytes.now }
     ensures bound { length result.now ≤ 65536 }
@@ -23,7 +23,7 @@ fn short(bytes: &[u8]) -> &[u8]
     if bytes.len() <= MOST { bytes } else { &[] }
 }
 
-/// Those of the section of this number.
+/// Returns the bytes of the section with this index, or none if there are more than 2^16.
 fn bytes_of(object: &[u8], index: usize) -> &[u8]
     requires { index < 2 ^ 32 }
     ensures read { result.now ≡ bytes_of object.now index }
@@ -32,7 +32,7 @@ fn bytes_of(object: &[u8], index: usize) -> &[u8]
     short(SectionHeader::read(read_table(object), index).bytes(object))
 }
 
-/// The names of the sections.
+/// Returns the names of the sections.
 fn section_names(object: &[u8]) -> &[u8]
     ensures { result.now ≡ section_names object.now }
 {
@@ -40,7 +40,7 @@ fn section_names(object: &[u8]) -> &[u8]
     SectionHeader::read(read_table(object), index).bytes(object)
 }
 
-/// The number of a section, if it has this name.
+/// Returns the index of a section, if it has this name.
 fn named_here(table: &[u8], names: &[u8], name: &[u8], index: usize) -> Option<usize>
     requires { index < 2 ^ 32 }
     ensures here { result ≡ named_here table.now names.now name.now index }
@@ -54,7 +54,7 @@ fn named_here(table: &[u8], names: &[u8], name: &[u8], index: usize) -> Option<u
     }
 }
 
-/// The first section of this name, if there is one.
+/// Returns the index of the first section with this name, if there is one.
 fn first_named(table: &[u8], count: usize, names: &[u8], name: &[u8]) -> Option<usize>
     requires { count < 2 ^ 16 }
     ensures first { result ≡ first_some (named_here table.now names.now name.now) count }
@@ -69,7 +69,7 @@ fn first_named(table: &[u8], count: usize, names: &[u8], name: &[u8]) -> Option<
     None
 }
 
-/// The first section of this name; 0 where there is none.
+/// Returns the index of the first section with this name, or 0 if there is none.
 fn section_named(object: &[u8], name: &[u8]) -> usize
     ensures section { result ≡ section_named object.now name.now }
     ensures bound { result < 2 ^ 16 }
@@ -81,7 +81,7 @@ fn section_named(object: &[u8], name: &[u8]) -> usize
     }
 }
 
-/// The number of a section, if it has relocations of the section of this number.
+/// Returns the index of a section, if it has relocations of the section `home`.
 fn relocates_here(table: &[u8], home: usize, index: usize) -> Option<usize>
     requires { index < 2 ^ 32 }
     ensures here { result ≡ relocates_here table.now home index }
@@ -95,7 +95,7 @@ fn relocates_here(table: &[u8], home: usize, index: usize) -> Option<usize>
     }
 }
 
-/// The first section with relocations of the section of this number, if there is one.
+/// Returns the index of the first section with relocations of the section `home`, if there is one.
 fn first_relocating(table: &[u8], count: usize, home: usize) -> Option<usize>
     requires { count < 2 ^ 16 }
     ensures first { result ≡ first_some (relocates_here table.now home) count }
@@ -110,7 +110,7 @@ fn first_relocating(table: &[u8], count: usize, home: usize) -> Option<usize>
     None
 }
 
-/// The same; 0 where there is none.
+/// Returns the index of the first section with relocations of the section `home`, or 0 if there is none.
 fn relocations_of(object: &[u8], home: usize) -> usize
     ensures section { result ≡ relocations_of object.now home }
     ensures bound { result < 2 ^ 16 }
@@ -121,7 +121,7 @@ fn relocations_of(object: &[u8], home: usize) -> usize
     }
 }
 
-/// The number of .debug_line; 0 where there is none.
+/// Returns the index of .debug_line, or 0 if there is no such section.
 fn lines_section(object: &[u8]) -> usize
     ensures section { result ≡ lines_section object.now }
     ensures bound { result < 2 ^ 16 }
@@ -129,7 +129,7 @@ fn lines_section(object: &[u8]) -> usize
     section_named(object, b".debug_line")
 }
 
-/// The bytes of .debug_line.
+/// Returns the bytes of .debug_line.
 pub fn lines_in(object: &[u8]) -> &[u8]
     ensures read { result.now ≡ lines_in object.now }
     ensures bound { length result.now ≤ 65536 }
@@ -137,21 +137,21 @@ pub fn lines_in(object: &[u8]) -> &[u8]
     bytes_of(object, lines_section(object))
 }
 
-/// Those of .debug_line_str.
+/// Returns the bytes of .debug_line_str.
 pub fn line_strings_in(object: &[u8]) -> &[u8]
     ensures { result.now ≡ line_strings_in object.now }
 {
     bytes_of(object, section_named(object, b".debug_line_str"))
 }
 
-/// Those of .debug_str.
+/// Returns the bytes of .debug_str.
 pub fn strings_in(object: &[u8]) -> &[u8]
     ensures { result.now ≡ strings_in object.now }
 {
     bytes_of(object, section_named(object, b".debug_str"))
 }
 
-/// The table of symbols.
+/// Returns the table of symbols.
 fn symbols_in(object: &[u8]) -> &[u8]
     ensures { result.now ≡ symbols_in object.now }
 {
@@ -160,7 +160,8 @@ fn symbols_in(object: &[u8]) -> &[u8]
     SectionHeader::read(table, home).bytes(object)
 }
 
-/// What the program in these bytes needs of its object, for a function in the section of this number.
+/// Returns what the line number program in these bytes needs of its object, for a function in the section with this
+/// index.
 pub fn source_in<'a>(object: &'a [u8], bytes: &'a [u8], section: u16) -> LineSections<'a>
     ensures whole { IsSource result }
     ensures bytes { result.bytes.now ≡ bytes.now }

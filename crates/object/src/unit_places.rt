@@ -1,4 +1,4 @@
-//! The place of each unit of a function in the text that it was compiled from.
+//! The place of each unit of a function in its source text, as file and line.
 ghost use Rattle.std.specs.Prelude.{◌≡◌, ◌<◌, ◌≤◌, ◌+◌, ◌++◌, codes, decimal, length, map, string_bytes, IfOk};
 ghost use Rattle.object.specs.Entry.{function_of};
 ghost use Rattle.object.specs.Symbol.{asked};
@@ -14,10 +14,10 @@ use crate::symbol::Symbol;
 use crate::tables::{line_strings_in, lines_in, source_in, strings_in};
 use std::alloc::{AllocError, Global};
 
-/// The most units of a program.
+/// The greatest number of units of a program.
 const MOST_UNITS: u64 = 4096;
 
-/// The rows of the object's program with this header, if it has one.
+/// Returns the rows of the object's line number program. There are none without a header, or if the program breaks off.
 fn rows_of(
     alloc: Global,
     object: &[u8],
@@ -38,7 +38,7 @@ fn rows_of(
     }
 }
 
-/// Whether an address of the function's section lies from a row on and before the next.
+/// Returns whether an address of the function's section is at a row or after it, and before the next row.
 fn is_of(address: u64, row: LineRow, next: LineRow) -> bool
     ensures { result ≡ is_of address row next }
 {
@@ -48,7 +48,7 @@ fn is_of(address: u64, row: LineRow, next: LineRow) -> bool
         && address < next.registers.address
 }
 
-/// The row of this number, if an address is one of its.
+/// Returns the row with this index, if the address is between it and the next row.
 fn row_here(rows: &[LineRow], address: u64, index: usize) -> Option<LineRow>
     requires { index + 1 < length rows.now }
     ensures { result ≡ row_here rows.now address index }
@@ -61,7 +61,7 @@ fn row_here(rows: &[LineRow], address: u64, index: usize) -> Option<LineRow>
     }
 }
 
-/// The first row of an address.
+/// Returns the first row to which an address belongs.
 fn row_of(rows: &[LineRow], address: u64) -> Option<LineRow>
     ensures { result ≡ row_of rows.now address }
 {
@@ -74,7 +74,7 @@ fn row_of(rows: &[LineRow], address: u64) -> Option<LineRow>
     None
 }
 
-/// The name of a file by its number.
+/// Returns the name of a file by its number.
 fn name_in(object: &[u8], header: Option<Header>, file: u64) -> &[u8]
     requires { header ≡ header_of (lines_in object.now) }
     ensures { result.now ≡ name_in object.now header file }
@@ -91,14 +91,14 @@ fn name_in(object: &[u8], header: Option<Header>, file: u64) -> &[u8]
     }
 }
 
-/// `FILE:LINE`.
+/// Returns the text `FILE:LINE`.
 fn joined(alloc: Global, name: &str, line: u64) -> Result<String, AllocError>
     ensures { IfOk result (λ text. string_bytes text ≡ name.now ++ codes ":" ++ decimal line) }
 {
     format!(in alloc; "{name}:{line}")
 }
 
-/// File and line; nothing of a name that cannot be told on a line.
+/// Returns the text `FILE:LINE`, or the empty text if the name cannot be printed on a line.
 fn told(alloc: Global, name: &[u8], line: u64) -> Result<String, AllocError>
     ensures { IfOk result (λ text. string_bytes text ≡ told name.now line) }
 {
@@ -108,7 +108,7 @@ fn told(alloc: Global, name: &[u8], line: u64) -> Result<String, AllocError>
     }
 }
 
-/// File and line of a row, if there is one.
+/// Returns the file and line of a row as text, or the empty text if there is no row or no line.
 fn told_of(
     alloc: Global,
     object: &[u8],
@@ -127,7 +127,7 @@ fn told_of(
     }
 }
 
-/// Those of so many units.
+/// Returns the file and line of each of the first `units` units of a function.
 fn texts_of(
     alloc: Global,
     object: &[u8],
@@ -149,12 +149,12 @@ fn texts_of(
     Ok(texts)
 }
 
-/// File and line of each unit of a function, as `FILE:LINE`; an empty text where nothing is known of it. Tables that
-/// are damaged, and sections of more than 2^16 bytes, are not there.
+/// Returns the file and line of each unit of a function, as `FILE:LINE`, for up to 4,096 units. A text is empty if the
+/// file or the line is not known. Damaged tables, and sections of more than 2^16 bytes, count as missing.
 ///
 /// # Errors
 ///
-/// Want of memory.
+/// `AllocError` if out of memory.
 pub fn places(alloc: Global, object: &[u8], function: Symbol) -> Result<Vec<String>, AllocError>
     ensures { IfOk result (λ texts. TellsPlaces object.now function (map string_bytes texts.items)) }
 {
@@ -164,11 +164,12 @@ pub fn places(alloc: Global, object: &[u8], function: Symbol) -> Result<Vec<Stri
     texts_of(alloc, object, header, rows.as_slice(), function, units)
 }
 
-/// The same of an object's entry: the function of this name, or the only global one. Nothing where there is none.
+/// Returns the file and line of each unit of an object's entry function, as `FILE:LINE`. The entry is the function with
+/// this name or, if no name is given, the only global function. The list is empty if the object has no such entry.
 ///
 /// # Errors
 ///
-/// Want of memory.
+/// `AllocError` if out of memory.
 pub fn entry_places(
     alloc: Global,
     object: &[u8],

@@ -1,8 +1,9 @@
--- How many digits a base has.
+-- The bases in which numbers are written, and the number of their digits.
 use Rattle.std.specs.Prelude.{ℕ}
 use Rattle.text.specs.declared.base.Base.{Base}
 use Rattle.text.specs.declared.base.Base.TheVariants.{Ten, Sixteen}
 
+-- the number of digits of a base: 10 or 16
 abbrev pub radix_of : Base → ℕ
 radix_of Ten = 10
 radix_of Sixteen = 16

@@ -1,7 +1,8 @@
--- Steps that may give nothing, one behind the other.
+-- A sequence of steps, each of which may have no result.
 use Rattle.std.specs.Prelude.{Option, Some, None}
 
 infixl 10 ◌>>=◌
+-- the second step applied to the result of the first, if there is one
 abbrev pub ◌>>=◌ : {A B : Type 0} → Option A → (A → Option B) → Option B
 None >>= f = None
 (Some x) >>= f = f x

@@ -1,7 +1,8 @@
+//! The bases of written numbers: ten and sixteen.
 ghost use Rattle.std.specs.Prelude.{◌≡◌, ◌≤◌};
 ghost use Rattle.text.specs.Base.{radix_of};
 
-/// To which base a number is written.
+/// The base in which a number is written.
 #[derive(Clone, Copy, PartialEq, Eq)]
 pub enum Base {
     Ten,
@@ -9,7 +10,7 @@ pub enum Base {
 }
 
 impl Base {
-    /// How many digits there are.
+    /// Returns the number of digits of the base: 10 or 16.
     pub fn radix(self) -> u8
         ensures radix { result ≡ radix_of self }
         ensures bound { result ≤ 16 }

@@ -1,8 +1,8 @@
-//! A law of numbers: the function does nothing, and its contract is the law.
+//! A law of written numbers. The function does nothing, and its contract is the law.
 ghost use Rattle.text.specs.Laws.{DigitsAreWorth};
 
-/// The digits to base ten and sixteen are these characters, and each is worth the base to the power of how many stand
-/// behind it.
+/// States which characters are the digits of base ten and sixteen, and that the value of a digit is the digit times the
+/// base to the power of the number of digits after it.
 pub fn digits_are_worth()
     ensures { DigitsAreWorth }
 {}

@@ -1,10 +1,12 @@
+//! Reads numbers that are written in decimal or hexadecimal digits.
 ghost use Rattle.std.specs.Prelude.{◌≡◌, ◌+◌, ◌*◌, ◌≤◌, ◌^◌, IfSome};
 ghost use Rattle.text.specs.Number.{capped, digit_in, digits_on, decimal_of, magnitude_of};
 ghost use Rattle.text.specs.Base.{radix_of};
 
 use crate::base::Base;
 
-/// The value of a digit (hex digits of either case).
+/// Returns the value of a digit, or `None` if the byte is not a digit of the base. Hexadecimal digits may be of either
+/// case.
 pub fn digit(base: Base, byte: u8) -> Option<u8>
     ensures value { result ≡ digit_in (radix_of base) byte }
     ensures bound { IfSome result (λ d. d ≤ 15) }
@@ -17,7 +19,7 @@ pub fn digit(base: Base, byte: u8) -> Option<u8>
     }
 }
 
-/// The number with one more digit behind it.
+/// Appends a digit to a number, and returns 2^64 if the result is greater.
 fn put_digit(base: Base, number: u128, digit: u8) -> u128
     requires { number ≤ 2 ^ 64 }
     ensures value { result ≡ capped (number * radix_of base + digit) }
@@ -31,7 +33,8 @@ fn put_digit(base: Base, number: u128, digit: u8) -> u128
     }
 }
 
-/// The number of these digits; 2^64 stands for each that is greater. No digits are 0.
+/// Reads a string of digits. It returns 2^64 for every greater number, 0 for an empty string, and `None` if a byte is
+/// not a digit of the base.
 pub fn digits(base: Base, bytes: &[u8]) -> Option<u128>
     ensures value { result ≡ digits_on (radix_of base) 0 bytes.now }
     ensures bound { IfSome result (λ n. n ≤ 2 ^ 64) }
@@ -46,7 +49,8 @@ pub fn digits(base: Base, bytes: &[u8]) -> Option<u128>
     Some(number)
 }
 
-/// A decimal number without leading zeros; 2^64 stands for each that is greater.
+/// Reads a decimal number without leading zeros. It returns 2^64 for every greater number, and `None` if the bytes are
+/// not such a number.
 #[tactic(auto, unfolding(crate::specs::Number::decimal_of))]
 pub fn decimal(bytes: &[u8]) -> Option<u128>
     ensures value { result ≡ decimal_of bytes.now }
@@ -59,7 +63,8 @@ pub fn decimal(bytes: &[u8]) -> Option<u128>
     }
 }
 
-/// A decimal number, or `0x` and hex digits, with or without leading zeros; 2^64 stands for each that is greater.
+/// Reads a decimal number, or `0x` and hexadecimal digits, with or without leading zeros. It returns 2^64 for every
+/// greater number, and `None` if the bytes are not such a number.
 #[tactic(auto, unfolding(crate::specs::Number::magnitude_of))]
 pub fn magnitude(bytes: &[u8]) -> Option<u128>
     ensures value { result ≡ magnitude_of bytes.now }

@@ -1,9 +1,10 @@
+//! Cuts texts at stops: finds the first stop, and separates pieces and lines.
 ghost use Rattle.std.specs.Prelude.{◌≡◌, ◌<◌, ◌≤◌, [], IfNone, IfSome, length};
 ghost use Rattle.text.specs.Parts.{until, before, from, pieces, lines_of, GivesPieces, GivesLines};
 
 use crate::stop::{Stop, stops};
 
-/// How many bytes stand before the first stop: all of them, where none stands.
+/// Returns the number of bytes before the first stop. If there is no stop, this is the length of the text.
 pub fn find(stop: Stop, bytes: &[u8]) -> usize
     ensures found { result ≡ until stop bytes.now }
     ensures inside { result ≤ length bytes.now }
@@ -16,7 +17,7 @@ pub fn find(stop: Stop, bytes: &[u8]) -> usize
     bytes.len()
 }
 
-/// What stands before the first stop, and the rest from the stop on.
+/// Cuts a text at the first stop. It returns the bytes before the stop, and the bytes from the stop on.
 pub fn cut(stop: Stop, bytes: &[u8]) -> (&[u8], &[u8])
     ensures front { result.0.now ≡ before stop bytes.now }
     ensures back { result.1.now ≡ from stop bytes.now }
@@ -24,7 +25,8 @@ pub fn cut(stop: Stop, bytes: &[u8]) -> (&[u8], &[u8])
     bytes.split_at(find(stop, bytes))
 }
 
-/// The first of the pieces between the stops, and what stands behind its stop: none behind the last piece.
+/// Returns the bytes before the first stop, and the bytes after it. If there is no stop, it returns the whole text and
+/// `None`.
 pub fn piece(stop: Stop, bytes: &[u8]) -> (&[u8], Option<&[u8]>)
     ensures first { GivesPieces stop result.0.now result.1 (pieces stop bytes.now) }
     ensures last { IfNone result.1 (result.0.now ≡ bytes.now) }
@@ -37,7 +39,7 @@ pub fn piece(stop: Stop, bytes: &[u8]) -> (&[u8], Option<&[u8]>)
     }
 }
 
-/// The first line, without its line feed, and the text behind it; none where the text is empty.
+/// Returns the first line without its line feed, and the text after the line. It returns `None` if the text is empty.
 pub fn line(bytes: &[u8]) -> Option<(&[u8], &[u8])>
     ensures first { GivesLines result (lines_of bytes.now) }
     ensures shorter { IfSome result (λ cut. length cut.1.now < length bytes.now) }

@@ -1,29 +1,30 @@
+//! Stops: the bytes at which a part of a text ends.
 ghost use Rattle.std.specs.Prelude.{◌≡◌};
 ghost use Rattle.text.specs.Stop.{is_stop};
 
-/// Bytes at which a part of a text ends.
+/// The kind of byte at which a part of a text ends.
 #[derive(Clone, Copy)]
 pub enum Stop {
-    /// This byte.
+    /// Exactly this byte.
     Byte(u8),
     /// A space or a tab.
     Blank,
-    /// Neither a space nor a tab.
+    /// Any byte except a space and a tab.
     Solid,
-    /// `+` or `-`.
+    /// The sign `+` or `-`.
     Sign,
 }
 
-/// What ends a word.
+/// The space, at which a word ends.
 pub const SPACE: Stop = Stop::Byte(b' ');
 
-/// What ends a line.
+/// The line feed, at which a line ends.
 pub const FEED: Stop = Stop::Byte(b'\n');
 
-/// What joins numbers.
+/// The dot, which separates numbers.
 pub const DOT: Stop = Stop::Byte(b'.');
 
-/// Whether the byte is such a stop.
+/// Returns whether a part of a text ends at the byte.
 pub fn stops(stop: Stop, byte: u8) -> bool
     ensures { result ≡ is_stop stop byte }
 {

@@ -1,4 +1,4 @@
-//! The values of the labels of one length.
+//! A level of a tree: the values of all labels of one length.
 ghost use Rattle.std.specs.Prelude.{◌≡◌, ◌<◌, ◌≤◌, ◌+◌, ℕ, Bool, List, Option, Some, None, IfOk, is_some, length, map, replicate, slice_get, slice_set};
 ghost use Rattle.label.specs.Oral.{order_of};
 ghost use Rattle.tree.specs.LieutenantTree.{AreAnswers, run_written};
@@ -6,10 +6,10 @@ ghost use Rattle.tree.specs.LieutenantTree.{AreAnswers, run_written};
 use std::alloc::{AllocError, Global};
 use std::marker::Model;
 
-/// What was told of the labels of one length, by rank: for each an order, or nothing.
+/// A level: the messages received about the labels of one length, by rank. Each is an order, or nothing.
 ///
-/// The orders stand side by side, RETREAT, which is 0, where nothing was told; a flag for each says
-/// whether something was.
+/// The orders are in one array, with RETREAT, which is 0, where nothing was received. A second array has a flag for
+/// each label, which is set if something was received.
 #[derive(Drop)]
 pub(crate) struct Level {
     orders: Vec<u32>,
@@ -29,11 +29,11 @@ impl Model for Level {
 }
 
 impl Level {
-    /// A level of so many labels in which nothing is told.
+    /// Makes a level of `places` labels, about which nothing was received.
     ///
     /// # Errors
     ///
-    /// No memory for one of its two arrays.
+    /// `AllocError` if there is not enough memory for one of the two arrays.
     pub(crate) fn new(alloc: Global, places: u32) -> Result<Level, AllocError>
         ensures { IfOk result (λ l. l ≡ replicate places None) }
     {
@@ -42,14 +42,14 @@ impl Level {
         Ok(Level { orders, told })
     }
 
-    /// The orders by rank, RETREAT where nothing was told.
+    /// Returns the orders by rank, with RETREAT, which is 0, where nothing was received.
     pub(crate) fn orders(&self) -> &[u32]
         ensures { result.now ≡ map order_of self.now }
     {
         self.orders.as_slice()
     }
 
-    /// What was told at this place.
+    /// Returns the message at this index, or `None` if nothing was received.
     pub(crate) fn value(&self, place: usize) -> Option<u32>
         requires { place < length self.now }
         ensures { slice_get self.now place ≡ Some result }
@@ -61,7 +61,7 @@ impl Level {
         }
     }
 
-    /// Puts what was told at this place, in place of what was there.
+    /// Writes the message at this index, in place of the previous one.
     pub(crate) fn put(&mut self, place: usize, value: Option<u32>)
         requires { place < length self.old }
         ensures { self.new ≡ slice_set self.old place value }
@@ -70,8 +70,7 @@ impl Level {
         self.told[place] = value.is_some();
     }
 
-    /// Puts what `value` answers for each place of a run, from 0, at its place of the level, where the run begins at
-    /// `first`.
+    /// Writes `count` messages from the index `first` on. The message at `first + i` is `value(i)`.
     pub(crate) fn put_run<F: Fn(usize) -> Option<u32>>(
         &mut self,
         first: usize,
@@ -92,7 +91,7 @@ impl Level {
         );
     }
 
-    /// Puts nothing in every place.
+    /// Removes every message from the level.
     pub(crate) fn clear(&mut self)
         ensures { self.new ≡ replicate (length self.old) None }
     {
@@ -101,7 +100,7 @@ impl Level {
     }
 }
 
-/// Writes what `value` answers for each place of a run, from 0, as orders and flags, where the run begins at `first`.
+/// Writes `count` messages, as orders and flags, from the index `first` on. The message at `first + i` is `value(i)`.
 fn write_run<F: Fn(usize) -> Option<u32>>(
     orders: &mut [u32],
     told: &mut [bool],

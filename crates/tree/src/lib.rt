@@ -1,5 +1,5 @@
-//! A lieutenant's tree of messages (Lynch, Distributed Algorithms, section 6.2): flat arrays for
-//! each length of labels, indexed by rank.
+//! A lieutenant's tree of messages (Lynch, Distributed Algorithms, section 6.2). It has flat arrays for each length of
+//! labels, indexed by rank.
 #![tactic(auto)]
 
 mod level;

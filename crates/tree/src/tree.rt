@@ -1,3 +1,4 @@
+//! The tree of messages that one lieutenant received: makes, fills, reads and clears it.
 ghost use Rattle.std.specs.Prelude.{◌≡◌, ◌<◌, ◌≤◌, ◌≢◌, ◌+◌, ℕ, List, Option, Some, None, IfOk, drop, length, map, slice_get};
 ghost use Rattle.label.specs.Labels.{labels};
 ghost use Rattle.label.specs.Oral.{Messages, order_of};
@@ -8,10 +9,10 @@ use label::{Label, Space, count, rank};
 use std::alloc::{AllocError, Global};
 use std::marker::Model;
 
-/// What one lieutenant was told, for each label that lacks him: an order, or nothing.
+/// A lieutenant's tree: for each label that lacks him, the order that he received, or nothing.
 ///
-/// The labels have 1 to `bound + 1` generals. The values of a length stand side by side, a label's
-/// at its rank. No call after `new` takes memory.
+/// The labels have 1 to `bound + 1` generals. The values of one length are in one array, and the value of a label is at
+/// its rank. Only `new` allocates memory.
 #[derive(Drop)]
 pub struct Tree {
     space: Space,
@@ -32,12 +33,12 @@ impl Model for Tree {
 }
 
 impl Tree {
-    /// A tree in which nothing is told: of a campaign of 2 to 13 generals with this bound on the
-    /// traitors and this commander, for the lieutenant `general`.
+    /// Makes a tree in which nothing was received. The campaign has 2 to 13 generals, this commander and this bound on
+    /// the traitors, and the tree is that of the lieutenant `general`.
     ///
     /// # Errors
     ///
-    /// No memory for one of its arrays.
+    /// `AllocError` if there is not enough memory for one of the arrays.
     pub fn new(
         alloc: Global,
         generals: u8,
@@ -70,8 +71,8 @@ impl Tree {
         })
     }
 
-    /// The labels that it has values of: those of its campaign that lack its lieutenant. Some messages
-    /// fill the tree, whatever was done with it.
+    /// Returns the space of labels that have values in the tree: those of its campaign that lack its lieutenant. The
+    /// contract also states that every tree holds the messages of some function.
     pub fn space(&self) -> Space
         ensures generals { result.generals ≡ self.now.generals }
         ensures commander { result.commander ≡ self.now.commander }
@@ -82,14 +83,15 @@ impl Tree {
         self.space
     }
 
-    /// The bound on the traitors, 0 to 12: its labels have up to one general more.
+    /// Returns the bound on the traitors, 0 to 12. The labels of the tree have up to `bound + 1` generals.
     pub fn bound(&self) -> u8
         ensures { result ≡ self.now.bound }
     {
         self.bound
     }
 
-    /// What was filled in for the label; nothing for one that has no place in the tree.
+    /// Returns the value stored for the label. It returns `None` if nothing was received, and if the label has no place
+    /// in the tree.
     pub fn value(&self, label: &Label) -> Option<u32>
         ensures told { (M : Messages) → IsFilled self.now M → IsPlace self.now label.now →
             result ≡ M label.now self.now.general }
@@ -105,8 +107,8 @@ impl Tree {
         }
     }
 
-    /// The orders that were told of the labels of this length, 1 to `bound + 1`, each at its label's rank: RETREAT, which
-    /// is 0, where nothing was.
+    /// Returns the orders received about the labels of length `size`, 1 to `bound + 1`, by rank. An order is RETREAT,
+    /// which is 0, if nothing was received.
     pub fn level(&self, size: u8) -> &[u32]
         requires some { 0 < size }
         requires short { size ≤ self.now.bound + 1 }
@@ -119,8 +121,8 @@ impl Tree {
         self.levels[(size - 1) as usize].orders()
     }
 
-    /// Fills in what came for a label, in place of what was there. A label that has no place in the
-    /// tree changes nothing.
+    /// Stores the value of a label, in place of the previous one. If the label has no place in the tree, nothing
+    /// changes.
     pub fn fill(&mut self, label: &Label, value: Option<u32>)
         ensures filled { (M : Messages) → IsFilled self.old M → IsFilled self.new (told_also M label.now value) }
         ensures same { SameCampaign self.old self.new }
@@ -134,7 +136,7 @@ impl Tree {
         }
     }
 
-    /// Fills in what came for the label of this length, 1 to `bound + 1`, and this rank.
+    /// Stores the value of the label of length `size`, 1 to `bound + 1`, at this rank.
     pub fn set(&mut self, size: u8, rank: u32, value: Option<u32>)
         requires some { 0 < size }
         requires short { size ≤ self.old.bound + 1 }
@@ -147,8 +149,8 @@ impl Tree {
         self.levels[(size - 1) as usize].put(rank as usize, value);
     }
 
-    /// Fills in what came for so many labels of this length, 1 to `bound + 1`, from this rank on: for each what `value`
-    /// answers for its place among them, from 0.
+    /// Stores the values of `count` labels of length `size`, 1 to `bound + 1`, from the rank `first` on. The value at
+    /// `first + i` is `value(i)`.
     pub fn set_run<F: Fn(usize) -> Option<u32>>(
         &mut self,
         size: u8,
@@ -169,8 +171,7 @@ impl Tree {
         self.levels[(size - 1) as usize].put_run(first as usize, count, value);
     }
 
-    /// Takes back what was filled in for the labels of this length. Where it has no such labels,
-    /// nothing changes.
+    /// Removes the values of all labels of length `size`. If the tree has no such labels, nothing changes.
     pub fn clear(&mut self, size: u8)
         ensures filled { (M : Messages) → IsFilled self.old M → IsFilled self.new (blank M size) }
         ensures same { SameCampaign self.old self.new }

@@ -1,4 +1,4 @@
-//! Arithmetic instructions: two words in, one out.
+//! Arithmetic instructions on words: operations on two words, negation and sign extension.
 
 ghost use Rattle.std.specs.Prelude.{◌≡◌, ◌<◌, ◌^◌, ◌%◌, ℤ};
 ghost use Rattle.std.specs.Int.{cast_signed, cast_unsigned, w32, w64, int_shr};
@@ -7,7 +7,7 @@ ghost use Rattle.word.specs.Arithmetic.{arithmetic, operated, negated, sign_exte
 use crate::low_bits::{low_byte, low_half, low_word};
 use crate::{Narrow, Operation, Width};
 
-/// What an operation makes of two words; shift counts are taken modulo 64.
+/// Returns the result of an operation on two words. Shift counts are taken modulo 64.
 pub fn alu64(operation: Operation, a: u64, b: u64) -> u64
     ensures { result ≡ arithmetic Width.W64 operation a b }
 {
@@ -29,7 +29,7 @@ pub fn alu64(operation: Operation, a: u64, b: u64) -> u64
     }
 }
 
-/// The signed quotient, truncated towards zero; 0 where the divisor is.
+/// Returns the signed quotient of two words, truncated towards zero. If the divisor is 0, the quotient is 0.
 fn signed_quotient64(a: u64, b: u64) -> u64
     ensures { result ≡ operated Width.W64 Operation.SignedDiv a b }
 {
@@ -41,7 +41,8 @@ fn signed_quotient64(a: u64, b: u64) -> u64
         .cast_unsigned()
 }
 
-/// What the signed division leaves, with the sign of `a`; `a` where the divisor is 0.
+/// Returns the remainder of the signed division of two words, with the sign of `a`. If the divisor is 0, the remainder
+/// is `a`.
 fn signed_remainder64(a: u64, b: u64) -> u64
     ensures { result ≡ operated Width.W64 Operation.SignedMod a b }
 {
@@ -53,15 +54,15 @@ fn signed_remainder64(a: u64, b: u64) -> u64
         .cast_unsigned()
 }
 
-/// The word shifted right, its sign coming in from above.
+/// Returns the word shifted right by `b` modulo 64, with copies of its sign bit shifted in.
 fn shifted_signed64(a: u64, b: u64) -> u64
     ensures { result ≡ operated Width.W64 Operation.ArithmeticShiftRight a b }
 {
     (a.cast_signed() >> (b % 64)).cast_unsigned()
 }
 
-/// What an operation makes of the low 32 bits of two words; the result is below 2^32,
-/// and shift counts are taken modulo 32.
+/// Returns the result of an operation on the low 32 bits of two words. The result is below 2^32, and shift counts are
+/// taken modulo 32.
 pub fn alu32(operation: Operation, a: u64, b: u64) -> u64
     ensures exact { result ≡ arithmetic Width.W32 operation a b }
     ensures below { result < 2 ^ 32 }
@@ -69,7 +70,7 @@ pub fn alu32(operation: Operation, a: u64, b: u64) -> u64
     u64::from(operated32(operation, low_word(a), low_word(b)))
 }
 
-/// What an operation makes of two numbers of 32 bits.
+/// Returns the result of an operation on two 32-bit numbers. Shift counts are taken modulo 32.
 fn operated32(operation: Operation, a: u32, b: u32) -> u32
     ensures { result ≡ operated Width.W32 operation a b }
 {
@@ -91,7 +92,7 @@ fn operated32(operation: Operation, a: u32, b: u32) -> u32
     }
 }
 
-/// The signed quotient, truncated towards zero; 0 where the divisor is.
+/// Returns the signed quotient of two 32-bit numbers, truncated towards zero. If the divisor is 0, the quotient is 0.
 fn signed_quotient32(a: u32, b: u32) -> u32
     ensures { result ≡ operated Width.W32 Operation.SignedDiv a b }
 {
@@ -103,7 +104,8 @@ fn signed_quotient32(a: u32, b: u32) -> u32
         .cast_unsigned()
 }
 
-/// What the signed division leaves, with the sign of `a`; `a` where the divisor is 0.
+/// Returns the remainder of the signed division of two 32-bit numbers, with the sign of `a`. If the divisor is 0, the
+/// remainder is `a`.
 fn signed_remainder32(a: u32, b: u32) -> u32
     ensures { result ≡ operated Width.W32 Operation.SignedMod a b }
 {
@@ -115,14 +117,14 @@ fn signed_remainder32(a: u32, b: u32) -> u32
         .cast_unsigned()
 }
 
-/// The 32 bits shifted right, its sign coming in from above.
+/// Returns the 32-bit number shifted right by `b` modulo 32, with copies of its sign bit shifted in.
 fn shifted_signed32(a: u32, b: u32) -> u32
     ensures { result ≡ operated Width.W32 Operation.ArithmeticShiftRight a b }
 {
     (a.cast_signed() >> (b % 32)).cast_unsigned()
 }
 
-/// The word negated, at 32 bits its low 32 bits.
+/// Returns the negated word. At 32 bits, it negates the low 32 bits and the upper half of the result is zero.
 pub fn negate(width: Width, a: u64) -> u64
     ensures { result ≡ negated width a }
 {
@@ -132,7 +134,7 @@ pub fn negate(width: Width, a: u64) -> u64
     }
 }
 
-/// The low bits of a word extended by their sign, at 32 bits to 32 bits.
+/// Returns the low bits of a word, sign-extended to 64 bits, or to 32 bits with a zero upper half.
 pub fn sign_extend(width: Width, part: Narrow, a: u64) -> u64
     ensures { result ≡ sign_extended width part a }
 {
@@ -142,7 +144,7 @@ pub fn sign_extend(width: Width, part: Narrow, a: u64) -> u64
     }
 }
 
-/// The low bits of a word, read as signed.
+/// Returns the low 8, 16 or 32 bits of a word, read as a signed number.
 fn signed_low(part: Narrow, a: u64) -> i32
     ensures { result ≡ signed_part part a }
 {

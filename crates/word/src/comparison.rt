@@ -1,4 +1,4 @@
-//! Conditions of two words.
+//! Comparisons of two words: the conditions of conditional jumps.
 
 ghost use Rattle.std.specs.Prelude.{◌≡◌, ◌↔◌, IsTrue};
 ghost use Rattle.word.specs.Arithmetic.{compared, related};
@@ -6,7 +6,7 @@ ghost use Rattle.word.specs.Arithmetic.{compared, related};
 use crate::low_bits::low_word;
 use crate::{Condition, Width};
 
-/// Whether two words meet a condition.
+/// Returns whether two words meet a condition.
 pub fn compare64(condition: Condition, a: u64, b: u64) -> bool
     ensures { result ≡ compared Width.W64 condition a b }
 {
@@ -25,14 +25,14 @@ pub fn compare64(condition: Condition, a: u64, b: u64) -> bool
     }
 }
 
-/// Whether the low 32 bits of two words meet a condition.
+/// Returns whether the low 32 bits of two words meet a condition.
 pub fn compare32(condition: Condition, a: u64, b: u64) -> bool
     ensures { result ≡ compared Width.W32 condition a b }
 {
     related32(condition, low_word(a), low_word(b))
 }
 
-/// Whether two numbers of 32 bits meet a condition.
+/// Returns whether two 32-bit numbers meet a condition.
 fn related32(condition: Condition, x: u32, y: u32) -> bool
     ensures { result ≡ related Width.W32 condition x y }
 {

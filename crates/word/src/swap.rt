@@ -1,4 +1,4 @@
-//! Bytes of a word put in order.
+//! Byte swaps: the low bytes of a word in a given byte order.
 
 ghost use Rattle.std.specs.Prelude.{◌≡◌};
 ghost use Rattle.word.specs.Arithmetic.{swapped};
@@ -6,7 +6,8 @@ ghost use Rattle.word.specs.Arithmetic.{swapped};
 use crate::low_bits::{low_half, low_word};
 use crate::{ByteOrder, SwapSize};
 
-/// The low bytes of a word in an order, on a little-endian host; the bytes above them are zero.
+/// Returns the low 2, 4 or 8 bytes of a word in the given byte order, on a little-endian host. The bytes above them are
+/// zero.
 pub fn swap(order: ByteOrder, size: SwapSize, a: u64) -> u64
     ensures { result ≡ swapped order size a }
 {
@@ -17,7 +18,7 @@ pub fn swap(order: ByteOrder, size: SwapSize, a: u64) -> u64
     }
 }
 
-/// The low bytes of a word.
+/// Returns the low 2, 4 or 8 bytes of a word. The bytes above them are zero.
 fn low_bytes(size: SwapSize, a: u64) -> u64
     ensures { result ≡ swapped ByteOrder.Little size a }
 {
@@ -28,7 +29,7 @@ fn low_bytes(size: SwapSize, a: u64) -> u64
     }
 }
 
-/// The low bytes of a word, the last one first.
+/// Returns the low 2, 4 or 8 bytes of a word in reverse order. The bytes above them are zero.
 fn reversed_bytes(size: SwapSize, a: u64) -> u64
     ensures { result ≡ swapped ByteOrder.Reversed size a }
 {

@@ -1,4 +1,4 @@
-//! The assembler of texts that have units as bytes.
+//! The assembler of texts in which some units are written as bytes.
 
 ghost use Rattle.std.specs.Prelude.{◌≡◌, ◌≢◌, ◌≤◌, drop, length, IfOk, IfErr, Ok, Err};
 ghost use Rattle.text.specs.Stop.{semicolon};
@@ -14,12 +14,12 @@ use codec::encode;
 use std::alloc::Global;
 use text::{Stop, cut};
 
-/// The bytes that the text says, line by line: those of an instruction, or the eight of `.unit 0x..`. Names stand for
-/// nothing: a jump has its distance.
+/// Assembles a text into bytes, line by line. A line may have an instruction, or `.unit 0x..` with the eight bytes of a
+/// unit. Each line is assembled by itself, so that a jump to a name of another line is a fault.
 ///
 /// # Errors
 ///
-/// The fault of the first line that has one, as of [`crate::assembler::assemble`]; or want of memory.
+/// The fault of the first line that has one, as [`crate::assembler::assemble`] reports it. `Memory` if out of memory.
 #[tactic(auto, unfolding(crate::specs::Reading::bytes_said))]
 pub fn assemble(alloc: Global, text: &str) -> Result<Vec<u8>, AsmError>
     ensures said { IfOk result (λ bytes. bytes_said text.now ≡ Ok bytes.items) }
@@ -37,7 +37,7 @@ pub fn assemble(alloc: Global, text: &str) -> Result<Vec<u8>, AsmError>
     Ok(bytes)
 }
 
-/// The bytes of the line of this number.
+/// Assembles the line of this number into bytes.
 fn bytes_in(alloc: Global, number: u64, line: &str) -> Result<Vec<u8>, AsmError>
     ensures said { IfOk result (λ bytes. line_bytes line.now ≡ Ok bytes.items) }
     ensures fault { IfErr result (λ e. e ≢ Memory → at_line number (line_bytes line.now) ≡ Err e) }
@@ -52,7 +52,7 @@ fn bytes_in(alloc: Global, number: u64, line: &str) -> Result<Vec<u8>, AsmError>
     }
 }
 
-/// Those of a line that is assembled by itself.
+/// Assembles a line without `.unit` into bytes. A line without an instruction has no bytes.
 fn bytes_alone(alloc: Global, number: u64, line: &str) -> Result<Vec<u8>, AsmError>
     ensures said { IfOk result (λ bytes. alone (said line.now) ≡ Ok bytes.items) }
     ensures fault { IfErr result (λ e. e ≢ Memory → at_line number (alone (said line.now)) ≡ Err e) }
@@ -65,7 +65,7 @@ fn bytes_alone(alloc: Global, number: u64, line: &str) -> Result<Vec<u8>, AsmErr
     }
 }
 
-/// The eight bytes of a line that a dot begins.
+/// Reads a line that begins with a dot, which must be `.unit` and its operand. It returns the eight bytes.
 fn raw(solid: &[u8]) -> Result<[u8; 8], AsmFault>
     ensures said { IfOk result (λ unit. raw_in (before semicolon solid.now) ≡ Ok unit) }
     ensures fault { IfErr result (λ e. raw_in (before semicolon solid.now) ≡ Err e) }
@@ -79,7 +79,7 @@ fn raw(solid: &[u8]) -> Result<[u8; 8], AsmFault>
     unit(operand)
 }
 
-/// The eight bytes of an operand, with white space behind it.
+/// Reads the operand of `.unit`, with optional white space after it. It returns the eight bytes.
 fn unit(operand: &[u8]) -> Result<[u8; 8], AsmFault>
     ensures said { IfOk result (λ unit. unit_in operand.now ≡ Ok unit) }
     ensures fault { IfErr result (λ e. unit_in operand.now ≡ Err e) }
@@ -93,7 +93,7 @@ fn unit(operand: &[u8]) -> Result<[u8; 8], AsmFault>
     }
 }
 
-/// The eight bytes of `0x` and sixteen digits.
+/// Reads `0x` and sixteen hexadecimal digits as eight bytes.
 fn eight(number: &[u8]) -> Result<[u8; 8], AsmFault>
     ensures said { IfOk result (λ unit. eight_of number.now ≡ Ok unit) }
     ensures fault { IfErr result (λ e. eight_of number.now ≡ Err e) }
@@ -108,7 +108,7 @@ fn eight(number: &[u8]) -> Result<[u8; 8], AsmFault>
     }
 }
 
-/// What stands behind the first two bytes.
+/// Returns the text after its first two bytes.
 fn digits(number: &[u8]) -> &[u8]
     requires { 2 ≤ length number.now }
     ensures { result.now ≡ drop 2 number.now }

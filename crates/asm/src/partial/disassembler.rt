@@ -1,4 +1,4 @@
-//! The disassembler that goes on past what cannot be decoded.
+//! The disassembler that continues after units that cannot be decoded.
 
 ghost use Rattle.std.specs.Prelude.{◌≡◌, ◌≢◌, ◌<◌, ◌≤◌, ◌/◌, ◌%◌, ◌++◌, codes, drop, length, slice_index, string_bytes, IfOk, IfErr, OnOk, Ok};
 ghost use Rattle.codec.specs.declared.fault.CodecFault.TheVariants.{Length};
@@ -11,15 +11,16 @@ use crate::printer::put_instruction;
 use codec::{CodecError, CodecFault, instruction};
 use std::alloc::{AllocError, Global};
 
-/// The text of whole units: one instruction a line, as ever, and for each unit with which none begins a line
-/// `.unit 0x..` with its eight bytes and the code of why. [`crate::assemble`] gives the bytes back.
+/// Disassembles whole units into text, with one instruction on each line. A unit with which no instruction begins
+/// becomes a line `.unit 0x..` with its eight bytes and the code of the fault. [`crate::partial::assemble`] returns the
+/// bytes again.
 ///
 /// # Errors
 ///
-/// `Length` where the number of bytes is no multiple of 8; or want of memory.
+/// `Length` if the number of bytes is not a multiple of 8. `Memory` if out of memory.
 pub fn disassemble(alloc: Global, bytes: &[u8]) -> Result<String, CodecError>
     ensures text { IfOk result (λ text. IsTextOf bytes.now (string_bytes text)) }
-    // The text says these bytes, and no others.
+    // The text assembles to these bytes.
     ensures again { IfOk result (λ text. bytes_said (string_bytes text) ≡ Ok bytes.now) }
     ensures cut { IfErr result (λ e. e ≢ Memory → length bytes.now % 8 ≢ 0) }
     ensures fault { IfErr result (λ e. e ≢ Memory → e ≡ At Length (length bytes.now / 8)) }
@@ -30,7 +31,7 @@ pub fn disassemble(alloc: Global, bytes: &[u8]) -> Result<String, CodecError>
     Ok(text_of(alloc, bytes)?)
 }
 
-/// The text of whole units.
+/// Disassembles bytes whose number is a multiple of 8.
 fn text_of(alloc: Global, bytes: &[u8]) -> Result<String, AllocError>
     requires { length bytes.now % 8 ≡ 0 }
     ensures text { IfOk result (λ text. IsTextOf bytes.now (string_bytes text)) }
@@ -45,7 +46,7 @@ fn text_of(alloc: Global, bytes: &[u8]) -> Result<String, AllocError>
     Ok(text)
 }
 
-/// What stands behind so many bytes.
+/// Returns the bytes after the first `size`.
 fn behind(bytes: &[u8], size: usize) -> &[u8]
     requires { size ≤ length bytes.now }
     ensures { result.now ≡ drop size bytes.now }
@@ -53,7 +54,7 @@ fn behind(bytes: &[u8], size: usize) -> &[u8]
     &bytes[size..]
 }
 
-/// Adds the line of what the bytes begin with: how many bytes that is.
+/// Appends the line of the instruction or unit with which the bytes begin, and returns the number of its bytes.
 fn put_line(alloc: Global, text: &mut String, bytes: &[u8]) -> Result<usize, AllocError>
     requires { 8 ≤ length bytes.now }
     ensures some { IfOk result (λ size. 0 < size) }
@@ -67,7 +68,7 @@ fn put_line(alloc: Global, text: &mut String, bytes: &[u8]) -> Result<usize, All
     Ok(size)
 }
 
-/// Adds what the bytes begin with: how many bytes that is.
+/// Appends the text of the instruction or unit with which the bytes begin, and returns the number of its bytes.
 fn put_piece(alloc: Global, text: &mut String, bytes: &[u8]) -> Result<usize, AllocError>
     requires { 8 ≤ length bytes.now }
     ensures some { IfOk result (λ size. 0 < size) }
@@ -88,7 +89,7 @@ fn put_piece(alloc: Global, text: &mut String, bytes: &[u8]) -> Result<usize, Al
     }
 }
 
-/// Adds a unit with which no instruction begins, by this fault.
+/// Appends the text of a unit with which no instruction begins, and the code of the fault.
 fn put_raw(
     alloc: Global,
     text: &mut String,
@@ -103,7 +104,7 @@ fn put_raw(
     write!(text, ".unit 0x{digits} ; {fault}{kind}")
 }
 
-/// Which instruction is left out, by its opcode.
+/// Returns the kind of an unsupported instruction, by its opcode. For other faults it returns the empty text.
 fn kind(fault: CodecFault, opcode: u8) -> &'static str
     ensures { result.now ≡ kind_of fault opcode }
 {
@@ -113,7 +114,7 @@ fn kind(fault: CodecFault, opcode: u8) -> &'static str
     }
 }
 
-/// The same of an opcode that is left out.
+/// Returns the kind of an unsupported instruction, by its opcode.
 fn left_out(opcode: u8) -> &'static str
     ensures { result.now ≡ kind_of CodecFault.LeftOut opcode }
 {

@@ -1,3 +1,4 @@
+//! The majority rule: finds the order in more than half of the places.
 ghost use Rattle.std.specs.Prelude.{◌≡◌, ◌==◌, ◌<◌, ◌*◌, ℕ, count_by, find, length, ◌∷◌};
 ghost use Rattle.combine.specs.Rule.{majority, is_most};
 ghost use Rattle.combine.specs.Laws.{majority_is_rule};
@@ -5,7 +6,8 @@ ghost use Rattle.combine.specs.Laws.{majority_is_rule};
 use crate::orders::orders_of;
 use crate::rule::Combine;
 
-/// The order in more than half of the places, else RETREAT, which is 0 (TOPLAS 1982, section 3).
+/// The rule that returns the order in more than half of the places, or RETREAT, which is 0, if there is none (TOPLAS
+/// 1982, section 3).
 #[derive(Clone, Copy, PartialEq, Eq)]
 pub struct Majority;
 
@@ -17,8 +19,9 @@ impl Combine for Majority {
         most(orders).unwrap_or(0)
     }
 
-    /// One's own order mostly wins, or where there are two the other one, and no list is made; else
-    /// there is a vote.
+    /// Returns the order to which the majority rule combines the received orders and one's own. It makes no list if
+    /// one's own order is in more than half of the places, or if the only other order is. Otherwise it lists and counts
+    /// all orders.
     fn combine_told(&self, told: &[u32], place: usize, own: u32) -> u32 {
         if is_in_most_told(told, own, own) {
             return own;
@@ -34,7 +37,7 @@ impl Combine for Majority {
     ghost most_decide = { λ _. majority_is_rule };
 }
 
-/// The order in more than half of the places.
+/// Returns the order in more than half of the places, if there is one.
 pub(crate) fn most(orders: &[u32]) -> Option<u32>
     ensures { result ≡ find (is_most orders.now) orders.now }
 {
@@ -46,8 +49,8 @@ pub(crate) fn most(orders: &[u32]) -> Option<u32>
     }
 }
 
-/// The only order that can stand in more than half of the places: each two different ones are struck
-/// out together (Boyer and Moore 1981).
+/// Returns the only order that can be in more than half of the places. It strikes out pairs of different orders (Boyer
+/// and Moore 1981).
 fn candidate(orders: &[u32]) -> u32
     ensures { (v : ℕ) → length orders.now < 2 * count_by (λ x. x == v) orders.now → result ≡ v }
 {
@@ -66,7 +69,7 @@ fn candidate(orders: &[u32]) -> u32
     candidate
 }
 
-/// Whether the order stands in more than half of the places.
+/// Returns whether the order is in more than half of the places.
 fn is_in_most(orders: &[u32], order: u32) -> bool
     ensures { result ≡ is_most orders.now order }
 {
@@ -74,8 +77,7 @@ fn is_in_most(orders: &[u32], order: u32) -> bool
     count > orders.len() - count
 }
 
-/// Where there are two different orders, one's own and another, the other one; where there are more,
-/// any number.
+/// Returns the other order, if one's own and exactly one other order occur. Otherwise the result may be any number.
 fn other_of_two(told: &[u32], own: u32) -> u32 {
     let mut differences = 0;
     for x in told {
@@ -84,7 +86,7 @@ fn other_of_two(told: &[u32], own: u32) -> u32 {
     own ^ differences
 }
 
-/// Whether the order stands in more than half of the places, one's own among them.
+/// Returns whether the order is in more than half of the places, counting one's own.
 fn is_in_most_told(told: &[u32], own: u32, order: u32) -> bool
     requires few { length told.now < 13 }
     ensures { result ≡ is_most (own ∷ told.now) order }
@@ -93,7 +95,7 @@ fn is_in_most_told(told: &[u32], own: u32, order: u32) -> bool
     count > told.len() + 1 - count
 }
 
-/// In how many places the order stands.
+/// Returns the number of places that have the order.
 fn count(orders: &[u32], order: u32) -> usize
     ensures { result ≡ count_by (λ x. x == order) orders.now }
 {

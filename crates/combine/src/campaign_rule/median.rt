@@ -1,10 +1,12 @@
+//! The median rule: finds the middle of the sorted orders.
 ghost use Rattle.std.specs.Prelude.{◌≡◌, count_by, nat_lt, nat_le, find};
 ghost use Rattle.combine.specs.Rule.{median, is_middle};
 ghost use Rattle.combine.specs.Laws.{median_is_rule};
 
 use crate::rule::Combine;
 
-/// The middle of the sorted list, at half of its length from 0; RETREAT of the empty one.
+/// The rule that returns the middle of the sorted list: the element at half of its length, from 0 and rounded down. The
+/// result is RETREAT, which is 0, if the list is empty.
 #[derive(Clone, Copy, PartialEq, Eq)]
 pub struct Median;
 
@@ -19,7 +21,7 @@ impl Combine for Median {
     ghost most_decide = { λ _. median_is_rule };
 }
 
-/// The first order that is in the middle.
+/// Returns the first order that is in the middle, or `None` if the list is empty.
 fn middle(orders: &[u32]) -> Option<u32>
     ensures { result ≡ find (is_middle orders.now) orders.now }
 {
@@ -29,7 +31,7 @@ fn middle(orders: &[u32]) -> Option<u32>
         .find(|v| is_in_the_middle(orders, *v))
 }
 
-/// Whether at most half of the places have less, and more than half no more.
+/// Returns whether at most half of the places have less than the order, and more than half have at most the order.
 #[tactic(auto, unfolding(crate::specs::Rule::is_middle))]
 fn is_in_the_middle(orders: &[u32], order: u32) -> bool
     ensures { result ≡ is_middle orders.now order }
@@ -38,6 +40,7 @@ fn is_in_the_middle(orders: &[u32], order: u32) -> bool
     count_less(orders, order) <= half && half < count_no_more(orders, order)
 }
 
+/// Returns the number of places that have less than the order.
 fn count_less(orders: &[u32], order: u32) -> usize
     ensures { result ≡ count_by (λ x. nat_lt x order) orders.now }
 {
@@ -48,6 +51,7 @@ fn count_less(orders: &[u32], order: u32) -> usize
     count
 }
 
+/// Returns the number of places that have at most the order.
 fn count_no_more(orders: &[u32], order: u32) -> usize
     ensures { result ≡ count_by (λ x. nat_le x order) orders.now }
 {
