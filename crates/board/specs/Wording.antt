@@ -25,7 +25,7 @@ row_of w = record {
 }
 
 -- The line of an access, with N for each number. The line is complete if one word is the answer. Otherwise it ends
--- before the number that says how many words are.
+-- before the number that says how many words the answer has.
 abbrev pub shape_by : List ℕ → List (List ℕ) → Bool → List ℕ
 shape_by word names true = codes "access N " ++ word ++ flat_map (λ _. codes " N") (drop 1 names)
 shape_by word names false = codes "access N " ++ word ++ flat_map (λ _. codes " N") names ++ codes " = N"

@@ -11,7 +11,7 @@ pub struct Wording {
     /// The request's word in a chronicle.
     pub word: &'static str,
     /// The line of an access, with `N` for each number. The line is complete if one word is the answer. Otherwise it
-    /// ends before the number that says how many words are.
+    /// ends before the number that says how many words the answer has.
     pub shape: &'static str,
     /// The words of that line with their names, or a dash for a word that is not reported. `N` means a number, `*`
     /// means all words of the answer, and any other word means itself.
