@@ -140,7 +140,7 @@ pub fn numbers(request: &Request) -> ([u64; 3], usize)
 }
 
 /// Returns the words of the board that a request names: the index of the first, and how many. The answer has as many
-/// words.
+/// words as the request names.
 pub fn span(request: &Request) -> (usize, usize)
     ensures are { result ≡ span_asked request.now }
     ensures there { result.0 + result.1 ≤ 64 }

@@ -18,22 +18,22 @@ context_numbers shape bound values =
 abbrev pub number_told : List ℕ → ℕ → ℕ
 number_told context word = little_number (slice_range context (4 * word) (4 * word + 4))
 
--- the indexes of the words in `context_numbers`; here, of the number of generals
+-- the index, in `context_numbers`, of the number of generals
 abbrev pub at_generals : ℕ
 at_generals = 0
 
--- the index of the word with the number of the general who relays
+-- the index, in `context_numbers`, of the general
 abbrev pub at_general : ℕ
 at_general = 2
 
--- the index of the word with the commander's number
+-- the index, in `context_numbers`, of the commander
 abbrev pub at_commander : ℕ
 at_commander = 3
 
--- the index of the word with the round
+-- the index, in `context_numbers`, of the round
 abbrev pub at_round : ℕ
 at_round = 4
 
--- the index of the word with the kind of the relay: 0 for oral messages, 1 for signed ones
+-- the index, in `context_numbers`, of the kind of messages: 0 if they are oral, 1 if they are signed
 abbrev pub at_kind : ℕ
 at_kind = 7

@@ -106,8 +106,12 @@ fn size_of(part: Narrow) -> Size
 ///
 /// # Errors
 ///
-/// Returns a `MemoryFault`, and leaves the stack as it is, if `base` is not a pointer into the stack, the window is not
-/// within the stack, `value` is unset, or `value` is a pointer and `size` is not 8 bytes.
+/// Returns a `MemoryFault`, and leaves the stack as it is, in these cases:
+///
+/// - `base` is not a pointer into the stack.
+/// - The window is not within the stack.
+/// - `value` is unset.
+/// - `value` is a pointer, and `size` is not 8 bytes.
 pub fn store(
     stack: &mut Stack,
     size: Size,
@@ -136,7 +140,8 @@ pub fn store(
     }
 }
 
-/// Returns what [`load`] returns at a pointer with this region and offset. The caller must know that the load succeeds.
+/// Returns the value that [`load`] returns at a pointer with this region and offset. The caller must know that the load
+/// succeeds.
 #[inline(always)]
 pub fn read(
     stack: &Stack,
@@ -156,8 +161,8 @@ pub fn read(
     }
 }
 
-/// Returns what [`load_signed`] returns at a pointer with this region and offset. The caller must know that the load
-/// succeeds.
+/// Returns the number that [`load_signed`] returns at a pointer with this region and offset. The caller must know that
+/// the load succeeds.
 #[inline(always)]
 pub fn read_signed(
     stack: &Stack,

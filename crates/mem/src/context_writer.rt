@@ -8,8 +8,8 @@ use byteorder::{ByteOrder, LittleEndian};
 use label::Shape;
 use std::alloc::{AllocError, Global};
 
-/// Replaces the bytes of a vector by the context of a relay in a campaign with this bound. `values` are the values that
-/// the general took for the labels he relays, in the order of their ranks.
+/// Replaces the bytes of a vector by the context of a relay in a campaign that provides for `bound` traitors. `values`
+/// are the values that the general took for the labels he relays, in the order of their ranks.
 ///
 /// The vector must have room for 4,096 bytes, and nothing is allocated. A relay has at most 990 labels (13 generals in
 /// round 5: 11 * 10 * 9). After the eight header numbers there is room for 1,016 values.

@@ -2,7 +2,7 @@
 //!
 //! `load`, `load_signed` and `store` check each access, whatever its pointer is, and return a fault if it is not
 //! allowed. The tests call them. The machine calls `read`, `read_signed`, `write_number` and `write_pointer` instead.
-//! They require that the access is within its region, as the verifier has proved for the machine's programs.
+//! These four require that the access succeeds, as the verifier has proved for the machine's programs.
 //!
 //! The module `layout` gives the layout of a context. A context is 4,096 bytes of little-endian numbers, 4 bytes each.
 //! Eight numbers describe the relay and its campaign. After them is the value taken for each label.

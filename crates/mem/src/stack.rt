@@ -17,8 +17,8 @@ use std::marker::Model;
 /// A stack: the 512 cells that a program reads and writes. Contracts see it as a list of cells.
 #[derive(Drop)]
 pub struct Stack {
-    /// The kind of each cell: 0 if it is empty, 1 for a byte, 2 to 9 for the pieces of a pointer into the stack, 10 to
-    /// 17 for the pieces of a pointer into the context.
+    /// The kind of each cell. It is 0 if the cell is empty, and 1 for a byte. The pieces of a pointer into the stack
+    /// have the kinds 2 to 9, those of a pointer into the context 10 to 17.
     kinds: [u8; 512],
     /// The byte of each cell. It has a meaning only if the cell's kind is a byte.
     bytes: [u8; 512],

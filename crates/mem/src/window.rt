@@ -11,7 +11,8 @@ use crate::stack::Stack;
 use insn::Size;
 use semantics::{Region, Value};
 
-/// Checks that a window of `size` bytes at `place` is within `room` bytes. Returns its place, or `OutOfBounds`.
+/// Checks that a window of `size` bytes at `place` is within a region of `room` bytes. Returns its place, or
+/// `OutOfBounds`.
 fn inside(room: usize, size: usize, place: i64) -> Result<usize, MemoryFault>
     requires { size ≤ 512 }
     ensures answer { IsAnswer (inside room size place) result }
@@ -104,7 +105,8 @@ pub fn stack_place(base: Value, distance: i16, size: Size) -> Result<usize, Memo
     stack_part(base, distance, size.bytes())
 }
 
-/// Returns the place of a window in `room` bytes. The caller must know that the window is within them.
+/// Returns the place of a window in a region of `room` bytes. The caller must know that the window is within the
+/// region.
 #[inline(always)]
 fn known_inside(room: usize, size: Size, place: i64) -> usize
     requires { IsOk (inside room (bytes_of size) place) }

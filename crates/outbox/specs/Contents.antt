@@ -8,14 +8,13 @@ use Rattle.semantics.specs.State.{Outbox}
 use Rattle.semantics.specs.Outbox.{Place, places}
 use Rattle.outbox.specs.Rows.{RowOrders, receivers_in, orders_in}
 
--- the relay that the outbox belongs to; for each label, by rank, the order or nothing for each receiver; and the
--- entries
+-- an outbox: its relay, the order or nothing for each label (by rank) and receiver, and its entries
 pub record Contents : Type 0 where
   pub relay : Relay
   pub rows : Outbox
   pub entries : List Entry
 
--- for signed messages: the signers of each chain that the general holds, and the entries
+-- the part of an outbox for signed messages: the signers of each chain that the general holds, and the entries
 pub record Signing : Type 0 where
   pub held : List ℕ
   pub entries : List Entry

@@ -1,4 +1,4 @@
-//! A borrowed view of one label's orders, whichever way the outbox stores them.
+//! A borrowed view of one label's orders, however the outbox stores them.
 ghost use Rattle.std.specs.Prelude.{◌≡◌, ◌≤◌, length};
 ghost use Rattle.outbox.specs.Orders.{orders_seen};
 ghost use Rattle.outbox.specs.Rows.{orders_in, order_in, receivers_in};

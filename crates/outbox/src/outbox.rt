@@ -79,7 +79,7 @@ impl Outbox {
     }
 
     /// Enters an order, signed by the general, for these receivers (bit g for general g). Returns whether it was
-    /// entered: the general must be the commander, and there must be room.
+    /// entered: orders must be signed, the general must be the commander, and there must be room for the entry.
     pub fn sign(&mut self, order: u32, receivers: u16) -> bool
         ensures relay { self.new.relay ≡ self.old.relay }
         ensures rows { self.new.rows ≡ self.old.rows }
@@ -90,7 +90,7 @@ impl Outbox {
     }
 
     /// Enters the chain held at this place, with the general's signature, for these receivers (bit g for general g).
-    /// Returns whether it was entered: there must be such a chain, which he has not signed, and room.
+    /// Returns whether it was entered: there must be such a chain, which he has not signed, and room for the entry.
     pub fn pass(&mut self, held: u16, receivers: u16) -> bool
         ensures relay { self.new.relay ≡ self.old.relay }
         ensures rows { self.new.rows ≡ self.old.rows }
@@ -143,7 +143,7 @@ impl Outbox {
     }
 
     /// Puts orders for the receivers of the label with this rank, in ascending order of receivers. Returns how many
-    /// were put. Surplus orders are ignored.
+    /// were put, which is 0 if there is no such label. Surplus orders are ignored.
     pub fn put_row(&mut self, rank: u32, orders: &[u32]) -> u32
         ensures relay { self.new.relay ≡ self.old.relay }
         ensures entries { self.new.entries ≡ self.old.entries }
@@ -157,7 +157,7 @@ impl Outbox {
         self.rows.fill(rank, orders)
     }
 
-    /// Puts one order for a receiver at every label that he hears of. Returns how many orders were put.
+    /// Puts one order for a receiver at every label that has him as a receiver. Returns how many orders were put.
     pub fn sway(&mut self, receiver: u32, order: u32) -> u32
         ensures relay { self.new.relay ≡ self.old.relay }
         ensures entries { self.new.entries ≡ self.old.entries }
@@ -167,8 +167,8 @@ impl Outbox {
         self.rows.put_in_each(receiver, |_| order)
     }
 
-    /// Puts, for a receiver at every label that he hears of, the value that the general took for the label. Returns how
-    /// many orders were put.
+    /// Puts, at every label that has this receiver, the value that the general took for the label. Returns how many
+    /// orders were put.
     pub fn honest(&mut self, context: &[u8], receiver: u32) -> u32
         requires { length context.now ≡ 4096 }
         ensures relay { self.new.relay ≡ self.old.relay }
@@ -180,7 +180,7 @@ impl Outbox {
             .put_in_each(receiver, |rank| taken_value(context, rank))
     }
 
-    /// Puts, for every receiver at every label, the value that the general took for the label.
+    /// Puts, at every label and for each of its receivers, the value that the general took for the label.
     pub fn honest_to_all(&mut self, context: &[u8])
         requires { length context.now ≡ 4096 }
         ensures relay { self.new.relay ≡ self.old.relay }

@@ -57,7 +57,8 @@ impl MixedRow {
         self.orders = OrdersByNumber::alike(order, self.receivers.mask());
     }
 
-    /// Puts orders for the receivers in ascending order, until either run out. Returns how many were put.
+    /// Puts orders for the receivers in ascending order, until the orders or the receivers run out. Returns how many
+    /// were put.
     pub(crate) fn fill(&mut self, orders: &[u32]) -> u32
         ensures row { self.new ≡ filled orders.now self.old }
         ensures count { result ≡ min (length self.old) (length orders.now) }
@@ -112,7 +113,8 @@ fn told(receivers: &[u8], kept: &OrdersByNumber) -> ArrayVec<Option<u32>, 13>
     told
 }
 
-/// Puts orders for the first `receivers` into `kept`, which stores them by number. Returns how many were put.
+/// Puts orders for `receivers` into `kept`, which stores them by number, until the orders or the receivers run out.
+/// Returns how many were put.
 fn fill(receivers: &[u8], kept: &mut OrdersByNumber, orders: &[u32]) -> u32
     requires row { IsRow kept.old receivers.now }
     requires few { length receivers.now ≤ 13 }

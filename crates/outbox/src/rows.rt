@@ -1,4 +1,4 @@
-//! All rows of an outbox: reads, copies and compares them, and puts orders in them.
+//! The rows of an outbox, one for each label: reading, copying and comparing them, and putting orders in them.
 ghost use Rattle.std.specs.Prelude.{◌≡◌, ◌<◌, ◌≤◌, ◌↔◌, [], ℕ, IfOk, IsTrue, length, map, min, slice_index_or, slice_set, vec_capacity};
 ghost use Rattle.label.specs.Labels.{on};
 ghost use Rattle.outbox.specs.Orders.{orders_seen};
@@ -10,8 +10,8 @@ use crate::row::MixedRow;
 use std::alloc::{AllocError, Global};
 use std::marker::Model;
 
-/// The rows of an outbox, by rank. A label's row takes 12 bytes until some receiver is sent an order of his own. The
-/// memory for separate orders is allocated at the start, and written only then.
+/// The rows of an outbox, by rank. Each row takes 12 bytes until some receiver is sent an order of his own. The memory
+/// for separate orders is allocated at the start, and written only then.
 #[derive(Drop)]
 pub(crate) struct Rows {
     /// The uniform rows. They are in use while `apart` is empty.
@@ -88,7 +88,8 @@ impl Rows {
         self.apart[rank].put(receiver, order)
     }
 
-    /// Puts orders for the first receivers of the row with this rank, until either run out. Returns how many were put.
+    /// Puts orders for the receivers of the row with this rank, until the orders or the receivers run out. Returns how
+    /// many were put.
     pub fn fill(&mut self, rank: usize, orders: &[u32]) -> u32
         requires { rank < length self.old }
         ensures rows { self.new ≡ slice_set self.old rank (filled orders.now (slice_index_or self.old rank [])) }

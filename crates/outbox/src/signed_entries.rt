@@ -1,4 +1,4 @@
-//! The entries of an outbox for signed messages: which ones are allowed, copies and comparisons.
+//! The entries of an outbox for signed messages: which ones are allowed, and how they are copied and compared.
 ghost use Rattle.std.specs.Prelude.{◌≡◌, ◌≤◌, ◌↔◌, [], length, IfOk, IsTrue};
 ghost use Rattle.label.specs.Relay.{IsShape};
 ghost use Rattle.semantics.specs.Relay.{signed};
@@ -11,8 +11,7 @@ use semantics::Entry;
 use std::alloc::{AllocError, Global};
 use std::marker::Model;
 
-/// The state of an outbox for signed messages: the chains that the general holds, and his entries of the round, at most
-/// 8.
+/// The state of an outbox for signed messages: the chains that the general holds, and at most 8 entries of the round.
 #[derive(Drop)]
 pub(crate) struct Signing {
     /// The signers of each chain that the general holds: bit g is set if general g has signed.

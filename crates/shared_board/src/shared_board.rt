@@ -62,7 +62,7 @@ impl Unshared {
     }
 }
 
-/// A board that threads share, behind a lock. Its type names the one history of the accesses that it has served.
+/// A board that threads share, protected by a lock. Its type names the one history of the accesses that it has served.
 /// Whenever the lock is free, the ledger is that history, and it is legal from the opening words on.
 #[derive(Drop)]
 pub struct SharedBoard<J: Room> {
