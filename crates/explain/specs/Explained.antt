@@ -145,7 +145,7 @@ refused_text written survey program (Some (At r unit)) =
     refused_at written survey program r unit (instruction_at program unit)
 refused_text written survey program _ = []
 
--- the lines of the units, and then those of the rejection
+-- the lines of the units, and then those that say why the program is rejected
 abbrev pub lines_by : Writing → KnownByUnit → List Insn → Option VerifyError → List ℕ
 lines_by written survey program fault =
     known_lines written program survey fault 0 program ++ refused_text written survey program fault

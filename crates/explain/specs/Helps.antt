@@ -50,7 +50,8 @@ abbrev pub copy_of : ℕ → Insn → Option ℕ
 copy_of r (Arithmetic W64 Move dst (Register src)) = if src == r then Some dst else None
 copy_of r i = None
 
--- the copy of register `r` that the instruction of a unit makes, if a path leads from there on which nothing sets `r`
+-- the copy of `r` that the instruction of a unit makes, if a path leads from there to the rejected one on which `r` is
+-- not set
 abbrev pub copy_at : List Insn → List UnitMark → ℕ → ℕ → Option ℕ
 copy_at program marks r unit =
     if is_open (slice_get marks unit) then option_and_then (copy_of r) (instruction_at program unit) else None
@@ -60,7 +61,7 @@ abbrev pub or_else : Option ℕ → Option ℕ → Option ℕ
 or_else (Some copy) other = Some copy
 or_else None other = other
 
--- the last copy of register `r` that a unit below `n` makes
+-- the last copy of `r` below unit `n` from which a path leads to the rejected instruction on which `r` is not set
 unfoldable pub last_copy : List Insn → List UnitMark → ℕ → ℕ → Option ℕ
 last_copy program marks r zero = None
 last_copy program marks r (suc n) = or_else (copy_at program marks r n) (last_copy program marks r n)
@@ -132,18 +133,20 @@ edits_of (Exchanged number pointer) =
 abbrev pub Help : Type 0
 Help = Edit × Trial
 
--- a later edit with which the program is accepted, else this edit, which mends the fault
+-- a later edit with which the program is accepted, else this edit, with which the verifier gets past the fault
 abbrev pub accepted_or : Edit → Option Help → Option Help
 accepted_or edit (Some (other, Accepted)) = Some (other, Accepted)
 accepted_or edit rest = Some (edit, Passes)
 
--- the first edit with which the program is accepted, else the first with which the verifier gets past the fault
+-- of this edit and the best of the later ones: the first with which the program is accepted, else the first with which
+-- the verifier gets past the fault
 abbrev pub better : Edit → Trial → Option Help → Option Help
 better edit Accepted rest = Some (edit, Accepted)
 better edit Passes rest = accepted_or edit rest
 better edit Refused rest = rest
 
--- The best of the edits. The verifier must get past the rejected instruction, which the edit may move to a later unit.
+-- The first edit with which the program is accepted, else the first with which the verifier gets past the rejected
+-- instruction. The edit may move that instruction to a later unit.
 abbrev pub best : List Insn → ℕ → ℕ → List Edit → Option Help
 best program place unit [] = None
 best program place unit (edit ∷ edits) =

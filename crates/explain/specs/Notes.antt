@@ -83,17 +83,17 @@ abbrev pub set_note : Writing → Subject → ℕ → Insn → AbsState → List
 set_note written asked unit i a =
     noted_text written unit i ++ codes " -> " ++ found_text asked (left i a) ++ rule_behind asked i (left i a)
 
--- the note on an instruction from which nothing is known of the subject, if it is one
+-- the note that an instruction says nothing about the subject, if there is a reason why it does not
 abbrev pub noted_if : Writing → ℕ → Insn → Option Passing → List ℕ
 noted_if written unit i None = []
 noted_if written unit i (Some tells) = noted_text written unit i ++ passing_text tells
 
--- the note on an instruction on the path that tests or copies the subject without effect on what is known of it
+-- the note on an instruction that tests or copies the subject, if the verifier learns nothing about it there
 abbrev pub passing_note : Writing → Subject → ℕ → Insn → AbsState → List ℕ
 passing_note written (subject.Register r) unit i a = noted_if written unit i (passed_by r i (known_at a.registers r))
 passing_note written (subject.Cell place) unit i a = []
 
--- the note on an instruction by its mark
+-- the note on an instruction, if its mark says that it sets the subject or lets it pass
 abbrev pub note_by : Writing → Subject → ℕ → Insn → AbsState → Option UnitMark → List ℕ
 note_by written asked unit i a (Some Sets) = set_note written asked unit i a
 note_by written asked unit i a (Some Open) = passing_note written asked unit i a
@@ -116,8 +116,9 @@ notes_below written program survey asked marked (suc n) =
     notes_below written program survey asked marked n
     ++ note_text written asked n (instruction_at program n) (known_by (survey n)) (slice_get marked n)
 
--- The notes on the register from which the subject was computed, if that may be above or below 0 and no rule says why.
--- Before them are the notes on the origin of that register, and so on, at most as deep as the first number says.
+-- The notes on the register from which the subject was computed, if that register's number may be above or below 0 and
+-- no rule explains the subject. Before them are the notes on the origin of that register, and so on, at most as deep as
+-- the first number says.
 unfoldable pub origin_notes : ℕ → Writing → List Insn → KnownByUnit → List UnitMark → ℕ → List ℕ
 origin_notes zero written program survey marked unit = []
 origin_notes (suc n) written program survey marked unit =

@@ -82,8 +82,8 @@ abbrev pub is_operand : ℕ → Operand → Bool
 is_operand r (Register src) = src == r
 is_operand r (Immediate n) = false
 
--- why an instruction says nothing about register `r`: it tests the register past its limit, or copies it, so that tests
--- of the copy do not count
+-- why an instruction says nothing about `r`: it tests `r`, which may be past the limit of the test, or copies `r`, and
+-- a test of the copy says nothing about `r`
 abbrev pub passed_by : ℕ → Insn → AbsVal → Option Passing
 passed_by r (Branch w condition dst operand distance) value =
     if (dst == r || is_operand r operand) && is_past (limit_bits w (is_signed condition)) value

@@ -1,4 +1,4 @@
--- The sentence of a refusal (own).
+-- The sentence that says why a program is rejected (own).
 use Rattle.std.specs.Prelude.{ℕ, ℤ, pos, ◌-ℤ◌, List, ◌++◌, codes, decimal, int_le, length, if◌then◌else◌}
 use Rattle.std.specs.Fmt.{signed_decimal}
 use Rattle.asm.specs.Helper.{helpers}

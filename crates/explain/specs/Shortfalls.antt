@@ -154,7 +154,8 @@ pointer_misuse i registers = first_pointer registers (read_by i)
 
 -- ---- accesses
 
--- the window of a call, from r2 on: a word of the board or an order for each of the count
+-- the memory that a call accesses from r2 on: a word of the board or an order for each item of the greatest count,
+-- which must be at most 64
 abbrev pub counted : Size → AbsVal → Option Reach
 counted size (Number n) = if nat_le (greatest n) board_words
     then Some (record { base = 2; distance = pos 0; size = bytes_of size * greatest n }) else None
@@ -221,7 +222,7 @@ abbrev pub misfit_at : Helper → List AbsVal → ℕ → Option Argument → Op
 misfit_at helper registers r None = None
 misfit_at helper registers r (Some argument) = misfit_of helper r (bound_of argument) (known_at registers r)
 
--- the sentence about a slot and a count that together may pass the end of the board
+-- the sentence about slot and count together, if both are numbers up to 64
 abbrev pub past_board : AbsVal → AbsVal → Option Sentence
 past_board (Number slots) (Number counts) =
     if nat_le (greatest slots) board_words && nat_le (greatest counts) board_words

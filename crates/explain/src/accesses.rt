@@ -8,7 +8,7 @@ use absmem::AbsStack;
 use absval::{AbsVal, Window, window_of};
 use semantics::Region;
 
-/// Returns the sentence about an access that may leave its region. The value must be a pointer.
+/// Returns the sentence about an access that may leave its region. Returns `None` if `value` is not a pointer.
 pub(crate) fn outside(reach: Reach, value: AbsVal) -> Option<Sentence>
     requires { reach.size ≤ 512 }
     ensures { result ≡ outside reach value }
@@ -35,7 +35,7 @@ fn first_empty(stack: &AbsStack, place: usize, size: usize) -> Option<usize>
     first_empty(stack, place + 1, size - 1)
 }
 
-/// Returns the first cell of a window that may hold no byte, if there is a window.
+/// Returns the first cell of a window that may hold no byte, if there are a window and such a cell.
 fn empty_in(stack: &AbsStack, window: Option<Window>) -> Option<usize>
     requires { IfSome window (λ w. w.place + w.size ≤ 512) }
     ensures empty { result ≡ empty_in stack.now window }
@@ -45,7 +45,8 @@ fn empty_in(stack: &AbsStack, window: Option<Window>) -> Option<usize>
     first_empty(stack, place, size)
 }
 
-/// Returns the sentence about a read of stack cells, one of which may hold no byte.
+/// Returns the sentence about a read of stack cells, one of which may hold no byte. Returns `None` if `value` is not a
+/// pointer into the stack, or all cells hold bytes.
 pub(crate) fn empty_cell(stack: &AbsStack, reach: Reach, value: AbsVal) -> Option<Sentence>
     requires { reach.size ≤ 512 }
     ensures { result ≡ empty_cell stack.now reach value }

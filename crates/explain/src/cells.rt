@@ -87,7 +87,7 @@ pub(crate) fn put_run(
     put_content(out, content)
 }
 
-/// Appends the cells from `first` up to and excluding `end`, what they hold, and the units that set them.
+/// Appends the cells from `first` up to and excluding `end`, with their content and the units that set them.
 fn put_sourced(out: &mut String, first: usize, end: usize, held: &Held) -> Result<(), AllocError>
     requires first { first ≤ 65536 }
     requires end { end ≤ 65536 }
@@ -98,7 +98,8 @@ fn put_sourced(out: &mut String, first: usize, end: usize, held: &Held) -> Resul
     put_from(out, held.units.as_slice())
 }
 
-/// Appends the cells from `first` up to and excluding `end`, what they hold, the units that set them, and a comma.
+/// Appends the cells from `first` up to and excluding `end`, with their content and the units that set them, followed
+/// by a comma.
 fn put_ended(out: &mut String, first: usize, end: usize, held: &Held) -> Result<(), AllocError>
     requires first { first ≤ 65536 }
     requires end { end ≤ 65536 }

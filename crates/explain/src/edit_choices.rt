@@ -14,7 +14,7 @@ use word::{Operation, Width};
 /// The edits to try: one, or several in order.
 #[derive(Clone, Copy)]
 pub(crate) enum Choice {
-    /// Masks of the register, before the instruction.
+    /// Masks of the register, from wide to narrow, each before the instruction.
     Mask(Reg),
     /// The one edit.
     One(Edit),
@@ -24,7 +24,7 @@ pub(crate) enum Choice {
     Exchanged(Reg, Reg),
 }
 
-/// Chooses a mask of the number that moves a pointer.
+/// Chooses masks of the number that moves a pointer, if it is in a register.
 fn moving_mask(unit: usize, insn: &Insn) -> Option<(usize, Choice)>
     ensures wanted { result ≡ moving_mask unit insn.now }
     ensures below { IfSome result (λ want. want.0 ≤ unit) }
@@ -38,7 +38,7 @@ fn moving_mask(unit: usize, insn: &Insn) -> Option<(usize, Choice)>
     }
 }
 
-/// Chooses the sum of a number and a pointer in the pointer's register.
+/// Chooses the sum of a number and a pointer in the pointer's register, if the instruction adds two registers.
 fn exchanged(unit: usize, insn: &Insn) -> Option<(usize, Choice)>
     ensures wanted { result ≡ exchanged unit insn.now }
     ensures below { IfSome result (λ want. want.0 ≤ unit) }
@@ -55,7 +55,7 @@ fn exchanged(unit: usize, insn: &Insn) -> Option<(usize, Choice)>
     Some((unit, Choice::Exchanged(*dst, *src)))
 }
 
-/// Returns the register to which an instruction copies register `r`.
+/// Returns the register to which an instruction copies register `r`, if it does.
 fn copy_of(r: Reg, insn: &Insn) -> Option<Reg>
     ensures { result ≡ copy_of r insn.now }
 {
@@ -75,7 +75,7 @@ fn copy_of(r: Reg, insn: &Insn) -> Option<Reg>
     }
 }
 
-/// Checks whether a path leads from a unit on which nothing sets the subject.
+/// Checks whether a unit is open: a path leads from it to the rejected instruction on which the register is not set.
 fn is_open(marks: &[UnitMark], unit: usize) -> bool
     ensures { result ≡ is_open (slice_get marks.now unit) }
 {
@@ -85,8 +85,8 @@ fn is_open(marks: &[UnitMark], unit: usize) -> bool
     }
 }
 
-/// Returns the register to which the unit's instruction copies `r`, if a path leads from there on which nothing sets
-/// `r`.
+/// Returns the register to which the unit's instruction copies `r`. It must be a copy from which a path leads to the
+/// rejected instruction on which `r` is not set.
 fn copy_at(program: &Program, marks: &[UnitMark], r: Reg, unit: usize) -> Option<Reg>
     ensures { result ≡ copy_at program.now marks.now r unit }
 {
@@ -99,7 +99,8 @@ fn copy_at(program: &Program, marks: &[UnitMark], r: Reg, unit: usize) -> Option
     }
 }
 
-/// Returns the register of the last copy of `r` that a unit below `unit` makes.
+/// Returns the register of the last copy of `r` below `unit` from which a path leads to the rejected instruction on
+/// which `r` is not set.
 #[tactic(auto, using(crate::proofs::CopyLemmas::no_copy, crate::proofs::CopyLemmas::copy_so))]
 fn last_copy(program: &Program, marks: &[UnitMark], r: Reg, unit: usize) -> Option<Reg>
     ensures { result ≡ last_copy program.now marks.now r unit }
@@ -181,7 +182,7 @@ fn for_misfit(unit: usize, misfit: Misfit) -> Option<(usize, Choice)>
     }
 }
 
-/// Chooses a mask of the number that moves a pointer at a unit.
+/// Chooses masks of the number that moves a pointer at a unit, if it is in a register.
 fn moved_at(program: &Program, unit: usize) -> Option<(usize, Choice)>
     ensures wanted { result ≡ moved_at program.now unit }
     ensures below { IfSome result (λ want. want.0 ≤ unit) }
@@ -192,7 +193,7 @@ fn moved_at(program: &Program, unit: usize) -> Option<(usize, Choice)>
     moving_mask(unit, &insn)
 }
 
-/// Chooses the edits for an access by a pointer that leads too far: a mask of the number that moved the pointer last.
+/// Chooses the edits for an access by a pointer that leads too far: masks of the number that moved the pointer last.
 fn for_access(
     program: &Program,
     marks: &[UnitMark],

@@ -33,7 +33,8 @@ fn masks_of(r: Reg) -> [Edit; 6]
     ]
 }
 
-/// Returns a later edit with which the program is accepted. Returns this edit, which mends the fault, if there is none.
+/// Returns a later edit with which the program is accepted. If there is none, returns this edit, with which the
+/// verifier gets past the fault.
 fn accepted_or(edit: Edit, rest: Option<Help>) -> Option<Help>
     ensures { result ≡ accepted_or edit rest }
 {
@@ -43,7 +44,7 @@ fn accepted_or(edit: Edit, rest: Option<Help>) -> Option<Help>
     }
 }
 
-/// Returns the better of this edit and a later one, given how far the verifier gets with each.
+/// Chooses between this edit and the best of the later ones, given how far the verifier gets with this one.
 fn better(edit: Edit, trial: Trial, rest: Option<Help>) -> Option<Help>
     ensures { result ≡ better edit trial rest }
 {
@@ -54,8 +55,8 @@ fn better(edit: Edit, trial: Trial, rest: Option<Help>) -> Option<Help>
     }
 }
 
-/// Tries the edits, and returns the first with which the program is accepted. Returns the first that mends the fault if
-/// there is none.
+/// Tries the edits in order, and returns the first with which the program is accepted. If there is none, returns the
+/// first with which the verifier gets past the fault, if any.
 fn best(
     alloc: Global,
     program: &Program,
@@ -209,7 +210,8 @@ fn put_edit(out: &mut String, edit: &Edit) -> Result<(), AllocError>
     }
 }
 
-/// Returns the text that says how far the verifier gets with an edit.
+/// Returns the text that says how far the verifier gets with an edit. It is empty if the verifier does not get past the
+/// fault.
 fn trial_text(trial: Trial) -> &'static str
     ensures { result.now ≡ trial_text trial }
 {

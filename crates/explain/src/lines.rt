@@ -223,7 +223,8 @@ fn put_units(
     Ok(())
 }
 
-/// Returns the unit that a jump leads to. It may be outside the program.
+/// Returns the unit that a jump leads to, which may be outside the program. Returns `None` if the instruction is not a
+/// jump.
 fn target_of(unit: usize, insn: &Insn) -> Option<i64>
     requires { unit < 4096 }
     ensures { result ≡ target_of unit insn.now }

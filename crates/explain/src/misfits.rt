@@ -48,7 +48,7 @@ fn misfit_at(
     misfit_of(helper, r, argument, state.known(r))
 }
 
-/// Returns the sentence about a slot and a count that together may pass the end of the board.
+/// Returns the sentence about slot and count together. Returns `None` if either of them is not a number up to 64.
 fn past_board(slots: AbsVal, counts: AbsVal) -> Option<Sentence>
     ensures { result ≡ past_board slots counts }
 {
@@ -87,7 +87,7 @@ fn arguments_misfit(
     past_board(slots, state.known(numbered(3)))
 }
 
-/// Returns the sentence about the arguments of a call.
+/// Returns the sentence about the arguments of a call. Returns `None` if the instruction is not a call of a helper.
 pub(crate) fn call_misfit(insn: &Insn, state: &AbsState) -> Option<Sentence>
     ensures { result ≡ call_misfit insn.now state.now.registers }
 {
@@ -98,7 +98,7 @@ pub(crate) fn call_misfit(insn: &Insn, state: &AbsState) -> Option<Sentence>
     arguments_misfit(helper, state, helper::arguments(helper))
 }
 
-/// Returns the sentence about a call of a number that no helper has.
+/// Returns the sentence about a call of a number that no helper has. Returns `None` if the instruction is not a call.
 pub(crate) fn no_helper(insn: &Insn) -> Option<Sentence>
     ensures { result ≡ no_helper insn.now }
 {

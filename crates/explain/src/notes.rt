@@ -128,7 +128,7 @@ fn put_set(
     put_rule(out, asked, insn, &left)
 }
 
-/// Appends the note on an instruction from which nothing is known of the subject, if it is one.
+/// Appends the note that an instruction says nothing about the subject, if there is a reason why it does not.
 fn put_if(
     out: &mut String,
     written: &UnitTexts<'_>,
@@ -146,8 +146,7 @@ fn put_if(
     put_tells(out, tells)
 }
 
-/// Appends the note on an instruction on the path that tests or copies the subject without effect on what is known of
-/// it.
+/// Appends the note on an instruction that tests or copies the subject, if the verifier learns nothing about it there.
 fn put_passing(
     out: &mut String,
     written: &UnitTexts<'_>,
@@ -171,7 +170,7 @@ fn put_passing(
     }
 }
 
-/// Appends the note on an instruction by its mark.
+/// Appends the note on an instruction, if its mark says that it sets the subject or lets it pass.
 fn put_note(
     out: &mut String,
     written: &UnitTexts<'_>,
@@ -213,7 +212,7 @@ fn put_note_at(
     put_note(out, written, asked, unit, &insn, state, mark)
 }
 
-/// Appends what is known of the subject at the entry, if a path leads from there on which nothing sets it.
+/// Appends what is known of the subject at the entry, if a path leads from there on which it is not set.
 fn put_entry(
     out: &mut String,
     asked: &Subject,

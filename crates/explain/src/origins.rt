@@ -1,4 +1,4 @@
-//! Finds the register from which a number was computed that may be above or below 0.
+//! Finds the register from which a number was computed, where that register's number may be above or below 0.
 ghost use Rattle.std.specs.Prelude.{◌≡◌, ◌<◌, IfSome, option_map, slice_get};
 ghost use Rattle.insn.specs.Program.{instruction_at};
 ghost use Rattle.reaching.specs.Marks.{known_by};
@@ -81,7 +81,8 @@ pub(crate) fn last_set(marks: &[UnitMark], unit: usize) -> Option<usize>
     last_set(marks, unit - 1)
 }
 
-/// Returns the register from which an instruction computes its result, and the unit of the instruction.
+/// Returns the register from which the instruction of a unit computes its result, and the unit. Returns `None` if the
+/// number in that register is not one that may be above or below 0.
 fn origin_at(unit: usize, insn: Option<Insn>, state: Option<&AbsState>) -> Option<(Reg, usize)>
     ensures origin { result ≡ origin_at unit insn (option_map (λ a. a.now) state.entry) }
     ensures there { IfSome result (λ origin. origin.1 ≡ unit) }

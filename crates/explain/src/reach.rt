@@ -19,7 +19,8 @@ pub(crate) struct Reach {
     pub size: usize,
 }
 
-/// Returns the window of a call, from r2 on: `size` bytes for each of the greatest count.
+/// Returns the memory that a call accesses from r2 on: `size` bytes for each item of the greatest count. Returns `None`
+/// if the count is not a number up to 64.
 fn counted(size: Size, count: AbsVal) -> Option<Reach>
     ensures reach { result ≡ counted size count }
     ensures few { IfSome result (λ reach. reach.size ≤ 512) }
@@ -37,7 +38,8 @@ fn counted(size: Size, count: AbsVal) -> Option<Reach>
     })
 }
 
-/// Returns the memory that the helper with this number accesses, from what is known of its count.
+/// Returns the memory that the helper with this number accesses, from what is known of its count. Returns `None` if it
+/// accesses none.
 fn call_reach(number: i32, count: AbsVal) -> Option<Reach>
     ensures reach { result ≡ call_reach (helper_of number) count }
     ensures few { IfSome result (λ reach. reach.size ≤ 512) }
@@ -86,15 +88,15 @@ pub(crate) fn reach_of(insn: &Insn, state: &AbsState) -> Option<Reach>
     }
 }
 
-/// Returns the first offset that an access may touch.
+/// Returns the first offset that an access at `distance` from `offset` may touch.
 fn first_touched(offset: i32, distance: i16) -> i64
     ensures { result ≡ offset +ℤ distance }
 {
     i64::from(offset) + i64::from(distance)
 }
 
-/// Returns the last offset that an access of `size` bytes may touch. For no bytes, returns the offset where it would
-/// be.
+/// Returns the last offset that an access of `size` bytes at `distance` from `offset` may touch. For no bytes, returns
+/// the offset at which they would be.
 fn last_touched(offset: i32, distance: i16, size: usize) -> i64
     requires { size ≤ 512 }
     ensures { result ≡ (offset +ℤ distance) +ℤ pos (size - 1) }

@@ -27,7 +27,8 @@ fn is_all(width: Width, range: Range) -> bool
     range.lo == 0 && range.hi == limit(width, false)
 }
 
-/// Returns the rule for an instruction whose result is a number, by what is known of it.
+/// Returns the rule for an instruction whose result is a number, by what is known of the number. The text is empty if
+/// there is no such rule.
 fn number_rule(insn: &Insn, numbers: NumberSet) -> &'static str
     ensures { result.now ≡ number_rule insn.now numbers }
 {
@@ -53,7 +54,7 @@ fn number_rule(insn: &Insn, numbers: NumberSet) -> &'static str
     }
 }
 
-/// Returns the rule for an instruction that leaves a register unset.
+/// Returns the rule for an instruction that leaves a register unset. The text is empty if there is no such rule.
 fn unset_rule(insn: &Insn) -> &'static str
     ensures { result.now ≡ unset_rule insn.now }
 {
@@ -63,7 +64,8 @@ fn unset_rule(insn: &Insn) -> &'static str
     }
 }
 
-/// Returns the rule for an instruction that set a register, by what is known of its result.
+/// Returns the rule for an instruction that set a register, by what is known of its result. The text is empty if there
+/// is no such rule.
 pub(crate) fn rule_text(insn: &Insn, value: AbsVal) -> &'static str
     ensures { result.now ≡ rule_text insn.now value }
 {
@@ -125,9 +127,9 @@ fn is_past(width: Width, signed: bool, value: AbsVal) -> bool
 /// The reason for which an instruction says nothing about a register.
 #[derive(Clone, Copy)]
 pub(crate) enum Passing {
-    /// The instruction is a test, which says something only about numbers that are known to be below 2 to this power.
+    /// The instruction is a test. It says something only about numbers that are known to be below 2 to this power.
     Test(u8),
-    /// The instruction is a copy to this register, whose tests say nothing about the original.
+    /// The instruction is a copy to this register. A test of the copy says nothing about the original.
     Copied(Reg),
 }
 
@@ -164,8 +166,8 @@ fn is_operand(r: Reg, operand: Operand) -> bool
     }
 }
 
-/// Returns why an instruction says nothing about register `r`: it tests the register past its limit, or copies it, so
-/// that tests of the copy do not count.
+/// Returns why an instruction says nothing about register `r`, if it does not. Either it tests `r`, which may be past
+/// the limit of the test, or it copies `r`, and a test of the copy says nothing about `r`.
 pub(crate) fn passed_by(r: Reg, insn: &Insn, value: AbsVal) -> Option<Passing>
     ensures { result ≡ passed_by r insn.now value }
 {

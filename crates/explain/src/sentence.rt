@@ -15,7 +15,7 @@ pub enum Sentence {
     Call(Misfit),
 }
 
-/// A fault of a program's structure. The first number is the unit that a jump leads to.
+/// A fault of a program's structure. The first number, if there is one, is the unit that a jump leads to.
 #[derive(Clone, Copy)]
 pub enum Structure {
     /// The jump leads to its own unit or an earlier one.
@@ -51,7 +51,7 @@ pub enum RegisterMisuse {
     Exit(AbsVal),
 }
 
-/// A misuse of memory through a register, with the offsets that may be touched or what is known of the register.
+/// A misuse of memory through a register. It has the offsets that may be touched, or what is known of the register.
 #[derive(Clone, Copy)]
 pub enum AccessMisuse {
     /// The access may touch bytes outside the region.
@@ -71,6 +71,6 @@ pub enum Misfit {
     Above(Helper, Reg, AbsVal, u64),
     /// The helper accepts a pointer in the register.
     NoPointer(Helper, Reg, AbsVal),
-    /// Slot and count together may be this number, which is past the end of the board.
+    /// The sum of slot and count may be as great as this number, and the board has 64 words.
     Board(u64),
 }

@@ -6,7 +6,7 @@ use asm::{put, put_instruction, put_unsigned};
 use insn::Insn;
 use std::alloc::AllocError;
 
-/// How the units of a program are written in its source text. A text that is missing or empty is not known.
+/// How the units of a program are written in its source text. A text is not known if it is missing or empty.
 #[derive(Clone, Copy)]
 pub struct UnitTexts<'a> {
     /// The place of each unit, such as `line 7`.
