@@ -9,9 +9,13 @@ use semantics::Region;
 /// Why a program is rejected: the register or cell at fault, what was known of it, and what is missing.
 #[derive(Clone, Copy)]
 pub enum Sentence {
+    /// The program's structure is at fault: a jump, or the last instruction.
     Structure(Structure),
+    /// A register is misused.
     Register(RegisterMisuse),
+    /// Memory is misused.
     Memory(AccessMisuse),
+    /// A call does not fit its helper.
     Call(Misfit),
 }
 

@@ -56,7 +56,8 @@ fn word_in(
     }
 }
 
-/// Stores `words`, 8 bytes each, at the pointer `base`. Stores nothing if they do not fit into the stack there.
+/// Stores `words`, 8 bytes each, at the pointer `base`. Stores nothing if `base` is not a pointer into the stack, or
+/// the words do not fit there.
 pub fn store_words(stack: &mut Stack, base: Value, words: &[u64])
     requires { length words.now ≤ 64 }
     ensures { stack.new ≡ with_words stack.old base words.now }
