@@ -1,4 +1,4 @@
--- What holds of every board. Each statement is the contract of a function of this crate.
+-- Laws of every board. Each statement is the contract of a function of this crate.
 use Rattle.std.specs.Prelude.{ℕ, ◌≡◌, true, List}
 use Rattle.insn.specs.declared.insn.Insn.{Insn}
 use Rattle.semantics.specs.Relay.{Relay}
@@ -8,7 +8,7 @@ use Rattle.semantics.specs.Call.{fits}
 use Rattle.semantics.specs.Execution.{step}
 use Rattle.board.specs.Board.{IsBoard, reply, next}
 
--- whatever a program asks, the board's answer fits, and a board is left
+-- The board's reply to any request of a program fits the request. The words after it are again a board.
 pub record BoardsServe : Type 0 where
   pub answers : (words : List ℕ) (program : List Insn) (context : List ℕ) (relay : Relay) (s asked : State)
       (request : Request) → IsBoard words →

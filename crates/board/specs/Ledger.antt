@@ -1,13 +1,14 @@
--- A board with its ledger.
+-- A board together with its ledger.
 use Rattle.std.specs.Prelude.{ℕ, ◌≡◌, List}
 use Rattle.board.specs.Board.{IsBoard, Access, IsLegal, words_after}
 
+-- a board: its opening words, its words now, and the ledger of all accesses so far
 pub record RecordedBoard : Type 0 where
   pub opening : List ℕ
   pub words : List ℕ
   pub ledger : List Access
 
--- the ledger is legal from the opening words on, and leaves the words
+-- The ledger is legal from the opening words on. The words now are those that it leaves.
 pub record IsRecorded (opening words : List ℕ) (ledger : List Access) : Type 0 where
   pub begun : IsBoard opening
   pub whole : IsBoard words

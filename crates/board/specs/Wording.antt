@@ -1,11 +1,12 @@
--- What is asked of the board, in words: all that tells of a request by its kind stands here (own).
+-- The words that describe a request to the board: everything that depends on the kind of request is in this file (own).
 use Rattle.std.specs.Prelude.{ℕ, Bool, true, false, if◌then◌else◌, List, [], ◌∷◌, ◌++◌, codes, drop, flat_map, map, slice_index_or}
 use Rattle.semantics.specs.declared.request.Request.{Request}
 use Rattle.semantics.specs.declared.request.Request.TheVariants.{Get, Swap, Add, Cas, Copy}
 use Rattle.board.specs.declared.wording.Wording.{Wording}
 
--- how requests of a kind are told: the word, the shape of an access's line, each of its words with a name, a sentence
--- in pieces, and whether as many words answer as the last number tells, or one word does
+-- How requests of one kind are described: the request's word, the shape of an access's line, the words of that line
+-- with their names, and a sentence in pieces. `copies` says whether the answer has as many words as the request's last
+-- number says, or else one word.
 pub record Row : Type 0 where
   pub word : List ℕ
   pub shape : List ℕ
@@ -13,6 +14,7 @@ pub record Row : Type 0 where
   pub sentence : List (List ℕ × ℕ)
   pub copies : Bool
 
+-- the row that an entry of the code's table means
 abbrev pub row_of : Wording → Row
 row_of w = record {
   word = w.word.now;
@@ -22,19 +24,21 @@ row_of w = record {
   copies = w.copies;
 }
 
--- the line of an access, in which N stands for a number: to its end where one word answers, else to the number that
--- tells how many do
+-- The line of an access, with N for each number. The line is complete if one word is the answer. Otherwise it ends
+-- before the number that says how many words the answer has.
 abbrev pub shape_by : List ℕ → List (List ℕ) → Bool → List ℕ
 shape_by word names true = codes "access N " ++ word ++ flat_map (λ _. codes " N") (drop 1 names)
 shape_by word names false = codes "access N " ++ word ++ flat_map (λ _. codes " N") names ++ codes " = N"
 
--- its words, each with a name, or a dash where it is not told; a star stands for the words that answer
+-- the words of the line with their names, or a dash for a word that is not reported; a star means the words of the
+-- answer
 abbrev pub parts_by : List ℕ → List (List ℕ) → List (List ℕ × List ℕ)
 parts_by word names =
     (codes "access", codes "-") ∷ (codes "N", codes "general") ∷ (word, codes "request")
     ∷ map (λ name. (codes "N", name)) names ++ (codes "=", codes "-") ∷ (codes "*", codes "answer") ∷ []
 
--- the row of a word, the names of its numbers, and a sentence; behind each piece of it stands the number of this place
+-- a row from the request's word, the names of its numbers and a sentence; each piece is followed by the number with its
+-- index
 abbrev pub row : List ℕ → List (List ℕ) → List (List ℕ × ℕ) → Bool → Row
 row word names sentence copies = record {
   word = word;
@@ -44,6 +48,7 @@ row word names sentence copies = record {
   copies = copies;
 }
 
+-- the table: one row for each kind of request
 abbrev pub rows : List Row
 rows =
     row (codes "get") (codes "slot" ∷ []) ((codes "reads word ", 0) ∷ []) false
@@ -56,11 +61,11 @@ rows =
     ((codes "copies ", 1) ∷ (codes " words from word ", 0) ∷ []) true
     ∷ []
 
--- a row that tells nothing
+-- the row for a kind of request that does not exist: it describes nothing
 abbrev pub no_row : Row
 no_row = row [] [] [] false
 
--- the place of a request's row, and its numbers
+-- the index of a request's row in the table, and the request's numbers
 abbrev pub asked : Request → ℕ × List ℕ
 asked (Get slot) = (0, slot ∷ [])
 asked (Swap slot value) = (1, slot ∷ value ∷ [])
@@ -68,15 +73,18 @@ asked (Add slot value) = (2, slot ∷ value ∷ [])
 asked (Cas slot expected new) = (3, slot ∷ expected ∷ new ∷ [])
 asked (Copy span) = (4, span.0 ∷ span.1 ∷ [])
 
+-- the row of a request
 abbrev pub row_asked : Request → Row
 row_asked request = slice_index_or rows (asked request).0 no_row
 
+-- the numbers of a request
 abbrev pub numbers_asked : Request → List ℕ
 numbers_asked request = (asked request).1
 
--- the words of the board that it asks for: the first one's number, and how many
+-- the words of the board that a request names: the index of the first, and how many
 abbrev pub span_by : Bool → List ℕ → ℕ × ℕ
 span_by copies numbers = (slice_index_or numbers 0 0, if copies then slice_index_or numbers 1 0 else 1)
 
+-- the words of the board that this request names: the index of the first, and how many
 abbrev pub span_asked : Request → ℕ × ℕ
 span_asked request = span_by (row_asked request).copies (numbers_asked request)

@@ -1,3 +1,4 @@
+//! An access to the board: who made which request in which round, and the board's reply.
 ghost use Rattle.std.specs.Prelude.{◌≡◌, ◌↔◌, IfOk, IsTrue};
 ghost use Rattle.semantics.specs.Replies.{words_in};
 ghost use Rattle.board.specs.Requests.{IsReplyTo};
@@ -7,17 +8,17 @@ use semantics::{Copied, Reply, Request};
 use std::alloc::{AllocError, Global};
 use std::marker::Model;
 
-/// One access: who asked what in which round, and what the board answered. The reply has the form that the request
-/// fixes.
+/// One access to the board: the general, the round, his request, and the board's reply. The reply has the form that the
+/// request asks for.
 #[derive(Drop)]
 pub struct Access {
     /// The general's number.
     pub general: u32,
-    /// The round, from 1.
+    /// The round, counted from 1.
     pub round: u32,
-    /// What he asked.
+    /// The general's request.
     pub request: Request,
-    /// What the board answered: the words of a copy, as many as were asked for, else one word.
+    /// The board's reply: as many words as were requested for a copy, else one word.
     pub reply: Reply,
 }
 
@@ -39,7 +40,7 @@ impl Model for Access {
 }
 
 impl Access {
-    /// What the board answered.
+    /// Returns the board's reply.
     pub fn reply(&self) -> &Reply
         ensures words { words_in result.now ≡ self.now.reply }
         ensures form { IsReplyTo self.now.request result.now }
@@ -47,11 +48,11 @@ impl Access {
         &self.reply
     }
 
-    /// The same access.
+    /// Returns a copy of the access.
     ///
     /// # Errors
     ///
-    /// `AllocError` where the memory for the words of a copy is refused.
+    /// Returns `AllocError` if the memory for the words of a copy request cannot be allocated.
     pub fn copy(&self, alloc: Global) -> Result<Access, AllocError>
         ensures { IfOk result (λ access. access ≡ self.now) }
     {
@@ -63,7 +64,7 @@ impl Access {
         })
     }
 
-    /// Whether it is the same access.
+    /// Checks whether two accesses are equal.
     pub fn same(&self, other: &Access) -> bool
         ensures { IsTrue result ↔ (self.now ≡ other.now) }
     {
@@ -74,7 +75,7 @@ impl Access {
     }
 }
 
-/// The same reply.
+/// Returns a copy of a reply. Fails with `AllocError` if memory runs out.
 fn copied(alloc: Global, reply: &Reply) -> Result<Reply, AllocError>
     ensures { IfOk result (λ copy. copy ≡ reply.now) }
 {

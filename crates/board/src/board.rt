@@ -1,3 +1,4 @@
+//! The board that traitors share, and how it serves a request.
 ghost use Rattle.std.specs.Prelude.{◌≡◌, ◌++◌, ◌∷◌, [], true, List, IfOk, OnOk, OnErr};
 ghost use Rattle.semantics.specs.Call.{fits};
 ghost use Rattle.semantics.specs.Replies.{words_in};
@@ -31,7 +32,7 @@ impl Model for Board {
 }
 
 impl Board {
-    /// A board that opens with these words, and no access yet.
+    /// Creates a board that opens with these words and has had no access.
     pub fn new(alloc: Global, words: [u64; 64]) -> Board
         ensures opening { result.opening ≡ words }
         ensures words { result.words ≡ words }
@@ -46,7 +47,8 @@ impl Board {
         }
     }
 
-    /// Serves a general's request of a round, and enters it.
+    /// Serves a general's request in a round, and appends the access to the ledger. Fails with `AllocError` if memory
+    /// runs out, and then leaves the board as it was.
     pub fn apply(&mut self, general: u32, round: u32, request: Request) -> Result<Reply, AllocError>
         ensures answer { IfOk result (λ r. words_in r ≡ reply self.old.words request) }
         ensures fits { IfOk result (λ r. fits request (words_in r) ≡ true) }
@@ -76,7 +78,7 @@ impl Board {
         Ok(reply)
     }
 
-    /// The accesses so far, in their order.
+    /// Returns the accesses so far, in the order in which they were served.
     pub fn ledger(&self) -> &[Access]
         ensures same { result.now ≡ self.now.ledger }
         ensures legal { IsLegal self.now.opening self.now.ledger }
@@ -84,14 +86,14 @@ impl Board {
         self.ledger.as_slice()
     }
 
-    /// The words that it opened with.
+    /// Returns the words with which the board opened.
     pub fn opening(&self) -> &[u64; 64]
         ensures { result.now ≡ self.now.opening }
     {
         &self.opening
     }
 
-    /// Its words.
+    /// Returns the board's words now.
     pub fn words(&self) -> &[u64; 64]
         ensures same { result.now ≡ self.now.words }
         ensures left { self.now.words ≡ words_after self.now.opening self.now.ledger }
@@ -100,7 +102,7 @@ impl Board {
         words
     }
 
-    /// The accesses, in their order.
+    /// Consumes the board and returns its accesses, in the order in which they were served.
     pub fn into_ledger(self) -> Vec<Access>
         ensures same { result.items ≡ self.ledger }
         ensures legal { IsLegal self.opening self.ledger }

@@ -1,10 +1,10 @@
-//! Whether replies are the same.
+//! Compares replies of the board.
 ghost use Rattle.std.specs.Prelude.{◌≡◌, ◌↔◌, IsTrue};
 ghost use Rattle.semantics.specs.Replies.{words_in};
 
 use semantics::Reply;
 
-/// Whether the replies have the same words.
+/// Checks whether two replies have the same words.
 pub(crate) fn same_reply(reply: &Reply, other: &Reply) -> bool
     ensures { IsTrue result ↔ (words_in reply.now ≡ words_in other.now) }
 {

@@ -1,7 +1,8 @@
-//! Laws of the board: each function does nothing, and its contract is the law.
+//! Laws of the board. Each function does nothing, and its contract is the law.
 ghost use Rattle.board.specs.Laws.{BoardsServe};
 
-/// To whatever a program asks of it a board gives an answer that fits, and it stays a board.
+/// Does nothing. Its contract says that a board answers any request of a program with a reply that fits, and stays a
+/// board.
 pub fn boards_serve()
     ensures { BoardsServe }
 {}

@@ -1,28 +1,28 @@
-//! The table of requests, and what one tells by it.
+//! The table that describes each kind of request in words, and the parts of a request for it.
 ghost use Rattle.std.specs.Prelude.{◌≡◌, ◌+◌, ◌≤◌, map, take};
 ghost use Rattle.semantics.specs.Call.{words_of};
 ghost use Rattle.board.specs.Wording.{numbers_asked, row_asked, row_of, rows, span_asked};
 
 use semantics::Request;
 
-/// How requests of a kind are told.
+/// How requests of one kind are described in chronicles, answers and sentences.
 #[derive(Clone, Copy)]
 pub struct Wording {
-    /// The word that a chronicle has for it.
+    /// The request's word in a chronicle.
     pub word: &'static str,
-    /// The line of an access, in which `N` stands for a number: to its end where one word answers, else up to the
-    /// number that tells how many do.
+    /// The line of an access, with `N` for each number. The line is complete if one word is the answer. Otherwise it
+    /// ends before the number that says how many words the answer has.
     pub shape: &'static str,
-    /// The words of that line, and what each is called, or a dash where it is not told: `N` stands for a number, `*`
-    /// for all words that answer, any other for itself.
+    /// The words of that line with their names, or a dash for a word that is not reported. `N` means a number, `*`
+    /// means all words of the answer, and any other word means itself.
     pub parts: &'static [(&'static str, &'static str)],
-    /// A sentence in pieces, behind each the number of this place.
+    /// A sentence in pieces. Each piece is followed by the request's number with this index.
     pub sentence: &'static [(&'static str, usize)],
-    /// Whether as many words answer as its last number tells; else one word does.
+    /// Whether the answer has as many words as the request's last number says. If not, it has one word.
     pub copies: bool,
 }
 
-/// A row for each kind of request, in their order.
+/// One entry for each kind of request, in the order of the kinds.
 const WORDINGS: &[Wording] = &[
     Wording {
         word: "get",
@@ -101,14 +101,14 @@ const WORDINGS: &[Wording] = &[
     },
 ];
 
-/// The table.
+/// Returns the table: one entry for each kind of request.
 pub fn wordings() -> &'static [Wording]
     ensures { map row_of result.now ≡ rows }
 {
     WORDINGS
 }
 
-/// How a request is told.
+/// Returns the table's entry for a request.
 pub fn worded(request: &Request) -> &'static Wording
     ensures { row_of result.now ≡ row_asked request.now }
 {
@@ -121,7 +121,7 @@ pub fn worded(request: &Request) -> &'static Wording
     }
 }
 
-/// Its numbers, and how many they are.
+/// Returns the request's numbers, at most 3, and how many there are.
 pub fn numbers(request: &Request) -> ([u64; 3], usize)
     ensures are { take result.1 result.0 ≡ numbers_asked request.now }
     ensures few { result.1 ≤ 3 }
@@ -139,7 +139,8 @@ pub fn numbers(request: &Request) -> ([u64; 3], usize)
     }
 }
 
-/// The words of the board that it asks for: the first one's number, and how many, which is how many answer.
+/// Returns the words of the board that a request names: the index of the first, and how many. The answer has as many
+/// words as the request names.
 pub fn span(request: &Request) -> (usize, usize)
     ensures are { result ≡ span_asked request.now }
     ensures there { result.0 + result.1 ≤ 64 }

@@ -1,5 +1,5 @@
--- The explanation of a program: what is known at each unit to which the verifier comes, and why it is refused, if so
--- (own).
+-- The explanation of a program: what is known at each unit that the verifier reaches and, if the program is rejected,
+-- why (own).
 use Rattle.std.specs.Prelude.{ℕ, ℤ, pos, ◌+◌, ◌+ℤ◌, ◌==◌, nat_lt, Bool, false, if◌then◌else◌, List, [], ◌∷◌, ◌++◌, Option, Some, None, option_map, option_and_then, codes, length}
 use Rattle.insn.specs.declared.insn.Insn.{Insn}
 use Rattle.insn.specs.declared.insn.Insn.TheVariants.{Jump, LongJump, Branch}
@@ -32,51 +32,56 @@ use Rattle.reaching.specs.Marks.{KnownByUnit, known_by, marks}
 
 -- ---- what is known at a unit
 
--- behind each register that is read what is known of it
+-- a register that an instruction reads, and what is known of it
 abbrev pub read_text : List AbsVal → Option ℕ → List ℕ
 read_text registers None = []
 read_text registers (Some r) = codes " ; " ++ named_text r (known_at registers r)
 
+-- the registers that an instruction reads, and what is known of each
 abbrev pub reads_text : List AbsVal → List (Option ℕ) → List ℕ
 reads_text registers (first ∷ second ∷ third ∷ []) =
     read_text registers first ++ read_text registers second ++ read_text registers third
 reads_text registers _ = []
 
--- in a program of which this is known by unit
+-- what is known at a unit, given what `survey` knows at each unit of the program
 abbrev pub known_text : List Insn → KnownByUnit → ℕ → Insn → Option AbsState → List ℕ
 known_text program survey unit i None = codes " ; no way leads here"
 known_text program survey unit i (Some a) =
     reads_text a.registers (read_by i) ++ cells_read (holding program survey unit a.stack) i a.registers
 
--- each line behind the end of the one before
+-- a unit and its instruction, on a new line
 abbrev pub place_text : Writing → ℕ → Insn → List ℕ
 place_text written unit i = codes "\n" ++ insn_at written unit i
 
+-- the line of a unit: its instruction, and what is known of what it reads
 abbrev pub unit_line : Writing → List Insn → KnownByUnit → ℕ → Insn → Option AbsState → List ℕ
 unit_line written program survey unit i known = place_text written unit i ++ known_text program survey unit i known
 
--- what the register that takes the result is known to be behind the instruction
+-- the register that an instruction sets, and what is known of it after the instruction
 abbrev pub result_text : Option ℕ → AbsState → List ℕ
 result_text None a = []
 result_text (Some r) a = codes " -> " ++ named_text r (known_at a.registers r)
 
+-- the result of an instruction, if a path leads to it
 abbrev pub given_text : Insn → Option AbsState → List ℕ
 given_text i None = []
 given_text i (Some a) = result_text (result_of i) (left i a)
 
+-- the fault is at this unit
 abbrev pub is_at : Option VerifyError → ℕ → Bool
 is_at (Some (At r place)) unit = place == unit
 is_at _ unit = false
 
--- but where the fault stands
+-- the result of an instruction; nothing at the unit of the fault
 abbrev pub behind_text : Option VerifyError → ℕ → Insn → Option AbsState → List ℕ
 behind_text fault unit i known = if is_at fault unit then [] else given_text i known
 
+-- the line of a unit, with the result of its instruction
 abbrev pub whole_line : Writing → List Insn → KnownByUnit → Option VerifyError → ℕ → Insn → Option AbsState → List ℕ
 whole_line written program survey fault unit i known =
     unit_line written program survey unit i known ++ behind_text fault unit i known
 
--- of an instruction to which the verifier comes
+-- the line of a unit, if the verifier reaches the unit
 abbrev pub line_if : Writing → List Insn → KnownByUnit → Option VerifyError → ℕ → Insn → Option (Option AbsState) →
     List ℕ
 line_if written program survey fault unit i None = []
@@ -89,15 +94,16 @@ known_lines written program survey fault unit (i ∷ is) =
     line_if written program survey fault unit i (survey unit)
     ++ known_lines written program survey fault (unit + units_of i) is
 
--- ---- why it is refused
+-- ---- why the program is rejected
 
+-- the unit that a jump leads to
 abbrev pub target_of : ℕ → Insn → Option ℤ
 target_of unit (Jump distance) = Some (pos (unit + 1) +ℤ distance)
 target_of unit (LongJump distance) = Some (pos (unit + 1) +ℤ distance)
 target_of unit (Branch w condition dst operand distance) = Some (pos (unit + 1) +ℤ distance)
 target_of unit i = None
 
--- of an instruction in a program of so many units, with what is known there
+-- the sentence that says why an instruction is rejected, in a program of `units` units, from what is known at the unit
 abbrev pub sentence_of : ℕ → Reason → ℕ → Insn → Option AbsState → Option Sentence
 sentence_of units reason.BackJump unit i known =
     option_map (λ to. sentence.Structure (structure.Back to)) (target_of unit i)
@@ -112,8 +118,8 @@ sentence_of units r unit i known = option_and_then (λ a. shortfall r i a) known
 abbrev pub sentence_line : Writing → ℕ → Insn → Sentence → List ℕ
 sentence_line written unit i s = place_text written unit i ++ codes ": " ++ sentence_text s
 
--- where what it is about comes from, and an edit that mends it; of a sum in the number's register also where the number
--- does
+-- Where the subject of the sentence gets its value, and an edit that mends the fault. If a sum is computed in the
+-- register of the number, this includes where the number comes from.
 abbrev pub about_text : Writing → KnownByUnit → List Insn → ℕ → Insn → Sentence → Option Subject → List ℕ
 about_text written survey program unit i s None = []
 about_text written survey program unit i s (Some asked) =
@@ -121,35 +127,39 @@ about_text written survey program unit i s (Some asked) =
     ++ number_notes written program survey unit (other_number i (known_by (survey unit)) s)
     ++ help_on program unit (wanted program (marks program survey asked unit) unit i s)
 
+-- the line with the sentence, and the notes and the help about it
 abbrev pub told_text : Writing → KnownByUnit → List Insn → ℕ → Insn → Option Sentence → List ℕ
 told_text written survey program unit i None = []
 told_text written survey program unit i (Some s) =
     sentence_line written unit i s ++ about_text written survey program unit i s (subject_of s)
 
+-- why the instruction at a unit is rejected
 abbrev pub refused_at : Writing → KnownByUnit → List Insn → Reason → ℕ → Option Insn → List ℕ
 refused_at written survey program r unit None = []
 refused_at written survey program r unit (Some i) =
     told_text written survey program unit i (sentence_of (length (slots_of program)) r unit i (known_by (survey unit)))
 
+-- why a program is rejected, if it is
 abbrev pub refused_text : Writing → KnownByUnit → List Insn → Option VerifyError → List ℕ
 refused_text written survey program (Some (At r unit)) =
     refused_at written survey program r unit (instruction_at program unit)
 refused_text written survey program _ = []
 
--- the lines of the units, and those of the refusal
+-- the lines of the units, and then those that say why the program is rejected
 abbrev pub lines_by : Writing → KnownByUnit → List Insn → Option VerifyError → List ℕ
 lines_by written survey program fault =
     known_lines written program survey fault 0 program ++ refused_text written survey program fault
 
--- ---- of a program
+-- ---- the explanation of a whole program
 
--- what the verifier knows before each of its units; there is none behind its end
+-- what the verifier knows before each unit of the program; nothing for units after its end
 abbrev pub known_in : List Insn → KnownByUnit
 known_in program unit = if nat_lt unit (length (slots_of program)) then known_before program unit else None
 
--- with the written of its units
+-- the explanation, where `written` says how each unit is written
 abbrev pub explained_at : Writing → List Insn → List ℕ
 explained_at written program = lines_by written (known_in program) program (judged program)
 
+-- the explanation, where it is not known how the units are written
 abbrev pub explained : List Insn → List ℕ
 explained program = explained_at (in_lists [] []) program

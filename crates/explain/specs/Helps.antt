@@ -1,5 +1,5 @@
--- Edits that mend a refusal, each said only where the verifier comes past the refused instruction in the program with
--- the edit (own).
+-- Edits that mend a fault. An edit is printed only if the verifier gets past the rejected instruction in the edited
+-- program (own).
 use Rattle.std.specs.Prelude.{ℕ, ℤ, zero, suc, pos, ◌+◌, ◌==◌, if◌then◌else◌, List, [], ◌∷◌, ◌++◌, Option, Some, None, option_and_then, codes, decimal, map, slice_get}
 use Rattle.word.specs.declared.Width.TheVariants.{W64}
 use Rattle.word.specs.declared.Operation.TheVariants.{Add, And, Move}
@@ -29,47 +29,51 @@ use Rattle.explain.specs.Origins.{last_set}
 use Rattle.explain.specs.declared.edit_choices.Choice.{Choice}
 use Rattle.explain.specs.declared.edit_choices.Choice.TheVariants.{Mask, One, Either, Exchanged}
 
--- ---- what is to be tried for a sentence, and before which unit
+-- ---- which edits are tried for a sentence, and at which unit
 
+-- a mask of register `r` before a unit
 abbrev pub mask_at : ℕ → ℕ → Option (ℕ × Choice)
 mask_at unit r = Some (unit, Mask r)
 
--- the number that moves a pointer
+-- a mask of the number that moves a pointer
 abbrev pub moving_mask : ℕ → Insn → Option (ℕ × Choice)
 moving_mask unit (Arithmetic w operation dst (Register src)) = mask_at unit src
 moving_mask unit i = None
 
--- a pointer is moved in its own register
+-- the sum of a number and a pointer, computed in the pointer's register instead of the number's
 abbrev pub exchanged : ℕ → Insn → Option (ℕ × Choice)
 exchanged unit (Arithmetic W64 Add dst (Register src)) = Some (unit, Exchanged dst src)
 exchanged unit i = None
 
--- the register to which an instruction copies this one
+-- the register to which an instruction copies register `r`
 abbrev pub copy_of : ℕ → Insn → Option ℕ
 copy_of r (Arithmetic W64 Move dst (Register src)) = if src == r then Some dst else None
 copy_of r i = None
 
--- the copy that the instruction of a unit makes, if a way leads from there on which nothing sets the register
+-- the copy of `r` that the instruction of a unit makes, if a path leads from there to the rejected one on which `r` is
+-- not set
 abbrev pub copy_at : List Insn → List UnitMark → ℕ → ℕ → Option ℕ
 copy_at program marks r unit =
     if is_open (slice_get marks unit) then option_and_then (copy_of r) (instruction_at program unit) else None
 
+-- the first option, if it has a copy, else the second
 abbrev pub or_else : Option ℕ → Option ℕ → Option ℕ
 or_else (Some copy) other = Some copy
 or_else None other = other
 
--- the last such copy that the units below one make
+-- the last copy of `r` below unit `n` from which a path leads to the rejected instruction on which `r` is not set
 unfoldable pub last_copy : List Insn → List UnitMark → ℕ → ℕ → Option ℕ
 last_copy program marks r zero = None
 last_copy program marks r (suc n) = or_else (copy_at program marks r n) (last_copy program marks r n)
 
--- a sum or difference of a pointer and a number: with the copy in the number's place, as that may be what was tested;
--- else a mask
+-- For a sum or difference of a pointer and a number: the copy in place of the number, as the program may have tested
+-- the copy, or else a mask of the number. Without a copy, only the mask.
 abbrev pub by_copy : ℕ → Insn → ℕ → Option ℕ → Option (ℕ × Choice)
 by_copy unit (Arithmetic w operation dst operand) r (Some copy) =
     Some (unit, Either (Instead operation dst (Register copy)) r)
 by_copy unit i r copy = mask_at unit r
 
+-- the edits for a misuse of a register
 abbrev pub for_misuse : List Insn → List UnitMark → ℕ → Insn → RegisterMisuse → Option (ℕ × Choice)
 for_misuse program marks unit i (misuse.EitherSign r value) = by_copy unit i r (last_copy program marks r unit)
 for_misuse program marks unit i (misuse.Far r region span) = moving_mask unit i
@@ -77,22 +81,26 @@ for_misuse program marks unit i (misuse.Computed r value) = exchanged unit i
 for_misuse program marks unit i (misuse.Exit value) = Some (unit, One (Before Move 0 (Immediate (pos 0))))
 for_misuse program marks unit i m = None
 
+-- the edit for an argument that may be too large: a mask, if it is a number
 abbrev pub for_argument : ℕ → ℕ → AbsVal → Option (ℕ × Choice)
 for_argument unit r (Number n) = mask_at unit r
 for_argument unit r value = None
 
+-- the edits for a call
 abbrev pub for_misfit : ℕ → Misfit → Option (ℕ × Choice)
 for_misfit unit (misfit.Above called r value most) = for_argument unit r value
 for_misfit unit m = None
 
+-- a mask of the number that moves a pointer at a unit
 abbrev pub moved_at : List Insn → ℕ → Option (ℕ × Choice)
 moved_at program unit = option_and_then (moving_mask unit) (instruction_at program unit)
 
--- a pointer leads too far: the number that moved it last
+-- the edit for an access by a pointer that leads too far: a mask of the number that moved the pointer last
 abbrev pub for_access : List Insn → List UnitMark → ℕ → AccessMisuse → Option (ℕ × Choice)
 for_access program marks unit (access.Outside r region span) = option_and_then (moved_at program) (last_set marks unit)
 for_access program marks unit a = None
 
+-- the edits to try for a sentence, and the unit at which they are made
 abbrev pub wanted : List Insn → List UnitMark → ℕ → Insn → Sentence → Option (ℕ × Choice)
 wanted program marks unit i (sentence.Structure s) = None
 wanted program marks unit i (sentence.Register m) = for_misuse program marks unit i m
@@ -105,13 +113,15 @@ wanted program marks unit i (sentence.Call m) = for_misfit unit m
 abbrev pub masks : List ℕ
 masks = 63 ∷ 31 ∷ 15 ∷ 7 ∷ 3 ∷ 1 ∷ []
 
+-- the edits that mask register `r`
 abbrev pub masks_of : ℕ → List Edit
 masks_of r = map (λ m. Before And r (Immediate (pos m))) masks
 
+-- the edits that mask a number, and compute its sum with a pointer in the pointer's register
 abbrev pub moves_of : ℕ → ℕ → List Edit
 moves_of number pointer = map (λ m. Moved (Some (pos m)) number pointer) masks
 
--- what is tried, in this order
+-- the edits of a choice, in the order in which they are tried
 abbrev pub edits_of : Choice → List Edit
 edits_of (Mask r) = masks_of r
 edits_of (One edit) = edit ∷ []
@@ -119,20 +129,24 @@ edits_of (Either edit r) = edit ∷ masks_of r
 edits_of (Exchanged number pointer) =
     Instead Add pointer (Register number) ∷ Moved None number pointer ∷ moves_of number pointer
 
+-- an edit, and how far the verifier gets with it
 abbrev pub Help : Type 0
 Help = Edit × Trial
 
+-- a later edit with which the program is accepted, else this edit, with which the verifier gets past the fault
 abbrev pub accepted_or : Edit → Option Help → Option Help
 accepted_or edit (Some (other, Accepted)) = Some (other, Accepted)
 accepted_or edit rest = Some (edit, Passes)
 
--- the first edit with which the program is accepted, else the first that mends this refusal
+-- of this edit and the best of the later ones: the first with which the program is accepted, else the first with which
+-- the verifier gets past the fault
 abbrev pub better : Edit → Trial → Option Help → Option Help
 better edit Accepted rest = Some (edit, Accepted)
 better edit Passes rest = accepted_or edit rest
 better edit Refused rest = rest
 
--- whether the verifier comes past the refused instruction, which stands so many units further then
+-- The first edit with which the program is accepted, else the first with which the verifier gets past the rejected
+-- instruction. The edit may move that instruction to a later unit.
 abbrev pub best : List Insn → ℕ → ℕ → List Edit → Option Help
 best program place unit [] = None
 best program place unit (edit ∷ edits) =
@@ -140,32 +154,39 @@ best program place unit (edit ∷ edits) =
 
 -- ---- text
 
+-- an instruction in backquotes
 unfoldable pub quoted : Insn → List ℕ
 quoted i = codes "`" ++ insn_text i ++ codes "`"
 
+-- the instruction that masks a number, if there is a mask
 abbrev pub mask_text : Option ℤ → ℕ → List ℕ
 mask_text None number = []
 mask_text (Some mask) number = quoted (wide And number (Immediate mask)) ++ codes ", "
 
+-- the instructions that add a number to a pointer, and copy the sum to the number's register
 unfoldable pub sum_text : ℕ → ℕ → List ℕ
 sum_text number pointer =
     quoted (wide Add pointer (Register number)) ++ codes " and " ++ quoted (wide Move number (Register pointer))
 
+-- an edit, up to the unit at which it is made
 abbrev pub edit_text : Edit → List ℕ
 edit_text (Before operation dst operand) = quoted (wide operation dst operand) ++ codes " before"
 edit_text (Instead operation dst operand) = quoted (wide operation dst operand) ++ codes " in place of"
 edit_text (Moved mask number pointer) = mask_text mask number ++ sum_text number pointer ++ codes " in place of"
 
+-- how far the verifier gets with an edit
 abbrev pub trial_text : Trial → List ℕ
 trial_text Accepted = codes " the program is accepted"
 trial_text Passes = codes " this passes"
 trial_text Refused = []
 
+-- the help line, if an edit helps
 abbrev pub told_help : ℕ → Option Help → List ℕ
 told_help place None = []
 told_help place (Some help) =
     codes "\nhelp: with " ++ edit_text help.0 ++ codes " unit " ++ decimal place ++ trial_text help.1
 
+-- the help line for the edits to try, if there are any
 abbrev pub help_on : List Insn → ℕ → Option (ℕ × Choice) → List ℕ
 help_on program unit None = []
 help_on program unit (Some want) = told_help want.0 (best program want.0 unit (edits_of want.1))

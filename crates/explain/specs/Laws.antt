@@ -18,24 +18,25 @@ use Rattle.explain.specs.Helps.{best}
 use Rattle.explain.specs.Names.{helper_name}
 use Rattle.explain.specs.Explained.{sentence_of}
 
--- each fault that the verifier's one function finds in a program stands at an instruction, and has a sentence
+-- Every fault that the verifier finds is at an instruction of the program, and has a sentence.
 abbrev pub RefusalsAreTold : Type 0
 RefusalsAreTold =
     (program : List Insn) (r : Reason) (unit : ℕ) → judged program ≡ Some (At r unit) →
     (i : Insn) × (instruction_at program unit ≡ Some i)
     × IsSome (sentence_of (length (slots_of program)) r unit i (known_by (known_before program unit)))
 
--- the verifier comes past the refused instruction in the program with an edit, to the end where that is said
+-- In the program with this edit, the verifier gets past the rejected instruction. If the trial says so, the program is
+-- accepted.
 pub record Mends (program : List Insn) (place unit : ℕ) (edit : Edit) (trial : Trial) : Type 0 where
   pub past : (r : Reason) (at : ℕ) → judged (mended edit place 0 program) ≡ Some (At r at) → unit + grown edit < at
   pub accepted : trial ≡ Accepted → judged (mended edit place 0 program) ≡ None
 
--- so it is with each help
+-- every edit that is chosen as a help mends the fault
 abbrev pub HelpsMend : Type 0
 HelpsMend = (program : List Insn) (place unit : ℕ) (edits : List Edit) (edit : Edit) (trial : Trial) →
     best program place unit edits ≡ Some (edit, trial) → Mends program place unit edit trial
 
--- the assembler takes a helper's name for the number of that helper, and has as many names as there are helpers
+-- The assembler maps the name of each helper to the number of that helper. It has as many names as there are helpers.
 pub record NamesAreRead : Type 0 where
   pub read : (helper : Helper) →
       (number : ℤ) × (helper_of number ≡ Some helper) × (number_of (helper_name helper) ≡ Some number)

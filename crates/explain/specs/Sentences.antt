@@ -1,4 +1,4 @@
--- The sentence of a refusal (own).
+-- The sentence that says why a program is rejected (own).
 use Rattle.std.specs.Prelude.{ℕ, ℤ, pos, ◌-ℤ◌, List, ◌++◌, codes, decimal, int_le, length, if◌then◌else◌}
 use Rattle.std.specs.Fmt.{signed_decimal}
 use Rattle.asm.specs.Helper.{helpers}
@@ -20,20 +20,22 @@ use Rattle.explain.specs.declared.sentence.Misfit.TheVariants as misfit
 use Rattle.explain.specs.Names.{helper_name}
 use Rattle.explain.specs.Values.{span_text, region_text, value_text}
 
--- where a jump leads
+-- the unit that a jump leads to
 unfoldable pub leads_text : ℤ → List ℕ
 leads_text to = codes "the jump leads to unit " ++ signed_decimal to
 
+-- the sentence about the structure of a program
 abbrev pub structure_text : Structure → List ℕ
 structure_text (structure.Back to) = leads_text to ++ codes ": a jump leads only forward"
 structure_text (structure.Out to units) = leads_text to ++ codes ", past all " ++ decimal units
 structure_text (structure.Inside to) = leads_text to ++ codes ", inside a wide instruction"
 structure_text structure.NoExit = codes "the last instruction is not the exit"
 
--- a part of a region, and a register through which it may be reached
+-- a part of a region
 unfoldable pub place_text : Region → NumberSpan → List ℕ
 place_text region span = codes "the " ++ region_text region ++ codes " at " ++ span_text (span.low, span.high)
 
+-- a register, and the part of a region that may be reached through it
 unfoldable pub reached_text : ℕ → Region → NumberSpan → List ℕ
 reached_text r region span = codes "r" ++ decimal r ++ codes " may reach " ++ place_text region span
 
@@ -45,14 +47,15 @@ would_text r = codes "r" ++ decimal r ++ codes " would point"
 abbrev pub named_text : ℕ → AbsVal → List ℕ
 named_text r value = codes "r" ++ decimal r ++ codes " " ++ value_text value
 
--- the limit that is passed, by the greatest offset
+-- the limit that an offset passes, decided by the greatest offset
 abbrev pub limit_text : ℤ → List ℕ
 limit_text high = if int_le high (pos 65536) then codes "-65536" else codes "65536"
 
+-- a part of a region, and the limit that it passes
 unfoldable pub past_text : Region → NumberSpan → List ℕ
 past_text region span = place_text region span ++ codes ", past " ++ limit_text span.high
 
--- how a register is used
+-- the sentence about a misuse of a register
 abbrev pub misuse_text : RegisterMisuse → List ℕ
 misuse_text (misuse.Unset r) =
     codes "r" ++ decimal r ++ codes " is read, and may be unset, or of different kinds on different ways"
@@ -70,41 +73,46 @@ misuse_text (misuse.Stored r value base at) =
 misuse_text (misuse.NoBase r value) = named_text r value ++ codes ": memory is reached by a pointer only"
 misuse_text (misuse.Exit value) = named_text 0 value ++ codes ": a program ends with a number"
 
--- the bytes that a region has
+-- the offsets at which a region has bytes
 abbrev pub extent_text : Region → List ℕ
 extent_text Stack = codes "-512 to -1"
 extent_text Context = codes "0 to 4095"
 
--- what an access may touch
+-- the sentence about a misuse of memory
 abbrev pub access_text : AccessMisuse → List ℕ
 access_text (access.Outside r region span) = reached_text r region span ++ codes ": it has " ++ extent_text region
 access_text (access.Empty r span cell) =
     reached_text r Stack span ++ codes ": no byte is known at " ++ signed_decimal (pos cell -ℤ pos 512)
 access_text (access.Context r value) = named_text r value ++ codes ": the context is only read"
 
--- what a helper takes
+-- the greatest number that a helper accepts as an argument
 unfoldable pub above_text : Helper → ℕ → List ℕ
 above_text called most = helper_name called ++ (codes " takes a number up to " ++ decimal most ++ codes " there")
 
+-- a helper accepts only a pointer as an argument
 unfoldable pub pointer_text : Helper → List ℕ
 pointer_text called = helper_name called ++ codes " takes a pointer there"
 
+-- no helper has a number
 unfoldable pub no_helper_text : List ℕ
 no_helper_text = codes "no helper has the number "
 
+-- the numbers that helpers have
 unfoldable pub numbers_text : List ℕ
 numbers_text = codes ": they are 1 to " ++ decimal (length helpers)
 
+-- slot and count together may be too much
 unfoldable pub together_text : List ℕ
 together_text = codes "r1 and r3 together may be "
 
--- what a call asks
+-- the sentence about a misfit of a call
 abbrev pub misfit_text : Misfit → List ℕ
 misfit_text (misfit.Helper number) = no_helper_text ++ signed_decimal number ++ numbers_text
 misfit_text (misfit.Above called r value most) = named_text r value ++ codes ": " ++ above_text called most
 misfit_text (misfit.NoPointer called r value) = named_text r value ++ codes ": " ++ pointer_text called
 misfit_text (misfit.Board sum) = together_text ++ decimal sum ++ codes ", and the board has 64 words"
 
+-- the text of a sentence
 abbrev pub sentence_text : Sentence → List ℕ
 sentence_text (sentence.Structure s) = structure_text s
 sentence_text (sentence.Register m) = misuse_text m

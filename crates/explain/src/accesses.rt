@@ -1,4 +1,4 @@
-//! Accesses that are refused.
+//! Finds what is wrong with a rejected memory access: it leaves its region, reads unset cells, or writes the context.
 ghost use Rattle.std.specs.Prelude.{◌≡◌, ◌≤◌, ◌+◌, ◌-◌, IfSome};
 ghost use Rattle.explain.specs.Shortfalls.{outside, first_empty, empty_in, empty_cell, context_written, reached};
 
@@ -8,7 +8,7 @@ use absmem::AbsStack;
 use absval::{AbsVal, Window, window_of};
 use semantics::Region;
 
-/// An access may leave its region.
+/// Returns the sentence about an access that may leave its region. Returns `None` if `value` is not a pointer.
 pub(crate) fn outside(reach: Reach, value: AbsVal) -> Option<Sentence>
     requires { reach.size ≤ 512 }
     ensures { result ≡ outside reach value }
@@ -20,7 +20,7 @@ pub(crate) fn outside(reach: Reach, value: AbsVal) -> Option<Sentence>
     Some(Sentence::Memory(AccessMisuse::Outside(reach.base, region, span)))
 }
 
-/// The first of so many cells that may hold no byte.
+/// Returns the first of `size` cells from `place` on that may hold no byte.
 fn first_empty(stack: &AbsStack, place: usize, size: usize) -> Option<usize>
     requires { place + size ≤ 512 }
     ensures empty { result ≡ first_empty stack.now.bytes place size }
@@ -35,7 +35,7 @@ fn first_empty(stack: &AbsStack, place: usize, size: usize) -> Option<usize>
     first_empty(stack, place + 1, size - 1)
 }
 
-/// The same of the cells of a window, where there is one.
+/// Returns the first cell of a window that may hold no byte, if there are a window and such a cell.
 fn empty_in(stack: &AbsStack, window: Option<Window>) -> Option<usize>
     requires { IfSome window (λ w. w.place + w.size ≤ 512) }
     ensures empty { result ≡ empty_in stack.now window }
@@ -45,7 +45,8 @@ fn empty_in(stack: &AbsStack, window: Option<Window>) -> Option<usize>
     first_empty(stack, place, size)
 }
 
-/// A cell of the stack is read that may hold no byte.
+/// Returns the sentence about a read of stack cells, one of which may hold no byte. Returns `None` if `value` is not a
+/// pointer into the stack, or all cells hold bytes.
 pub(crate) fn empty_cell(stack: &AbsStack, reach: Reach, value: AbsVal) -> Option<Sentence>
     requires { reach.size ≤ 512 }
     ensures { result ≡ empty_cell stack.now reach value }
@@ -62,7 +63,7 @@ pub(crate) fn empty_cell(stack: &AbsStack, reach: Reach, value: AbsVal) -> Optio
     Some(Sentence::Memory(AccessMisuse::Empty(reach.base, span, cell as u16)))
 }
 
-/// The context is written.
+/// Returns the sentence about a store to the context.
 pub(crate) fn context_written(reach: Reach, value: AbsVal) -> Option<Sentence>
     ensures { result ≡ context_written reach value }
 {

@@ -1,4 +1,4 @@
-//! Cells of the stack that are read, as text.
+//! Writes what is known of the stack cells that an instruction reads.
 ghost use Rattle.std.specs.Prelude.{◌≡◌, ◌≤◌, ◌+◌, ◌-ℤ◌, ◌++◌, pos, IfSome, OnOk, string_bytes};
 ghost use Rattle.semantics.specs.Call.{helper_of};
 ghost use Rattle.explain.specs.Here.{Stands, held_here};
@@ -17,7 +17,7 @@ use semantics::Region;
 use std::alloc::{AllocError, Global};
 use verify::AbsState;
 
-/// Adds what a cell holds.
+/// Appends what a cell holds.
 fn put_content(out: &mut String, content: CellContent) -> Result<(), AllocError>
     ensures { OnOk result (string_bytes out.new ≡ string_bytes out.old ++ content_text content) }
 {
@@ -33,7 +33,7 @@ fn put_content(out: &mut String, content: CellContent) -> Result<(), AllocError>
     }
 }
 
-/// Adds the last of two offsets, if it is another.
+/// Appends the last offset of a run of cells, unless it is the first, and the closing bracket.
 #[tactic(auto, unfolding(crate::specs::Cells::last_text))]
 fn put_last(out: &mut String, first: i64, last: i64) -> Result<(), AllocError>
     ensures { OnOk result (string_bytes out.new ≡ string_bytes out.old ++ last_text first last) }
@@ -45,7 +45,7 @@ fn put_last(out: &mut String, first: i64, last: i64) -> Result<(), AllocError>
     }
 }
 
-/// Adds cells of the stack by their offsets.
+/// Appends a run of stack cells in brackets, by the offsets of its first and its last.
 #[tactic(auto, unfolding(crate::specs::Cells::cells_text))]
 fn put_offsets(out: &mut String, first: i64, last: i64) -> Result<(), AllocError>
     ensures { OnOk result (string_bytes out.new ≡ string_bytes out.old ++ cells_text first last) }
@@ -55,7 +55,7 @@ fn put_offsets(out: &mut String, first: i64, last: i64) -> Result<(), AllocError
     put_last(out, first, last)
 }
 
-/// How far a cell lies from the end of the stack.
+/// Returns the offset of a cell from the end of the stack.
 fn offset_of(place: usize) -> i64
     requires { place ≤ 65536 }
     ensures { result ≡ pos place -ℤ pos 512 }
@@ -63,7 +63,7 @@ fn offset_of(place: usize) -> i64
     place as i64 - 512
 }
 
-/// How far the last cell before a place does.
+/// Returns the offset of the cell before `place` from the end of the stack.
 fn offset_before(place: usize) -> i64
     requires { place ≤ 65536 }
     ensures { result ≡ pos place -ℤ pos 513 }
@@ -71,7 +71,7 @@ fn offset_before(place: usize) -> i64
     place as i64 - 513
 }
 
-/// Adds the cells from one place up to another, and what they hold.
+/// Appends the cells from `first` up to and excluding `end`, and what they hold.
 pub(crate) fn put_run(
     out: &mut String,
     first: usize,
@@ -87,7 +87,7 @@ pub(crate) fn put_run(
     put_content(out, content)
 }
 
-/// The same, and from which units.
+/// Appends the cells from `first` up to and excluding `end`, with their content and the units that set them.
 fn put_sourced(out: &mut String, first: usize, end: usize, held: &Held) -> Result<(), AllocError>
     requires first { first ≤ 65536 }
     requires end { end ≤ 65536 }
@@ -98,7 +98,8 @@ fn put_sourced(out: &mut String, first: usize, end: usize, held: &Held) -> Resul
     put_from(out, held.units.as_slice())
 }
 
-/// The same, with others behind.
+/// Appends the cells from `first` up to and excluding `end`, with their content and the units that set them, followed
+/// by a comma.
 fn put_ended(out: &mut String, first: usize, end: usize, held: &Held) -> Result<(), AllocError>
     requires first { first ≤ 65536 }
     requires end { end ≤ 65536 }
@@ -109,7 +110,7 @@ fn put_ended(out: &mut String, first: usize, end: usize, held: &Held) -> Result<
     put(out, ", ")
 }
 
-/// Adds the cells from a place up to one, all of which hold the same, and so many more from there on.
+/// Appends the runs of cells from `first` on. The cells up to `place` all hold `held`, and `more` cells follow.
 fn put_runs(
     alloc: Global,
     out: &mut String,
@@ -136,7 +137,7 @@ fn put_runs(
     put_runs(alloc, out, here, place, next, place + 1, more - 1)
 }
 
-/// Adds so many cells from a place on.
+/// Appends the runs of the `size` cells from `place` on.
 fn put_cells(
     alloc: Global,
     out: &mut String,
@@ -156,7 +157,7 @@ fn put_cells(
     put_runs(alloc, out, here, place, held, place + 1, size - 1)
 }
 
-/// Adds the cells of a window, where there is one.
+/// Appends the runs of the cells of a window, if there is one.
 fn put_window(
     alloc: Global,
     out: &mut String,
@@ -173,7 +174,7 @@ fn put_window(
     }
 }
 
-/// Adds the cells that may be touched through a pointer to the stack.
+/// Appends the runs of the cells that an access through `value` may touch, if it is a pointer into the stack.
 fn put_reach(
     alloc: Global,
     out: &mut String,
@@ -196,7 +197,7 @@ fn put_reach(
     put_window(alloc, out, here, window)
 }
 
-/// Whether the helper of a number reads a row of orders.
+/// Checks whether the helper with this number reads a row of orders from memory.
 fn is_row(number: i32) -> bool
     ensures { result ≡ is_row (helper_of number) }
 {
@@ -206,7 +207,7 @@ fn is_row(number: i32) -> bool
     }
 }
 
-/// Whether an instruction reads memory.
+/// Checks whether an instruction reads memory.
 fn reads_cells(insn: &Insn) -> bool
     ensures { result ≡ reads_cells insn.now }
 {
@@ -217,7 +218,7 @@ fn reads_cells(insn: &Insn) -> bool
     }
 }
 
-/// Adds the cells of the stack that an instruction reads.
+/// Appends the runs of the stack cells that an instruction reads.
 pub(crate) fn put_cells_read(
     alloc: Global,
     out: &mut String,

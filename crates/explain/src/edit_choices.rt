@@ -1,4 +1,4 @@
-//! Which edits are to be tried for a sentence.
+//! Chooses the edits that are tried for a sentence.
 ghost use Rattle.std.specs.Prelude.{◌≡◌, ◌<◌, ◌≤◌, IfSome, slice_get};
 ghost use Rattle.reaching.specs.Marks.{is_open};
 ghost use Rattle.explain.specs.Helps.{moving_mask, exchanged, copy_of, copy_at, last_copy, by_copy, for_misuse, for_argument, for_misfit, moved_at, for_access, wanted};
@@ -11,20 +11,20 @@ use insn::{Insn, Operand, Program, Reg};
 use reaching::{Edit, UnitMark};
 use word::{Operation, Width};
 
-/// An edit, or one of several.
+/// The edits to try: one, or several in order.
 #[derive(Clone, Copy)]
 pub(crate) enum Choice {
-    /// A mask of the register, put before an instruction.
+    /// Masks of the register, from wide to narrow, each before the instruction.
     Mask(Reg),
-    /// This one.
+    /// The one edit.
     One(Edit),
-    /// This one, else a mask of the register.
+    /// The edit or, if it does not help, masks of the register.
     Either(Edit, Reg),
-    /// The sum of the number of one register and the pointer of another, in the pointer's register.
+    /// The sum of the number in the first register and the pointer in the second, computed in the pointer's register.
     Exchanged(Reg, Reg),
 }
 
-/// The number that moves a pointer.
+/// Chooses masks of the number that moves a pointer, if it is in a register.
 fn moving_mask(unit: usize, insn: &Insn) -> Option<(usize, Choice)>
     ensures wanted { result ≡ moving_mask unit insn.now }
     ensures below { IfSome result (λ want. want.0 ≤ unit) }
@@ -38,7 +38,7 @@ fn moving_mask(unit: usize, insn: &Insn) -> Option<(usize, Choice)>
     }
 }
 
-/// The sum of a number and a pointer, in the pointer's register.
+/// Chooses the sum of a number and a pointer in the pointer's register, if the instruction adds two registers.
 fn exchanged(unit: usize, insn: &Insn) -> Option<(usize, Choice)>
     ensures wanted { result ≡ exchanged unit insn.now }
     ensures below { IfSome result (λ want. want.0 ≤ unit) }
@@ -55,7 +55,7 @@ fn exchanged(unit: usize, insn: &Insn) -> Option<(usize, Choice)>
     Some((unit, Choice::Exchanged(*dst, *src)))
 }
 
-/// The register to which an instruction copies this one.
+/// Returns the register to which an instruction copies register `r`, if it does.
 fn copy_of(r: Reg, insn: &Insn) -> Option<Reg>
     ensures { result ≡ copy_of r insn.now }
 {
@@ -75,7 +75,7 @@ fn copy_of(r: Reg, insn: &Insn) -> Option<Reg>
     }
 }
 
-/// Whether a way leads from a unit on which nothing sets it.
+/// Checks whether a unit is open: a path leads from it to the rejected instruction on which the register is not set.
 fn is_open(marks: &[UnitMark], unit: usize) -> bool
     ensures { result ≡ is_open (slice_get marks.now unit) }
 {
@@ -85,7 +85,8 @@ fn is_open(marks: &[UnitMark], unit: usize) -> bool
     }
 }
 
-/// The copy that the instruction of such a unit makes.
+/// Returns the register to which the unit's instruction copies `r`. It must be a copy from which a path leads to the
+/// rejected instruction on which `r` is not set.
 fn copy_at(program: &Program, marks: &[UnitMark], r: Reg, unit: usize) -> Option<Reg>
     ensures { result ≡ copy_at program.now marks.now r unit }
 {
@@ -98,7 +99,8 @@ fn copy_at(program: &Program, marks: &[UnitMark], r: Reg, unit: usize) -> Option
     }
 }
 
-/// The last such copy that the units below one make.
+/// Returns the register of the last copy of `r` below `unit` from which a path leads to the rejected instruction on
+/// which `r` is not set.
 #[tactic(auto, using(crate::proofs::CopyLemmas::no_copy, crate::proofs::CopyLemmas::copy_so))]
 fn last_copy(program: &Program, marks: &[UnitMark], r: Reg, unit: usize) -> Option<Reg>
     ensures { result ≡ last_copy program.now marks.now r unit }
@@ -112,7 +114,8 @@ fn last_copy(program: &Program, marks: &[UnitMark], r: Reg, unit: usize) -> Opti
     }
 }
 
-/// A sum or difference of a pointer and a number: with a copy of the number, else a mask.
+/// Chooses the edits for a sum or difference of a pointer and a number: a copy of the number, if there is one, else a
+/// mask.
 fn by_copy(unit: usize, insn: &Insn, r: Reg, copy: Option<Reg>) -> Option<(usize, Choice)>
     ensures wanted { result ≡ by_copy unit insn.now r copy }
     ensures below { IfSome result (λ want. want.0 ≤ unit) }
@@ -129,7 +132,7 @@ fn by_copy(unit: usize, insn: &Insn, r: Reg, copy: Option<Reg>) -> Option<(usize
     }
 }
 
-/// For a register that is used as it may not be.
+/// Chooses the edits for a misuse of a register.
 fn for_misuse(
     program: &Program,
     marks: &[UnitMark],
@@ -157,7 +160,7 @@ fn for_misuse(
     }
 }
 
-/// For an argument.
+/// Chooses the edits for an argument that may be too large: masks, if it is a number.
 fn for_argument(unit: usize, r: Reg, value: AbsVal) -> Option<(usize, Choice)>
     ensures wanted { result ≡ for_argument unit r value }
     ensures below { IfSome result (λ want. want.0 ≤ unit) }
@@ -168,7 +171,7 @@ fn for_argument(unit: usize, r: Reg, value: AbsVal) -> Option<(usize, Choice)>
     }
 }
 
-/// For a call.
+/// Chooses the edits for a call.
 fn for_misfit(unit: usize, misfit: Misfit) -> Option<(usize, Choice)>
     ensures wanted { result ≡ for_misfit unit misfit }
     ensures below { IfSome result (λ want. want.0 ≤ unit) }
@@ -179,7 +182,7 @@ fn for_misfit(unit: usize, misfit: Misfit) -> Option<(usize, Choice)>
     }
 }
 
-/// The number that moves a pointer at a unit.
+/// Chooses masks of the number that moves a pointer at a unit, if it is in a register.
 fn moved_at(program: &Program, unit: usize) -> Option<(usize, Choice)>
     ensures wanted { result ≡ moved_at program.now unit }
     ensures below { IfSome result (λ want. want.0 ≤ unit) }
@@ -190,7 +193,7 @@ fn moved_at(program: &Program, unit: usize) -> Option<(usize, Choice)>
     moving_mask(unit, &insn)
 }
 
-/// For an access: a pointer that leads too far, by the number that moved it last.
+/// Chooses the edits for an access by a pointer that leads too far: masks of the number that moved the pointer last.
 fn for_access(
     program: &Program,
     marks: &[UnitMark],
@@ -206,7 +209,7 @@ fn for_access(
     moved_at(program, last_set(marks, unit)?)
 }
 
-/// What is to be tried for a sentence, and at which unit.
+/// Chooses the edits to try for a sentence, and the unit at which they are made.
 pub(crate) fn wanted(
     program: &Program,
     marks: &[UnitMark],

@@ -1,4 +1,4 @@
-//! Edits that mend a refusal, as helps.
+//! Tries edits that may mend a fault, and writes the best as a help line.
 ghost use Rattle.std.specs.Prelude.{◌≡◌, ◌<◌, ◌≤◌, ◌++◌, string_bytes, IfOk, IfSome, OnOk};
 ghost use Rattle.explain.specs.Helps.{masks_of, edits_of, accepted_or, better, best, quoted, mask_text, sum_text, edit_text, trial_text, told_help, help_on};
 
@@ -9,17 +9,17 @@ use reaching::{Edit, Trial, operation_of, tried};
 use std::alloc::{AllocError, Global};
 use word::Operation;
 
-/// An edit, and how far the verifier comes with it.
+/// An edit, and how far the verifier gets with it.
 type Help = (Edit, Trial);
 
-/// A mask of a number before an instruction.
+/// Returns the edit that puts a mask of a number before an instruction.
 fn mask(r: Reg, bits: i32) -> Edit
     ensures { result ≡ Edit.Before Operation.And r (Operand.Immediate bits) }
 {
     Edit::Before(Operation::And, r, Operand::Immediate(bits))
 }
 
-/// The masks of a number, the widest first.
+/// Returns the six masks of a number as edits, the widest first.
 fn masks_of(r: Reg) -> [Edit; 6]
     ensures { result ≡ masks_of r }
 {
@@ -33,7 +33,8 @@ fn masks_of(r: Reg) -> [Edit; 6]
     ]
 }
 
-/// A later edit with which the program is accepted, else this one.
+/// Returns a later edit with which the program is accepted. If there is none, returns this edit, with which the
+/// verifier gets past the fault.
 fn accepted_or(edit: Edit, rest: Option<Help>) -> Option<Help>
     ensures { result ≡ accepted_or edit rest }
 {
@@ -43,7 +44,7 @@ fn accepted_or(edit: Edit, rest: Option<Help>) -> Option<Help>
     }
 }
 
-/// This edit or a later one.
+/// Chooses between this edit and the best of the later ones, given how far the verifier gets with this one.
 fn better(edit: Edit, trial: Trial, rest: Option<Help>) -> Option<Help>
     ensures { result ≡ better edit trial rest }
 {
@@ -54,7 +55,8 @@ fn better(edit: Edit, trial: Trial, rest: Option<Help>) -> Option<Help>
     }
 }
 
-/// The best of these edits.
+/// Tries the edits in order, and returns the first with which the program is accepted. If there is none, returns the
+/// first with which the verifier gets past the fault, if any.
 fn best(
     alloc: Global,
     program: &Program,
@@ -83,7 +85,7 @@ fn best(
     Ok(better(*edit, trial, rest))
 }
 
-/// The best edit of those that are wanted.
+/// Tries the edits of a choice, and returns the best.
 fn best_of(
     alloc: Global,
     program: &Program,
@@ -105,7 +107,7 @@ fn best_of(
     }
 }
 
-/// An edit, else a mask.
+/// Returns an edit and the six masks, in the order in which they are tried.
 fn either(edit: Edit, r: Reg) -> [Edit; 7]
     ensures { result ≡ edits_of (Choice.Either edit r) }
 {
@@ -120,7 +122,8 @@ fn either(edit: Edit, r: Reg) -> [Edit; 7]
     ]
 }
 
-/// The sum of a number and a pointer in the pointer's register: alone, with its copy, and of a masked number.
+/// Returns the edits that compute the sum of a number and a pointer in the pointer's register: the sum only, the sum
+/// and its copy, and the same with a masked number.
 fn exchanged(number: Reg, pointer: Reg) -> [Edit; 8]
     ensures { result ≡ edits_of (Choice.Exchanged number pointer) }
 {
@@ -136,7 +139,7 @@ fn exchanged(number: Reg, pointer: Reg) -> [Edit; 8]
     ]
 }
 
-/// Adds an instruction between quotes.
+/// Appends an instruction in backquotes.
 #[tactic(auto, unfolding(crate::specs::Helps::quoted))]
 fn put_quoted(out: &mut String, insn: &Insn) -> Result<(), AllocError>
     ensures { OnOk result (string_bytes out.new ≡ string_bytes out.old ++ quoted insn.now) }
@@ -146,7 +149,7 @@ fn put_quoted(out: &mut String, insn: &Insn) -> Result<(), AllocError>
     put(out, "`")
 }
 
-/// Adds a mask of a number, if there is one.
+/// Appends the instruction that masks a number, if there is a mask.
 fn put_mask(out: &mut String, mask: Option<i32>, number: Reg) -> Result<(), AllocError>
     ensures { OnOk result (string_bytes out.new ≡ string_bytes out.old ++ mask_text mask number) }
 {
@@ -160,7 +163,7 @@ fn put_mask(out: &mut String, mask: Option<i32>, number: Reg) -> Result<(), Allo
     put(out, ", ")
 }
 
-/// Adds the sum of a number and a pointer in the pointer's register, and its copy.
+/// Appends the instructions that add a number to a pointer, and copy the sum to the number's register.
 #[tactic(auto, unfolding(crate::specs::Helps::sum_text))]
 fn put_sum(out: &mut String, number: Reg, pointer: Reg) -> Result<(), AllocError>
     ensures { OnOk result (string_bytes out.new ≡ string_bytes out.old ++ sum_text number pointer) }
@@ -176,7 +179,7 @@ fn put_sum(out: &mut String, number: Reg, pointer: Reg) -> Result<(), AllocError
     )
 }
 
-/// Adds a number's move of a pointer.
+/// Appends the instructions by which a number, masked if there is a mask, moves a pointer.
 fn put_moved(
     out: &mut String,
     mask: Option<i32>,
@@ -190,7 +193,7 @@ fn put_moved(
     put(out, " in place of")
 }
 
-/// Adds what is edited.
+/// Appends an edit, up to the unit at which it is made.
 fn put_edit(out: &mut String, edit: &Edit) -> Result<(), AllocError>
     ensures { OnOk result (string_bytes out.new ≡ string_bytes out.old ++ edit_text edit.now) }
 {
@@ -207,7 +210,8 @@ fn put_edit(out: &mut String, edit: &Edit) -> Result<(), AllocError>
     }
 }
 
-/// What is said of a trial.
+/// Returns the text that says how far the verifier gets with an edit. It is empty if the verifier does not get past the
+/// fault.
 fn trial_text(trial: Trial) -> &'static str
     ensures { result.now ≡ trial_text trial }
 {
@@ -218,7 +222,7 @@ fn trial_text(trial: Trial) -> &'static str
     }
 }
 
-/// Adds a help, if there is one.
+/// Appends a help line, if an edit helps.
 fn put_help_text(out: &mut String, place: usize, help: Option<Help>) -> Result<(), AllocError>
     ensures { OnOk result (string_bytes out.new ≡ string_bytes out.old ++ told_help place help) }
 {
@@ -232,7 +236,7 @@ fn put_help_text(out: &mut String, place: usize, help: Option<Help>) -> Result<(
     put(out, trial_text(trial))
 }
 
-/// Adds the best edit of those that are wanted, if any is.
+/// Tries the chosen edits, and appends the best as a help line, if one helps.
 pub(crate) fn put_help(
     alloc: Global,
     out: &mut String,

@@ -1,17 +1,19 @@
-//! The laws of explanations: each function does nothing, and its contract is the law.
+//! Laws of explanations. Each function does nothing, and its contract is the law.
 ghost use Rattle.explain.specs.Laws.{RefusalsAreTold, HelpsMend, NamesAreRead};
 
-/// Each fault that is found in a program stands at an instruction, and has a sentence.
+/// Does nothing. Its contract says that every fault found in a program is at an instruction, and has a sentence.
 pub fn refusals_are_told()
     ensures { RefusalsAreTold }
 {}
 
-/// With each help that is said the verifier comes past the refused instruction.
+/// Does nothing. Its contract says that with every edit offered as a help, the verifier gets past the rejected
+/// instruction.
 pub fn helps_mend()
     ensures { HelpsMend }
 {}
 
-/// By the name of a helper the assembler knows it, and it has as many names as there are helpers.
+/// Does nothing. Its contract says that the assembler knows each helper by its name, and has as many names as there are
+/// helpers.
 pub fn names_are_read()
     ensures { NamesAreRead }
 {}

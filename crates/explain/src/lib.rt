@@ -1,4 +1,4 @@
-//! Why a program is accepted or refused: what is known at each unit, and what a refusal misses.
+//! Explains what the verifier found: what is known at each unit, and what is missing where a program is rejected.
 #![tactic(auto)]
 
 mod accesses;

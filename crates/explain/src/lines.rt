@@ -1,4 +1,4 @@
-//! The explanation of a program.
+//! Writes the explanation of a program: a line for each unit, and the reason for which the program is rejected.
 ghost use Rattle.std.specs.Prelude.{◌≡◌, ◌≤◌, ◌<◌, ◌++◌, length, option_map, slice_get, string_bytes, IfOk, OnOk};
 ghost use Rattle.insn.specs.Program.{slots_of};
 ghost use Rattle.explain.specs.Notes.{subject_of};
@@ -23,7 +23,7 @@ use reaching::{columns, known_by, left_by, marks, result_of};
 use std::alloc::{AllocError, Global};
 use verify::{AbsState, Reason, VerifyError, known_at_units};
 
-/// Adds a register that is read, and what is known of it.
+/// Appends a register that an instruction reads, and what is known of it.
 #[inline(never)]
 fn put_read(out: &mut String, state: &AbsState, register: Option<Reg>) -> Result<(), AllocError>
     ensures { OnOk result (string_bytes out.new ≡ string_bytes out.old ++ read_text state.now.registers register) }
@@ -35,7 +35,7 @@ fn put_read(out: &mut String, state: &AbsState, register: Option<Reg>) -> Result
     put_named(out, r, state.known(r))
 }
 
-/// Adds the registers that are read.
+/// Appends the registers that an instruction reads, and what is known of each.
 fn put_reads(out: &mut String, state: &AbsState, read: RegisterTriple) -> Result<(), AllocError>
     ensures { OnOk result (string_bytes out.new ≡ string_bytes out.old ++ reads_text state.now.registers read) }
 {
@@ -45,7 +45,7 @@ fn put_reads(out: &mut String, state: &AbsState, read: RegisterTriple) -> Result
     put_read(out, state, third)
 }
 
-/// Adds what is known where an instruction stands.
+/// Appends what is known of the registers and cells that an instruction reads, or that no path leads to it.
 fn put_known(
     alloc: Global,
     out: &mut String,
@@ -72,7 +72,7 @@ fn put_known(
     put_cells_read(alloc, out, &here, insn, state)
 }
 
-/// Adds a unit and its instruction, behind the end of a line.
+/// Appends a unit and its instruction, on a new line.
 fn put_place(
     out: &mut String,
     written: &UnitTexts<'_>,
@@ -86,7 +86,7 @@ fn put_place(
     put_insn_at(out, written, unit, insn)
 }
 
-/// Adds the line of a unit.
+/// Appends the line of a unit, without the result of its instruction.
 fn put_unit(
     alloc: Global,
     out: &mut String,
@@ -106,7 +106,7 @@ fn put_unit(
     put_known(alloc, out, surveyed, unit, insn, state)
 }
 
-/// Adds a register that takes a result, and what is known of it behind an instruction.
+/// Appends the register that an instruction sets, and what is known of it afterwards.
 fn put_result(out: &mut String, register: Option<Reg>, left: &AbsState) -> Result<(), AllocError>
     ensures { OnOk result (string_bytes out.new ≡ string_bytes out.old ++ result_text register left.now) }
 {
@@ -117,7 +117,7 @@ fn put_result(out: &mut String, register: Option<Reg>, left: &AbsState) -> Resul
     put_named(out, r, left.known(r))
 }
 
-/// Adds what is known of the result of an instruction that may run.
+/// Appends what is known of the result of an instruction, if a path leads to it.
 fn put_given(out: &mut String, insn: &Insn, state: Option<&AbsState>) -> Result<(), AllocError>
     ensures { OnOk result (string_bytes out.new ≡ string_bytes out.old
         ++ given_text insn.now (option_map (λ a. a.now) state.entry)) }
@@ -131,7 +131,7 @@ fn put_given(out: &mut String, insn: &Insn, state: Option<&AbsState>) -> Result<
     }
 }
 
-/// Whether the fault stands at a unit.
+/// Checks whether the fault is at this unit.
 fn is_at(fault: &Option<VerifyError>, unit: usize) -> bool
     ensures { result ≡ is_at fault.now unit }
 {
@@ -141,7 +141,7 @@ fn is_at(fault: &Option<VerifyError>, unit: usize) -> bool
     }
 }
 
-/// Adds what is known of the result, but where the fault stands.
+/// Appends what is known of the result of an instruction, unless the fault is at its unit.
 fn put_behind(
     out: &mut String,
     fault: &Option<VerifyError>,
@@ -158,7 +158,7 @@ fn put_behind(
     put_given(out, insn, state.as_ref())
 }
 
-/// Adds the line of a unit, with what is known of the result.
+/// Appends the line of a unit, with the result of its instruction.
 fn put_line(
     alloc: Global,
     out: &mut String,
@@ -179,7 +179,7 @@ fn put_line(
     put_behind(out, fault, unit, insn, state)
 }
 
-/// Adds the line of a unit, if the pass comes there.
+/// Appends the line of a unit, if the verifier's pass reaches it.
 fn put_reached(
     alloc: Global,
     out: &mut String,
@@ -200,7 +200,7 @@ fn put_reached(
     }
 }
 
-/// Adds the lines of the units to which the pass comes.
+/// Appends the lines of the units that the verifier's pass reaches.
 fn put_units(
     alloc: Global,
     out: &mut String,
@@ -223,7 +223,8 @@ fn put_units(
     Ok(())
 }
 
-/// Where a jump leads.
+/// Returns the unit that a jump leads to, which may be outside the program. Returns `None` if the instruction is not a
+/// jump.
 fn target_of(unit: usize, insn: &Insn) -> Option<i64>
     requires { unit < 4096 }
     ensures { result ≡ target_of unit insn.now }
@@ -237,7 +238,7 @@ fn target_of(unit: usize, insn: &Insn) -> Option<i64>
     Some(unit as i64 + 1 + distance)
 }
 
-/// Why an instruction is refused, in a program of so many units.
+/// Returns the sentence that says why an instruction is rejected, in a program of `units` units.
 fn sentence_of(
     units: usize,
     reason: Reason,
@@ -258,7 +259,7 @@ fn sentence_of(
     Some(Sentence::Structure(structure))
 }
 
-/// Adds the sentence of an instruction.
+/// Appends the line with an instruction and its sentence.
 fn put_sentence(
     out: &mut String,
     written: &UnitTexts<'_>,
@@ -274,7 +275,7 @@ fn put_sentence(
     put_sentence_text(out, sentence)
 }
 
-/// Adds where what a sentence is about comes from, and an edit that mends it.
+/// Appends the notes on where the subject of a sentence gets its value, and an edit that mends the fault.
 fn put_about(
     alloc: Global,
     out: &mut String,
@@ -311,7 +312,7 @@ fn put_about(
     put_help(alloc, out, program, unit, choice)
 }
 
-/// Adds the sentence of an instruction, if there is one, and what is said about it.
+/// Appends the line with an instruction and its sentence, if there is one, and the notes and the help about it.
 fn put_told(
     alloc: Global,
     out: &mut String,
@@ -334,7 +335,7 @@ fn put_told(
     put_about(alloc, out, written, program, states, unit, insn, sentence)
 }
 
-/// Adds why a program is refused, if it is.
+/// Appends why a program is rejected, if it is.
 fn put_refused(
     alloc: Global,
     out: &mut String,
@@ -356,7 +357,7 @@ fn put_refused(
     put_told(alloc, out, written, program, states, unit, &insn, &sentence)
 }
 
-/// Adds the lines of a program, of which this is known.
+/// Appends the lines of a program's units, from what is known at each unit.
 fn put_lines(
     alloc: Global,
     out: &mut String,
@@ -381,9 +382,9 @@ fn put_lines(
     put_units(alloc, out, written, &surveyed, fault, insns)
 }
 
-/// What is known at each unit of a program to which the verifier comes, what each instruction gives, and why the
-/// program is refused, if so, with the units and instructions as they were written. Each line stands behind the end of
-/// one.
+/// Explains a program: what is known at each unit that the verifier reaches, what each instruction results in and, if
+/// the program is rejected, why. Units and instructions are printed as `written` says. Each line begins with a line
+/// break. Fails with `AllocError` if memory runs out.
 pub fn explanation_at(
     alloc: Global,
     program: &Program,
@@ -399,7 +400,8 @@ pub fn explanation_at(
     Ok(out)
 }
 
-/// The same where nothing is known of how they were written.
+/// Explains a program as [`explanation_at`] does, where it is not known how its units were written. Fails with
+/// `AllocError` if memory runs out.
 pub fn explanation(alloc: Global, program: &Program) -> Result<String, AllocError>
     ensures { IfOk result (λ text. string_bytes text ≡ explained program.now) }
 {

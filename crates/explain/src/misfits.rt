@@ -1,4 +1,4 @@
-//! Calls that are refused.
+//! Finds what is wrong with a rejected call: no such helper, or an argument that the helper does not accept.
 ghost use Rattle.std.specs.Prelude.{◌≡◌, ◌≤◌, option_map, ◌+◌, Some};
 ghost use Rattle.insn.specs.declared.insn.Insn.{Insn};
 ghost use Rattle.helper.specs.Table.{bound_of, arguments_of};
@@ -11,7 +11,7 @@ use helper::{Argument, BOARD_WORDS, Helper};
 use insn::{Insn, Reg};
 use verify::AbsState;
 
-/// A number that is to be at most so great.
+/// Returns the sentence about an argument that must be a number up to `most`, if it may be greater.
 fn above(helper: Helper, r: Reg, numbers: NumberSet, most: u64) -> Option<Sentence>
     ensures { result ≡ misfit_of helper r (Some (most + 1)) (AbsVal.Number numbers) }
 {
@@ -22,7 +22,8 @@ fn above(helper: Helper, r: Reg, numbers: NumberSet, most: u64) -> Option<Senten
     Some(Sentence::Call(Misfit::Above(helper, r, value, most)))
 }
 
-/// An argument that is to be a number up to this one, or a pointer where there is none.
+/// Returns the sentence about an argument, if it does not fit. It must be a number up to the helper's limit or, if
+/// there is no limit, a pointer.
 fn misfit_of(helper: Helper, r: Reg, argument: Argument, value: AbsVal) -> Option<Sentence>
     ensures { result ≡ misfit_of helper r (bound_of argument) value }
 {
@@ -34,7 +35,7 @@ fn misfit_of(helper: Helper, r: Reg, argument: Argument, value: AbsVal) -> Optio
     }
 }
 
-/// The same of an argument, where the helper takes one there.
+/// Returns the sentence about the argument in register `r`, if the helper has one there and it does not fit.
 fn misfit_at(
     helper: Helper,
     state: &AbsState,
@@ -47,7 +48,7 @@ fn misfit_at(
     misfit_of(helper, r, argument, state.known(r))
 }
 
-/// Slot and count together.
+/// Returns the sentence about slot and count together. Returns `None` if either of them is not a number up to 64.
 fn past_board(slots: AbsVal, counts: AbsVal) -> Option<Sentence>
     ensures { result ≡ past_board slots counts }
 {
@@ -64,7 +65,7 @@ fn past_board(slots: AbsVal, counts: AbsVal) -> Option<Sentence>
     Some(Sentence::Call(Misfit::Board(sum)))
 }
 
-/// The arguments in their order, then slot and count together.
+/// Returns the sentence about the first argument that does not fit, or about slot and count together.
 fn arguments_misfit(
     helper: Helper,
     state: &AbsState,
@@ -86,7 +87,7 @@ fn arguments_misfit(
     past_board(slots, state.known(numbered(3)))
 }
 
-/// What a call asks that may not be.
+/// Returns the sentence about the arguments of a call. Returns `None` if the instruction is not a call of a helper.
 pub(crate) fn call_misfit(insn: &Insn, state: &AbsState) -> Option<Sentence>
     ensures { result ≡ call_misfit insn.now state.now.registers }
 {
@@ -97,7 +98,7 @@ pub(crate) fn call_misfit(insn: &Insn, state: &AbsState) -> Option<Sentence>
     arguments_misfit(helper, state, helper::arguments(helper))
 }
 
-/// The number of a call that no helper has.
+/// Returns the sentence about a call of a number that no helper has. Returns `None` if the instruction is not a call.
 pub(crate) fn no_helper(insn: &Insn) -> Option<Sentence>
     ensures { result ≡ no_helper insn.now }
 {

@@ -1,4 +1,4 @@
-//! RegisterTriple that are used as they may not be.
+//! Finds the registers that a rejected instruction misuses: unset ones, and pointers used in ways that are not allowed.
 ghost use Rattle.std.specs.Prelude.{◌≡◌, Some};
 ghost use Rattle.std.specs.Option.{option_or};
 ghost use Rattle.insn.specs.declared.insn.Insn.{Insn};
@@ -13,7 +13,7 @@ use helper::reads::{RegisterTriple, of_operand, read_by};
 use insn::{Insn, Operand, Reg};
 use verify::AbsState;
 
-/// A register that may be unset.
+/// Returns the sentence about an unset register, if there is a register and it may be unset.
 fn unset_at(state: &AbsState, register: Option<Reg>) -> Option<Sentence>
     ensures { result ≡ unset_at state.now.registers register }
 {
@@ -24,7 +24,7 @@ fn unset_at(state: &AbsState, register: Option<Reg>) -> Option<Sentence>
     }
 }
 
-/// The first of the registers that may be unset.
+/// Returns the sentence about the first of the registers that may be unset.
 pub(crate) fn first_unset(state: &AbsState, read: RegisterTriple) -> Option<Sentence>
     ensures { result ≡ first_unset state.now.registers read }
 {
@@ -38,7 +38,7 @@ pub(crate) fn first_unset(state: &AbsState, read: RegisterTriple) -> Option<Sent
     unset_at(state, third)
 }
 
-/// A register that is a pointer.
+/// Returns the sentence about a computation with a pointer, if there is a register and it holds one.
 fn pointer_at(state: &AbsState, register: Option<Reg>) -> Option<Sentence>
     ensures { result ≡ pointer_at state.now.registers register }
 {
@@ -50,7 +50,7 @@ fn pointer_at(state: &AbsState, register: Option<Reg>) -> Option<Sentence>
     }
 }
 
-/// The first of the registers that is a pointer.
+/// Returns the sentence about the first of the registers that holds a pointer.
 fn first_pointer(state: &AbsState, read: RegisterTriple) -> Option<Sentence>
     ensures { result ≡ first_pointer state.now.registers read }
 {
@@ -64,7 +64,7 @@ fn first_pointer(state: &AbsState, read: RegisterTriple) -> Option<Sentence>
     pointer_at(state, third)
 }
 
-/// A register that is compared, and a pointer.
+/// Returns the sentence about a comparison of a pointer, if there is a register and it holds one.
 fn compared_at(state: &AbsState, register: Option<Reg>) -> Option<Sentence>
     ensures { result ≡ compared_at state.now.registers register }
 {
@@ -76,7 +76,7 @@ fn compared_at(state: &AbsState, register: Option<Reg>) -> Option<Sentence>
     }
 }
 
-/// The first of two that are compared that is a pointer.
+/// Returns the sentence about the first of two compared operands that is a pointer.
 fn compared(state: &AbsState, dst: Reg, operand: Operand) -> Option<Sentence>
     ensures { result ≡ option_or (compared_at state.now.registers (Some dst))
         (compared_at state.now.registers (of_operand operand)) }
@@ -87,7 +87,7 @@ fn compared(state: &AbsState, dst: Reg, operand: Operand) -> Option<Sentence>
     compared_at(state, of_operand(operand))
 }
 
-/// The base of an access is no pointer.
+/// Returns the sentence about an access whose base is not a pointer.
 fn no_base(state: &AbsState, base: Reg) -> Option<Sentence>
     ensures { result ≡ no_base state.now.registers base }
 {
@@ -95,7 +95,7 @@ fn no_base(state: &AbsState, base: Reg) -> Option<Sentence>
     Some(Sentence::Register(RegisterMisuse::NoBase(base, value)))
 }
 
-/// A pointer is stored, and not whole.
+/// Returns the sentence about a pointer that is not stored as a whole.
 fn stored_at(state: &AbsState, base: Reg, source: Option<Reg>) -> Option<Sentence>
     ensures { result ≡ stored_at state.now.registers base source }
 {
@@ -105,7 +105,7 @@ fn stored_at(state: &AbsState, base: Reg, source: Option<Reg>) -> Option<Sentenc
     Some(Sentence::Register(RegisterMisuse::Stored(r, value, base, at)))
 }
 
-/// What a store makes of a pointer, or without one.
+/// Returns the sentence about a store: of a pointer in part, or with a base that is not a pointer.
 fn store_misuse(state: &AbsState, base: Reg, source: Option<Reg>) -> Option<Sentence>
     ensures { result ≡ store_misuse state.now.registers base source (known_at state.now.registers base) }
 {
@@ -115,7 +115,7 @@ fn store_misuse(state: &AbsState, base: Reg, source: Option<Reg>) -> Option<Sent
     }
 }
 
-/// A pointer is used as it may not be.
+/// Returns the sentence about an instruction that misuses a pointer.
 pub(crate) fn pointer_misuse(insn: &Insn, state: &AbsState) -> Option<Sentence>
     ensures { result ≡ pointer_misuse insn.now state.now.registers }
 {

@@ -1,10 +1,10 @@
-//! The helpers' names.
+//! The names of helpers, as in assembly.
 ghost use Rattle.std.specs.Prelude.{◌≡◌};
 ghost use Rattle.explain.specs.Names.{helper_name};
 
 use helper::Helper;
 
-/// The names in assembly, in the order of the helpers.
+/// The names of helpers in assembly, in the order of the helpers' numbers.
 pub static HELPERS: [&'static str; 11] = [
     "board_get",
     "board_swap",
@@ -19,7 +19,7 @@ pub static HELPERS: [&'static str; 11] = [
     "pass_on",
 ];
 
-/// The name of a helper, as in assembly.
+/// Returns the name of a helper in assembly.
 #[tactic(auto, unfolding(crate::specs::Names::helper_name))]
 pub fn helper_name(helper: Helper) -> &'static str
     ensures { result.now ≡ helper_name helper }

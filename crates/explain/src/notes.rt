@@ -1,4 +1,4 @@
-//! Where what a refusal is about comes from, as notes.
+//! Writes the notes on a rejection: where its subject, a register or a cell, gets its value.
 ghost use Rattle.std.specs.Prelude.{◌≡◌, ◌<◌, ◌≤◌, ◌++◌, length, option_map, slice_get, string_bytes, OnOk};
 ghost use Rattle.explain.specs.Notes.{of_misuse, of_access, of_misfit, subject_of, found_text, noted_text, rule_behind, set_note, noted_if, passing_note, note_by, note_text, entry_note, notes_below, origin_notes, notes_on, number_notes};
 ghost use Rattle.explain.specs.Units.{written_in};
@@ -17,7 +17,7 @@ use reaching::{Subject, UnitMark, held_at, known_by, left_by, marks};
 use std::alloc::{AllocError, Global};
 use verify::AbsState;
 
-/// What a misuse is about.
+/// Returns the register that a misuse is about.
 fn of_misuse(misuse: RegisterMisuse) -> Option<Subject>
     ensures { result ≡ of_misuse misuse }
 {
@@ -34,7 +34,7 @@ fn of_misuse(misuse: RegisterMisuse) -> Option<Subject>
     }
 }
 
-/// What an access is about.
+/// Returns the register or the cell that a misuse of memory is about.
 fn of_access(access: AccessMisuse) -> Option<Subject>
     ensures { result ≡ of_access access }
 {
@@ -44,7 +44,7 @@ fn of_access(access: AccessMisuse) -> Option<Subject>
     }
 }
 
-/// What a call is about.
+/// Returns the register that a misfit of a call is about.
 fn of_misfit(misfit: Misfit) -> Option<Subject>
     ensures { result ≡ of_misfit misfit }
 {
@@ -54,7 +54,7 @@ fn of_misfit(misfit: Misfit) -> Option<Subject>
     }
 }
 
-/// What a sentence is about.
+/// Returns the subject of a sentence: the register or the cell that it is about.
 pub(crate) fn subject_of(sentence: &Sentence) -> Option<Subject>
     ensures { result ≡ subject_of sentence.now }
 {
@@ -66,7 +66,7 @@ pub(crate) fn subject_of(sentence: &Sentence) -> Option<Subject>
     }
 }
 
-/// Adds what is known of it.
+/// Appends what is known of the subject.
 #[inline(never)]
 fn put_found(out: &mut String, asked: &Subject, state: &AbsState) -> Result<(), AllocError>
     ensures { OnOk result (string_bytes out.new ≡ string_bytes out.old ++ found_text asked.now state.now) }
@@ -80,7 +80,7 @@ fn put_found(out: &mut String, asked: &Subject, state: &AbsState) -> Result<(), 
     }
 }
 
-/// Adds that an instruction is noted.
+/// Appends the beginning of a note on an instruction.
 fn put_noted(
     out: &mut String,
     written: &UnitTexts<'_>,
@@ -94,7 +94,7 @@ fn put_noted(
     put_insn_at(out, written, unit, insn)
 }
 
-/// Adds by which rule it is what is known behind an instruction.
+/// Appends the verifier's rule that made the result of an instruction uncertain, if the subject is a register.
 fn put_rule(
     out: &mut String,
     asked: &Subject,
@@ -109,7 +109,7 @@ fn put_rule(
     }
 }
 
-/// Adds what an instruction that set it left.
+/// Appends the note on an instruction that set the subject: the value that it left.
 fn put_set(
     out: &mut String,
     written: &UnitTexts<'_>,
@@ -128,7 +128,7 @@ fn put_set(
     put_rule(out, asked, insn, &left)
 }
 
-/// Adds an instruction that tells nothing of a register, if it is one.
+/// Appends the note that an instruction says nothing about the subject, if there is a reason why it does not.
 fn put_if(
     out: &mut String,
     written: &UnitTexts<'_>,
@@ -146,7 +146,7 @@ fn put_if(
     put_tells(out, tells)
 }
 
-/// Adds an instruction on a way there that tells nothing of it.
+/// Appends the note on an instruction that tests or copies the subject, if the verifier learns nothing about it there.
 fn put_passing(
     out: &mut String,
     written: &UnitTexts<'_>,
@@ -170,7 +170,7 @@ fn put_passing(
     }
 }
 
-/// Adds what is noted of a unit by its mark.
+/// Appends the note on an instruction, if its mark says that it sets the subject or lets it pass.
 fn put_note(
     out: &mut String,
     written: &UnitTexts<'_>,
@@ -190,7 +190,7 @@ fn put_note(
     }
 }
 
-/// The same where an instruction starts to which a path leads.
+/// Appends the note on a unit, if an instruction starts there and a path leads to it.
 fn put_note_at(
     out: &mut String,
     written: &UnitTexts<'_>,
@@ -212,7 +212,7 @@ fn put_note_at(
     put_note(out, written, asked, unit, &insn, state, mark)
 }
 
-/// Adds what is known at the entry, where a way leads from there on which nothing sets it.
+/// Appends what is known of the subject at the entry, if a path leads from there on which it is not set.
 fn put_entry(
     out: &mut String,
     asked: &Subject,
@@ -232,14 +232,14 @@ fn put_entry(
     put_found(out, asked, state)
 }
 
-/// The mark of a unit, if it has one.
+/// Returns the mark of a unit, if it has one.
 fn mark_at(marks: &[UnitMark], unit: usize) -> Option<UnitMark>
     ensures { result ≡ slice_get marks.now unit }
 {
     marks.get(unit).copied()
 }
 
-/// Adds the notes of the units below one.
+/// Appends the notes on the entry and on the units below `unit`.
 fn put_notes_below(
     out: &mut String,
     written: &UnitTexts<'_>,
@@ -269,7 +269,7 @@ fn put_notes_below(
     Ok(())
 }
 
-/// Before them those of what it was computed of, so many times at most.
+/// Appends the notes on the numbers from which the subject was computed, the deepest first, at most `most` levels deep.
 fn put_origin_notes(
     alloc: Global,
     out: &mut String,
@@ -306,7 +306,7 @@ fn put_origin_notes(
     put_notes_below(out, written, program, states, &asked, shown, origin.1)
 }
 
-/// Adds where what is asked about at a unit comes from, with its marks.
+/// Appends all notes on the subject at a unit, those on the numbers from which it was computed first.
 pub(crate) fn put_notes_on(
     alloc: Global,
     out: &mut String,
@@ -325,7 +325,7 @@ pub(crate) fn put_notes_on(
     put_notes_below(out, written, program, states, asked, marked, unit)
 }
 
-/// Adds where a number comes from, if there is one.
+/// Appends the notes on a number in a register, if there is one.
 pub(crate) fn put_number_notes(
     alloc: Global,
     out: &mut String,

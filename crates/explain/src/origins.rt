@@ -1,4 +1,4 @@
-//! Of which register a number was computed that may be above or below 0.
+//! Finds the register from which a number was computed, where that register's number may be above or below 0.
 ghost use Rattle.std.specs.Prelude.{◌≡◌, ◌<◌, IfSome, option_map, slice_get};
 ghost use Rattle.insn.specs.Program.{instruction_at};
 ghost use Rattle.reaching.specs.Marks.{known_by};
@@ -12,7 +12,7 @@ use reaching::{UnitMark, known_by};
 use verify::AbsState;
 use word::{Operation, Width};
 
-/// Whether it is a number that, read as signed, may be above or below 0.
+/// Checks whether a value is a number that, read as signed, may be above or below 0.
 fn is_either_sign(value: AbsVal) -> bool
     ensures { result ≡ is_either_sign value }
 {
@@ -22,7 +22,7 @@ fn is_either_sign(value: AbsVal) -> bool
     }
 }
 
-/// A register that is one.
+/// Returns the register, if it holds a number that may be above or below 0.
 fn number_at(state: &AbsState, register: Option<Reg>) -> Option<Reg>
     ensures { result ≡ number_at state.now.registers register }
 {
@@ -34,7 +34,8 @@ fn number_at(state: &AbsState, register: Option<Reg>) -> Option<Reg>
     }
 }
 
-/// The first that an operation reads.
+/// Returns the first register that an operation reads whose number may be above or below 0. Returns `None` for `arsh`,
+/// which has a rule of its own.
 fn computed_of(insn: &Insn, state: &AbsState) -> Option<Reg>
     ensures { result ≡ computed_of insn.now state.now.registers }
 {
@@ -56,7 +57,7 @@ fn computed_of(insn: &Insn, state: &AbsState) -> Option<Reg>
     }
 }
 
-/// Whether the instruction of a unit sets it.
+/// Checks whether the instruction of a unit sets the subject.
 pub(crate) fn is_set(marks: &[UnitMark], unit: usize) -> bool
     ensures { result ≡ is_set (slice_get marks.now unit) }
 {
@@ -66,7 +67,7 @@ pub(crate) fn is_set(marks: &[UnitMark], unit: usize) -> bool
     }
 }
 
-/// The last of the units below one that set it.
+/// Returns the last of the units below `unit` that sets the subject.
 pub(crate) fn last_set(marks: &[UnitMark], unit: usize) -> Option<usize>
     ensures set { result ≡ last_set marks.now unit }
     ensures below { IfSome result (λ n. n < unit) }
@@ -80,7 +81,8 @@ pub(crate) fn last_set(marks: &[UnitMark], unit: usize) -> Option<usize>
     last_set(marks, unit - 1)
 }
 
-/// The register of which an instruction computed it, with its unit.
+/// Returns the register from which the instruction of a unit computes its result, and the unit. Returns `None` if the
+/// number in that register is not one that may be above or below 0.
 fn origin_at(unit: usize, insn: Option<Insn>, state: Option<&AbsState>) -> Option<(Reg, usize)>
     ensures origin { result ≡ origin_at unit insn (option_map (λ a. a.now) state.entry) }
     ensures there { IfSome result (λ origin. origin.1 ≡ unit) }
@@ -95,7 +97,7 @@ fn origin_at(unit: usize, insn: Option<Insn>, state: Option<&AbsState>) -> Optio
     Some((r, unit))
 }
 
-/// The register of which the last unit that set it computed it, and that unit.
+/// Returns the register from which the last unit that set the subject computed it, and that unit.
 pub(crate) fn origin_of(
     program: &Program,
     states: &[Option<AbsState>],
@@ -109,7 +111,7 @@ pub(crate) fn origin_of(
     origin_at(place, program.at(place), known_by(states, place))
 }
 
-/// The number of a sum with a pointer that stands in the number's register.
+/// Returns the register of the number, if an instruction adds a pointer to a number in the number's register.
 fn summed(insn: &Insn, sentence: &Sentence) -> Option<Reg>
     ensures { result ≡ summed insn.now sentence.now }
 {
@@ -127,7 +129,7 @@ fn summed(insn: &Insn, sentence: &Sentence) -> Option<Reg>
     }
 }
 
-/// The same, where it may be above or below 0.
+/// Returns the register of a number to which an instruction adds a pointer, if the number may be above or below 0.
 pub(crate) fn other_number(
     insn: &Insn,
     state: Option<&AbsState>,

@@ -1,4 +1,4 @@
-//! Pointers that numbers move too far.
+//! Finds what is wrong with a sum or difference of a pointer and a number.
 ghost use Rattle.std.specs.Prelude.{◌≡◌, ◌+ℤ◌, ◌-ℤ◌};
 ghost use Rattle.absval.specs.Table.{in_a_row};
 ghost use Rattle.explain.specs.Shortfalls.{lowers, clamped, moved, either_sign, far, sum_misuse};
@@ -11,7 +11,7 @@ use insn::{Operand, Reg};
 use semantics::Region;
 use word::{Operation, Width};
 
-/// Whether an operation lowers a pointer, where it moves one.
+/// Returns whether the operation lowers a pointer. Returns `None` if it does not move pointers.
 fn lowers(width: Width, operation: Operation) -> Option<bool>
     ensures { result ≡ lowers width operation }
 {
@@ -22,7 +22,7 @@ fn lowers(width: Width, operation: Operation) -> Option<bool>
     }
 }
 
-/// The nearest number of 64 bits.
+/// Returns the nearest signed number of 64 bits.
 fn clamped(z: i128) -> i64
     ensures { result ≡ clamped z }
 {
@@ -35,21 +35,21 @@ fn clamped(z: i128) -> i64
     }
 }
 
-/// An offset, a number on.
+/// Returns an offset plus a number, limited to 64 bits.
 fn raised(offset: i32, by: i64) -> i64
     ensures { result ≡ clamped (offset +ℤ by) }
 {
     clamped(i128::from(offset) + i128::from(by))
 }
 
-/// An offset, a number back.
+/// Returns an offset minus a number, limited to 64 bits.
 fn lowered(offset: i32, by: i64) -> i64
     ensures { result ≡ clamped (offset -ℤ by) }
 {
     clamped(i128::from(offset) - i128::from(by))
 }
 
-/// Where offsets lead, moved by numbers from the least to the greatest.
+/// Returns the offsets that result if these offsets are raised or lowered by numbers from `least` to `greatest`.
 fn moved(down: bool, offsets: Offsets, least: i64, greatest: i64) -> NumberSpan
     ensures { result ≡ moved down offsets (least, greatest) }
 {
@@ -62,7 +62,7 @@ fn moved(down: bool, offsets: Offsets, least: i64, greatest: i64) -> NumberSpan
     }
 }
 
-/// A number of either sign moves a pointer: the register that it is in.
+/// Returns the sentence about a number of either sign that moves a pointer, if it is in a register.
 fn either_sign(register: Option<Reg>, numbers: NumberSet) -> Option<Sentence>
     ensures { result ≡ either_sign register numbers }
 {
@@ -70,7 +70,7 @@ fn either_sign(register: Option<Reg>, numbers: NumberSet) -> Option<Sentence>
     Some(Sentence::Register(RegisterMisuse::EitherSign(r, AbsVal::Number(numbers))))
 }
 
-/// A pointer in a register that numbers move.
+/// A pointer in a register, and whether it is lowered.
 #[derive(Clone, Copy)]
 struct Start {
     down: bool,
@@ -79,7 +79,7 @@ struct Start {
     offsets: Offsets,
 }
 
-/// The pointer is moved by the operand, whose numbers are these.
+/// Returns the sentence about a pointer that a number moves: the number has either sign, or the pointer leads too far.
 fn far(pointer: Start, operand: Operand, numbers: NumberSet) -> Option<Sentence>
     ensures { result ≡ far pointer.down pointer.dst pointer.region pointer.offsets operand numbers
         (in_a_row numbers.range) }
@@ -91,7 +91,7 @@ fn far(pointer: Start, operand: Operand, numbers: NumberSet) -> Option<Sentence>
     Some(Sentence::Register(RegisterMisuse::Far(pointer.dst, pointer.region, span)))
 }
 
-/// A pointer and a number, of which a sum or difference is made.
+/// Returns the sentence about a sum or difference of a pointer and a number.
 pub(crate) fn sum_misuse(
     how: (Width, Operation),
     dst: Reg,

@@ -1,4 +1,4 @@
-//! What an instruction may touch of memory.
+//! Finds the memory that an instruction accesses: the base register, the distance and the number of bytes.
 ghost use Rattle.std.specs.Prelude.{◌≡◌, ◌≤◌, ◌-◌, ◌+ℤ◌, pos, IfSome};
 ghost use Rattle.semantics.specs.Call.{helper_of};
 ghost use Rattle.explain.specs.Shortfalls.{counted, call_reach, reach_of, touched};
@@ -11,7 +11,7 @@ use insn::{Insn, Reg, Size, bytes_of_part};
 use verify::AbsState;
 use word::Narrow;
 
-/// Through which register, how far from it and how many bytes are accessed.
+/// The memory that an instruction accesses: the base register, the distance from it, and the number of bytes.
 #[derive(Clone, Copy)]
 pub(crate) struct Reach {
     pub base: Reg,
@@ -19,7 +19,8 @@ pub(crate) struct Reach {
     pub size: usize,
 }
 
-/// A word or an order for each of a count, from r2 on.
+/// Returns the memory that a call accesses from r2 on: `size` bytes for each item of the greatest count. Returns `None`
+/// if the count is not a number up to 64.
 fn counted(size: Size, count: AbsVal) -> Option<Reach>
     ensures reach { result ≡ counted size count }
     ensures few { IfSome result (λ reach. reach.size ≤ 512) }
@@ -37,7 +38,8 @@ fn counted(size: Size, count: AbsVal) -> Option<Reach>
     })
 }
 
-/// What the helper of a number reaches, with what is known of the count.
+/// Returns the memory that the helper with this number accesses, from what is known of its count. Returns `None` if it
+/// accesses none.
 fn call_reach(number: i32, count: AbsVal) -> Option<Reach>
     ensures reach { result ≡ call_reach (helper_of number) count }
     ensures few { IfSome result (λ reach. reach.size ≤ 512) }
@@ -49,7 +51,7 @@ fn call_reach(number: i32, count: AbsVal) -> Option<Reach>
     }
 }
 
-/// What an instruction reaches of memory.
+/// Returns the memory that an instruction accesses, if it accesses any. It has at most 512 bytes.
 pub(crate) fn reach_of(insn: &Insn, state: &AbsState) -> Option<Reach>
     ensures reach { result ≡ reach_of insn.now state.now.registers }
     ensures few { IfSome result (λ reach. reach.size ≤ 512) }
@@ -86,14 +88,15 @@ pub(crate) fn reach_of(insn: &Insn, state: &AbsState) -> Option<Reach>
     }
 }
 
-/// The first offset that may be touched.
+/// Returns the first offset that an access at `distance` from `offset` may touch.
 fn first_touched(offset: i32, distance: i16) -> i64
     ensures { result ≡ offset +ℤ distance }
 {
     i64::from(offset) + i64::from(distance)
 }
 
-/// The last of so many bytes from there on that may be touched; of none the place itself.
+/// Returns the last offset that an access of `size` bytes at `distance` from `offset` may touch. For no bytes, returns
+/// the offset at which they would be.
 fn last_touched(offset: i32, distance: i16, size: usize) -> i64
     requires { size ≤ 512 }
     ensures { result ≡ (offset +ℤ distance) +ℤ pos (size - 1) }
@@ -105,7 +108,7 @@ fn last_touched(offset: i32, distance: i16, size: usize) -> i64
     first + (size - 1) as i64
 }
 
-/// The offsets that may be touched from these on.
+/// Returns the offsets that an access may touch through a pointer with these offsets.
 pub(crate) fn touched(offsets: Offsets, reach: &Reach) -> NumberSpan
     requires { reach.now.size ≤ 512 }
     ensures { result ≡ touched offsets reach.now }

@@ -1,4 +1,4 @@
-//! Why a program is refused, as text.
+//! Writes the sentence that says why a program is rejected.
 ghost use Rattle.std.specs.Prelude.{◌≡◌, ◌++◌, codes, decimal, string_bytes, OnOk};
 ghost use Rattle.std.specs.Fmt.{signed_decimal};
 ghost use Rattle.explain.specs.Sentences.{leads_text, structure_text, place_text, reached_text, would_text, named_text, limit_text, misuse_text, extent_text, access_text, above_text, pointer_text, past_text, no_helper_text, numbers_text, together_text, misfit_text, sentence_text};
@@ -14,7 +14,7 @@ use insn::Reg;
 use semantics::Region;
 use std::alloc::AllocError;
 
-/// Adds a register by its name.
+/// Appends the name of a register.
 pub(crate) fn put_register(out: &mut String, r: Reg) -> Result<(), AllocError>
     ensures { OnOk result (string_bytes out.new ≡ string_bytes out.old ++ (codes "r" ++ decimal r)) }
 {
@@ -22,7 +22,7 @@ pub(crate) fn put_register(out: &mut String, r: Reg) -> Result<(), AllocError>
     put_unsigned(out, u64::from(r.number()))
 }
 
-/// Adds a register by its name, and what is known of it.
+/// Appends the name of a register, and what is known of it.
 pub(crate) fn put_named(out: &mut String, r: Reg, value: AbsVal) -> Result<(), AllocError>
     ensures { OnOk result (string_bytes out.new ≡ string_bytes out.old ++ named_text r value) }
 {
@@ -31,7 +31,7 @@ pub(crate) fn put_named(out: &mut String, r: Reg, value: AbsVal) -> Result<(), A
     put_known(out, value)
 }
 
-/// Adds a register, what is known of it, and a text.
+/// Appends the name of a register, what is known of it, and a text.
 fn put_so(out: &mut String, r: Reg, value: AbsVal, text: &str) -> Result<(), AllocError>
     ensures { OnOk result (string_bytes out.new ≡ string_bytes out.old ++ (named_text r value ++ text.now)) }
 {
@@ -39,7 +39,7 @@ fn put_so(out: &mut String, r: Reg, value: AbsVal, text: &str) -> Result<(), All
     put(out, text)
 }
 
-/// Adds a text and a number.
+/// Appends a text and a number.
 pub(crate) fn put_counted(out: &mut String, text: &str, number: u64) -> Result<(), AllocError>
     ensures { OnOk result (string_bytes out.new ≡ string_bytes out.old ++ (text.now ++ decimal number)) }
 {
@@ -47,7 +47,7 @@ pub(crate) fn put_counted(out: &mut String, text: &str, number: u64) -> Result<(
     put_unsigned(out, number)
 }
 
-/// Adds a text and a number of either sign.
+/// Appends a text and a signed number.
 fn put_signed(out: &mut String, text: &str, number: i64) -> Result<(), AllocError>
     ensures { OnOk result (string_bytes out.new ≡ string_bytes out.old ++ (text.now ++ signed_decimal number)) }
 {
@@ -55,7 +55,7 @@ fn put_signed(out: &mut String, text: &str, number: i64) -> Result<(), AllocErro
     put_number(out, number)
 }
 
-/// Adds a number between two texts.
+/// Appends a number between two texts.
 pub(crate) fn put_between(
     out: &mut String,
     front: &str,
@@ -69,7 +69,7 @@ pub(crate) fn put_between(
     put(out, behind)
 }
 
-/// The same of a number of either sign.
+/// Appends a signed number between two texts.
 pub(crate) fn put_signed_between(
     out: &mut String,
     front: &str,
@@ -84,7 +84,7 @@ pub(crate) fn put_signed_between(
     put(out, behind)
 }
 
-/// Adds where a jump leads.
+/// Appends the unit that a jump leads to.
 #[tactic(auto, unfolding(crate::specs::Sentences::leads_text))]
 fn put_target(out: &mut String, to: i64) -> Result<(), AllocError>
     ensures { OnOk result (string_bytes out.new ≡ string_bytes out.old ++ leads_text to) }
@@ -92,7 +92,7 @@ fn put_target(out: &mut String, to: i64) -> Result<(), AllocError>
     put_signed(out, "the jump leads to unit ", to)
 }
 
-/// The same, and a text.
+/// Appends the unit that a jump leads to, and a text.
 fn put_leads(out: &mut String, to: i64, text: &str) -> Result<(), AllocError>
     ensures { OnOk result (string_bytes out.new ≡ string_bytes out.old ++ (leads_text to ++ text.now)) }
 {
@@ -100,7 +100,7 @@ fn put_leads(out: &mut String, to: i64, text: &str) -> Result<(), AllocError>
     put(out, text)
 }
 
-/// Adds where a jump leads that is at fault.
+/// Appends the sentence about the structure of a program: a jump at fault, or a missing exit.
 fn put_structure(out: &mut String, structure: Structure) -> Result<(), AllocError>
     ensures { OnOk result (string_bytes out.new ≡ string_bytes out.old ++ structure_text structure) }
 {
@@ -115,7 +115,7 @@ fn put_structure(out: &mut String, structure: Structure) -> Result<(), AllocErro
     }
 }
 
-/// Adds a part of a region.
+/// Appends a part of a region.
 #[tactic(auto, unfolding(crate::specs::Sentences::place_text))]
 fn put_part(out: &mut String, region: Region, span: NumberSpan) -> Result<(), AllocError>
     ensures { OnOk result (string_bytes out.new ≡ string_bytes out.old ++ place_text region span) }
@@ -126,7 +126,7 @@ fn put_part(out: &mut String, region: Region, span: NumberSpan) -> Result<(), Al
     put_span(out, span)
 }
 
-/// Adds what may be reached through a register, and a text.
+/// Appends what may be reached through a register, and a text.
 #[tactic(auto, unfolding(crate::specs::Sentences::reached_text))]
 fn put_reached(
     out: &mut String,
@@ -143,14 +143,14 @@ fn put_reached(
     put(out, text)
 }
 
-/// How far a pointer may point, on the side where it points too far.
+/// Returns the limit of a pointer's offset on the side on which the pointer leads too far.
 fn limit(high: i64) -> &'static str
     ensures { result.now ≡ limit_text high }
 {
     if high > 65_536 { "65536" } else { "-65536" }
 }
 
-/// Adds that a register would point.
+/// Appends that a register would point somewhere.
 #[tactic(auto, unfolding(crate::specs::Sentences::would_text))]
 fn put_would(out: &mut String, r: Reg) -> Result<(), AllocError>
     ensures { OnOk result (string_bytes out.new ≡ string_bytes out.old ++ would_text r) }
@@ -159,7 +159,7 @@ fn put_would(out: &mut String, r: Reg) -> Result<(), AllocError>
     put(out, " would point")
 }
 
-/// Adds a part of a region, and how far a pointer may point.
+/// Appends a part of a region, and the limit that it passes.
 #[tactic(auto, unfolding(crate::specs::Sentences::past_text))]
 fn put_past(out: &mut String, region: Region, span: NumberSpan) -> Result<(), AllocError>
     ensures { OnOk result (string_bytes out.new ≡ string_bytes out.old ++ past_text region span) }
@@ -169,7 +169,7 @@ fn put_past(out: &mut String, region: Region, span: NumberSpan) -> Result<(), Al
     put(out, limit(span.high))
 }
 
-/// Adds that a register would point too far.
+/// Appends that a register would point too far.
 fn put_far(out: &mut String, r: Reg, region: Region, span: NumberSpan) -> Result<(), AllocError>
     ensures { OnOk result (string_bytes out.new ≡ string_bytes out.old ++ misuse_text (RegisterMisuse.Far r region span)) }
 {
@@ -178,7 +178,7 @@ fn put_far(out: &mut String, r: Reg, region: Region, span: NumberSpan) -> Result
     put_past(out, region, span)
 }
 
-/// Adds that a pointer is stored, and not whole.
+/// Appends that a pointer is not stored as a whole.
 fn put_stored(
     out: &mut String,
     r: Reg,
@@ -197,7 +197,7 @@ fn put_stored(
     )
 }
 
-/// Adds how a register is used.
+/// Appends the sentence about a misuse of a register.
 fn put_misuse(out: &mut String, misuse: RegisterMisuse) -> Result<(), AllocError>
     ensures { OnOk result (string_bytes out.new ≡ string_bytes out.old ++ misuse_text misuse) }
 {
@@ -240,7 +240,7 @@ fn put_misuse(out: &mut String, misuse: RegisterMisuse) -> Result<(), AllocError
     }
 }
 
-/// From which offset to which a region has bytes.
+/// Returns the first and the last offset of a region's bytes, as text.
 fn extent(region: Region) -> &'static str
     ensures { result.now ≡ extent_text region }
 {
@@ -250,7 +250,7 @@ fn extent(region: Region) -> &'static str
     }
 }
 
-/// Adds what an access may touch.
+/// Appends the sentence about a misuse of memory.
 fn put_access(out: &mut String, access: AccessMisuse) -> Result<(), AllocError>
     ensures { OnOk result (string_bytes out.new ≡ string_bytes out.old ++ access_text access) }
 {
@@ -267,7 +267,7 @@ fn put_access(out: &mut String, access: AccessMisuse) -> Result<(), AllocError>
     }
 }
 
-/// Adds up to which number a helper takes one.
+/// Appends the greatest number that a helper accepts as an argument.
 #[tactic(auto, unfolding(crate::specs::Sentences::above_text))]
 fn put_above(out: &mut String, helper: Helper, most: u64) -> Result<(), AllocError>
     ensures { OnOk result (string_bytes out.new ≡ string_bytes out.old ++ above_text helper most) }
@@ -276,7 +276,7 @@ fn put_above(out: &mut String, helper: Helper, most: u64) -> Result<(), AllocErr
     put_between(out, " takes a number up to ", most, " there")
 }
 
-/// Adds that a helper takes a pointer.
+/// Appends that a helper accepts only a pointer as an argument.
 #[tactic(auto, unfolding(crate::specs::Sentences::pointer_text))]
 fn put_pointer(out: &mut String, helper: Helper) -> Result<(), AllocError>
     ensures { OnOk result (string_bytes out.new ≡ string_bytes out.old ++ pointer_text helper) }
@@ -285,7 +285,7 @@ fn put_pointer(out: &mut String, helper: Helper) -> Result<(), AllocError>
     put(out, " takes a pointer there")
 }
 
-/// What is said of a number that no helper has.
+/// Returns the beginning of the sentence about a number that no helper has.
 #[tactic(auto, unfolding(crate::specs::Sentences::no_helper_text))]
 fn no_helper() -> &'static str
     ensures { result.now ≡ no_helper_text }
@@ -293,7 +293,7 @@ fn no_helper() -> &'static str
     "no helper has the number "
 }
 
-/// Adds which numbers helpers have.
+/// Appends which numbers helpers have.
 #[tactic(auto, unfolding(crate::specs::Sentences::numbers_text))]
 fn put_numbers(out: &mut String) -> Result<(), AllocError>
     ensures { OnOk result (string_bytes out.new ≡ string_bytes out.old ++ numbers_text) }
@@ -301,7 +301,7 @@ fn put_numbers(out: &mut String) -> Result<(), AllocError>
     put_counted(out, ": they are 1 to ", HELPERS.len() as u64)
 }
 
-/// Adds that no helper has a number, and which they have.
+/// Appends that no helper has a number, and which numbers helpers have.
 fn put_no_helper(out: &mut String, number: i32) -> Result<(), AllocError>
     ensures { OnOk result (string_bytes out.new ≡ string_bytes out.old ++ misfit_text (Misfit.Helper number)) }
 {
@@ -309,7 +309,7 @@ fn put_no_helper(out: &mut String, number: i32) -> Result<(), AllocError>
     put_numbers(out)
 }
 
-/// What is said of slot and count together.
+/// Returns the beginning of the sentence about slot and count together.
 #[tactic(auto, unfolding(crate::specs::Sentences::together_text))]
 fn together() -> &'static str
     ensures { result.now ≡ together_text }
@@ -317,7 +317,7 @@ fn together() -> &'static str
     "r1 and r3 together may be "
 }
 
-/// Adds what a call asks.
+/// Appends the sentence about a misfit of a call.
 fn put_misfit(out: &mut String, misfit: Misfit) -> Result<(), AllocError>
     ensures { OnOk result (string_bytes out.new ≡ string_bytes out.old ++ misfit_text misfit) }
 {
@@ -335,7 +335,7 @@ fn put_misfit(out: &mut String, misfit: Misfit) -> Result<(), AllocError>
     }
 }
 
-/// Adds a sentence.
+/// Appends the text of a sentence.
 pub(crate) fn put_sentence_text(out: &mut String, sentence: Sentence) -> Result<(), AllocError>
     ensures { OnOk result (string_bytes out.new ≡ string_bytes out.old ++ sentence_text sentence) }
 {

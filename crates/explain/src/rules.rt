@@ -1,4 +1,4 @@
-//! Which rule of the verifier an instruction meets that leaves a register unknown, or tells nothing of it.
+//! Finds the rule by which the verifier knows little of an instruction's result, or learns nothing from a test.
 ghost use Rattle.std.specs.Prelude.{◌≡◌, ◌^◌, ◌-◌, ◌++◌, string_bytes, OnOk};
 ghost use Rattle.word.specs.Arithmetic.{bits_of};
 ghost use Rattle.explain.specs.Rules.{may_wrap, is_all, number_rule, unset_rule, rule_text, is_signed, limit_bits, is_past, is_operand, passed_by, tested_text, passing_text};
@@ -10,7 +10,7 @@ use range::Range;
 use std::alloc::AllocError;
 use word::{Condition, Operation, Width};
 
-/// Whether a result that is too large for its width wraps around.
+/// Checks whether a result of the operation that is too large for its width wraps around.
 fn may_wrap(operation: Operation) -> bool
     ensures { result ≡ may_wrap operation }
 {
@@ -20,14 +20,15 @@ fn may_wrap(operation: Operation) -> bool
     }
 }
 
-/// Whether the range has every number of the width.
+/// Checks whether the range has every number of the width.
 fn is_all(width: Width, range: Range) -> bool
     ensures { result ≡ is_all (bits_of width) range }
 {
     range.lo == 0 && range.hi == limit(width, false)
 }
 
-/// Of one that left these numbers.
+/// Returns the rule for an instruction whose result is a number, by what is known of the number. The text is empty if
+/// there is no such rule.
 fn number_rule(insn: &Insn, numbers: NumberSet) -> &'static str
     ensures { result.now ≡ number_rule insn.now numbers }
 {
@@ -53,7 +54,7 @@ fn number_rule(insn: &Insn, numbers: NumberSet) -> &'static str
     }
 }
 
-/// Of one that left nothing.
+/// Returns the rule for an instruction that leaves a register unset. The text is empty if there is no such rule.
 fn unset_rule(insn: &Insn) -> &'static str
     ensures { result.now ≡ unset_rule insn.now }
 {
@@ -63,7 +64,8 @@ fn unset_rule(insn: &Insn) -> &'static str
     }
 }
 
-/// Of an instruction that set a register, by what is known behind it.
+/// Returns the rule for an instruction that set a register, by what is known of its result. The text is empty if there
+/// is no such rule.
 pub(crate) fn rule_text(insn: &Insn, value: AbsVal) -> &'static str
     ensures { result.now ≡ rule_text insn.now value }
 {
@@ -74,7 +76,7 @@ pub(crate) fn rule_text(insn: &Insn, value: AbsVal) -> &'static str
     }
 }
 
-/// Whether a condition reads its numbers as signed.
+/// Checks whether a condition reads its numbers as signed.
 fn is_signed(condition: Condition) -> bool
     ensures { result ≡ is_signed condition }
 {
@@ -87,7 +89,8 @@ fn is_signed(condition: Condition) -> bool
     }
 }
 
-/// A test tells of numbers that are known to be below 2 to so many.
+/// Returns the exponent of the limit of a test: the verifier learns only about numbers known to be below 2 to this
+/// power.
 fn limit_bits(width: Width, signed: bool) -> u8
     ensures { result ≡ limit_bits width signed }
 {
@@ -99,7 +102,7 @@ fn limit_bits(width: Width, signed: bool) -> u8
     }
 }
 
-/// The greatest number of which a test tells.
+/// Returns the greatest number about which a test says anything.
 fn limit(width: Width, signed: bool) -> u64
     ensures { result ≡ 2 ^ limit_bits width signed - 1 }
 {
@@ -111,7 +114,7 @@ fn limit(width: Width, signed: bool) -> u64
     }
 }
 
-/// Whether a number may be one of which a test does not tell.
+/// Checks whether a value may be a number that is past the limit of a test.
 fn is_past(width: Width, signed: bool, value: AbsVal) -> bool
     ensures { result ≡ is_past (limit_bits width signed) value }
 {
@@ -121,16 +124,16 @@ fn is_past(width: Width, signed: bool, value: AbsVal) -> bool
     numbers.greatest() > limit(width, signed)
 }
 
-/// An instruction that tells nothing of a register.
+/// The reason for which an instruction says nothing about a register.
 #[derive(Clone, Copy)]
 pub(crate) enum Passing {
-    /// A test, which tells of numbers that are known to be below 2 to so many.
+    /// The instruction is a test. It says something only about numbers that are known to be below 2 to this power.
     Test(u8),
-    /// A copy to this register.
+    /// The instruction is a copy to this register. A test of the copy says nothing about the original.
     Copied(Reg),
 }
 
-/// What is said of a test.
+/// Returns the beginning of the reason for a test.
 #[tactic(auto, unfolding(crate::specs::Rules::tested_text))]
 fn tested() -> &'static str
     ensures { result.now ≡ tested_text }
@@ -138,7 +141,7 @@ fn tested() -> &'static str
     ": such a test tells only of numbers that are known to be below 2^"
 }
 
-/// Adds what such an instruction tells nothing of.
+/// Appends the reason for which an instruction says nothing about a register.
 pub(crate) fn put_tells(out: &mut String, tells: Passing) -> Result<(), AllocError>
     ensures { OnOk result (string_bytes out.new ≡ string_bytes out.old ++ passing_text tells) }
 {
@@ -153,7 +156,7 @@ pub(crate) fn put_tells(out: &mut String, tells: Passing) -> Result<(), AllocErr
     }
 }
 
-/// Whether an operand is a register.
+/// Checks whether an operand is register `r`.
 fn is_operand(r: Reg, operand: Operand) -> bool
     ensures { result ≡ is_operand r operand }
 {
@@ -163,7 +166,8 @@ fn is_operand(r: Reg, operand: Operand) -> bool
     }
 }
 
-/// A test of a register that tells nothing of it, or a copy of it, of which another test does not.
+/// Returns why an instruction says nothing about register `r`, if it does not. Either it tests `r`, which may be past
+/// the limit of the test, or it copies `r`, and a test of the copy says nothing about `r`.
 pub(crate) fn passed_by(r: Reg, insn: &Insn, value: AbsVal) -> Option<Passing>
     ensures { result ≡ passed_by r insn.now value }
 {

@@ -1,4 +1,4 @@
-//! Why a program is refused.
+//! The sentence that says why a program is rejected, as data.
 
 use crate::values::NumberSpan;
 use absval::AbsVal;
@@ -6,71 +6,75 @@ use helper::Helper;
 use insn::Reg;
 use semantics::Region;
 
-/// Which register or cell a refusal is about, what was known of it, and what it misses.
+/// Why a program is rejected: the register or cell at fault, what was known of it, and what is missing.
 #[derive(Clone, Copy)]
 pub enum Sentence {
+    /// The program's structure is at fault: a jump, or the last instruction.
     Structure(Structure),
+    /// A register is misused.
     Register(RegisterMisuse),
+    /// Memory is misused.
     Memory(AccessMisuse),
+    /// A call does not fit its helper.
     Call(Misfit),
 }
 
-/// Where a jump leads that is at fault, in units.
+/// A fault of a program's structure. The first number, if there is one, is the unit that a jump leads to.
 #[derive(Clone, Copy)]
 pub enum Structure {
-    /// To its own unit or one before.
+    /// The jump leads to its own unit or an earlier one.
     Back(i64),
-    /// Past the end of a program of so many units.
+    /// The jump leads past the end of the program. The second number is the program's number of units.
     Out(i64, usize),
-    /// Into the second half of a wide instruction.
+    /// The jump leads into the second half of a wide instruction.
     Inside(i64),
-    /// It is no jump: the last instruction is no exit.
+    /// The last instruction is not the exit. No jump is at fault.
     NoExit,
 }
 
-/// A register that is used as it may not be, with what is known of it.
+/// A misuse of a register, with what is known of the register.
 #[derive(Clone, Copy)]
 pub enum RegisterMisuse {
-    /// Nothing is known of it: it may be unset, or of different kinds on different ways.
+    /// The register may be unset, or of different kinds on different paths.
     Unset(Reg),
-    /// r10 is written.
+    /// The program writes r10.
     Frame,
-    /// It would point so far.
+    /// The register would point too far: to these offsets of the region.
     Far(Reg, Region, NumberSpan),
-    /// It moves a pointer, and may have either sign.
+    /// The register moves a pointer, and its number may be above or below 0.
     EitherSign(Reg, AbsVal),
-    /// It is a pointer, of which something is computed.
+    /// The register is a pointer, and something is computed from it.
     Computed(Reg, AbsVal),
-    /// It is a pointer that is compared.
+    /// The register is a pointer, and is compared.
     Compared(Reg, AbsVal),
-    /// It is a pointer that is stored at the second one, and not whole.
+    /// The first register is a pointer, and is not stored as a whole. The second is the base of the store.
     Stored(Reg, AbsVal, Reg, AbsVal),
-    /// It is a number, and the base of an access.
+    /// The register is the base of an access, and not a pointer.
     NoBase(Reg, AbsVal),
-    /// It is r0, and a pointer at the exit.
+    /// The program exits with a pointer in r0.
     Exit(AbsVal),
 }
 
-/// What an access through a register may touch.
+/// A misuse of memory through a register. It has the offsets that may be touched, or what is known of the register.
 #[derive(Clone, Copy)]
 pub enum AccessMisuse {
-    /// Bytes outside the region.
+    /// The access may touch bytes outside the region.
     Outside(Reg, Region, NumberSpan),
-    /// Cells of the stack, of which this one may hold no byte, counted from the lowest.
+    /// The access reads the stack, and this cell, counted from the lowest, may hold no byte.
     Empty(Reg, NumberSpan, u16),
-    /// The context, which is written.
+    /// The access is a store to the context.
     Context(Reg, AbsVal),
 }
 
-/// What a call asks that may not be.
+/// An argument of a call that does not fit its helper, or a number that no helper has.
 #[derive(Clone, Copy)]
 pub enum Misfit {
-    /// No helper has the number.
+    /// No helper has this number.
     Helper(i32),
-    /// The helper takes a number up to this one in the register.
+    /// The helper accepts a number up to this one in the register.
     Above(Helper, Reg, AbsVal, u64),
-    /// The helper takes a pointer in the register.
+    /// The helper accepts a pointer in the register.
     NoPointer(Helper, Reg, AbsVal),
-    /// Slot and count together may be so much.
+    /// The sum of slot and count may be as great as this number, and the board has 64 words.
     Board(u64),
 }

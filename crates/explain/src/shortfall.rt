@@ -1,4 +1,4 @@
-//! What an instruction misses where it is refused.
+//! Finds what is missing at a rejected instruction, from the reason of its fault.
 ghost use Rattle.std.specs.Prelude.{◌≡◌, IfSome};
 ghost use Rattle.explain.specs.Shortfalls.{shortfall, reached, outside, empty_cell, context_written};
 
@@ -11,7 +11,7 @@ use helper::reads::{numbered, read_by};
 use insn::Insn;
 use verify::{AbsState, Reason};
 
-/// An access that may leave its region.
+/// Returns the sentence about an access that may leave its region.
 fn outside_of(insn: &Insn, state: &AbsState) -> Option<Sentence>
     ensures { result ≡ reached outside insn.now state.now.registers }
 {
@@ -19,7 +19,7 @@ fn outside_of(insn: &Insn, state: &AbsState) -> Option<Sentence>
     outside(reach, state.known(reach.base))
 }
 
-/// A load of a cell that may hold no byte.
+/// Returns the sentence about a read of stack cells, one of which may hold no byte.
 fn empty_of(insn: &Insn, state: &AbsState) -> Option<Sentence>
     ensures { result ≡ reached (empty_cell state.now.stack) insn.now state.now.registers }
 {
@@ -27,7 +27,7 @@ fn empty_of(insn: &Insn, state: &AbsState) -> Option<Sentence>
     empty_cell(&state.stack, reach, state.known(reach.base))
 }
 
-/// A store to the context.
+/// Returns the sentence about a store to the context.
 fn written_of(insn: &Insn, state: &AbsState) -> Option<Sentence>
     ensures { result ≡ reached context_written insn.now state.now.registers }
 {
@@ -35,7 +35,8 @@ fn written_of(insn: &Insn, state: &AbsState) -> Option<Sentence>
     context_written(reach, state.known(reach.base))
 }
 
-/// What an instruction misses, by the reason of its fault and what is known there.
+/// Returns the sentence that says what is missing at an instruction, from the reason of its fault and what is known
+/// there.
 pub(crate) fn shortfall(reason: Reason, insn: &Insn, state: &AbsState) -> Option<Sentence>
     ensures { result ≡ shortfall reason insn.now state.now }
 {

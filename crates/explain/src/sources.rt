@@ -1,4 +1,4 @@
-//! What a cell of the stack holds, and from which units.
+//! Finds what a stack cell holds at a unit, and the units that set it.
 ghost use Rattle.std.specs.Prelude.{◌≡◌, ◌<◌, ◌++◌, string_bytes, IfOk, OnOk};
 ghost use Rattle.explain.specs.Sources.{set_below, sources, further_text, from_text};
 ghost use Rattle.explain.specs.Here.{Stands, known_of, held_here, same_held};
@@ -11,7 +11,7 @@ use reaching::{CellContent, Column, UnitMark, cell_marks, held_at};
 use std::alloc::{AllocError, Global};
 use verify::AbsState;
 
-/// What a cell holds, and the units that set it last on the ways that lead there.
+/// What a cell holds, and the units that set it last on the paths that lead there.
 #[derive(Drop)]
 pub(crate) struct Held {
     pub content: CellContent,
@@ -19,7 +19,7 @@ pub(crate) struct Held {
 }
 
 impl Held {
-    /// Whether another holds the same from the same units.
+    /// Checks whether another cell holds the same content from the same units.
     pub(crate) fn is_same(&self, other: &Held) -> bool
         ensures { result ≡ same_held self.now other.now }
     {
@@ -27,7 +27,7 @@ impl Held {
     }
 }
 
-/// A program, what is known at its units, and which of them set each cell of the stack.
+/// A program, what is known at each of its units, and the units that set each cell of the stack.
 #[derive(Clone, Copy)]
 pub(crate) struct Surveyed<'a> {
     pub program: &'a Program,
@@ -35,7 +35,7 @@ pub(crate) struct Surveyed<'a> {
     pub columns: &'a [Column],
 }
 
-/// One of its units, and what is known of the stack there.
+/// A unit of a surveyed program, and what is known of the stack there.
 #[derive(Clone, Copy)]
 pub(crate) struct Here<'a> {
     pub surveyed: Surveyed<'a>,
@@ -43,7 +43,7 @@ pub(crate) struct Here<'a> {
     pub stack: &'a AbsStack,
 }
 
-/// Those of the first so many units that set it.
+/// Returns the units below `unit` that set the subject, ascending. Fails with `AllocError` if memory runs out.
 fn set_below(alloc: Global, marks: &[UnitMark], unit: usize) -> Result<Vec<usize>, AllocError>
     ensures { IfOk result (λ vec. vec.items ≡ set_below marks.now unit) }
 {
@@ -56,7 +56,8 @@ fn set_below(alloc: Global, marks: &[UnitMark], unit: usize) -> Result<Vec<usize
     Ok(units)
 }
 
-/// The units that set a cell last on the ways that lead there.
+/// Returns the units that set a cell last on the paths that lead to the unit. Fails with `AllocError` if memory runs
+/// out.
 fn sources(alloc: Global, here: &Here<'_>, cell: usize) -> Result<Vec<usize>, AllocError>
     requires stands { Stands here.now }
     requires inside { cell < 512 }
@@ -73,7 +74,7 @@ fn sources(alloc: Global, here: &Here<'_>, cell: usize) -> Result<Vec<usize>, Al
     set_below(alloc, marks.as_slice(), here.unit)
 }
 
-/// What a cell holds there.
+/// Returns what a cell holds at the unit, and the units that set it. Fails with `AllocError` if memory runs out.
 pub(crate) fn held_here(alloc: Global, here: &Here<'_>, cell: usize) -> Result<Held, AllocError>
     requires stands { Stands here.now }
     requires inside { cell < 512 }
@@ -84,7 +85,7 @@ pub(crate) fn held_here(alloc: Global, here: &Here<'_>, cell: usize) -> Result<H
     Ok(Held { content, units })
 }
 
-/// Adds further units, so many at most.
+/// Appends the units after the first, at most `most` of them, and the closing bracket.
 fn put_further(out: &mut String, units: &[usize], most: usize) -> Result<(), AllocError>
     ensures { OnOk result (string_bytes out.new ≡ string_bytes out.old ++ further_text most units.now) }
 {
@@ -99,7 +100,7 @@ fn put_further(out: &mut String, units: &[usize], most: usize) -> Result<(), All
     put_further(out, others, most - 1)
 }
 
-/// Adds from which units a cell has what it holds, if from any.
+/// Appends the units that set a cell, if there are any. If there are more than eight, the first eight are named.
 pub(crate) fn put_from(out: &mut String, units: &[usize]) -> Result<(), AllocError>
     ensures { OnOk result (string_bytes out.new ≡ string_bytes out.old ++ from_text units.now) }
 {

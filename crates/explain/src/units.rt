@@ -1,4 +1,4 @@
-//! How a unit is told.
+//! Writes a unit with its number, its place in the source text, and its instruction.
 ghost use Rattle.std.specs.Prelude.{◌≡◌, ◌++◌, slice_get, string_bytes, OnOk};
 ghost use Rattle.explain.specs.Units.{in_brackets, insn_at, statement_text, text_or_none, unit_text, written_in};
 
@@ -6,7 +6,7 @@ use asm::{put, put_instruction, put_unsigned};
 use insn::Insn;
 use std::alloc::AllocError;
 
-/// How the units of a program are written in the text that it was made of; what is not there, or empty, is not known.
+/// How the units of a program are written in its source text. A text is not known if it is missing or empty.
 #[derive(Clone, Copy)]
 pub struct UnitTexts<'a> {
     /// The place of each unit, such as `line 7`.
@@ -15,7 +15,7 @@ pub struct UnitTexts<'a> {
     pub statements: &'a [String],
 }
 
-/// The text of a unit, empty where there is none.
+/// Returns the text of a unit, or an empty one if there is none.
 fn text_of(texts: &[String], unit: usize) -> &str
     ensures { result.now ≡ text_or_none (slice_get texts.now unit) }
 {
@@ -25,7 +25,7 @@ fn text_of(texts: &[String], unit: usize) -> &str
     }
 }
 
-/// Adds a place in brackets, if it is not empty.
+/// Appends a place in brackets, if it is not empty.
 fn put_in_brackets(out: &mut String, place: &str) -> Result<(), AllocError>
     ensures { OnOk result (string_bytes out.new ≡ string_bytes out.old ++ in_brackets place.now) }
 {
@@ -37,7 +37,7 @@ fn put_in_brackets(out: &mut String, place: &str) -> Result<(), AllocError>
     put(out, ")")
 }
 
-/// Adds a unit and, where that is known, its place in the text that it was written in.
+/// Appends the number of a unit and, if it is known, its place in the source text.
 fn put_unit_text(out: &mut String, written: &UnitTexts<'_>, unit: usize) -> Result<(), AllocError>
     ensures { OnOk result (string_bytes out.new ≡ string_bytes out.old ++ unit_text (written_in written.now) unit) }
 {
@@ -45,7 +45,7 @@ fn put_unit_text(out: &mut String, written: &UnitTexts<'_>, unit: usize) -> Resu
     put_in_brackets(out, text_of(written.places, unit))
 }
 
-/// Adds an instruction as it is written, else as it is printed.
+/// Appends an instruction as written in the source text or, if that is not known, as printed from its bytecode.
 fn put_statement(out: &mut String, statement: &str, insn: &Insn) -> Result<(), AllocError>
     ensures { OnOk result (string_bytes out.new ≡ string_bytes out.old ++ statement_text statement.now insn.now) }
 {
@@ -55,7 +55,7 @@ fn put_statement(out: &mut String, statement: &str, insn: &Insn) -> Result<(), A
     put(out, statement)
 }
 
-/// Adds a unit and its instruction.
+/// Appends a unit with its number, its place and its instruction.
 pub(crate) fn put_insn_at(
     out: &mut String,
     written: &UnitTexts<'_>,

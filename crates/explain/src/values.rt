@@ -1,4 +1,4 @@
-//! What is known of a value, as text.
+//! Writes what is known of a value: a range of numbers, or a region and offsets.
 ghost use Rattle.std.specs.Prelude.{◌≡◌, ◌==◌, ◌||◌, ◌++◌, string_bytes, OnOk};
 ghost use Rattle.std.specs.Int.{w64, cast_signed};
 ghost use Rattle.explain.specs.Values.{words_text, span_text, is_any, range_text, is_bound, bits_text, numbers_text, region_text, value_text};
@@ -10,23 +10,23 @@ use range::Range;
 use semantics::Region;
 use std::alloc::AllocError;
 
-/// From one number to another, both among them.
+/// A range of signed numbers, both ends included.
 #[derive(Clone, Copy)]
 pub struct NumberSpan {
-    /// The least.
+    /// The least number.
     pub low: i64,
-    /// The greatest.
+    /// The greatest number.
     pub high: i64,
 }
 
-/// From one number to another.
+/// Returns the range from `low` to `high`.
 pub(crate) fn between(low: i64, high: i64) -> NumberSpan
     ensures { result ≡ record { low = low; high = high } }
 {
     NumberSpan { low, high }
 }
 
-/// Adds one number, or from one to another.
+/// Appends a range of signed numbers, or the one number in it.
 pub(crate) fn put_span(out: &mut String, span: NumberSpan) -> Result<(), AllocError>
     ensures { OnOk result (string_bytes out.new ≡ string_bytes out.old ++ span_text (span.low, span.high)) }
 {
@@ -38,7 +38,7 @@ pub(crate) fn put_span(out: &mut String, span: NumberSpan) -> Result<(), AllocEr
     put_number(out, span.high)
 }
 
-/// Adds a range of words.
+/// Appends a range of unsigned words, or the one word in it.
 fn put_words(out: &mut String, range: Range) -> Result<(), AllocError>
     ensures { OnOk result (string_bytes out.new ≡ string_bytes out.old ++ words_text range) }
 {
@@ -50,14 +50,14 @@ fn put_words(out: &mut String, range: Range) -> Result<(), AllocError>
     put_unsigned(out, range.hi)
 }
 
-/// Whether the range has every word.
+/// Checks whether the range has every word of 64 bits.
 fn is_any(range: Range) -> bool
     ensures { result ≡ is_any range }
 {
     range.lo == 0 && range.hi == u64::MAX
 }
 
-/// The range as signed numbers.
+/// Returns the ends of the range, read as signed numbers.
 fn signed(range: Range) -> NumberSpan
     ensures { result ≡ record { low = cast_signed w64 range.0; high = cast_signed w64 range.1 } }
 {
@@ -67,7 +67,7 @@ fn signed(range: Range) -> NumberSpan
     }
 }
 
-/// Adds a range of numbers, told as negative ones where each is.
+/// Appends a range of numbers. If all of them are 2^63 or more, they are written as negative numbers.
 fn put_range(out: &mut String, range: Range) -> Result<(), AllocError>
     ensures { OnOk result (string_bytes out.new ≡ string_bytes out.old ++ range_text range) }
 {
@@ -81,14 +81,14 @@ fn put_range(out: &mut String, range: Range) -> Result<(), AllocError>
     }
 }
 
-/// Whether known bits say no more than an upper bound.
+/// Checks whether known bits say no more than an upper bound.
 fn is_bound(bits: Bits) -> bool
     ensures { result ≡ is_bound bits }
 {
     bits.value == 0 && bits.mask & bits.mask.wrapping_add(1) == 0
 }
 
-/// Adds the bits that are open, and those that are set.
+/// Appends the bits that are open, and those that are known to be set.
 fn put_bits(out: &mut String, bits: Bits) -> Result<(), AllocError>
     ensures { OnOk result (string_bytes out.new ≡ string_bytes out.old ++ bits_text bits) }
 {
@@ -96,7 +96,7 @@ fn put_bits(out: &mut String, bits: Bits) -> Result<(), AllocError>
     write!(out, ", bits 0x{mask:x} open, 0x{value:x} set")
 }
 
-/// Adds numbers of a range that have some bits.
+/// Appends the numbers that a value may be: the range, and the bits if they say more than the range.
 fn put_numbers(out: &mut String, numbers: NumberSet) -> Result<(), AllocError>
     ensures { OnOk result (string_bytes out.new ≡ string_bytes out.old ++ numbers_text numbers) }
 {
@@ -109,7 +109,7 @@ fn put_numbers(out: &mut String, numbers: NumberSet) -> Result<(), AllocError>
     put_bits(out, bits)
 }
 
-/// What a region is called.
+/// Returns the name of a region.
 pub(crate) fn region_name(region: Region) -> &'static str
     ensures { result.now ≡ region_text region }
 {
@@ -119,7 +119,7 @@ pub(crate) fn region_name(region: Region) -> &'static str
     }
 }
 
-/// Adds what is known of a value: the numbers that it may be, or the region and the offsets.
+/// Appends what is known of a value: the numbers that it may be, or the region and the offsets.
 pub(crate) fn put_known(out: &mut String, value: AbsVal) -> Result<(), AllocError>
     ensures { OnOk result (string_bytes out.new ≡ string_bytes out.old ++ value_text value) }
 {

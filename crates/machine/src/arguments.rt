@@ -1,11 +1,11 @@
-//! What calls take in registers. A case in which the machine would trap is ruled out by the caller.
+//! Reads the arguments of helper calls from register values. The callers rule out every value that would trap.
 ghost use Rattle.std.specs.Prelude.{◌≡◌, ◌<◌, ◌%◌, ◌^◌, IsOk, Ok};
 ghost use Rattle.semantics.specs.State.{given};
 ghost use Rattle.semantics.specs.Call.{below, pointer};
 
 use semantics::Value;
 
-/// A number below a bound.
+/// Returns a number, which must be below `bound`.
 pub fn argument(value: Value, bound: u64) -> u64
     requires { IsOk (below bound value) }
     ensures same { below bound value ≡ Ok result }
@@ -17,7 +17,7 @@ pub fn argument(value: Value, bound: u64) -> u64
     }
 }
 
-/// Any number.
+/// Returns a number. The value must be one.
 pub fn word(value: Value) -> u64
     requires { IsOk (below (2 ^ 64) value) }
     ensures { below (2 ^ 64) value ≡ Ok result }
@@ -28,7 +28,7 @@ pub fn word(value: Value) -> u64
     }
 }
 
-/// A number's low 32 bits.
+/// Returns the low 32 bits of a number, as an order. The value must be a number.
 pub fn order(value: Value) -> u32
     requires { IsOk (given (below (2 ^ 64) value) (λ word. Ok (word % 2 ^ 32))) }
     ensures { given (below (2 ^ 64) value) (λ word. Ok (word % 2 ^ 32)) ≡ Ok result }
@@ -36,7 +36,7 @@ pub fn order(value: Value) -> u32
     (word(value) % 0x1_0000_0000) as u32
 }
 
-/// A pointer.
+/// Returns a pointer. The value must be one.
 pub fn pointer(value: Value) -> Value
     requires { IsOk (pointer value) }
     ensures { pointer value ≡ Ok result }

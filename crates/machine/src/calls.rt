@@ -1,4 +1,4 @@
-//! Calls of helpers. A case in which the machine would trap is ruled out by the caller.
+//! Calls of helpers. The callers rule out every case in which the machine would trap.
 ghost use Rattle.std.specs.Prelude.{◌≡◌, ◌<◌, ◌+◌, ◌-◌, ◌^◌, IsOk, Ok};
 ghost use Rattle.semantics.specs.State.{Next};
 ghost use Rattle.semantics.specs.Call.{helper_of, called, slot_in, get_in, swap_in, add_in, cas_in, copy_in, send_in, send_row_in, sway_in, honest_in, sign_in, pass_in, returned, sent, attempted};
@@ -12,7 +12,7 @@ use mem::{Context, load_row};
 use semantics::{Helper, Request, Slot, Span};
 
 impl Machine {
-    /// A call of a helper.
+    /// Calls the helper with this number. The program continues, or waits for the board's answer.
     #[inline(never)]
     pub(crate) fn call(&mut self, context: &Context, number: i32) -> Flow
         requires free { IsFree (called context.now self.old.relay self.old.state (helper_of number)) }
@@ -57,7 +57,7 @@ impl Machine {
         }
     }
 
-    /// The board is asked.
+    /// Makes a request to the board. The call counts as a step, and the program waits after it.
     fn ask(&mut self, request: Request) -> Flow
         requires inside { self.old.state.unit < 4096 }
         requires room { self.old.state.steps + 1 < 2 ^ 32 }
@@ -73,7 +73,7 @@ impl Machine {
         Flow::Asked(request)
     }
 
-    /// What board_get asks.
+    /// Returns the request of a call of `board_get`.
     fn get(&self) -> Request
         requires { IsOk (get_in self.now.state) }
         ensures { get_in self.now.state ≡ Ok result }
@@ -82,7 +82,7 @@ impl Machine {
         Request::Get { slot }
     }
 
-    /// What board_swap asks.
+    /// Returns the request of a call of `board_swap`.
     fn swap(&self) -> Request
         requires { IsOk (swap_in self.now.state) }
         ensures { swap_in self.now.state ≡ Ok result }
@@ -92,7 +92,7 @@ impl Machine {
         Request::Swap { slot, value }
     }
 
-    /// What board_add asks.
+    /// Returns the request of a call of `board_add`.
     fn add(&self) -> Request
         requires { IsOk (add_in self.now.state) }
         ensures { add_in self.now.state ≡ Ok result }
@@ -102,7 +102,7 @@ impl Machine {
         Request::Add { slot, value }
     }
 
-    /// What board_cas asks.
+    /// Returns the request of a call of `board_cas`.
     fn cas(&self) -> Request
         requires { IsOk (cas_in self.now.state) }
         ensures { cas_in self.now.state ≡ Ok result }
@@ -117,7 +117,7 @@ impl Machine {
         }
     }
 
-    /// What board_copy asks.
+    /// Returns the request of a call of `board_copy`.
     fn copy(&self) -> Request
         requires { IsOk (copy_in self.now.state) }
         ensures { copy_in self.now.state ≡ Ok result }
@@ -131,7 +131,7 @@ impl Machine {
         Request::Copy { span }
     }
 
-    /// The word of the board in r1.
+    /// Returns the slot of the board whose number is in r1.
     fn slot(&self) -> Slot
         requires { IsOk (slot_in self.now.state) }
         ensures { slot_in self.now.state ≡ Ok result }
@@ -142,7 +142,7 @@ impl Machine {
         slot
     }
 
-    /// An order for one receiver of a label.
+    /// Executes `send`: puts an order for one receiver of a label. r0 is 0, or 1 if there is no such place.
     fn send(&mut self) -> Flow
         requires free { IsOk (send_in self.old.state) }
         requires inside { self.old.state.unit < 4096 }
@@ -160,7 +160,8 @@ impl Machine {
         self.go_on(if there { 0 } else { 1 })
     }
 
-    /// Orders for the receivers of a label.
+    /// Executes `send_row`: puts orders, read from memory, for the receivers of a label. r0 is the number of orders
+    /// put.
     fn send_row(&mut self, context: &Context) -> Flow
         requires free { IsOk (send_row_in context.now self.old.state) }
         requires inside { self.old.state.unit < 4096 }
@@ -180,7 +181,7 @@ impl Machine {
         self.go_on(u64::from(set))
     }
 
-    /// One order for a receiver, at every label.
+    /// Executes `sway`: puts one order for a receiver at every label. r0 is the number of orders put.
     fn sway(&mut self) -> Flow
         requires free { IsOk (sway_in self.old.state) }
         requires inside { self.old.state.unit < 4096 }
@@ -195,7 +196,8 @@ impl Machine {
         self.go_on(u64::from(set))
     }
 
-    /// For a receiver the values that the general took.
+    /// Executes `honest`: puts, for a receiver at every label, the value that the general took for it. r0 is the number
+    /// of orders put.
     fn honest(&mut self, context: &Context) -> Flow
         requires free { IsOk (honest_in context.now self.old.state) }
         requires inside { self.old.state.unit < 4096 }
@@ -210,7 +212,7 @@ impl Machine {
         self.go_on(u64::from(set))
     }
 
-    /// An order that the general signs.
+    /// Executes `sign_order`: enters an order, signed by the general. r0 is 0, or 1 if it is not entered.
     fn sign_order(&mut self) -> Flow
         requires free { IsOk (sign_in self.old.state) }
         requires inside { self.old.state.unit < 4096 }
@@ -225,7 +227,8 @@ impl Machine {
         self.go_on(if taken { 0 } else { 1 })
     }
 
-    /// A chain held that the general passes on.
+    /// Executes `pass_on`: enters a chain that the general holds, with his signature. r0 is 0, or 1 if it is not
+    /// entered.
     fn pass_on(&mut self) -> Flow
         requires free { IsOk (pass_in self.old.state) }
         requires inside { self.old.state.unit < 4096 }
@@ -240,7 +243,7 @@ impl Machine {
         self.go_on(if taken { 0 } else { 1 })
     }
 
-    /// A call is done: r0 has its result.
+    /// Completes a call: sets r0 to its result, unsets r1 to r5, and moves to the next unit.
     fn go_on(&mut self, r0: u64) -> Flow
         requires inside { self.old.state.unit < 4096 }
         requires room { self.old.state.steps + 1 < 2 ^ 32 }

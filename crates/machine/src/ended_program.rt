@@ -1,12 +1,13 @@
+//! What remains of a program that has exited or was ended.
 use outbox::Outbox;
 
-/// What a program leaves that is run no further.
+/// What remains of a program that is run no further.
 #[derive(Drop)]
 pub struct Ended {
-    /// What it has put and entered.
+    /// The outbox, with the orders that the program put and the entries that it made.
     pub outbox: Outbox,
-    /// How many steps it has taken.
+    /// The number of steps taken.
     pub steps: u32,
-    /// What it exited with; none where it was ended before.
+    /// The value that the program exited with. It is `None` if the program was ended before its exit.
     pub r0: Option<u64>,
 }

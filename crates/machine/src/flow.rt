@@ -1,23 +1,24 @@
+//! How a program continues after a call, an instruction or a pair.
 use semantics::Request;
 
-/// How a program goes on after a call.
+/// How a program continues after a call.
 #[derive(Clone, Copy)]
 pub(crate) enum Flow {
-    /// It goes on at its unit.
+    /// The program continues at its unit.
     Onward,
-    /// It has asked the board, and waits.
+    /// The program has asked the board, and waits.
     Asked(Request),
 }
 
-/// How a program goes on after an instruction, or a pair of them.
+/// How a program continues after an instruction, or a pair of them.
 #[derive(Clone, Copy)]
 pub(crate) enum Stride {
-    /// It goes on at the unit.
+    /// The program continues at this unit, one step later.
     Onward(usize),
-    /// It goes on at the unit, two steps on.
+    /// The program continues at this unit, two steps later.
     Twice(usize),
-    /// It calls the helper of this number.
+    /// The program calls the helper with this number. The call is not executed yet.
     Call(i32),
-    /// It exits.
+    /// The program exits. The exit is not executed yet.
     Exit,
 }

@@ -1,5 +1,5 @@
-//! The machine: runs a verified program, step by step. A `Machine` runs an activation where it is stored. An
-//! `Activation` is passed by value, so that its type allows one answer to each request.
+//! The machine, which runs a verified program step by step. A `Machine` runs an activation in place. An `Activation` is
+//! passed by value, so that its type allows only one answer to each request.
 #![tactic(auto)]
 
 mod activation;

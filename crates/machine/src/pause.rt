@@ -1,15 +1,16 @@
+//! Why a program has stopped, together with the value by which it can be continued.
 use crate::activation::Activation;
 use crate::ended_program::Ended;
 use crate::waiting_program::Waiting;
 use semantics::Request;
 
-/// Why a program stands still, with what can be done about it.
+/// Why a program has stopped, with the value by which it can be continued, if it can.
 #[derive(Drop)]
 pub enum Pause {
-    /// It asks the board, and waits for the answer.
+    /// The program asks the board, and waits for the answer.
     Board(Request, Waiting),
-    /// It has exited.
+    /// The program has exited.
     Done(Ended),
-    /// It has taken as many steps as the limit says, and can be run on.
+    /// The program has reached the limit of steps, and can be run further.
     Cut(Activation),
 }

@@ -1,4 +1,4 @@
-//! What the board's answers leave in a program.
+//! Continues a program with the board's reply to its request, or takes the request back.
 ghost use Rattle.std.specs.Prelude.{◌≡◌, ◌++◌, ◌∷◌, [], true, List, ℕ, length, slice_index};
 ghost use Rattle.insn.specs.declared.insn.Insn.{Insn};
 ghost use Rattle.semantics.specs.State.{Ask};
@@ -15,7 +15,7 @@ use mem::store_words;
 use semantics::{Reply, Request, Span};
 
 impl Machine {
-    /// Goes on with the board's reply to what it asked.
+    /// Continues the program with the board's reply to its request. The reply must fit the request.
     pub fn resume(&mut self, request: &Request, reply: &Reply)
         requires fits { fits request.now (words_in reply.now) ≡ true }
         ensures relay { self.new.relay ≡ self.old.relay }
@@ -30,7 +30,7 @@ impl Machine {
         self.replied(*request, reply);
     }
 
-    /// Takes back what it asked: the state is as before the request, and so is the count of steps.
+    /// Takes back the last request. The state and the number of steps are as before it.
     pub fn withdraw(&mut self)
         requires { HasAsked self.old.state }
         ensures relay { self.new.relay ≡ self.old.relay }
@@ -42,7 +42,7 @@ impl Machine {
         self.steps -= 1;
     }
 
-    /// What the reply leaves.
+    /// Changes the state as the board's reply asks: a copy goes to the stack, any other reply to r0.
     pub(crate) fn replied(&mut self, request: Request, reply: &Reply)
         requires { fits request (words_in reply.now) ≡ true }
         ensures state { self.new.state ≡ resumed request (words_in reply.now) self.old.state }
@@ -57,7 +57,7 @@ impl Machine {
         }
     }
 
-    /// r0 has the word that was answered.
+    /// Sets r0 to the one word of the reply.
     pub(crate) fn told(&mut self, reply: &Reply)
         requires { length (words_in reply.now) ≡ 1 }
         ensures state { self.new.state ≡ returned self.old.state (slice_index (words_in reply.now) 0) }
@@ -70,7 +70,7 @@ impl Machine {
         self.registers.set_result(word);
     }
 
-    /// The words that were copied stand at r2.
+    /// Stores the copied words on the stack, where r2 points, and sets r0 to their number.
     pub(crate) fn copied(&mut self, span: Span, reply: &Reply)
         requires { length (words_in reply.now) ≡ span.1 }
         ensures state { self.new.state ≡ resumed (Request.Copy span) (words_in reply.now) self.old.state }

@@ -1,12 +1,13 @@
+//! Why a running program has stopped.
 use semantics::Request;
 
-/// Why a running program stands still.
+/// Why a running program has stopped.
 #[derive(Clone, Copy)]
 pub enum StopReason {
-    /// It asks the board.
+    /// The program asks the board.
     Asked(Request),
-    /// It has exited with r0.
+    /// The program has exited with this value of r0.
     Exited(u64),
-    /// It has taken as many steps as the limit says.
+    /// The program has reached the limit of steps.
     Limit,
 }

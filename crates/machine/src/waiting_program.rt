@@ -1,3 +1,4 @@
+//! A program that waits for the board's answer: answering its request once, or cancelling it.
 ghost use Rattle.std.specs.Prelude.{◌≡◌, List, ℕ, true};
 ghost use Rattle.insn.specs.declared.insn.Insn.{Insn};
 ghost use Rattle.semantics.specs.Call.{fits, resumed};
@@ -10,8 +11,8 @@ use crate::machine::Machine;
 use semantics::{Reply, Request};
 use std::marker::Model;
 
-/// A program that waits for the board's answer, seen as what it asked and where it stands. [`Waiting::answer`] and
-/// [`Waiting::cancel`] take it, so that a request is answered once.
+/// A program that waits for the board's answer. Contracts see it as its request and its state after the request.
+/// [`Waiting::answer`] and [`Waiting::cancel`] consume it, so that a request is answered only once.
 #[derive(Drop)]
 pub struct Waiting {
     pub(crate) request: Request,
@@ -30,7 +31,7 @@ impl Model for Waiting {
 }
 
 impl Waiting {
-    /// The machine behind this request.
+    /// Makes a waiting program of a machine that has just made this request.
     pub(crate) fn of(request: Request, machine: Machine) -> Waiting
         requires { HasAsked machine.state }
         ensures request { result.request ≡ request }
@@ -39,21 +40,21 @@ impl Waiting {
         Waiting { request, machine }
     }
 
-    /// What it asks.
+    /// Returns the program's request.
     pub fn request(&self) -> Request
         ensures { result ≡ self.now.request }
     {
         self.request
     }
 
-    /// How many steps it has taken, the request among them.
+    /// Returns the number of steps taken so far, including the request.
     pub fn steps(&self) -> u32
         ensures { result ≡ self.now.standing.state.steps }
     {
         self.machine.steps()
     }
 
-    /// It goes on with the board's reply.
+    /// Continues the program with the board's reply, which must fit the request.
     pub fn answer(self, reply: Reply) -> Activation
         requires fits { fits self.request (words_in reply) ≡ true }
         ensures relay { result.relay ≡ self.standing.relay }
@@ -69,7 +70,7 @@ impl Waiting {
         Activation { machine }
     }
 
-    /// It stands as before the request, and so does the count of its steps.
+    /// Cancels the request. The state and the number of steps are as before it.
     pub fn cancel(self) -> Activation
         ensures relay { result.relay ≡ self.standing.relay }
         ensures state { result.state ≡ before self.standing.state }

@@ -1,4 +1,4 @@
--- Numbers in cells.
+-- Numbers read from cells.
 use Rattle.std.specs.Prelude.{ℕ, ℤ, ◌≡◌, ◌==◌, ◌&&◌, Bool, false, List, take, drop, Option, Some, None, Result, Ok, Err}
 use Rattle.std.specs.Ordering.{int_eq}
 use Rattle.word.specs.Bytes.{little_number}
@@ -8,16 +8,16 @@ use Rattle.semantics.specs.declared.value.Cell.TheVariants.{Empty, Byte, Piece}
 use Rattle.semantics.specs.State.{Cause, NoBytes, given}
 use Rattle.semantics.specs.Memory.{bytes_in, is_same_region}
 
--- the number that cells spell, where each is a byte
+-- the little-endian number in cells that are all bytes; `NoBytes` if one is not
 abbrev pub number_in : List Cell → Result ℕ Cause
 number_in cells = given (bytes_in cells) (λ bytes. Ok (little_number bytes))
 
--- what was read of so many cells from a place on: nothing where one is no byte
+-- the option is the number read from `size` cells from `place` on: `None` if one of them is not a byte
 abbrev pub Reads : List Cell → ℕ → ℕ → Option ℕ → Type 0
 Reads cells place size None = number_in (take size (drop place cells)) ≡ Err NoBytes
 Reads cells place size (Some n) = number_in (take size (drop place cells)) ≡ Ok n
 
--- the cell is the pointer's piece of that number
+-- the cell is piece `number` of the pointer with this region and offset
 abbrev pub is_piece : ℕ → Region → ℤ → Cell → Bool
 is_piece number region offset Empty = false
 is_piece number region offset (Byte b) = false

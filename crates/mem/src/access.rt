@@ -1,3 +1,5 @@
+//! Loads and stores of the stack and the context: `load` and `store` check the access, `read` and `write_number` rely
+//! on the verifier.
 ghost use Rattle.std.specs.Prelude.{◌≡◌, ◌+◌, ◌≤◌, Ok, Err, OnOk, IfErr, IsOk};
 ghost use Rattle.insn.specs.Insn.{bytes_of, part_bytes};
 ghost use Rattle.semantics.specs.Memory.{loaded, loaded_signed, stored, value_in, room_of};
@@ -14,8 +16,13 @@ use semantics::{Region, Value};
 use word::arithmetic::sign_extend;
 use word::{Narrow, Width};
 
-/// What stands at a pointer and a distance, zero-extended; of 8 pieces of one pointer, that pointer (RFC 9669, section
-/// 5.1).
+/// Loads `size` bytes at the pointer `base` plus `distance`, zero-extended (RFC 9669, section 5.1). Returns a pointer
+/// if the window holds its 8 pieces in order.
+///
+/// # Errors
+///
+/// Returns a `MemoryFault` if `base` is not a pointer, the window is not within its region, or it holds neither bytes
+/// nor one whole pointer.
 pub fn load(
     stack: &Stack,
     context: &Context,
@@ -29,7 +36,12 @@ pub fn load(
     value_in(stack, context, region, place, size)
 }
 
-/// The number in 1, 2 or 4 bytes at a pointer and a distance, extended by its sign (RFC 9669, section 5.2).
+/// Loads 1, 2 or 4 bytes at the pointer `base` plus `distance`, sign-extended to 64 bits (RFC 9669, section 5.2).
+///
+/// # Errors
+///
+/// Returns a `MemoryFault` if `base` is not a pointer, the window is not within its region, or one of its cells is not
+/// a byte.
 pub fn load_signed(
     stack: &Stack,
     context: &Context,
@@ -45,7 +57,7 @@ pub fn load_signed(
     Ok(Value::Number(sign_extend(Width::W64, part, number)))
 }
 
-/// What a window of a region holds.
+/// Loads the number or the pointer in the window of `size` bytes at `place` of `region`.
 fn value_in(
     stack: &Stack,
     context: &Context,
@@ -62,7 +74,7 @@ fn value_in(
     }
 }
 
-/// The number in a window of a region.
+/// Loads the number in the window of `size` bytes at `place` of `region`.
 fn number_in(
     stack: &Stack,
     context: &Context,
@@ -79,7 +91,7 @@ fn number_in(
     }
 }
 
-/// How much is loaded for a part.
+/// Returns the size of a load of `part`: 1, 2 or 4 bytes.
 fn size_of(part: Narrow) -> Size
     ensures { bytes_of result ≡ part_bytes part }
 {
@@ -90,7 +102,16 @@ fn size_of(part: Narrow) -> Size
     }
 }
 
-/// Writes the low bytes of a number, or a whole pointer, at a pointer and a distance (RFC 9669, section 5.1).
+/// Stores the low bytes of a number, or a whole pointer, at the pointer `base` plus `distance` (RFC 9669, section 5.1).
+///
+/// # Errors
+///
+/// Returns a `MemoryFault`, and leaves the stack as it is, in these cases:
+///
+/// - `base` is not a pointer into the stack.
+/// - The window is not within the stack.
+/// - `value` is unset.
+/// - `value` is a pointer, and `size` is not 8 bytes.
 pub fn store(
     stack: &mut Stack,
     size: Size,
@@ -119,7 +140,8 @@ pub fn store(
     }
 }
 
-/// What [`load`] answers at a pointer, where it is known that it does.
+/// Returns the value that [`load`] returns at a pointer with this region and offset. The caller must know that the load
+/// succeeds.
 #[inline(always)]
 pub fn read(
     stack: &Stack,
@@ -139,7 +161,8 @@ pub fn read(
     }
 }
 
-/// What [`load_signed`] answers at a pointer, where it is known that it does.
+/// Returns the number that [`load_signed`] returns at a pointer with this region and offset. The caller must know that
+/// the load succeeds.
 #[inline(always)]
 pub fn read_signed(
     stack: &Stack,
@@ -162,7 +185,7 @@ pub fn read_signed(
     sign_extend(Width::W64, part, number)
 }
 
-/// [`store`] of a number at a pointer into the stack, where it is known that it is done.
+/// Stores a number at a pointer into the stack, as [`store`] does. The caller must know that the store succeeds.
 #[inline(always)]
 pub fn write_number(stack: &mut Stack, size: Size, offset: i64, distance: i16, number: u64)
     requires { IsOk (stored stack.old (bytes_of size) (Value.Pointer Region.Stack offset) distance
@@ -174,7 +197,8 @@ pub fn write_number(stack: &mut Stack, size: Size, offset: i64, distance: i16, n
     stack.put_number(place, size, number);
 }
 
-/// [`store`] of a pointer at a pointer into the stack, where it is known that it is done.
+/// Stores the pointer into `region` with offset `at` at a pointer into the stack, as [`store`] does. The caller must
+/// know that the store succeeds.
 #[inline(always)]
 pub fn write_pointer(stack: &mut Stack, offset: i64, distance: i16, region: Region, at: i32)
     requires { IsOk (stored stack.old 8 (Value.Pointer Region.Stack offset) distance (Value.Pointer region at)) }

@@ -1,4 +1,4 @@
-//! Numbers in bytes, the lowest first.
+//! Reads and writes numbers of 1, 2, 4 or 8 bytes in little-endian order.
 ghost use Rattle.std.specs.Prelude.{◌≡◌, ◌+◌, ◌≤◌, take, drop, length};
 ghost use Rattle.word.specs.Bytes.{little_bytes, little_number};
 ghost use Rattle.insn.specs.Insn.{bytes_of};
@@ -8,7 +8,7 @@ use byteorder::{ByteOrder, LittleEndian};
 use insn::Size;
 use word::low_bits::{low_byte, low_half, low_word};
 
-/// The number that so many bytes spell.
+/// Reads the little-endian number in the `size` bytes from `place` on.
 #[inline(always)]
 pub fn number_at(bytes: &[u8], place: usize, size: Size) -> u64
     requires { place + bytes_of size ≤ length bytes.now }
@@ -23,7 +23,7 @@ pub fn number_at(bytes: &[u8], place: usize, size: Size) -> u64
     }
 }
 
-/// Writes the low bytes of a number.
+/// Writes the low `size` bytes of a number from `place` on, in little-endian order.
 #[inline(always)]
 pub fn put(bytes: &mut [u8; 512], place: usize, size: Size, number: u64)
     requires { place + bytes_of size ≤ 512 }

@@ -1,4 +1,4 @@
-//! Numbers and pointers in cells, looked at one by one.
+//! Reads numbers, and checks for pointers, in the cells of the stack one by one.
 ghost use Rattle.std.specs.Prelude.{◌≡◌, ◌+◌, ◌≤◌, ◌↔◌, IsTrue, take, drop};
 ghost use Rattle.insn.specs.Insn.{bytes_of};
 ghost use Rattle.semantics.specs.Memory.{are_pieces, is_same_region};
@@ -8,7 +8,7 @@ use crate::stack::Stack;
 use insn::Size;
 use semantics::{Cell, Region};
 
-/// The number in so many cells, where each is a byte.
+/// Reads the little-endian number in the `size` cells from `place` on. Returns `None` if one of them is not a byte.
 pub fn read_number(stack: &Stack, place: usize, size: Size) -> Option<u64>
     requires { place + bytes_of size ≤ 512 }
     ensures { Reads stack.now place (bytes_of size) result }
@@ -21,7 +21,7 @@ pub fn read_number(stack: &Stack, place: usize, size: Size) -> Option<u64>
     }
 }
 
-/// The byte in a cell.
+/// Reads the byte in the cell at `place`. Returns `None` if the cell is not a byte.
 fn byte_at(stack: &Stack, place: usize) -> Option<u8>
     requires { place + 1 ≤ 512 }
     ensures { Reads stack.now place 1 result }
@@ -33,7 +33,7 @@ fn byte_at(stack: &Stack, place: usize) -> Option<u8>
     }
 }
 
-/// The number in 2 cells.
+/// Reads the little-endian number in the 2 cells from `place` on. Returns `None` if one of them is not a byte.
 fn half_at(stack: &Stack, place: usize) -> Option<u16>
     requires { place + 2 ≤ 512 }
     ensures { Reads stack.now place 2 result }
@@ -44,7 +44,7 @@ fn half_at(stack: &Stack, place: usize) -> Option<u16>
     Some(u16::from(low) + 256 * u16::from(high))
 }
 
-/// The number in 4 cells.
+/// Reads the little-endian number in the 4 cells from `place` on. Returns `None` if one of them is not a byte.
 pub fn word_at(stack: &Stack, place: usize) -> Option<u32>
     requires { place + 4 ≤ 512 }
     ensures { Reads stack.now place 4 result }
@@ -55,7 +55,7 @@ pub fn word_at(stack: &Stack, place: usize) -> Option<u32>
     Some(u32::from(low) + 0x1_0000 * u32::from(high))
 }
 
-/// The number in 8 cells.
+/// Reads the little-endian number in the 8 cells from `place` on. Returns `None` if one of them is not a byte.
 fn double_at(stack: &Stack, place: usize) -> Option<u64>
     requires { place + 8 ≤ 512 }
     ensures { Reads stack.now place 8 result }
@@ -66,6 +66,7 @@ fn double_at(stack: &Stack, place: usize) -> Option<u64>
     Some(u64::from(low) + 0x1_0000_0000 * u64::from(high))
 }
 
+/// Checks whether two regions are the same.
 fn same_region(a: Region, b: Region) -> bool
     ensures { result ≡ is_same_region a b }
 {
@@ -76,7 +77,7 @@ fn same_region(a: Region, b: Region) -> bool
     }
 }
 
-/// Whether the cell is the pointer's piece of that number.
+/// Checks whether a cell is piece `number` (0 to 7) of the pointer into `region` with this offset.
 fn is_piece(cell: Cell, number: u8, region: Region, offset: i32) -> bool
     ensures { result ≡ is_piece number region offset cell }
 {
@@ -86,7 +87,7 @@ fn is_piece(cell: Cell, number: u8, region: Region, offset: i32) -> bool
     }
 }
 
-/// Whether the 8 cells are the pointer's pieces in order.
+/// Checks whether the 8 cells from `place` on are the pieces, in order, of the pointer into `region` with this offset.
 pub fn are_pieces(stack: &Stack, place: usize, region: Region, offset: i32) -> bool
     requires { place + 8 ≤ 512 }
     ensures { result ≡ are_pieces region offset 0 (take 8 (drop place stack.now)) }
@@ -100,7 +101,7 @@ pub fn are_pieces(stack: &Stack, place: usize, region: Region, offset: i32) -> b
     true
 }
 
-/// Whether the same stands in both cells.
+/// Checks whether two cells hold the same content.
 pub fn same_cell(cell: Cell, other: Cell) -> bool
     ensures { IsTrue result ↔ (cell ≡ other) }
 {

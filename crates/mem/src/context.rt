@@ -1,3 +1,4 @@
+//! The context: the 4,096 bytes that a program may read and not write.
 ghost use Rattle.std.specs.Prelude.{◌≡◌, ◌≢◌, ◌+◌, ◌≤◌, length, take, drop, IfSome, IfNone};
 ghost use Rattle.word.specs.Bytes.{little_number};
 ghost use Rattle.insn.specs.Insn.{bytes_of};
@@ -8,7 +9,7 @@ use crate::context_reader::word_at;
 use insn::Size;
 use std::marker::Model;
 
-/// The 4,096 bytes that a program is given to read, borrowed, seen as their list.
+/// A context: the 4,096 bytes that a program may read and not write, borrowed. Contracts see it as a list of bytes.
 #[derive(Drop)]
 pub struct Context<'a> {
     bytes: &'a [u8],
@@ -26,10 +27,10 @@ impl<'a> Model for Context<'a> {
 }
 
 impl<'a> Context<'a> {
-    /// How many bytes it has.
+    /// The size of a context in bytes.
     pub const BYTES: usize = crate::layout::BYTES;
 
-    /// The context of these bytes, which are 4,096.
+    /// Creates a context from `bytes`, which must be 4,096 bytes long.
     pub fn new(bytes: &'a [u8]) -> Context<'a>
         requires { length bytes.now ≡ 4096 }
         ensures same { result ≡ bytes.now }
@@ -38,7 +39,7 @@ impl<'a> Context<'a> {
         Context { bytes }
     }
 
-    /// The context of these bytes, where they are 4,096.
+    /// Creates a context from `bytes`. Returns `None` if there are not exactly 4,096 of them.
     pub fn try_new(bytes: &'a [u8]) -> Option<Context<'a>>
         ensures some { IfSome result (λ c. (c ≡ bytes.now) × IsContext bytes.now) }
         ensures none { IfNone result (length bytes.now ≢ 4096) }
@@ -50,7 +51,7 @@ impl<'a> Context<'a> {
         }
     }
 
-    /// Its bytes.
+    /// Returns the bytes of the context.
     pub fn bytes(&self) -> &[u8]
         ensures same { result.now ≡ self.now }
         ensures context { IsContext self.now }
@@ -58,7 +59,7 @@ impl<'a> Context<'a> {
         self.bytes
     }
 
-    /// The number that so many bytes spell, the lowest first.
+    /// Reads the little-endian number in the `size` bytes from `place` on.
     pub(crate) fn number(&self, place: usize, size: Size) -> u64
         requires { place + bytes_of size ≤ 4096 }
         ensures { result ≡ little_number (take (bytes_of size) (drop place self.now)) }
@@ -66,7 +67,7 @@ impl<'a> Context<'a> {
         number_at(self.bytes, place, size)
     }
 
-    /// The number that 4 bytes spell, the lowest first.
+    /// Reads the little-endian number in the 4 bytes from `place` on.
     pub(crate) fn word(&self, place: usize) -> u32
         requires { place + 4 ≤ 4096 }
         ensures { result ≡ little_number (take 4 (drop place self.now)) }

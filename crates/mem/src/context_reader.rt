@@ -1,4 +1,4 @@
-//! What the bytes of a context say.
+//! Reads numbers from the bytes of a context: by place, by index, or as the value taken for a label.
 ghost use Rattle.std.specs.Prelude.{◌≡◌, ◌+◌, ◌*◌, ◌≤◌, length, take, drop};
 ghost use Rattle.word.specs.Bytes.{little_number};
 ghost use Rattle.semantics.specs.Outbox.{taken_value};
@@ -6,7 +6,7 @@ ghost use Rattle.mem.specs.ContextLayout.{number_told};
 
 use byteorder::{ByteOrder, LittleEndian};
 
-/// The number that the 4 bytes from a place on spell, the lowest first.
+/// Reads the little-endian number in the 4 bytes from `place` on.
 #[inline(always)]
 pub fn word_at(bytes: &[u8], place: usize) -> u32
     requires { place + 4 ≤ length bytes.now }
@@ -15,7 +15,7 @@ pub fn word_at(bytes: &[u8], place: usize) -> u32
     LittleEndian::read_u32(&bytes[place..])
 }
 
-/// The number of this index.
+/// Reads the context's number with index `word`. Each number takes 4 bytes.
 pub fn number_told(context: &[u8], word: usize) -> u32
     requires { 4 * word + 4 ≤ length context.now }
     ensures { result ≡ number_told context.now word }
@@ -23,7 +23,8 @@ pub fn number_told(context: &[u8], word: usize) -> u32
     word_at(context, 4 * word)
 }
 
-/// The value taken for the label of that rank.
+/// Reads the value that the general took for the label with this rank. The values follow the context's eight header
+/// numbers.
 #[inline(always)]
 pub fn taken_value(context: &[u8], rank: usize) -> u32
     requires { 36 + 4 * rank ≤ length context.now }

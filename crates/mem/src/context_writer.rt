@@ -1,4 +1,4 @@
-//! The bytes of a context.
+//! Writes the bytes of a context: eight header numbers, the value taken for each label, and zeros.
 ghost use Rattle.std.specs.Prelude.{◌≡◌, ◌<◌, ◌≤◌, ◌+◌, ◌*◌, ◌^◌, ◌++◌, All, length, flat_map, vec_len, vec_capacity, IfOk};
 ghost use Rattle.word.specs.Bytes.{little_bytes};
 ghost use Rattle.mem.specs.ContextLayout.{context_bytes, context_numbers};
@@ -8,9 +8,11 @@ use byteorder::{ByteOrder, LittleEndian};
 use label::Shape;
 use std::alloc::{AllocError, Global};
 
-/// Writes the context of a relay in a campaign with this bound, in place of what the vector held, which has room for
-/// it: the values taken for its labels, in the order of their ranks. It takes no memory. Labels are 990 at most (13
-/// generals in round 5: 11 * 10 * 9), and behind the eight numbers there is room for 1,016 values.
+/// Replaces the bytes of a vector by the context of a relay in a campaign that provides for `bound` traitors. `values`
+/// are the values that the general took for the labels he relays, in the order of their ranks.
+///
+/// The vector must have room for 4,096 bytes, and nothing is allocated. A relay has at most 990 labels (13 generals in
+/// round 5: 11 * 10 * 9). After the eight header numbers there is room for 1,016 values.
 pub fn write_context(bytes: &mut Vec<u8>, shape: Shape, bound: u8, values: &[u32])
     requires room { 4096 ≤ vec_capacity bytes.old }
     requires rounds { shape.round ≤ shape.generals }
@@ -36,11 +38,11 @@ pub fn write_context(bytes: &mut Vec<u8>, shape: Shape, bound: u8, values: &[u32
     };
 }
 
-/// The context of these eight numbers and those behind them, zeros after.
+/// Creates the context with this header of eight numbers, then `numbers`, then zeros up to 4,096 bytes.
 ///
 /// # Errors
 ///
-/// `AllocError` where the memory for the 4,096 bytes is refused.
+/// Returns `AllocError` if the memory for the 4,096 bytes cannot be allocated.
 pub fn context_telling(
     alloc: Global,
     header: &[u32; 8],
@@ -58,7 +60,7 @@ pub fn context_telling(
     Ok(bytes)
 }
 
-/// The bytes of these numbers behind, for which there is room.
+/// Appends the bytes of `numbers`, 4 each in little-endian order. The vector must have room for them.
 fn spell(bytes: &mut Vec<u8>, numbers: &[u32])
     requires room { vec_len bytes.old + 4 * length numbers.now ≤ vec_capacity bytes.old }
     ensures bytes { bytes.new.items ≡ bytes.old.items ++ flat_map (little_bytes 4) numbers.now }

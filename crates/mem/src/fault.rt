@@ -1,14 +1,15 @@
-/// Why a load or a store is refused.
+//! The reasons for which a load or a store fails.
+/// The reason for which a load or a store fails.
 #[derive(Clone, Copy, PartialEq, Eq)]
 pub enum MemoryFault {
-    /// The register is not set.
+    /// A register that is used has no value.
     UnsetRegister,
-    /// A number stands where a pointer is asked, or part of a pointer would be stored.
+    /// A number is used as a pointer, or only part of a pointer would be stored.
     PointerUse,
-    /// The window does not lie in its region.
+    /// The window is not within its region.
     OutOfBounds,
-    /// What stands in the window is neither bytes nor one whole pointer.
+    /// The window holds neither bytes only nor one whole pointer.
     NoBytes,
-    /// The context is not written.
+    /// The program stores into the context, which it may only read.
     ContextWrite,
 }

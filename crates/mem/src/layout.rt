@@ -1,10 +1,10 @@
-//! Where numbers stand in a context.
+//! The layout of a context: its size, and the indexes of its header numbers.
 
-/// How many bytes it has.
+/// The size of a context in bytes.
 pub const BYTES: usize = 4096;
 
-/// The number that tells how many generals there are.
+/// The index of the number of generals among the context's numbers.
 pub const AT_GENERALS: usize = 0;
 
-/// The number that tells the commander.
+/// The index of the commander's number among the context's numbers.
 pub const AT_COMMANDER: usize = 3;

@@ -1,10 +1,11 @@
-//! The layout of a context, the 4,096 bytes that a program is given to read: numbers of 4 bytes each, the lowest byte
-//! first, eight of the relay and its campaign, behind them the value taken for each label.
-//! What a program reads and writes: the stack and the context, by cells.
+//! The memory of a program, by cells: the stack, which it reads and writes, and the context, which it reads.
 //!
-//! `load`, `load_signed` and `store` tell a fault for every access, whatever its pointer is; tests call them. The
-//! machine, whose programs are verified, calls `read`, `read_signed`, `write_number` and `write_pointer`, which ask
-//! that the access is within its region.
+//! `load`, `load_signed` and `store` check each access, whatever its pointer is, and return a fault if it is not
+//! allowed. The tests call them. The machine calls `read`, `read_signed`, `write_number` and `write_pointer` instead.
+//! These four require that the access succeeds, as the verifier has proved for the machine's programs.
+//!
+//! The module `layout` gives the layout of a context. A context is 4,096 bytes of little-endian numbers, 4 bytes each.
+//! Eight numbers describe the relay and its campaign. After them is the value taken for each label.
 #![tactic(auto)]
 
 mod access;

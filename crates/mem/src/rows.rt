@@ -1,4 +1,4 @@
-//! Numbers in a row at a pointer.
+//! Loads and stores of several numbers in a row at a pointer, as helpers need them.
 ghost use Rattle.std.specs.Prelude.{◌≡◌, ◌+◌, ◌-◌, ◌*◌, ◌≤◌, take, drop, replicate, length, Ok, Err, IfOk, IfErr};
 ghost use Rattle.semantics.specs.Memory.{with_words, room_of};
 ghost use Rattle.mem.specs.Answers.{IsAnswer, cause_of};
@@ -13,7 +13,12 @@ use crate::window::{part_at, stack_part};
 use insn::Size;
 use semantics::{Region, Value};
 
-/// So many numbers of 4 bytes each that stand at a pointer, and zeros behind them.
+/// Loads `count` numbers of 4 bytes each at the pointer `base`. The rest of the returned array is zeros.
+///
+/// # Errors
+///
+/// Returns a `MemoryFault` if `base` is not a pointer, the numbers are not within its region, or one of their cells is
+/// not a byte.
 pub fn load_row(
     stack: &Stack,
     context: &Context,
@@ -35,7 +40,7 @@ pub fn load_row(
     Ok(row)
 }
 
-/// The number in 4 bytes of a region.
+/// Loads the number in the 4 bytes at `place` of `region`.
 fn word_in(
     stack: &Stack,
     context: &Context,
@@ -51,7 +56,8 @@ fn word_in(
     }
 }
 
-/// Writes words of 8 bytes each at a pointer; nothing where they do not fit there.
+/// Stores `words`, 8 bytes each, at the pointer `base`. Stores nothing if `base` is not a pointer into the stack, or
+/// the words do not fit there.
 pub fn store_words(stack: &mut Stack, base: Value, words: &[u64])
     requires { length words.now ≤ 64 }
     ensures { stack.new ≡ with_words stack.old base words.now }

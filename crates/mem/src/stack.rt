@@ -1,3 +1,4 @@
+//! The stack: 512 cells that a program reads and writes, each of them empty, a byte or a piece of a pointer.
 ghost use Rattle.std.specs.Prelude.{◌≡◌, ◌+◌, ◌<◌, ◌≤◌, ◌↔◌, IsTrue, replicate, take, drop, map, length, slice_index_or, IsOk, Ok};
 ghost use Rattle.word.specs.Bytes.{little_bytes};
 ghost use Rattle.insn.specs.Insn.{bytes_of};
@@ -13,15 +14,15 @@ use insn::Size;
 use semantics::{Cell, Region, Value};
 use std::marker::Model;
 
-/// The 512 cells that a program reads and writes, seen as their list.
+/// A stack: the 512 cells that a program reads and writes. Contracts see it as a list of cells.
 #[derive(Drop)]
 pub struct Stack {
-    /// For each cell what it is: 0 nothing, 1 a byte, 2 to 9 the pieces of a pointer into the stack,
-    /// 10 to 17 those of one into the context.
+    /// The kind of each cell. It is 0 if the cell is empty, and 1 for a byte. The pieces of a pointer into the stack
+    /// have the kinds 2 to 9, those of a pointer into the context 10 to 17.
     kinds: [u8; 512],
-    /// For each cell its byte.
+    /// The byte of each cell. It has a meaning only if the cell's kind is a byte.
     bytes: [u8; 512],
-    /// For each cell the offset of the pointer whose first piece stood there last.
+    /// For each cell, the offset of the last pointer whose first piece was stored there.
     offsets: [u32; 512],
 }
 
@@ -37,25 +38,26 @@ impl Model for Stack {
     ghost invariant = { λ s. HasRoom s.kinds s.bytes s.offsets };
 }
 
-/// The kind of a byte.
+/// The kind of a cell that holds a byte.
 const BYTE: u8 = 1;
 
-/// The kind of the first piece of a pointer.
+/// The kind of a cell that holds the first piece of a pointer into the stack.
 const PIECE: u8 = 2;
 
-/// The kinds of 8 bytes.
+/// The kinds of 8 cells that hold bytes, as one number.
 const BYTES: u64 = 0x0101_0101_0101_0101;
 
-/// The kinds of the pieces of a pointer into the stack, and of one into the context.
+/// The kinds of the 8 cells that hold a pointer into the stack, as one little-endian number.
 const STACK_PIECES: u64 = 0x0908_0706_0504_0302;
 
+/// The kinds of the 8 cells that hold a pointer into the context, as one little-endian number.
 const CONTEXT_PIECES: u64 = 0x1110_0f0e_0d0c_0b0a;
 
 impl Stack {
-    /// How many cells it has.
+    /// The number of cells.
     pub const CELLS: usize = 512;
 
-    /// A stack in which nothing stands.
+    /// Creates a stack of empty cells.
     pub fn new() -> Stack
         ensures { result ≡ replicate 512 Cell.Empty }
     {
@@ -66,22 +68,21 @@ impl Stack {
         }
     }
 
-    /// Nothing stands in it any more. Only what each cell is is written: no byte and no offset is looked at where
-    /// nothing stands.
+    /// Empties every cell. Only the kinds are written: a byte or an offset is never read for an empty cell.
     pub fn clear(&mut self)
         ensures { self.new ≡ replicate 512 Cell.Empty }
     {
         self.kinds = [0; 512];
     }
 
-    /// It has all its cells.
+    /// Does nothing. Its contract says that a stack has 512 cells.
     pub(crate) fn recall(&self)
         ensures { length self.now ≡ 512 }
     {
         let _ = &self.kinds;
     }
 
-    /// The same stack.
+    /// Returns a copy of the stack.
     pub fn copy(&self) -> Stack
         ensures { result ≡ self.now }
     {
@@ -92,7 +93,7 @@ impl Stack {
         }
     }
 
-    /// Whether the same stands in each cell.
+    /// Checks whether two stacks hold the same in every cell.
     pub fn same(&self, other: &Stack) -> bool
         ensures { IsTrue result ↔ (self.now ≡ other.now) }
     {
@@ -106,7 +107,7 @@ impl Stack {
         true
     }
 
-    /// What stands in a cell.
+    /// Returns the cell at `place`.
     pub(crate) fn cell(&self, place: usize) -> Cell
         requires { place < 512 }
         ensures { result ≡ slice_index_or self.now place Cell.Empty }
@@ -123,7 +124,8 @@ impl Stack {
         Cell::Piece(piece, region_of(kind), self.offsets[first].cast_signed())
     }
 
-    /// What a load of the window finds.
+    /// Loads the number or the pointer in the window of `size` bytes at `place`. Returns `NoBytes` if the window holds
+    /// neither bytes only nor one whole pointer.
     pub(crate) fn value(&self, place: usize, size: Size) -> Result<Value, MemoryFault>
         requires { place + bytes_of size ≤ 512 }
         ensures { IsAnswer (value_in (take (bytes_of size) (drop place self.now))) result }
@@ -145,7 +147,7 @@ impl Stack {
         }
     }
 
-    /// The number that the bytes of the window spell.
+    /// Loads the number in the window of `size` bytes at `place`. Returns `NoBytes` if one of its cells is not a byte.
     pub(crate) fn number(&self, place: usize, size: Size) -> Result<u64, MemoryFault>
         requires { place + bytes_of size ≤ 512 }
         ensures { IsAnswer (number_in (take (bytes_of size) (drop place self.now))) result }
@@ -156,7 +158,7 @@ impl Stack {
         }
     }
 
-    /// The number that 4 bytes spell.
+    /// Loads the number in the 4 bytes at `place`. Returns `NoBytes` if one of the cells is not a byte.
     pub(crate) fn word(&self, place: usize) -> Result<u32, MemoryFault>
         requires { place + 4 ≤ 512 }
         ensures { IsAnswer (number_in (take 4 (drop place self.now))) result }
@@ -167,7 +169,8 @@ impl Stack {
         }
     }
 
-    /// What a load of the window finds, where it is known to find something.
+    /// Loads the number or the pointer in the window of `size` bytes at `place`. The caller must know that the window
+    /// holds one.
     #[inline(always)]
     pub(crate) fn known_value(&self, place: usize, size: Size) -> Value
         requires inside { place + bytes_of size ≤ 512 }
@@ -180,7 +183,7 @@ impl Stack {
         }
     }
 
-    /// What a load of 8 bytes finds, where it is known to find something.
+    /// Loads the number or the pointer in the 8 cells from `place` on. The caller must know that they hold one.
     #[inline(always)]
     fn known_double(&self, place: usize) -> Value
         requires inside { place + 8 ≤ 512 }
@@ -195,7 +198,7 @@ impl Stack {
         }
     }
 
-    /// The number that the bytes of the window spell, where each is known to be one.
+    /// Loads the number in the window of `size` bytes at `place`. The caller must know that all its cells are bytes.
     #[inline(always)]
     pub(crate) fn known_number(&self, place: usize, size: Size) -> u64
         requires inside { place + bytes_of size ≤ 512 }
@@ -205,7 +208,7 @@ impl Stack {
         number_at(&self.bytes, place, size)
     }
 
-    /// Writes the low bytes of a number.
+    /// Stores the low `size` bytes of a number at `place`.
     #[inline(always)]
     pub(crate) fn put_number(&mut self, place: usize, size: Size, number: u64)
         requires { place + bytes_of size ≤ 512 }
@@ -215,7 +218,7 @@ impl Stack {
         put(&mut self.bytes, place, size, number);
     }
 
-    /// Writes a whole pointer.
+    /// Stores the 8 pieces of a pointer at `place`.
     #[inline(always)]
     pub(crate) fn put_pointer(&mut self, place: usize, region: Region, offset: i32)
         requires { place + 8 ≤ 512 }
@@ -226,7 +229,7 @@ impl Stack {
     }
 }
 
-/// The region of a pointer that has a piece of that kind.
+/// Returns the region of the pointer that a piece of this kind belongs to.
 fn region_of(kind: u8) -> Region
     ensures { result ≡ region_of kind }
 {
@@ -237,7 +240,7 @@ fn region_of(kind: u8) -> Region
     }
 }
 
-/// The kinds of the pieces of a pointer.
+/// Returns the kinds of the 8 cells that hold a pointer into this region, as one number.
 fn pieces(region: Region) -> u64
     ensures { result ≡ pieces region }
 {

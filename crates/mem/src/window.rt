@@ -1,4 +1,4 @@
-//! Where windows lie.
+//! Computes where a window, the bytes of one access, is in its region, and checks that it is within the region.
 ghost use Rattle.std.specs.Prelude.{◌≡◌, ◌+◌, ◌+ℤ◌, ◌≤◌, IfOk, IsOk, Ok};
 ghost use Rattle.insn.specs.Insn.{bytes_of};
 ghost use Rattle.semantics.specs.Memory.{inside, window, stack_place, room_of};
@@ -11,7 +11,8 @@ use crate::stack::Stack;
 use insn::Size;
 use semantics::{Region, Value};
 
-/// The place of a window in a room of so many bytes.
+/// Checks that a window of `size` bytes at `place` is within a region of `room` bytes. Returns its place, or
+/// `OutOfBounds`.
 fn inside(room: usize, size: usize, place: i64) -> Result<usize, MemoryFault>
     requires { size ≤ 512 }
     ensures answer { IsAnswer (inside room size place) result }
@@ -28,7 +29,8 @@ fn inside(room: usize, size: usize, place: i64) -> Result<usize, MemoryFault>
     }
 }
 
-/// The place of a window in its region.
+/// Returns the place of a window in its region, from the pointer's offset and the distance. Returns `OutOfBounds` if
+/// the window is not within the region.
 fn window(region: Region, offset: i32, distance: i16, size: usize) -> Result<usize, MemoryFault>
     requires { size ≤ 512 }
     ensures answer { IsAnswer (window region (offset +ℤ distance) size) result }
@@ -41,7 +43,11 @@ fn window(region: Region, offset: i32, distance: i16, size: usize) -> Result<usi
     }
 }
 
-/// The region that a window of so many bytes lies in, and its place there.
+/// Returns the region and the place of the window of `size` bytes at the pointer `base` plus `distance`.
+///
+/// # Errors
+///
+/// Returns a `MemoryFault` if `base` is not a pointer, or the window is not within its region.
 pub fn part_at(base: Value, distance: i16, size: usize) -> Result<(Region, usize), MemoryFault>
     requires { size ≤ 512 }
     ensures answer { IsAnswer (place_at base distance size) result }
@@ -57,7 +63,11 @@ pub fn part_at(base: Value, distance: i16, size: usize) -> Result<(Region, usize
     }
 }
 
-/// The region that a window lies in, and its place there.
+/// Returns the region and the place of the window of an access at the pointer `base` plus `distance`.
+///
+/// # Errors
+///
+/// Returns a `MemoryFault` if `base` is not a pointer, or the window is not within its region.
 pub fn place_at(base: Value, distance: i16, size: Size) -> Result<(Region, usize), MemoryFault>
     ensures answer { IsAnswer (place_at base distance (bytes_of size)) result }
     ensures fits { IfOk result (λ p. p.1 + bytes_of size ≤ room_of p.0) }
@@ -65,7 +75,11 @@ pub fn place_at(base: Value, distance: i16, size: Size) -> Result<(Region, usize
     part_at(base, distance, size.bytes())
 }
 
-/// The place of a window of so many bytes that is written.
+/// Returns the place in the stack of the window of `size` bytes at `base` plus `distance`, where the program stores.
+///
+/// # Errors
+///
+/// Returns a `MemoryFault` if `base` is not a pointer into the stack, or the window is not within the stack.
 pub fn stack_part(base: Value, distance: i16, size: usize) -> Result<usize, MemoryFault>
     requires { size ≤ 512 }
     ensures answer { IsAnswer (stack_place base distance size) result }
@@ -79,7 +93,11 @@ pub fn stack_part(base: Value, distance: i16, size: usize) -> Result<usize, Memo
     }
 }
 
-/// The place of a window that is written.
+/// Returns the place in the stack of the window of a store at `base` plus `distance`.
+///
+/// # Errors
+///
+/// Returns a `MemoryFault` if `base` is not a pointer into the stack, or the window is not within the stack.
 pub fn stack_place(base: Value, distance: i16, size: Size) -> Result<usize, MemoryFault>
     ensures answer { IsAnswer (stack_place base distance (bytes_of size)) result }
     ensures fits { IfOk result (λ p. p + bytes_of size ≤ 512) }
@@ -87,7 +105,8 @@ pub fn stack_place(base: Value, distance: i16, size: Size) -> Result<usize, Memo
     stack_part(base, distance, size.bytes())
 }
 
-/// The place of a window that is known to lie in a room of so many bytes.
+/// Returns the place of a window in a region of `room` bytes. The caller must know that the window is within the
+/// region.
 #[inline(always)]
 fn known_inside(room: usize, size: Size, place: i64) -> usize
     requires { IsOk (inside room (bytes_of size) place) }
@@ -99,7 +118,7 @@ fn known_inside(room: usize, size: Size, place: i64) -> usize
     place as usize
 }
 
-/// The place of a window that is known to lie in its region.
+/// Returns the place of a window in its region. The caller must know that the window is within the region.
 #[inline(always)]
 pub fn known_place(region: Region, offset: i64, distance: i16, size: Size) -> usize
     requires { IsOk (window region (offset +ℤ distance) (bytes_of size)) }

@@ -1,26 +1,26 @@
--- What an outbox gives after a helper has put orders. The statement is the contract of a function of this crate.
+-- The orders of an outbox after a helper has put some. The statement is the contract of a function of this crate.
 use Rattle.std.specs.Prelude.{ℕ, ◌≡◌, ◌==◌, if◌then◌else◌, List, [], ◌∷◌, Option, Some, None, slice_index_or}
 use Rattle.semantics.specs.Relay.{Relay}
 use Rattle.semantics.specs.State.{Outbox}
 use Rattle.semantics.specs.Outbox.{Place, places, Choice, newer, written}
 use Rattle.outbox.specs.Contents.{HasPlaces, order_at}
 
--- the place of a receiver among those of a row
+-- the place of a receiver among the places of a row
 abbrev pub place_among : ℕ → List Place → Option Place
 place_among receiver [] = None
 place_among receiver (p ∷ ps) = if p.receiver == receiver then Some p else place_among receiver ps
 
--- the place of a receiver of the label of that rank, where there is one
+-- the place of a receiver of the label of that rank, if there is one
 abbrev pub place_of : Relay → ℕ → ℕ → Option Place
 place_of relay rank receiver = place_among receiver (slice_index_or (places relay) rank [])
 
--- what a place gives after a choice: the order put there, else what it gave before
+-- the order at a place after a helper's choice: the order put there, else the earlier one
 abbrev pub order_after : Choice → Option Place → Option ℕ → Option ℕ
 order_after choice None before = None
 order_after choice (Some place) before = newer (choice place) before
 
--- whatever places a helper chooses (one, a row's, a receiver's, those of taken values), each gives the last order put
--- there, and the others give what they gave
+-- Whatever places a helper chooses (one, a row's, a receiver's, those of taken values), each of them then has the order
+-- last put there. The other places keep their orders.
 pub record LastOrdersAreGiven : Type 0 where
   pub gives : (relay : Relay) (choice : Choice) (outbox : Outbox) (rank receiver : ℕ) → HasPlaces relay outbox →
       order_at relay (written relay choice outbox) rank receiver

@@ -1,4 +1,4 @@
--- Numbers below 16 as a set of bits, and the orders kept beside such a set.
+-- Numbers below 16 as a set of bits, and the orders that are stored with such a set.
 use Rattle.std.specs.Prelude.{ℕ, ◌+◌, ◌==◌, Bool, if◌then◌else◌, List, [], ◌∷◌, filter, Option, Some, None}
 use Rattle.std.specs.Int.{bit_at}
 use Rattle.label.specs.Labels.{generals}
@@ -11,7 +11,7 @@ has_bit mask n = bit_at mask n == 1
 unfoldable pub members : ℕ → List ℕ
 members mask = filter (has_bit mask) (generals 13)
 
--- the orders from a place on, each where the set has its place, and nothing elsewhere
+-- the orders from a place on, each kept if its place is in the set and replaced by nothing otherwise
 abbrev pub kept_from : ℕ → ℕ → List ℕ → List (Option ℕ)
 kept_from mask place [] = []
 kept_from mask place (order ∷ orders) =

@@ -1,3 +1,4 @@
+//! A label's row in which all receivers have the same order, or none.
 ghost use Rattle.std.specs.Prelude.{◌≡◌, ◌≤◌, length};
 ghost use Rattle.outbox.specs.Rows.{empty_row, orders_in, receivers_in, all_put, order_in};
 ghost use Rattle.outbox.specs.Told.{orders_told};
@@ -8,11 +9,11 @@ use crate::told_orders::ReceiverOrders;
 use arrayvec::ArrayVec;
 use std::marker::Model;
 
-/// The places of one label as long as all who hear of it have one order, or none: twelve bytes.
+/// A uniform row: the places of one label while all its receivers have one order, or none. It takes 12 bytes.
 #[derive(Drop)]
 pub struct UniformRow {
     receivers: Receivers,
-    /// The order of each, where one was put.
+    /// The order of every receiver, if one was put.
     order: Option<u32>,
 }
 
@@ -25,7 +26,7 @@ impl Model for UniformRow {
 }
 
 impl UniformRow {
-    /// A row in which nothing is put, for these receivers.
+    /// Creates a row for these receivers in which no order is put.
     pub(crate) fn new(receivers: Receivers) -> UniformRow
         ensures { result ≡ empty_row receivers }
     {
@@ -42,7 +43,7 @@ impl UniformRow {
         self.order = Some(order);
     }
 
-    /// The receiver's order, where there is one.
+    /// Returns the receiver's order, if there is one.
     pub(crate) fn order(&self, receiver: u32) -> Option<u32>
         ensures { result ≡ order_in receiver self.now }
     {
@@ -53,14 +54,14 @@ impl UniformRow {
         }
     }
 
-    /// Who hears of the label, ascending.
+    /// Returns the receivers of the label, ascending.
     pub(crate) fn receivers(&self) -> ArrayVec<u8, 13>
         ensures { result.items ≡ receivers_in self.now }
     {
         self.receivers.list()
     }
 
-    /// The orders, receiver by receiver.
+    /// Returns the order of each receiver, in ascending order of receivers.
     pub(crate) fn told(&self) -> ArrayVec<Option<u32>, 13>
         ensures { result.items ≡ orders_in self.now }
     {
@@ -73,7 +74,7 @@ impl UniformRow {
         told
     }
 
-    /// The same, all at once.
+    /// Returns the orders of all receivers as one order and the number of receivers.
     pub(crate) fn told_at_once(&self) -> ReceiverOrders
         ensures orders { orders_told result ≡ orders_in self.now }
         ensures few { length (orders_told result) ≤ 13 }
@@ -84,7 +85,7 @@ impl UniformRow {
         }
     }
 
-    /// The same places, with an order for each receiver.
+    /// Converts to a row with the same orders that stores an order for each receiver.
     pub(crate) fn apart(&self) -> MixedRow
         ensures { result ≡ self.now }
     {
@@ -98,7 +99,7 @@ impl UniformRow {
         }
     }
 
-    /// The same row.
+    /// Returns a copy of the row.
     pub(crate) fn copy(&self) -> UniformRow
         ensures { result ≡ self.now }
     {

@@ -1,8 +1,8 @@
-//! Laws of the outbox: each function does nothing, and its contract is the law.
+//! Laws of the outbox. Each function does nothing, and its contract is the law.
 ghost use Rattle.outbox.specs.Laws.{LastOrdersAreGiven};
 
-/// After `put`, `put_row`, `sway` and `honest` alike, [`crate::Outbox::get`] gives the last order at each place, and
-/// what it gave before where none was put.
+/// Does nothing. Its contract says that after `put`, `put_row`, `sway` and `honest`, [`crate::Outbox::get`] returns the
+/// last order put at each place. A place where none was put keeps its order.
 pub fn last_orders_are_given()
     ensures { LastOrdersAreGiven }
 {}

@@ -1,4 +1,4 @@
-//! The orders that a general puts for a round, a place for each label relayed and each receiver.
+//! The outbox of a general in a round: the orders that he sends, with a place for each label relayed and each receiver.
 #![tactic(auto)]
 
 mod alike_row;

@@ -1,3 +1,4 @@
+//! A borrowed view of one label's orders, however the outbox stores them.
 ghost use Rattle.std.specs.Prelude.{◌≡◌, ◌≤◌, length};
 ghost use Rattle.outbox.specs.Orders.{orders_seen};
 ghost use Rattle.outbox.specs.Rows.{orders_in, order_in, receivers_in};
@@ -8,19 +9,19 @@ use crate::row::MixedRow;
 use crate::told_orders::ReceiverOrders;
 use arrayvec::ArrayVec;
 
-/// Lent: the places of one label, who may hear of it, each with the order put for him.
+/// The orders of one label, borrowed: its receivers, each with the order put for him.
 #[derive(Clone, Copy)]
 pub enum Orders<'a> {
-    /// All who hear of it have one order, or none.
+    /// All receivers have one order, or none.
     Alike(&'a UniformRow),
-    /// Each has his own, or none.
+    /// Each receiver has his own order, or none.
     Apart(&'a MixedRow),
-    /// Nobody hears of it: for a letter that is missing.
+    /// The label has no receivers. This is used for a letter that is missing.
     Nobody,
 }
 
 impl Orders<'_> {
-    /// The receiver's order, where there is one.
+    /// Returns the receiver's order, if there is one.
     pub fn order(&self, receiver: u32) -> Option<u32>
         ensures { result ≡ order_in receiver (orders_seen self.now) }
     {
@@ -31,7 +32,7 @@ impl Orders<'_> {
         }
     }
 
-    /// Who hears of the label, ascending.
+    /// Returns the receivers of the label, ascending.
     pub(crate) fn receivers(&self) -> ArrayVec<u8, 13>
         ensures { result.items ≡ receivers_in (orders_seen self.now) }
     {
@@ -42,7 +43,7 @@ impl Orders<'_> {
         }
     }
 
-    /// The orders, receiver by receiver.
+    /// Returns the order of each receiver, in ascending order of receivers.
     pub(crate) fn told(&self) -> ArrayVec<Option<u32>, 13>
         ensures { result.items ≡ orders_in (orders_seen self.now) }
     {
@@ -53,7 +54,8 @@ impl Orders<'_> {
         }
     }
 
-    /// The same, alike orders at once.
+    /// Returns the order of each receiver. Orders that are stored as one are returned as one order and the number of
+    /// receivers.
     pub(crate) fn told_at_once(&self) -> ReceiverOrders
         ensures orders { orders_told result ≡ orders_in (orders_seen self.now) }
         ensures few { length (orders_told result) ≤ 13 }

@@ -1,15 +1,16 @@
+//! An array of orders by general, with a bit mask of the generals that have one.
 ghost use Rattle.std.specs.Prelude.{◌≡◌, ◌<◌, if◌then◌else◌, ℕ, None, Some, length, replicate, slice_set, slice_index_or};
 ghost use Rattle.outbox.specs.Masks.{has_bit as is_in};
 
 use crate::mask::{has_bit, with_bit};
 use std::marker::Model;
 
-/// For each of the numbers 0 to 12 an order, or nothing.
+/// An order, or nothing, for each of the numbers 0 to 12.
 #[derive(Drop)]
 pub(crate) struct OrdersByNumber {
-    /// By number; the order means nothing where none was put.
+    /// The order for each number. It has no meaning if none was put for the number.
     orders: [u32; 13],
-    /// The numbers at which an order was put, a bit for each.
+    /// The numbers for which an order was put, a bit for each.
     put: u16,
 }
 
@@ -25,7 +26,7 @@ impl Model for OrdersByNumber {
 }
 
 impl OrdersByNumber {
-    /// Nothing anywhere.
+    /// Creates an array without any order.
     pub fn nothing() -> OrdersByNumber
         ensures { result ≡ replicate 13 None }
     {
@@ -35,7 +36,7 @@ impl OrdersByNumber {
         }
     }
 
-    /// One order at each number of the set.
+    /// Creates an array with one order for each number of the set `places`.
     pub fn alike(order: u32, places: u16) -> OrdersByNumber
         ensures long { length result ≡ 13 }
         ensures each { (n : ℕ) → n < 13 → slice_index_or result n None ≡ (if is_in places n then Some order else None) }
@@ -46,7 +47,7 @@ impl OrdersByNumber {
         }
     }
 
-    /// The order at a number, where there is one.
+    /// Returns the order for a number, if there is one.
     pub fn at(&self, place: u32) -> Option<u32>
         ensures { result ≡ slice_index_or self.now place None }
     {
@@ -57,7 +58,7 @@ impl OrdersByNumber {
         }
     }
 
-    /// Puts an order at a number, in place of an earlier one.
+    /// Puts an order for a number, in place of an earlier one.
     pub fn put(&mut self, place: u32, order: u32)
         requires { place < 13 }
         ensures { self.new ≡ slice_set self.old place (Some order) }
@@ -66,7 +67,7 @@ impl OrdersByNumber {
         self.put = with_bit(self.put, place);
     }
 
-    /// The same orders.
+    /// Returns a copy of the orders.
     pub fn copy(&self) -> OrdersByNumber
         ensures { result ≡ self.now }
     {

@@ -1,3 +1,4 @@
+//! The outbox: what a program's helper calls put or enter in a round, and how the result is read.
 ghost use Rattle.std.specs.Prelude.{◌≡◌, ◌<◌, ◌≤◌, ◌↔◌, ℕ, IfOk, IsNone, IsTrue, Some, None, [], map, length, slice_get, slice_index_or};
 ghost use Rattle.label.specs.Relay.{IsShape, receivers};
 ghost use Rattle.semantics.specs.Relay.{oral, signed, relayed};
@@ -19,13 +20,13 @@ use semantics::Entry;
 use std::alloc::{AllocError, Global};
 use std::marker::Model;
 
-/// The outbox of a general in a round: for each label that he relays, by rank, an order or nothing for each receiver;
-/// or, where orders are signed, what he enters.
+/// The outbox of a general in a round. It holds, for each label that he relays, by rank, an order or nothing for each
+/// receiver. Where orders are signed, it holds the entries that he makes instead.
 #[derive(Drop)]
 pub struct Outbox {
     shape: Shape,
     rows: Rows,
-    /// What was entered where orders are signed; nothing where they are oral.
+    /// The chains held and the entries, where orders are signed. It is `None` where they are oral.
     signing: Option<Signing>,
 }
 
@@ -40,11 +41,11 @@ impl Model for Outbox {
 }
 
 impl Outbox {
-    /// An outbox in which nothing is put. Nothing that is put later takes memory.
+    /// Creates an empty outbox for oral messages. Orders that are put later need no further memory.
     ///
     /// # Errors
     ///
-    /// `AllocError` where the memory for the rows is refused.
+    /// Returns `AllocError` if the memory for the rows cannot be allocated.
     pub fn new(alloc: Global, shape: Shape) -> Result<Outbox, AllocError>
         requires { IsShape shape }
         ensures relay { IfOk result (λ outbox. outbox.relay ≡ oral shape) }
@@ -58,12 +59,12 @@ impl Outbox {
         })
     }
 
-    /// An outbox of signed messages in which nothing is entered, of a general who holds chains with these
-    /// signers, bit g of each number for general g. It has no place; nothing that is entered later takes memory.
+    /// Creates an empty outbox for signed messages. `held` has the signers of each chain that the general holds: bit g
+    /// is set if general g has signed. The outbox has no places, and entries need no further memory.
     ///
     /// # Errors
     ///
-    /// `AllocError` where the memory for the signers is refused.
+    /// Returns `AllocError` if the memory for the signers cannot be allocated.
     pub fn signed(alloc: Global, shape: Shape, held: &[u16]) -> Result<Outbox, AllocError>
         requires { IsShape shape }
         ensures relay { IfOk result (λ outbox. outbox.relay ≡ signed shape held.now) }
@@ -77,7 +78,8 @@ impl Outbox {
         })
     }
 
-    /// Enters an order, signed by the general, for these receivers: whether he commands, and there was room.
+    /// Enters an order, signed by the general, for these receivers (bit g for general g). Returns whether it was
+    /// entered: orders must be signed, the general must be the commander, and there must be room for the entry.
     pub fn sign(&mut self, order: u32, receivers: u16) -> bool
         ensures relay { self.new.relay ≡ self.old.relay }
         ensures rows { self.new.rows ≡ self.old.rows }
@@ -87,8 +89,8 @@ impl Outbox {
         self.enter(Entry::Sign { order, receivers })
     }
 
-    /// Enters the chain held at this place, with the general's signature, for these receivers: whether there is such a
-    /// chain, which he has not signed, and there was room.
+    /// Enters the chain held at this place, with the general's signature, for these receivers (bit g for general g).
+    /// Returns whether it was entered: there must be such a chain, which he has not signed, and room for the entry.
     pub fn pass(&mut self, held: u16, receivers: u16) -> bool
         ensures relay { self.new.relay ≡ self.old.relay }
         ensures rows { self.new.rows ≡ self.old.rows }
@@ -98,7 +100,8 @@ impl Outbox {
         self.enter(Entry::Pass { held, receivers })
     }
 
-    /// Takes an entry, where orders are signed: whether it was taken.
+    /// Adds an entry if orders are signed, the general can send its chain, and there is room. Returns whether it was
+    /// added.
     fn enter(&mut self, entry: Entry) -> bool
         ensures relay { self.new.relay ≡ self.old.relay }
         ensures rows { self.new.rows ≡ self.old.rows }
@@ -112,7 +115,7 @@ impl Outbox {
         }
     }
 
-    /// What was entered, in order.
+    /// Returns the entries in the order in which they were made. There are at most 8, and none if orders are oral.
     pub fn entries(&self) -> &[Entry]
         ensures same { result.now ≡ self.now.entries }
         ensures few { length self.now.entries ≤ 8 }
@@ -123,7 +126,8 @@ impl Outbox {
         }
     }
 
-    /// Puts an order for a receiver of a label, by its rank, in place of an earlier one: whether there is such a place.
+    /// Puts an order for a receiver of the label with this rank, in place of an earlier one. Returns whether there is
+    /// such a place.
     pub fn put(&mut self, rank: u32, receiver: u32, order: u32) -> bool
         ensures relay { self.new.relay ≡ self.old.relay }
         ensures entries { self.new.entries ≡ self.old.entries }
@@ -138,7 +142,8 @@ impl Outbox {
         self.rows.put(rank, receiver, order)
     }
 
-    /// Puts orders for the receivers of a label, by its rank, ascending, as many as there are: how many were put.
+    /// Puts orders for the receivers of the label with this rank, in ascending order of receivers. Returns how many
+    /// were put, which is 0 if there is no such label. Surplus orders are ignored.
     pub fn put_row(&mut self, rank: u32, orders: &[u32]) -> u32
         ensures relay { self.new.relay ≡ self.old.relay }
         ensures entries { self.new.entries ≡ self.old.entries }
@@ -152,7 +157,7 @@ impl Outbox {
         self.rows.fill(rank, orders)
     }
 
-    /// Puts one order for a receiver at every label: how many were put.
+    /// Puts one order for a receiver at every label that has him as a receiver. Returns how many orders were put.
     pub fn sway(&mut self, receiver: u32, order: u32) -> u32
         ensures relay { self.new.relay ≡ self.old.relay }
         ensures entries { self.new.entries ≡ self.old.entries }
@@ -162,7 +167,8 @@ impl Outbox {
         self.rows.put_in_each(receiver, |_| order)
     }
 
-    /// Puts for a receiver, at every label, the value that the general took for it: how many were put.
+    /// Puts, at every label that has this receiver, the value that the general took for the label. Returns how many
+    /// orders were put.
     pub fn honest(&mut self, context: &[u8], receiver: u32) -> u32
         requires { length context.now ≡ 4096 }
         ensures relay { self.new.relay ≡ self.old.relay }
@@ -174,7 +180,7 @@ impl Outbox {
             .put_in_each(receiver, |rank| taken_value(context, rank))
     }
 
-    /// Puts for every receiver, at every label, the value that the general took for it.
+    /// Puts, at every label and for each of its receivers, the value that the general took for the label.
     pub fn honest_to_all(&mut self, context: &[u8])
         requires { length context.now ≡ 4096 }
         ensures relay { self.new.relay ≡ self.old.relay }
@@ -188,7 +194,8 @@ impl Outbox {
         }
     }
 
-    /// The order for a receiver of the label of that rank, where there is such a place and an order was put.
+    /// Returns the order for a receiver of the label with this rank. Returns `None` if there is no such place, or no
+    /// order was put there.
     pub fn get(&self, rank: u32, receiver: u32) -> Option<u32>
         ensures { result ≡ order_at self.now.relay self.now.rows rank receiver }
     {
@@ -199,7 +206,7 @@ impl Outbox {
         self.rows.at(rank).order(receiver)
     }
 
-    /// The orders for the label of that rank, where there is such a label.
+    /// Returns the orders of the label with this rank, if there is such a label.
     pub fn orders(&self, rank: u32) -> Option<Orders<'_>>
         ensures none { IsNone result ↔ (length self.now.rows ≤ rank) }
         ensures orders { (receiver : ℕ) →
@@ -212,7 +219,8 @@ impl Outbox {
         Some(self.rows.at(rank))
     }
 
-    /// How many labels it has a row for: at most 11 * 10 * 9, those of 13 generals in round 5.
+    /// Returns the number of labels relayed, each of which has a row. There are at most 11 * 10 * 9 = 990, for 13
+    /// generals in round 5.
     pub fn labels(&self) -> u32
         ensures rows { result ≡ length self.now.rows }
         ensures relayed { result ≡ length (relayed self.now.relay) }
@@ -222,7 +230,7 @@ impl Outbox {
         self.rows.len() as u32
     }
 
-    /// Who hears of the label of that rank, ascending.
+    /// Returns the receivers of the label with this rank, ascending.
     pub fn receivers(&self, rank: u32) -> ArrayVec<u8, 13>
         requires { rank < length self.now.rows }
         ensures row { slice_get (map (receivers self.now.relay.shape) (relayed self.now.relay)) rank
@@ -232,7 +240,8 @@ impl Outbox {
         self.rows.at(rank as usize).receivers()
     }
 
-    /// The orders for the label of that rank, receiver by receiver, ascending; none where there is no such label.
+    /// Returns the order of each receiver of the label with this rank, in ascending order of receivers. Returns no
+    /// orders if there is no such label.
     pub fn told(&self, rank: u32) -> ReceiverOrders
         ensures orders { orders_told result ≡ slice_index_or self.now.rows rank [] }
         ensures few { length (orders_told result) ≤ 13 }
@@ -247,11 +256,11 @@ impl Outbox {
         self.rows.at(rank).told_at_once()
     }
 
-    /// The same outbox.
+    /// Returns a copy of the outbox.
     ///
     /// # Errors
     ///
-    /// `AllocError` where the memory for the rows is refused.
+    /// Returns `AllocError` if the memory for the copy cannot be allocated.
     pub fn copy(&self, alloc: Global) -> Result<Outbox, AllocError>
         ensures { IfOk result (λ outbox. outbox ≡ self.now) }
     {
@@ -262,7 +271,7 @@ impl Outbox {
         })
     }
 
-    /// Whether they are of one relay, have the same order at each place, and the same entries.
+    /// Checks whether two outboxes have the same relay, the same order at each place, and the same entries.
     pub fn same(&self, other: &Outbox) -> bool
         ensures { IsTrue result ↔ (self.now ≡ other.now) }
     {
@@ -271,7 +280,7 @@ impl Outbox {
             && self.rows.has_orders_of(&other.rows)
     }
 
-    /// Whose relay it is, among which generals and in which round.
+    /// Returns the shape of the relay: its general, the commander, the number of generals and the round.
     pub fn shape(&self) -> Shape
         ensures same { result ≡ self.now.relay.shape }
         ensures within { IsShape result }

@@ -1,3 +1,4 @@
+//! The set of generals who receive the relay of a label.
 ghost use Rattle.std.specs.Prelude.{◌≡◌, ◌<◌, ◌≤◌, ◌∷◌, [], ℕ, true, IsTrue, length};
 ghost use Rattle.label.specs.Labels.{on, others, is_distinct};
 ghost use Rattle.label.specs.Oral.{AllBelow};
@@ -8,10 +9,10 @@ use crate::mask::{has_bit, with_bit, without_bit};
 use arrayvec::ArrayVec;
 use std::marker::Model;
 
-/// Who hears of a label: different generals, each below 13.
+/// The receivers of a label: distinct generals with numbers below 13. Contracts see them as an ascending list.
 #[derive(Drop)]
 pub(crate) struct Receivers {
-    /// A bit for each.
+    /// The set of receivers, a bit for each.
     mask: u16,
 }
 
@@ -25,7 +26,7 @@ impl Model for Receivers {
 }
 
 impl Receivers {
-    /// All generals but these two, who may be one.
+    /// Returns all generals except `first` and `second`, which may be the same.
     pub fn others(generals: u8, first: u8, second: u8) -> Receivers
         requires { generals ≤ 13 }
         ensures { result ≡ others generals (first ∷ second ∷ []) }
@@ -39,7 +40,7 @@ impl Receivers {
         Receivers { mask }
     }
 
-    /// Without that general.
+    /// Returns the receivers without this general.
     pub fn without(&self, general: u8) -> Receivers
         requires { general < 13 }
         ensures { result ≡ struck general self.now }
@@ -49,7 +50,7 @@ impl Receivers {
         }
     }
 
-    /// Whether the general is among them.
+    /// Checks whether the general is a receiver.
     pub fn has(&self, general: u32) -> bool
         ensures among { result ≡ on self.now general }
         ensures below { IsTrue result → general < 13 }
@@ -57,14 +58,14 @@ impl Receivers {
         general < 13 && has_bit(self.mask, general)
     }
 
-    /// They as a set.
+    /// Returns the receivers as a bit mask, bit g for general g.
     pub fn mask(&self) -> u16
         ensures { (g : ℕ) → g < 13 → is_in result g ≡ on self.now g }
     {
         self.mask
     }
 
-    /// How many they are.
+    /// Returns the number of receivers.
     pub fn count(&self) -> u32
         ensures count { result ≡ length self.now }
         ensures few { result ≤ 13 }
@@ -72,7 +73,7 @@ impl Receivers {
         (u32::from(self.mask) & ((1 << 13) - 1)).count_ones()
     }
 
-    /// They, one by one, ascending.
+    /// Returns the receivers as a list, ascending.
     pub fn list(&self) -> ArrayVec<u8, 13>
         ensures { result.items ≡ self.now }
     {
@@ -86,7 +87,7 @@ impl Receivers {
         list
     }
 
-    /// Does nothing. Who they may be.
+    /// Does nothing. Its contract says that there are at most 13 receivers, all distinct and below 13.
     pub fn recall(&self)
         ensures few { length self.now ≤ 13 }
         ensures below { AllBelow 13 self.now }
@@ -95,7 +96,7 @@ impl Receivers {
         let _mask = self.mask;
     }
 
-    /// The same receivers.
+    /// Returns a copy of the set.
     pub fn copy(&self) -> Receivers
         ensures { result ≡ self.now }
     {

@@ -1,4 +1,4 @@
-//! The rows of a relay, one for each label in its order.
+//! Builds the empty rows of an outbox, one for each label that the general relays.
 ghost use Rattle.std.specs.Prelude.{◌≡◌, ◌≢◌, ◌-◌, ◌∷◌, ◌++◌, [], map, IfOk};
 ghost use Rattle.label.specs.Labels.{labels, others};
 ghost use Rattle.label.specs.Relay.{IsShape, relay};
@@ -10,7 +10,8 @@ use crate::receivers::Receivers;
 use label::{Shape, Space, count};
 use std::alloc::{AllocError, Global};
 
-/// The empty rows of the labels that the general relays.
+/// Builds the empty rows of the labels that the general relays, in the order of the labels' ranks. Fails with
+/// `AllocError` if memory runs out.
 pub(crate) fn rows_of(alloc: Global, shape: Shape) -> Result<Vec<UniformRow>, AllocError>
     requires { IsShape shape }
     ensures { IfOk result (λ rows. rows.items ≡ map (row_for shape) (relay shape)) }
@@ -25,7 +26,8 @@ pub(crate) fn rows_of(alloc: Global, shape: Shape) -> Result<Vec<UniformRow>, Al
     Ok(rows)
 }
 
-/// Those of a lieutenant: the labels of the round before that lack him.
+/// Builds the empty rows of a lieutenant. He relays the labels of the previous round that do not contain him. Fails
+/// with `AllocError` if memory runs out.
 fn lieutenant_rows(alloc: Global, shape: Shape) -> Result<Vec<UniformRow>, AllocError>
     requires shape { IsShape shape }
     requires lieutenant { shape.general ≢ shape.commander }
@@ -46,7 +48,7 @@ fn lieutenant_rows(alloc: Global, shape: Shape) -> Result<Vec<UniformRow>, Alloc
     Ok(rows)
 }
 
-/// Who hears of a relay of the commander's label: all but him and the general.
+/// Returns the receivers of a relay of the commander's label: all generals except the commander and the relaying one.
 fn hearing(shape: Shape) -> Receivers
     requires { IsShape shape }
     ensures { result ≡ others shape.generals (shape.commander ∷ shape.general ∷ []) }
@@ -58,7 +60,8 @@ fn hearing(shape: Shape) -> Receivers
     )
 }
 
-/// Pushes the rows of the labels that have so many generals more than one of which these hear.
+/// Appends the empty rows of the labels that extend a label by `more` generals. `hearing` are the label's receivers.
+/// Fails with `AllocError` if memory runs out.
 fn push_rows(rows: &mut Vec<UniformRow>, hearing: Receivers, more: u32) -> Result<(), AllocError>
     ensures { IfOk result (λ _. rows.new.items ≡ rows.old.items ++ rows_under more hearing) }
 {

@@ -1,3 +1,4 @@
+//! A label's row in which each receiver has his own order, or none.
 ghost use Rattle.std.specs.Prelude.{◌≡◌, ◌≤◌, length, min};
 ghost use Rattle.label.specs.Labels.{on};
 ghost use Rattle.outbox.specs.Rows.{empty_row, orders_in, receivers_in, put_in_row, all_put, filled, order_in, row_of, IsRow};
@@ -7,11 +8,11 @@ use crate::receivers::Receivers;
 use arrayvec::ArrayVec;
 use std::marker::Model;
 
-/// The places of one label: who may hear of it, ascending, each with the order put for him.
+/// A mixed row: the places of one label, whose receivers each have their own order, or none.
 #[derive(Drop)]
 pub struct MixedRow {
     receivers: Receivers,
-    /// By the receiver's number; nothing at the other numbers.
+    /// The order of each receiver, by his number. Other numbers have none.
     orders: OrdersByNumber,
 }
 
@@ -26,7 +27,7 @@ impl Model for MixedRow {
 }
 
 impl MixedRow {
-    /// A row in which nothing is put, for these receivers.
+    /// Creates a row for these receivers in which no order is put.
     pub(crate) fn new(receivers: Receivers) -> MixedRow
         ensures { result ≡ empty_row receivers }
     {
@@ -37,7 +38,7 @@ impl MixedRow {
         }
     }
 
-    /// Puts the receiver's order: whether he is among the receivers.
+    /// Puts an order for a receiver. Returns whether he is among the row's receivers. If not, nothing changes.
     pub(crate) fn put(&mut self, receiver: u32, order: u32) -> bool
         ensures row { self.new ≡ put_in_row receiver order self.old }
         ensures there { result ≡ on (receivers_in self.old) receiver }
@@ -56,7 +57,8 @@ impl MixedRow {
         self.orders = OrdersByNumber::alike(order, self.receivers.mask());
     }
 
-    /// Puts orders for the receivers, ascending, as many as there are: how many.
+    /// Puts orders for the receivers in ascending order, until the orders or the receivers run out. Returns how many
+    /// were put.
     pub(crate) fn fill(&mut self, orders: &[u32]) -> u32
         ensures row { self.new ≡ filled orders.now self.old }
         ensures count { result ≡ min (length self.old) (length orders.now) }
@@ -65,21 +67,21 @@ impl MixedRow {
         fill(self.receivers.list().as_slice(), &mut self.orders, orders)
     }
 
-    /// The receiver's order, where there is one.
+    /// Returns the receiver's order, if there is one.
     pub(crate) fn order(&self, receiver: u32) -> Option<u32>
         ensures { result ≡ order_in receiver self.now }
     {
         self.orders.at(receiver)
     }
 
-    /// Who hears of the label, ascending.
+    /// Returns the receivers of the label, ascending.
     pub(crate) fn receivers(&self) -> ArrayVec<u8, 13>
         ensures { result.items ≡ receivers_in self.now }
     {
         self.receivers.list()
     }
 
-    /// The orders, receiver by receiver.
+    /// Returns the order of each receiver, in ascending order of receivers.
     pub(crate) fn told(&self) -> ArrayVec<Option<u32>, 13>
         ensures orders { result.items ≡ orders_in self.now }
         ensures few { length result.items ≤ 13 }
@@ -87,7 +89,7 @@ impl MixedRow {
         told(self.receivers.list().as_slice(), &self.orders)
     }
 
-    /// The same row.
+    /// Returns a copy of the row.
     pub(crate) fn copy(&self) -> MixedRow
         ensures { result ≡ self.now }
     {
@@ -98,7 +100,7 @@ impl MixedRow {
     }
 }
 
-/// The orders, by number, of the receivers.
+/// Returns the orders of `receivers`, which `kept` stores by number.
 fn told(receivers: &[u8], kept: &OrdersByNumber) -> ArrayVec<Option<u32>, 13>
     requires few { length receivers.now ≤ 13 }
     ensures orders { result.items ≡ orders_in (row_of kept.now receivers.now) }
@@ -111,7 +113,8 @@ fn told(receivers: &[u8], kept: &OrdersByNumber) -> ArrayVec<Option<u32>, 13>
     told
 }
 
-/// Puts orders, by number, for the first of the receivers: how many.
+/// Puts orders for `receivers` into `kept`, which stores them by number, until the orders or the receivers run out.
+/// Returns how many were put.
 fn fill(receivers: &[u8], kept: &mut OrdersByNumber, orders: &[u32]) -> u32
     requires row { IsRow kept.old receivers.now }
     requires few { length receivers.now ≤ 13 }

@@ -1,4 +1,4 @@
-//! All rows of an outbox: looked at, copied, compared, and orders put in them.
+//! The rows of an outbox, one for each label: reading, copying and comparing them, and putting orders in them.
 ghost use Rattle.std.specs.Prelude.{◌≡◌, ◌<◌, ◌≤◌, ◌↔◌, [], ℕ, IfOk, IsTrue, length, map, min, slice_index_or, slice_set, vec_capacity};
 ghost use Rattle.label.specs.Labels.{on};
 ghost use Rattle.outbox.specs.Orders.{orders_seen};
@@ -10,13 +10,13 @@ use crate::row::MixedRow;
 use std::alloc::{AllocError, Global};
 use std::marker::Model;
 
-/// The rows of an outbox, by rank. As long as no receiver was put an order of his own, twelve bytes stand for a label's
-/// row; the memory for all orders is there from the start, and is written to only then.
+/// The rows of an outbox, by rank. Each row takes 12 bytes until some receiver is sent an order of his own. The memory
+/// for separate orders is allocated at the start, and written only then.
 #[derive(Drop)]
 pub(crate) struct Rows {
-    /// The rows, as long as the others are empty.
+    /// The uniform rows. They are in use while `apart` is empty.
     alike: Vec<UniformRow>,
-    /// The rows once they are set apart.
+    /// The mixed rows, once the rows are set apart.
     apart: Vec<MixedRow>,
 }
 
@@ -32,11 +32,11 @@ impl Model for Rows {
 }
 
 impl Rows {
-    /// These rows.
+    /// Creates the rows of an outbox from uniform rows, with room to set them apart.
     ///
     /// # Errors
     ///
-    /// `AllocError` where the memory for their orders is refused.
+    /// Returns `AllocError` if the memory for separate orders cannot be allocated.
     pub fn new(alloc: Global, alike: Vec<UniformRow>) -> Result<Rows, AllocError>
         ensures { IfOk result (λ rows. rows ≡ alike.items) }
     {
@@ -44,7 +44,7 @@ impl Rows {
         Ok(Rows { alike, apart })
     }
 
-    /// No row.
+    /// Creates the rows of an outbox without labels.
     pub fn none(alloc: Global) -> Rows
         ensures { result ≡ [] }
     {
@@ -54,7 +54,7 @@ impl Rows {
         }
     }
 
-    /// How many they are.
+    /// Returns the number of rows.
     pub fn len(&self) -> usize
         ensures { result ≡ length self.now }
     {
@@ -65,7 +65,7 @@ impl Rows {
         }
     }
 
-    /// The row of that rank.
+    /// Returns the row with this rank.
     pub fn at(&self, rank: usize) -> Orders<'_>
         requires { rank < length self.now }
         ensures { orders_seen result ≡ slice_index_or self.now rank [] }
@@ -77,7 +77,7 @@ impl Rows {
         }
     }
 
-    /// Puts a receiver's order in the row of that rank: whether he is among its receivers.
+    /// Puts a receiver's order in the row with this rank. Returns whether he is among its receivers.
     pub fn put(&mut self, rank: usize, receiver: u32, order: u32) -> bool
         requires { rank < length self.old }
         ensures rows { self.new ≡ slice_set self.old rank
@@ -88,7 +88,8 @@ impl Rows {
         self.apart[rank].put(receiver, order)
     }
 
-    /// Puts orders in the row of that rank, for the first receivers, as many as there are: how many.
+    /// Puts orders for the receivers of the row with this rank, until the orders or the receivers run out. Returns how
+    /// many were put.
     pub fn fill(&mut self, rank: usize, orders: &[u32]) -> u32
         requires { rank < length self.old }
         ensures rows { self.new ≡ slice_set self.old rank (filled orders.now (slice_index_or self.old rank [])) }
@@ -98,7 +99,7 @@ impl Rows {
         self.apart[rank].fill(orders)
     }
 
-    /// Puts one order for all receivers of the row of that rank.
+    /// Puts one order for all receivers of the row with this rank.
     pub fn put_all(&mut self, rank: usize, order: u32)
         requires { rank < length self.old }
         ensures { self.new ≡ slice_set self.old rank (all_put order (slice_index_or self.old rank [])) }
@@ -110,7 +111,8 @@ impl Rows {
         }
     }
 
-    /// Puts a receiver's order in each row, told by its rank: how many were put.
+    /// Puts an order for a receiver in each row that has him, where `order` maps a row's rank to the order. Returns how
+    /// many were put.
     pub fn put_in_each<F: Fn(usize) -> u32>(&mut self, receiver: u32, order: F) -> u32
         requires few { length self.old ≤ 990 }
         requires callable { (rank : ℕ) → rank < length self.old → F.pre order rank }
@@ -122,11 +124,11 @@ impl Rows {
         put_in_each(self.apart.as_mut_slice(), receiver, order)
     }
 
-    /// The same rows.
+    /// Returns a copy of the rows.
     ///
     /// # Errors
     ///
-    /// `AllocError` where the memory for them is refused.
+    /// Returns `AllocError` if the memory for the copy cannot be allocated.
     pub fn copy(&self, alloc: Global) -> Result<Rows, AllocError>
         ensures { IfOk result (λ copy. copy ≡ self.now) }
     {
@@ -140,7 +142,7 @@ impl Rows {
         })
     }
 
-    /// Whether they have the same orders, place by place.
+    /// Checks whether two outboxes have the same orders at every place.
     pub fn has_orders_of(&self, others: &Rows) -> bool
         ensures { IsTrue result ↔ (map orders_in self.now ≡ map orders_in others.now) }
     {
@@ -158,7 +160,7 @@ impl Rows {
     }
 }
 
-/// Sets the rows apart, for which there is room, where they are not yet.
+/// Sets the rows apart, unless they already are. There must be room for them.
 fn set_apart(alike: &[UniformRow], apart: &mut Vec<MixedRow>)
     requires room { length apart.old.items ≡ 0 → length alike.now ≤ vec_capacity apart.old }
     ensures rows { apart.new.items ≡ rows_seen alike.now apart.old.items }
@@ -172,7 +174,7 @@ fn set_apart(alike: &[UniformRow], apart: &mut Vec<MixedRow>)
     }
 }
 
-/// The same rows.
+/// Copies uniform rows. Fails with `AllocError` if memory runs out.
 fn copied_alike(alloc: Global, rows: &[UniformRow]) -> Result<Vec<UniformRow>, AllocError>
     ensures { IfOk result (λ copy. copy.items ≡ rows.now) }
 {
@@ -183,7 +185,7 @@ fn copied_alike(alloc: Global, rows: &[UniformRow]) -> Result<Vec<UniformRow>, A
     Ok(copy)
 }
 
-/// The same rows.
+/// Copies mixed rows. Fails with `AllocError` if memory runs out.
 fn copied(alloc: Global, rows: &[MixedRow]) -> Result<Vec<MixedRow>, AllocError>
     ensures { IfOk result (λ copy. copy.items ≡ rows.now) }
 {
@@ -194,7 +196,7 @@ fn copied(alloc: Global, rows: &[MixedRow]) -> Result<Vec<MixedRow>, AllocError>
     Ok(copy)
 }
 
-/// Whether the orders are the same, one after the other.
+/// Checks whether two lists of orders are equal.
 fn are_same(told: &[Option<u32>], others: &[Option<u32>]) -> bool
     ensures { IsTrue result ↔ (told.now ≡ others.now) }
 {
@@ -209,7 +211,8 @@ fn are_same(told: &[Option<u32>], others: &[Option<u32>]) -> bool
     true
 }
 
-/// Puts a receiver's order in the row of each label, told by its rank: how many were put.
+/// Puts an order for a receiver in each row that has him, where `order` maps a row's rank to the order. Returns how
+/// many were put.
 fn put_in_each<F: Fn(usize) -> u32>(labels: &mut [MixedRow], receiver: u32, order: F) -> u32
     requires few { length labels.old ≤ 990 }
     requires callable { (rank : ℕ) → rank < length labels.old → F.pre order rank }

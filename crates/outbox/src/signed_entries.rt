@@ -1,4 +1,4 @@
-//! What is entered where orders are signed.
+//! The entries of an outbox for signed messages: which ones are allowed, and how they are copied and compared.
 ghost use Rattle.std.specs.Prelude.{◌≡◌, ◌≤◌, ◌↔◌, [], length, IfOk, IsTrue};
 ghost use Rattle.label.specs.Relay.{IsShape};
 ghost use Rattle.semantics.specs.Relay.{signed};
@@ -11,10 +11,10 @@ use semantics::Entry;
 use std::alloc::{AllocError, Global};
 use std::marker::Model;
 
-/// What a general enters of signed messages in a round: at most 8 entries.
+/// The state of an outbox for signed messages: the chains that the general holds, and at most 8 entries of the round.
 #[derive(Drop)]
 pub(crate) struct Signing {
-    /// The signers of each chain that he holds, bit g for general g.
+    /// The signers of each chain that the general holds: bit g is set if general g has signed.
     held: Vec<u16>,
     entries: ArrayVec<Entry, 8>,
 }
@@ -28,7 +28,8 @@ impl Model for Signing {
 }
 
 impl Signing {
-    /// Nothing is entered, of a general who holds chains with these signers.
+    /// Creates the state without entries, for a general who holds chains with these signers. Fails with `AllocError` if
+    /// memory runs out.
     pub fn new(alloc: Global, held: &[u16]) -> Result<Signing, AllocError>
         ensures { IfOk result (λ signing. signing ≡ record { held = held.now; entries = [] }) }
     {
@@ -38,7 +39,7 @@ impl Signing {
         })
     }
 
-    /// What was entered, in order.
+    /// Returns the entries in the order in which they were made.
     pub fn entries(&self) -> &[Entry]
         ensures same { result.now ≡ self.now.entries }
         ensures few { length self.now.entries ≤ 8 }
@@ -46,7 +47,7 @@ impl Signing {
         self.entries.as_slice()
     }
 
-    /// Takes an entry, where the general can send its chain and there is room: whether it was taken.
+    /// Adds an entry if the general can send its chain and there is room. Returns whether it was added.
     pub fn enter(&mut self, shape: Shape, entry: Entry) -> bool
         requires { IsShape shape }
         ensures held { self.new.held ≡ self.old.held }
@@ -60,8 +61,8 @@ impl Signing {
         true
     }
 
-    /// Whether the general can send the entry's chain: the commander signs orders, and who holds a chain that he has
-    /// not signed passes it on.
+    /// Checks whether the general can send the entry's chain. Only the commander signs orders. Any general who holds a
+    /// chain that he has not signed can pass it on.
     fn may_send(&self, shape: Shape, entry: Entry) -> bool
         requires { IsShape shape }
         ensures { result ≡ is_sendable (signed shape self.now.held) entry }
@@ -75,7 +76,7 @@ impl Signing {
         }
     }
 
-    /// The same.
+    /// Returns a copy of the state. Fails with `AllocError` if memory runs out.
     fn copy(&self, alloc: Global) -> Result<Signing, AllocError>
         ensures { IfOk result (λ signing. signing ≡ self.now) }
     {
@@ -85,7 +86,7 @@ impl Signing {
         })
     }
 
-    /// Whether the signers of each chain are the same, and the entries.
+    /// Checks whether two states have the same signers of each chain and the same entries.
     fn same(&self, other: &Signing) -> bool
         ensures { IsTrue result ↔ (self.now ≡ other.now) }
     {
@@ -94,7 +95,7 @@ impl Signing {
     }
 }
 
-/// The same, where there is one.
+/// Returns a copy of the state, if there is one. Fails with `AllocError` if memory runs out.
 pub(crate) fn copied_signing(
     alloc: Global,
     signing: &Option<Signing>,
@@ -107,7 +108,7 @@ pub(crate) fn copied_signing(
     }
 }
 
-/// Whether there is none of both, or the same.
+/// Checks whether both states are absent, or both are there and equal.
 pub(crate) fn same_signing(one: &Option<Signing>, other: &Option<Signing>) -> bool
     ensures { IsTrue result ↔ (one.now ≡ other.now) }
 {
@@ -118,14 +119,14 @@ pub(crate) fn same_signing(one: &Option<Signing>, other: &Option<Signing>) -> bo
     }
 }
 
-/// Whether the lists are the same.
+/// Checks whether two lists of signers are equal.
 fn same_signers(signers: &[u16], others: &[u16]) -> bool
     ensures { IsTrue result ↔ (signers.now ≡ others.now) }
 {
     signers == others
 }
 
-/// Whether the entries are the same, one after the other.
+/// Checks whether two lists of entries are equal.
 fn same_entries(entries: &[Entry], others: &[Entry]) -> bool
     ensures { IsTrue result ↔ (entries.now ≡ others.now) }
 {
@@ -140,7 +141,7 @@ fn same_entries(entries: &[Entry], others: &[Entry]) -> bool
     true
 }
 
-/// Whether the two are the same.
+/// Checks whether two entries are equal.
 fn same_entry(entry: Entry, other: Entry) -> bool
     ensures { IsTrue result ↔ (entry ≡ other) }
 {
@@ -163,7 +164,7 @@ fn same_entry(entry: Entry, other: Entry) -> bool
     }
 }
 
-/// The list, kept apart.
+/// Returns a copy of the list of signers. Fails with `AllocError` if memory runs out.
 fn copied_signers(alloc: Global, signers: &[u16]) -> Result<Vec<u16>, AllocError>
     ensures { IfOk result (λ copy. copy.items ≡ signers.now) }
 {
@@ -174,7 +175,7 @@ fn copied_signers(alloc: Global, signers: &[u16]) -> Result<Vec<u16>, AllocError
     Ok(copy)
 }
 
-/// The entries, kept apart.
+/// Returns a copy of the list of entries.
 fn copied_entries(entries: &[Entry]) -> ArrayVec<Entry, 8>
     requires { length entries.now ≤ 8 }
     ensures { result.items ≡ entries.now }

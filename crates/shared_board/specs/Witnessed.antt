@@ -5,20 +5,20 @@ use Rattle.logbook.specs.Pages.{Book}
 use Rattle.semantics.specs.declared.request.Request.{Request}
 use Rattle.board.specs.Board.{Access, reply, words_after}
 
--- the beginning of the history that was met, and how many accesses were served to this thread
+-- the prefix of the history that the thread has seen, and the number of accesses served to it
 pub record Witnessed : Type 0 where
   pub seen : List Access
   pub made : ℕ
 
--- the words that a board opens with, which history and ledger are its, and for how many threads
+-- a board that is not shared yet: its opening words, its history, the name of its ledger, and the number of threads
 pub record UnsharedSeen : Type 0 where
   pub opening : List ℕ
   pub book : Book
   pub name : ℕ
   pub parts : ℕ
 
--- one access of this general, round and request was served, behind all that was met and what others have had served
--- since; the answer is the board's at that place
+-- One access with this general, round and request was entered. It comes after all that the thread had seen and all that
+-- others have had served since. The answer is the board's reply at this point of the history.
 pub record Serves (opening : List ℕ) (old : Witnessed) (general round : ℕ) (request : Request) (answer : List ℕ)
     (new : Witnessed) : Type 0 where
   pub before : List Access

@@ -1,4 +1,4 @@
-//! What lies under the lock.
+//! What the lock of a shared board protects: the board, the length of its history, and the count of accesses.
 ghost use Rattle.std.specs.Prelude.{◌≡◌, ◌<◌, ◌^◌, ◌++◌, ◌∷◌, [], suc, true, length, IsTrue, IfOk, OnOk, OnErr};
 ghost use mathlib.Core.List.{IsPrefix};
 ghost use Rattle.semantics.specs.Call.{fits};
@@ -19,7 +19,8 @@ use std::marker::Model;
 use std::sync::Wait;
 use std::sync::ledger::Book;
 
-/// The board, beside the history, which is its ledger, and the count of what was served through witnesses.
+/// The state under the lock: the board, the history that equals its ledger, and the number of accesses that witnesses
+/// made.
 #[derive(Drop)]
 pub(crate) struct Desk<J: Room> {
     pub(crate) board: Board,
@@ -42,7 +43,8 @@ impl<J: Room> Model for Desk<J> {
 }
 
 impl<J: Room> Desk<J> {
-    /// Serves a general's request of a round as the board does, and enters it into the history.
+    /// Serves a general's request in a round as the board does, and enters the access into the history. Fails with
+    /// `AllocError` if memory runs out, and then leaves everything as it was.
     pub(crate) fn serve<R: Wait>(
         &mut self,
         rt: &R,
@@ -77,7 +79,8 @@ impl<J: Room> Desk<J> {
             &mut seen,
             &self.board.ledger()[count],
         );
-        // Only who holds the lock enters anything, so the history is never longer. No clause of the book says so.
+        // Only the holder of the lock enters accesses, so the history is never longer. The contract of `logbook` does
+        // not say so.
         if !is_entered {
             for _ in rt.forever() {}
             unreachable!()
@@ -88,7 +91,7 @@ impl<J: Room> Desk<J> {
         Ok(reply)
     }
 
-    /// The board: its ledger has all that the witness has met.
+    /// Consumes the state and returns the board. Its ledger begins with all accesses that the witness has seen.
     pub(crate) fn into_board<R: Wait>(self, rt: &R, witness: Witness<J>) -> Board
         ensures same { result ≡ self }
         ensures opening { result.opening ≡ J.opening }
@@ -104,7 +107,7 @@ impl<J: Room> Desk<J> {
         history.learn(&seen);
         let count = look(&head, &mut history);
         if count != board.ledger().len() as u64 {
-            // As in `serve`.
+            // This cannot happen, for the reason given in `serve`.
             for _ in rt.forever() {}
             unreachable!()
         }
@@ -112,7 +115,7 @@ impl<J: Room> Desk<J> {
     }
 }
 
-/// How long the history is.
+/// Reads the length of the history.
 fn look(head: &Head, seen: &mut Beginning) -> u64
     requires head { head.now ≡ head_of seen.old.book }
     ensures book { seen.new.book ≡ seen.old.book }
@@ -123,7 +126,8 @@ fn look(head: &Head, seen: &mut Beginning) -> u64
     head.load::<Look, Nothing>(seen, &mut offer)
 }
 
-/// Enters an access into the history behind so many others. It does not where the history is longer.
+/// Enters an access into the history after `count` others. Returns `false`, and enters nothing, if the history is
+/// longer.
 fn enter(head: &Head, count: u64, seen: &mut Beginning, access: &Access) -> bool
     requires head { head.now ≡ head_of seen.old.book }
     requires count { count < 2 ^ 63 }

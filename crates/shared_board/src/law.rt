@@ -1,8 +1,8 @@
-//! The rule of the history, and the step that enters an access.
+//! The rule that the history follows, and the steps by which threads enter an access or read the history's length.
 use board::Access;
 use logbook::{Gain, Plain, Play, Rule, Seen, Word};
 
-/// The rule: the word that threads step is the length of the history.
+/// The rule of the history: the shared word that threads update is the length of the history.
 pub(crate) struct Law;
 
 impl Rule<Access, u64> for Law {
@@ -23,7 +23,7 @@ impl Rule<Access, u64> for Law {
     ghost moves = { λ ask before after answer. Unit {0} };
 }
 
-/// Those who enter accesses trade nothing.
+/// The gain of a step on the history: threads get nothing in return.
 pub(crate) struct Nothing;
 
 impl Gain<Access, u64> for Nothing {
@@ -41,7 +41,7 @@ impl Play<Access, u64> for Enter {
     ghost then = { Enters };
 }
 
-/// What the step asks for: the access.
+/// The step asks to enter the given access.
 impl Plain<Access, Access, u64> for Enter {
     ghost use Rattle.std.specs.Prelude.{None};
 
@@ -50,7 +50,7 @@ impl Plain<Access, Access, u64> for Enter {
     ghost state = { λ access. None };
 }
 
-/// A step that looks how long the history is.
+/// A step that reads the length of the history.
 pub(crate) struct Look;
 
 impl Play<Access, u64> for Look {
@@ -59,7 +59,7 @@ impl Play<Access, u64> for Look {
     ghost then = { Looks };
 }
 
-/// A step that looks asks for nothing: what it names is not entered.
+/// The step asks for nothing. The access that it names is not entered.
 impl Plain<(), Access, u64> for Look {
     ghost use Rattle.std.specs.Prelude.{None};
     ghost use Rattle.shared_board.specs.History.{no_access};
@@ -69,8 +69,8 @@ impl Plain<(), Access, u64> for Look {
     ghost state = { λ nothing. None };
 }
 
-/// The word that counts a history's accesses.
+/// The shared word that counts the accesses of a history.
 pub(crate) type Head = Word<Access, u64, Law>;
 
-/// A beginning of a history, which was seen. It takes no bytes.
+/// A prefix of the history that has been seen. It takes no bytes.
 pub(crate) type Beginning = Seen<Access, u64, Law>;

@@ -1,4 +1,4 @@
-//! The board that threads share, behind a lock, with one history of all accesses that it has served.
+//! The board that threads share, protected by a lock, with one history of all accesses that it has served.
 #![tactic(auto)]
 
 mod desk;

@@ -1,17 +1,17 @@
-//! Which board it is.
+//! The name of a shared board, as a type parameter.
 use std::marker::Brand;
 use std::sync::ledger::Ledger;
 
-/// Names one shared board: its history, and the words that it opens with. Each call of a program that shares a board
-/// picks the name, as a ledger's of `std`, which counts the accesses.
+/// The name of one shared board: its history, and the words with which it opens. A function that shares a board picks a
+/// new name in each call. The name is also that of a ledger of `std`, which counts the accesses.
 pub trait Room: Ledger {
     ghost use Rattle.std.specs.Prelude.{ℕ, List};
     ghost use Rattle.logbook.specs.Pages.{Book};
 
-    /// The history.
+    /// The history of the board's accesses.
     ghost book: { Book };
 
-    /// The words that the board opens with.
+    /// The words with which the board opens.
     ghost opening: { List ℕ };
 }
 

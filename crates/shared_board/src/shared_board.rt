@@ -1,4 +1,4 @@
-//! The shared board.
+//! The shared board: creating it with a witness for each thread, making accesses, and taking the board back.
 ghost use Rattle.std.specs.Prelude.{◌≡◌, ◌<◌, ◌≤◌, [], true, All, length, IfOk, OnErr};
 ghost use mathlib.Core.List.{IsPrefix};
 ghost use Rattle.semantics.specs.Call.{fits};
@@ -19,7 +19,7 @@ use std::marker::{Model, PhantomData};
 use std::sync::ledger::Blank;
 use std::sync::{Mutex, Wait};
 
-/// A board with no access yet, and its history, which has no name in a type yet.
+/// A board without accesses, before it is shared. Its history has no name in a type yet.
 #[derive(Drop)]
 pub struct Unshared {
     board: Board,
@@ -46,7 +46,7 @@ impl Model for Unshared {
 }
 
 impl Unshared {
-    /// A board to be shared by so many threads.
+    /// Prepares a board to be shared by this number of threads. It must not have had an access.
     pub fn new(board: Board, threads: u8) -> Unshared
         requires { board.ledger ≡ [] }
         ensures opening { result.opening ≡ board.opening }
@@ -62,19 +62,19 @@ impl Unshared {
     }
 }
 
-/// A board that threads share, behind a lock. Its type names the one history of the accesses that it has served:
-/// whenever the lock is free the ledger is that history, legal from the opening words on.
+/// A board that threads share, protected by a lock. Its type names the one history of the accesses that it has served.
+/// Whenever the lock is free, the ledger is that history, and it is legal from the opening words on.
 #[derive(Drop)]
 pub struct SharedBoard<J: Room> {
     desk: Mutex<Desk<J>>,
 }
 
 impl<J: Room> SharedBoard<J> {
-    /// Shares this board under its name, with a witness for each of so many threads.
+    /// Shares a board under the name `J`. Returns the shared board, and one witness for each of the `threads` threads.
     ///
     /// # Errors
     ///
-    /// `AllocError` where the memory for the list of witnesses is refused.
+    /// Returns `AllocError` if the memory for the list of witnesses cannot be allocated.
     pub fn new(
         alloc: Global,
         unshared: Unshared,
@@ -116,14 +116,14 @@ impl<J: Room> SharedBoard<J> {
         ))
     }
 
-    /// Serves a general's request of a round, and enters it, while the lock is held. It waits for the lock.
+    /// Waits for the lock, serves a general's request in a round, and enters the access into the history.
     ///
-    /// It enters just one access into the history, behind all that the witness has met, and answers what the board
-    /// answers there.
+    /// Exactly one access is entered, after all accesses that the witness has seen. The reply is the board's at this
+    /// point of the history.
     ///
     /// # Errors
     ///
-    /// `AllocError` where the memory for the reply or the entry is refused; the board is then as it was.
+    /// Returns `AllocError` if the memory for the reply or the entry cannot be allocated. The board is then as it was.
     pub fn apply<R: Wait>(
         &self,
         rt: &R,
@@ -140,8 +140,8 @@ impl<J: Room> SharedBoard<J> {
         self.desk.lock(rt).serve(rt, me, general, round, request)
     }
 
-    /// The board that was shared, with all accesses that it has served: each reply is what the words before it gave,
-    /// and what the witness has met is the ledger's beginning.
+    /// Consumes the shared board and returns the board with all accesses that it has served. Each reply is the one that
+    /// the words before it determine. The ledger begins with the accesses that the witness has seen.
     pub fn into_board<R: Wait>(self, rt: &R, witness: Witness<J>) -> Board
         ensures opening { result.opening ≡ J.opening }
         ensures legal { IsLegal result.opening result.ledger }

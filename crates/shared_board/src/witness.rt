@@ -1,4 +1,4 @@
-//! What a thread knows of the shared board's history.
+//! The witness of a thread: its permission to make accesses, and what it knows of the shared board's history.
 ghost use Rattle.std.specs.Prelude.{◌≡◌};
 ghost use mathlib.Core.List.{IsPrefix};
 
@@ -7,8 +7,8 @@ use crate::room::Room;
 use std::marker::{Model, PhantomData};
 use std::sync::ledger::Share;
 
-/// The leave to have accesses served by one shared board. It takes no bytes. It is seen as the beginning of the board's
-/// history that it has met, and how many of the accesses were served through it.
+/// The permission to make accesses to one shared board. It takes no bytes. Contracts see it as the prefix of the
+/// board's history that it has seen, and the number of accesses made through it.
 #[derive(Drop)]
 pub struct Witness<J: Room> {
     pub(crate) seen: Beginning,
@@ -28,7 +28,7 @@ impl<J: Room> Model for Witness<J> {
 }
 
 impl<J: Room> Witness<J> {
-    /// Meets what another witness of the same board has met.
+    /// Adds what another witness of the same board has seen to what this one has seen.
     pub fn learn(&mut self, other: &Witness<J>)
         ensures mine { IsPrefix self.old.seen self.new.seen }
         ensures theirs { IsPrefix other.now.seen self.new.seen }
