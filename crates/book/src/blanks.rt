@@ -40,10 +40,6 @@ pub fn form(alloc: Global, generals: u64, bound: u64, commander: u64) -> Result<
 }
 
 /// Appends the lines of the labels that have `more` generals more than this one and begin with it.
-///
-/// # Errors
-///
-/// Fails with `AllocError` if there is no memory for the lines.
 fn push_blanks(
     alloc: Global,
     text: &mut String,
@@ -67,10 +63,6 @@ fn push_blanks(
 }
 
 /// Appends the lines of a label, one for each general who is off it.
-///
-/// # Errors
-///
-/// Fails with `AllocError` if there is no memory for the lines.
 fn push_receivers(
     alloc: Global,
     text: &mut String,
@@ -88,10 +80,6 @@ fn push_receivers(
 }
 
 /// Appends the line of a label and a receiver, with a question mark for the order.
-///
-/// # Errors
-///
-/// Fails with `AllocError` if there is no memory for the line.
 fn push_blank(
     alloc: Global,
     text: &mut String,

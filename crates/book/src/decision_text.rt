@@ -40,10 +40,6 @@ pub fn explained(alloc: Global, text: &str, traitors: &[u8]) -> Result<String, T
 }
 
 /// Returns a line for each lieutenant, ascending: his number and the order that he decides on.
-///
-/// # Errors
-///
-/// Fails with `AllocError` if there is no memory for the lines.
 fn decisions_text(alloc: Global, table: &Table) -> Result<String, AllocError>
     ensures lines { IfOk result (λ lines. string_bytes lines ≡ decision_lines table.now) }
     ensures agree { IfOk result (λ _. TableAgrees table.now (decisions_of table.now)) }
@@ -62,10 +58,6 @@ fn decisions_text(alloc: Global, table: &Table) -> Result<String, AllocError>
 }
 
 /// Appends the line of a lieutenant's decision.
-///
-/// # Errors
-///
-/// Fails with `AllocError` if there is no memory for the line.
 fn push_decision(
     alloc: Global,
     lines: &mut String,

@@ -52,10 +52,6 @@ pub fn explain_one<H: Heard>(
 }
 
 /// Returns the lines of this general, or an empty text if he is not a lieutenant.
-///
-/// # Errors
-///
-/// Fails with `AllocError` if there is no memory for the text.
 fn part<H: Heard>(
     alloc: Global,
     table: &H,
@@ -80,10 +76,6 @@ fn is_lieutenant<H: Heard>(table: &H, general: u8) -> bool
 }
 
 /// Appends the lines of a lieutenant: his number, his lists and his decision.
-///
-/// # Errors
-///
-/// Fails with `AllocError` if there is no memory for the lines.
 fn push_lieutenant<H: Heard>(
     alloc: Global,
     lines: &mut String,
@@ -110,10 +102,6 @@ fn push_lieutenant<H: Heard>(
 }
 
 /// Appends the line of a lieutenant's decision.
-///
-/// # Errors
-///
-/// Fails with `AllocError` if there is no memory for the line.
 fn push_decision(
     lines: &mut String,
     general: u8,
@@ -134,10 +122,6 @@ fn mark(named: bool) -> &'static str
 }
 
 /// Appends the lines that say whether the bound and the conditions hold.
-///
-/// # Errors
-///
-/// Fails with `AllocError` if there is no memory for the lines.
 fn push_conditions<H: Heard>(
     alloc: Global,
     lines: &mut String,
@@ -155,10 +139,6 @@ fn push_conditions<H: Heard>(
 }
 
 /// Returns the line that says whether the bound holds, with its numbers.
-///
-/// # Errors
-///
-/// Fails with `AllocError` if there is no memory for the line.
 fn bound_line<H: Heard>(alloc: Global, table: &H, met: &Conditions) -> Result<String, AllocError>
     ensures { IfOk result (λ text. string_bytes text ≡ bound_line (H.seen table.now) met.now) }
 {
@@ -169,10 +149,6 @@ fn bound_line<H: Heard>(alloc: Global, table: &H, met: &Conditions) -> Result<St
 }
 
 /// Returns the first part of the bound's line: whether the bound holds, and whether there are enough generals.
-///
-/// # Errors
-///
-/// Fails with `AllocError` if there is no memory for the text.
 fn enough_part<H: Heard>(alloc: Global, table: &H, met: &Conditions) -> Result<String, AllocError>
     ensures { IfOk result (λ text. string_bytes text ≡ enough_part (H.seen table.now) met.now) }
 {
@@ -184,10 +160,6 @@ fn enough_part<H: Heard>(alloc: Global, table: &H, met: &Conditions) -> Result<S
 }
 
 /// Returns the second part of the bound's line: whether few enough generals are named as traitors.
-///
-/// # Errors
-///
-/// Fails with `AllocError` if there is no memory for the text.
 fn few_part<H: Heard>(alloc: Global, table: &H, met: &Conditions) -> Result<String, AllocError>
     ensures { IfOk result (λ text. string_bytes text ≡ few_part (H.seen table.now) met.now) }
 {
@@ -237,10 +209,6 @@ fn alike_line(alike: bool) -> &'static str
 }
 
 /// Returns the line of IC2: whether the loyal lieutenants obey the commander.
-///
-/// # Errors
-///
-/// Fails with `AllocError` if there is no memory for the line.
 fn obedience_line(alloc: Global, obedience: Obedience) -> Result<String, AllocError>
     ensures { IfOk result (λ text. string_bytes text ≡ obedience_line obedience) }
 {

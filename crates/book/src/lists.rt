@@ -10,10 +10,6 @@ use label::Label;
 use std::alloc::{AllocError, Global};
 
 /// Returns a label as text: its generals in decimal, joined by dots.
-///
-/// # Errors
-///
-/// Fails with `AllocError` if there is no memory for the text.
 pub(crate) fn dotted(alloc: Global, label: &Label) -> Result<String, AllocError>
     ensures { IfOk result (λ text. string_bytes text ≡ dotted label.now) }
 {
@@ -24,10 +20,6 @@ pub(crate) fn dotted(alloc: Global, label: &Label) -> Result<String, AllocError>
 }
 
 /// Returns the label of `first` and the generals `rest` as text, joined by dots.
-///
-/// # Errors
-///
-/// Fails with `AllocError` if there is no memory for the text.
 fn joined(alloc: Global, first: u8, rest: &[u8]) -> Result<String, AllocError>
     ensures { IfOk result (λ text. string_bytes text ≡ dotted (first ∷ rest.now)) }
 {
@@ -49,10 +41,6 @@ const ROOM_FOR_PARTS: usize = 216;
 
 /// Returns the text with which the labels one general longer than `label` begin. `label` is written as `front` and its
 /// last general `last`.
-///
-/// # Errors
-///
-/// Fails with `AllocError` if there is no memory for the text.
 fn behind(alloc: Global, label: &Label, front: &str, last: u8) -> Result<String, AllocError>
     requires { front.now ++ decimal last ≡ dotted label.now }
     ensures { IfOk result (λ text. (other : ℕ) →
@@ -66,10 +54,6 @@ fn behind(alloc: Global, label: &Label, front: &str, last: u8) -> Result<String,
 
 /// Appends the part that a general contributes to a list: a label, and the order that is held of it. The label is
 /// written as `front` and the general's number.
-///
-/// # Errors
-///
-/// Fails with `AllocError` if there is no memory for the text.
 fn push_part(
     parts: &mut String,
     front: &str,
@@ -87,10 +71,6 @@ fn push_part(
 
 /// Appends the line of a label for which no order was received. The label is written as `front` and its last general
 /// `last`.
-///
-/// # Errors
-///
-/// Fails with `AllocError` if there is no memory for the text.
 fn push_silent_list(
     lines: &mut String,
     front: &str,
@@ -109,10 +89,6 @@ fn push_silent_list(
 
 /// Appends the line of a label: the order that was received for it, the parts of its list, and the outcome. The label
 /// is written as `front` and its last general `last`.
-///
-/// # Errors
-///
-/// Fails with `AllocError` if there is no memory for the text.
 fn push_list(
     lines: &mut String,
     front: &str,
@@ -137,10 +113,6 @@ fn push_list(
 ///
 /// Returns what lieutenant `general` then holds of the label: his decision about it, or with no relays left the order
 /// that he received, if any.
-///
-/// # Errors
-///
-/// Fails with `AllocError` if there is no memory for the text.
 pub(crate) fn push_lists<H: Heard>(
     alloc: Global,
     lines: &mut String,

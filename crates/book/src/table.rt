@@ -60,10 +60,6 @@ fn place(commander: u8, general: u8) -> usize
 
 impl Table {
     /// Returns the table of a campaign, without messages.
-    ///
-    /// # Errors
-    ///
-    /// Fails with `AllocError` if there is no memory for the lieutenants' trees.
     pub(crate) fn open(
         alloc: Global,
         generals: u8,
@@ -97,10 +93,6 @@ impl Table {
     }
 
     /// Returns the table with one message appended. The table must not yet have a message with this label and receiver.
-    ///
-    /// # Errors
-    ///
-    /// Fails with `AllocError` if there is no memory for the message.
     pub(crate) fn with(mut self, message: Message) -> Result<Table, AllocError>
         requires place { is_place self message.label message.receiver ≡ true }
         requires fresh { list_any (is_about message.label message.receiver) self.messages ≡ false }

@@ -44,10 +44,6 @@ pub(crate) fn write<M: Marks>(
 }
 
 /// Returns the text of the label of one general.
-///
-/// # Errors
-///
-/// Fails with `AllocError` if there is no memory for the text.
 fn alone(alloc: Global, general: u8) -> Result<String, AllocError>
     ensures { IfOk result (λ name. string_bytes name ≡ dotted (general ∷ [])) }
 {
@@ -55,10 +51,6 @@ fn alone(alloc: Global, general: u8) -> Result<String, AllocError>
 }
 
 /// Returns the text of a label extended by one general. `name` is the text of the label.
-///
-/// # Errors
-///
-/// Fails with `AllocError` if there is no memory for the text.
 fn prolonged(alloc: Global, label: &Label, name: &str, general: u8) -> Result<String, AllocError>
     requires { name.now ≡ dotted label.now }
     ensures { IfOk result (λ name. string_bytes name ≡ dotted (label.now ++ general ∷ [])) }
@@ -68,10 +60,6 @@ fn prolonged(alloc: Global, label: &Label, name: &str, general: u8) -> Result<St
 }
 
 /// Returns the first line: the campaign's numbers and its rule. The default rule is left out.
-///
-/// # Errors
-///
-/// Fails with `AllocError` if there is no memory for the line.
 fn first_line(
     alloc: Global,
     generals: u8,
@@ -87,10 +75,6 @@ fn first_line(
 }
 
 /// Returns the words of the rule after the numbers of the first line, or an empty text for the default rule.
-///
-/// # Errors
-///
-/// Fails with `AllocError` if there is no memory for the words.
 fn rule_words(alloc: Global, rule: Rule) -> Result<String, AllocError>
     ensures { IfOk result (λ words. string_bytes words ≡ rule_words rule) }
 {
@@ -103,10 +87,6 @@ fn rule_words(alloc: Global, rule: Rule) -> Result<String, AllocError>
 
 /// Appends the lines of the labels that have `more` generals more than this one and begin with it. `name` is the text
 /// of this label.
-///
-/// # Errors
-///
-/// Fails with `AllocError` if there is no memory for the lines.
 fn push_labels<M: Marks>(
     alloc: Global,
     text: &mut String,
@@ -144,10 +124,6 @@ fn push_labels<M: Marks>(
 }
 
 /// Appends the lines of a label, one for each general who is off it. `name` is the text of the label.
-///
-/// # Errors
-///
-/// Fails with `AllocError` if there is no memory for the lines.
 fn push_receivers<M: Marks>(
     alloc: Global,
     text: &mut String,
@@ -169,10 +145,6 @@ fn push_receivers<M: Marks>(
 }
 
 /// Appends the line of a label and a receiver, unless nothing was received there.
-///
-/// # Errors
-///
-/// Fails with `AllocError` if there is no memory for the line.
 fn push_line(
     alloc: Global,
     text: &mut String,

@@ -11,10 +11,6 @@ use std::thread::Threads;
 use tree::Tree;
 
 /// Returns what the lieutenants of these trees decide, and computes one tree after another.
-///
-/// # Errors
-///
-/// Fails with `AllocError` if there is no memory for the decisions or for a level of them.
 fn in_turn<C: Combine + Sync, R: Threads + Sync>(
     rt: &R,
     alloc: Global,

@@ -63,10 +63,6 @@ fn upward<C: Combine>(tree: &Tree, rule: &C, size: u8, below: &[u32], rank: usiz
 
 /// Returns what the lieutenant decides about every label of length `size`, by rank. `below` holds what he decides about
 /// the labels of length `size + 1`. The ranks are combined in parallel.
-///
-/// # Errors
-///
-/// Fails with `AllocError` if there is no memory for the decisions.
 fn level_at_once<C: Combine + Sync, R: Threads + Sync>(
     rt: &R,
     alloc: Global,
@@ -99,10 +95,6 @@ fn level_at_once<C: Combine + Sync, R: Threads + Sync>(
 }
 
 /// Returns the orders that the lieutenant received for the longest labels, by rank.
-///
-/// # Errors
-///
-/// Fails with `AllocError` if there is no memory for the orders.
 fn longest(alloc: Global, tree: &Tree) -> Result<Vec<u32>, AllocError>
     ensures long { IfOk result
         (λ v. length v.items ≡ length

@@ -5,10 +5,6 @@ use board::Access;
 use std::alloc::{AllocError, Global};
 
 /// Returns a copy of the accesses.
-///
-/// # Errors
-///
-/// Fails with `AllocError` if there is no memory for the copy.
 pub(crate) fn copied(alloc: Global, accesses: &[Access]) -> Result<Vec<Access>, AllocError>
     ensures { IfOk result (λ copy. copy.items ≡ accesses.now) }
 {

@@ -67,10 +67,6 @@ pub fn live<S: Server>(
 }
 
 /// Takes one turn, and then runs on to the next access or the end.
-///
-/// # Errors
-///
-/// Fails with `AllocError` if there is no memory for an access or the transcript.
 fn go_on<S: Server>(
     running: &mut Running,
     transcript: &mut Vec<Access>,

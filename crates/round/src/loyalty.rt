@@ -46,10 +46,6 @@ pub fn loyal_letter(
 }
 
 /// Returns the outbox that sends each receiver what the general took.
-///
-/// # Errors
-///
-/// Fails with `AllocError` if there is no memory for the outbox.
 fn faithful(alloc: Global, shape: Shape, context: &[u8]) -> Result<Outbox, AllocError>
     requires shape { IsShape shape }
     requires context { length context.now ≡ 4096 }

@@ -222,10 +222,6 @@ impl Running {
 }
 
 /// Moves the activation into a box.
-///
-/// # Errors
-///
-/// Fails with `AllocError` if there is no memory for the box.
 fn boxed(alloc: Global, activation: Machine) -> Result<Box<Machine>, AllocError>
     ensures { IfOk result (λ own. own.value ≡ activation) }
 {

@@ -83,10 +83,6 @@ impl Player {
 }
 
 /// Returns a copy of the players, which share their programs.
-///
-/// # Errors
-///
-/// Fails with `AllocError` if there is no memory for the list, or if a program's reference count cannot be increased.
 pub(crate) fn copied(alloc: Global, seats: &[Player]) -> Result<Vec<Player>, AllocError>
     ensures { IfOk result (λ copy. copy.items ≡ seats.now) }
 {

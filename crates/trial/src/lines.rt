@@ -27,10 +27,6 @@ pub fn tried(alloc: Global, verified: &Verified, setting: &Setting) -> Result<St
 }
 
 /// Returns the lines of a run that has ended, with a board that opened with these words.
-///
-/// # Errors
-///
-/// Fails with `AllocError` if there is no memory for the lines.
 fn lines(
     alloc: Global,
     program: &Program,
@@ -77,10 +73,6 @@ pub fn first_lines(
 }
 
 /// Appends a line for each order that was put.
-///
-/// # Errors
-///
-/// Fails with `AllocError` if there is no memory for the lines.
 fn push_orders(alloc: Global, text: &mut String, outbox: &Outbox) -> Result<(), AllocError>
     ensures { OnOk result (string_bytes text.new ≡ string_bytes text.old ++ put_lines outbox.now) }
 {
@@ -91,10 +83,6 @@ fn push_orders(alloc: Global, text: &mut String, outbox: &Outbox) -> Result<(), 
 }
 
 /// Appends the lines of the orders for the label of this rank.
-///
-/// # Errors
-///
-/// Fails with `AllocError` if there is no memory for the lines.
 fn push_label(
     alloc: Global,
     text: &mut String,
@@ -117,10 +105,6 @@ fn push_label(
 }
 
 /// Appends the line of one order.
-///
-/// # Errors
-///
-/// Fails with `AllocError` if there is no memory for the line.
 fn push_order(
     alloc: Global,
     text: &mut String,
@@ -135,10 +119,6 @@ fn push_order(
 }
 
 /// Appends a line for each word that has changed.
-///
-/// # Errors
-///
-/// Fails with `AllocError` if there is no memory for the lines.
 fn push_words(
     alloc: Global,
     text: &mut String,
@@ -155,10 +135,6 @@ fn push_words(
 }
 
 /// Appends the line of one word, unless it has not changed.
-///
-/// # Errors
-///
-/// Fails with `AllocError` if there is no memory for the line.
 fn push_word(
     alloc: Global,
     text: &mut String,

@@ -50,10 +50,6 @@ pub fn run_in(alloc: Global, verified: &Verified, setting: &Setting) -> Result<E
 
 /// Runs a program to its exit in this context, with an empty outbox of this shape, and a board that opens with these
 /// words.
-///
-/// # Errors
-///
-/// Fails with `AllocError` if there is no memory for the outbox or an access.
 #[tactic(auto, using(crate::proofs::Owning::all_of_one, crate::proofs::Entering::all_entered))]
 fn run(
     alloc: Global,

@@ -53,10 +53,6 @@ pub fn put_note(
 }
 
 /// Appends that a call of a helper puts nothing.
-///
-/// # Errors
-///
-/// Fails with `AllocError` if there is no memory for the text.
 #[tactic(auto, unfolding(crate::specs::Slips::slip_told))]
 fn put_slip(out: &mut String, helper: Helper) -> Result<(), AllocError>
     ensures { OnOk result (string_bytes out.new ≡ string_bytes out.old ++ slip_told helper) }
@@ -66,10 +62,6 @@ fn put_slip(out: &mut String, helper: Helper) -> Result<(), AllocError>
 }
 
 /// Appends a unit and, if it is known, the unit's place in the text in which the program was written.
-///
-/// # Errors
-///
-/// Fails with `AllocError` if there is no memory for the text.
 #[tactic(auto, unfolding(crate::specs::Slips::unit_told))]
 fn put_unit(out: &mut String, places: &[String], unit: usize) -> Result<(), AllocError>
     ensures { OnOk result (string_bytes out.new ≡ string_bytes out.old ++ unit_told places.now unit) }
@@ -89,10 +81,6 @@ fn place_of(places: &[String], unit: usize) -> &str
 }
 
 /// Appends a place in brackets, unless it is empty.
-///
-/// # Errors
-///
-/// Fails with `AllocError` if there is no memory for the text.
 fn put_in_brackets(out: &mut String, place: &str) -> Result<(), AllocError>
     ensures { OnOk result (string_bytes out.new ≡ string_bytes out.old ++ in_brackets place.now) }
 {
@@ -105,10 +93,6 @@ fn put_in_brackets(out: &mut String, place: &str) -> Result<(), AllocError>
 }
 
 /// Appends why a call of a helper that puts orders puts nothing.
-///
-/// # Errors
-///
-/// Fails with `AllocError` if there is no memory for the text.
 fn put_reason(
     alloc: Global,
     out: &mut String,
@@ -126,10 +110,6 @@ fn put_reason(
 }
 
 /// Appends why `send` puts nothing for this receiver of the label of this rank.
-///
-/// # Errors
-///
-/// Fails with `AllocError` if there is no memory for the text.
 fn put_no_place(
     alloc: Global,
     out: &mut String,
@@ -150,10 +130,6 @@ fn put_no_place(
 }
 
 /// Appends why `send_row` puts nothing for the label of this rank. `orders` is the number of orders that were given.
-///
-/// # Errors
-///
-/// Fails with `AllocError` if there is no memory for the text.
 fn put_no_row(
     alloc: Global,
     out: &mut String,
@@ -176,10 +152,6 @@ fn put_no_row(
 }
 
 /// Appends why `sway` or `honest` puts nothing for a receiver.
-///
-/// # Errors
-///
-/// Fails with `AllocError` if there is no memory for the text.
 fn put_no_label(out: &mut String, outbox: &Outbox, receiver: u64) -> Result<(), AllocError>
     ensures { OnOk result (string_bytes out.new ≡ string_bytes out.old
         ++ no_label outbox.now.relay.shape receiver (length (relayed outbox.now.relay))) }
@@ -191,10 +163,6 @@ fn put_no_label(out: &mut String, outbox: &Outbox, receiver: u64) -> Result<(), 
 }
 
 /// Appends that none of the `labels` labels has this rank.
-///
-/// # Errors
-///
-/// Fails with `AllocError` if there is no memory for the text.
 fn put_past(out: &mut String, rank: u64, labels: u32) -> Result<(), AllocError>
     ensures { OnOk result (string_bytes out.new ≡ string_bytes out.old ++ past rank labels) }
 {
@@ -206,10 +174,6 @@ fn put_past(out: &mut String, rank: u64, labels: u32) -> Result<(), AllocError>
 }
 
 /// Appends why no label of the description `such` goes to a receiver, or that there is no such general.
-///
-/// # Errors
-///
-/// Fails with `AllocError` if there is no memory for the text.
 fn put_unheard(out: &mut String, shape: Shape, receiver: u64, such: &str) -> Result<(), AllocError>
     ensures { OnOk result (string_bytes out.new ≡ string_bytes out.old ++ unheard shape receiver such.now) }
 {
@@ -221,10 +185,6 @@ fn put_unheard(out: &mut String, shape: Shape, receiver: u64, such: &str) -> Res
 
 /// Appends why no label of the description `such` goes to a general of the campaign: he is the sender, or he is on the
 /// label.
-///
-/// # Errors
-///
-/// Fails with `AllocError` if there is no memory for the text.
 fn put_passed_over(
     out: &mut String,
     sender: u32,
@@ -240,10 +200,6 @@ fn put_passed_over(
 }
 
 /// Returns the text of the label of this rank, among those that the outbox relays.
-///
-/// # Errors
-///
-/// Fails with `AllocError` if there is no memory for the text.
 fn label_text(alloc: Global, outbox: &Outbox, rank: u32) -> Result<String, AllocError>
     requires { rank < length (relayed outbox.now.relay) }
     ensures { IfOk result (λ text. (label : List ℕ) → slice_get (relayed outbox.now.relay) rank ≡ Some label →
@@ -253,10 +209,6 @@ fn label_text(alloc: Global, outbox: &Outbox, rank: u32) -> Result<String, Alloc
 }
 
 /// Returns the text of the label of this rank, among those that a general relays.
-///
-/// # Errors
-///
-/// Fails with `AllocError` if there is no memory for the text.
 fn relay_text(alloc: Global, shape: Shape, rank: u32) -> Result<String, AllocError>
     requires shape { IsShape shape }
     requires within { rank < length (relay shape) }
@@ -278,10 +230,6 @@ fn relay_text(alloc: Global, shape: Shape, rank: u32) -> Result<String, AllocErr
 }
 
 /// Returns a label as text: its generals in decimal, joined by dots, or a dash for the empty label.
-///
-/// # Errors
-///
-/// Fails with `AllocError` if there is no memory for the text.
 fn dotted(alloc: Global, generals: &[u8]) -> Result<String, AllocError>
     ensures { IfOk result (λ text. string_bytes text ≡ dotted generals.now) }
 {
@@ -292,10 +240,6 @@ fn dotted(alloc: Global, generals: &[u8]) -> Result<String, AllocError>
 }
 
 /// Returns the label of `first` and the generals `rest` as text, joined by dots.
-///
-/// # Errors
-///
-/// Fails with `AllocError` if there is no memory for the text.
 fn joined(alloc: Global, first: u8, rest: &[u8]) -> Result<String, AllocError>
     ensures { IfOk result (λ text. string_bytes text ≡ dotted (first ∷ rest.now)) }
 {

@@ -62,10 +62,6 @@ pub fn slips(
 }
 
 /// Takes a step, and appends its note if it is a call that puts nothing. Returns whether the run has ended.
-///
-/// # Errors
-///
-/// Fails with `AllocError` if there is no memory for an access or the line.
 fn go_on(
     alloc: Global,
     out: &mut String,
@@ -112,10 +108,6 @@ fn go_on(
 }
 
 /// Lets the board reply to a request, and resumes the activation.
-///
-/// # Errors
-///
-/// Fails with `AllocError` if there is no memory for the access.
 fn answer(
     shape: Shape,
     request: Request,
@@ -170,10 +162,6 @@ fn call_by(activation: &Machine, helper: Option<Helper>) -> Option<HelperCall>
 }
 
 /// Appends the note on a call that was made, if r0 means that it put nothing.
-///
-/// # Errors
-///
-/// Fails with `AllocError` if there is no memory for the line.
 fn put_slip(
     alloc: Global,
     out: &mut String,

@@ -13,10 +13,6 @@ use semantics::{Request, Value};
 use std::alloc::AllocError;
 
 /// Appends a register and its value.
-///
-/// # Errors
-///
-/// Fails with `AllocError` if there is no memory for the text.
 fn put_register(out: &mut String, activation: &Machine, register: Reg) -> Result<(), AllocError>
     ensures { OnOk result (string_bytes out.new ≡ string_bytes out.old
         ++ register_told activation.now.state.registers register) }
@@ -27,10 +23,6 @@ fn put_register(out: &mut String, activation: &Machine, register: Reg) -> Result
 }
 
 /// Appends a register that the instruction reads, with its value. It appends nothing if there is no register.
-///
-/// # Errors
-///
-/// Fails with `AllocError` if there is no memory for the text.
 fn put_read(out: &mut String, activation: &Machine, register: Option<Reg>) -> Result<(), AllocError>
     ensures { OnOk result (string_bytes out.new ≡ string_bytes out.old
         ++ read_told activation.now.state.registers register) }
@@ -43,10 +35,6 @@ fn put_read(out: &mut String, activation: &Machine, register: Option<Reg>) -> Re
 }
 
 /// Appends the registers that the instruction reads, with their values.
-///
-/// # Errors
-///
-/// Fails with `AllocError` if there is no memory for the text.
 fn put_reads(out: &mut String, activation: &Machine, read: RegisterTriple) -> Result<(), AllocError>
     ensures { OnOk result (string_bytes out.new ≡ string_bytes out.old
         ++ reads_told activation.now.state.registers read) }
@@ -58,10 +46,6 @@ fn put_reads(out: &mut String, activation: &Machine, read: RegisterTriple) -> Re
 }
 
 /// Appends where a store with this offset writes, if its base is a pointer.
-///
-/// # Errors
-///
-/// Fails with `AllocError` if there is no memory for the text.
 fn put_place(out: &mut String, base: Value, offset: i16) -> Result<(), AllocError>
     ensures { OnOk result (string_bytes out.new ≡ string_bytes out.old ++ place_told offset base) }
 {
@@ -74,10 +58,6 @@ fn put_place(out: &mut String, base: Value, offset: i16) -> Result<(), AllocErro
 }
 
 /// Appends where an instruction stores, if it is a store.
-///
-/// # Errors
-///
-/// Fails with `AllocError` if there is no memory for the text.
 fn put_stored(out: &mut String, activation: &Machine, insn: &Insn) -> Result<(), AllocError>
     ensures { OnOk result (string_bytes out.new ≡ string_bytes out.old
         ++ stored_told activation.now.state.registers insn.now) }
@@ -106,10 +86,6 @@ pub fn put_before(out: &mut String, activation: &Machine, insn: &Insn) -> Result
 }
 
 /// Appends a register that the instruction wrote, with its value.
-///
-/// # Errors
-///
-/// Fails with `AllocError` if there is no memory for the text.
 fn put_wrote(out: &mut String, activation: &Machine, register: Reg) -> Result<(), AllocError>
     ensures { OnOk result (string_bytes out.new ≡ string_bytes out.old
         ++ wrote activation.now.state.registers register) }
@@ -119,10 +95,6 @@ fn put_wrote(out: &mut String, activation: &Machine, register: Reg) -> Result<()
 }
 
 /// Appends the unit to which a jump led.
-///
-/// # Errors
-///
-/// Fails with `AllocError` if there is no memory for the text.
 fn put_went(out: &mut String, activation: &Machine) -> Result<(), AllocError>
     ensures { OnOk result (string_bytes out.new ≡ string_bytes out.old ++ went activation.now.state.unit) }
 {
@@ -156,10 +128,6 @@ pub fn put_after(out: &mut String, activation: &Machine, insn: &Insn) -> Result<
 }
 
 /// Appends a word of the board with its value before and after a request.
-///
-/// # Errors
-///
-/// Fails with `AllocError` if there is no memory for the text.
 fn put_word(
     out: &mut String,
     slot: usize,
@@ -174,10 +142,6 @@ fn put_word(
 }
 
 /// Appends `count` consecutive words of the board with their values before and after a request.
-///
-/// # Errors
-///
-/// Fails with `AllocError` if there is no memory for the text.
 #[tactic(auto, unfolding(crate::specs::StepLines::words_told))]
 fn put_words(
     out: &mut String,

@@ -54,10 +54,6 @@ pub fn traced(
 }
 
 /// Takes a step and appends its line. Returns whether the run has ended.
-///
-/// # Errors
-///
-/// Fails with `AllocError` if there is no memory for an access or the line.
 fn turn(
     out: &mut String,
     verified: &Verified,
@@ -104,10 +100,6 @@ fn turn(
 }
 
 /// Lets the board reply to a request, resumes the activation, and appends the rest of the line.
-///
-/// # Errors
-///
-/// Fails with `AllocError` if there is no memory for the access or the text.
 fn serve(
     out: &mut String,
     shape: Shape,

@@ -68,10 +68,6 @@ pub fn replay(alloc: Global, scenario: Scenario, names: &[Vec<u8>]) -> Result<Ch
 }
 
 /// Returns the world of the scenario's campaign, played by a schedule to its end.
-///
-/// # Errors
-///
-/// Fails with `AllocError` if it runs out of memory.
 fn played(alloc: Global, scenario: Scenario, schedule: &Schedule) -> Result<World, AllocError>
     ensures listed { IfOk result (λ world. world ≡ run (opening scenario) (listed scenario (lines_by schedule.now))) }
     ensures finished { IfOk result IsFinished }
@@ -84,10 +80,6 @@ fn played(alloc: Global, scenario: Scenario, schedule: &Schedule) -> Result<Worl
 
 /// Returns the world of the scenario's campaign, played to its end, in which these generals, by round, make their
 /// accesses in this order.
-///
-/// # Errors
-///
-/// Fails with `AllocError` if it runs out of memory.
 fn replayed(alloc: Global, scenario: Scenario, names: &[Vec<u8>]) -> Result<World, AllocError>
     ensures replayed { IfOk result (λ world. world ≡ run (opening scenario) (replayed scenario (lists_in names.now))) }
     ensures finished { IfOk result IsFinished }
@@ -100,10 +92,6 @@ fn replayed(alloc: Global, scenario: Scenario, names: &[Vec<u8>]) -> Result<Worl
 
 /// Ticks a general `times` times. The ticks are not taken one by one: the activation runs on from one access to the
 /// next.
-///
-/// # Errors
-///
-/// Fails with `AllocError` if it runs out of memory.
 fn tick_often<W: PlayableWorld>(world: &mut W, general: u32, times: u32) -> Result<(), AllocError>
     ensures { OnOk result (W.seen world.new ≡ run_of W.kind (W.seen world.old) (replicate times (Tick general))) }
 {
@@ -125,10 +113,6 @@ fn tick_often<W: PlayableWorld>(world: &mut W, general: u32, times: u32) -> Resu
 
 /// Plays a repeated entry of a schedule's line: a traitor's ticks or a loyal general's posts. If there is no such
 /// general, it does nothing.
-///
-/// # Errors
-///
-/// Fails with `AllocError` if it runs out of memory.
 fn play_entry<W: PlayableWorld>(world: &mut W, repeat: Repeat) -> Result<(), AllocError>
     ensures { OnOk result (W.seen world.new
         ≡ run_of W.kind (W.seen world.old)
@@ -144,10 +128,6 @@ fn play_entry<W: PlayableWorld>(world: &mut W, repeat: Repeat) -> Result<(), All
 }
 
 /// Plays `times` entries of one general.
-///
-/// # Errors
-///
-/// Fails with `AllocError` if it runs out of memory.
 fn repeated<W: PlayableWorld>(world: &mut W, general: u8, times: u32) -> Result<(), AllocError>
     requires inside { general < (W.seen world.old).scenario.generals }
     requires some { 0 < times }
@@ -172,10 +152,6 @@ fn post_often<W: PlayableWorld>(world: &mut W, general: u32, times: u32)
 }
 
 /// Plays the entries of a schedule's line.
-///
-/// # Errors
-///
-/// Fails with `AllocError` if it runs out of memory.
 fn play_line<W: PlayableWorld>(world: &mut W, repeats: &[Repeat]) -> Result<(), AllocError>
     ensures { OnOk result (W.seen world.new
         ≡ run_of W.kind (W.seen world.old) (line_events (W.seen world.old).scenario (entries_of repeats.now))) }
@@ -187,10 +163,6 @@ fn play_line<W: PlayableWorld>(world: &mut W, repeats: &[Repeat]) -> Result<(), 
 }
 
 /// Ticks a traitor until he has made one more access or has ended. For any other general it does nothing.
-///
-/// # Errors
-///
-/// Fails with `AllocError` if it runs out of memory.
 fn tick_to_access<W: PlayableWorld>(world: &mut W, general: u32) -> Result<(), AllocError>
     ensures { OnOk result (W.seen world.new
         ≡ run_of W.kind (W.seen world.old) (ticks_named general (slice_get (W.seen world.old).parts general))) }
@@ -233,10 +205,6 @@ fn post_if_loyal<W: PlayableWorld>(world: &mut W, general: u8)
 }
 
 /// Ticks a traitor to his end. For a loyal general it does nothing.
-///
-/// # Errors
-///
-/// Fails with `AllocError` if it runs out of memory.
 fn tick_to_end<W: PlayableWorld>(world: &mut W, general: u8) -> Result<(), AllocError>
     requires { general < (W.seen world.old).scenario.generals }
     ensures { OnOk result (W.seen world.new
@@ -263,10 +231,6 @@ fn all_post<W: PlayableWorld>(world: &mut W)
 }
 
 /// Ticks all traitors to their ends, in ascending order.
-///
-/// # Errors
-///
-/// Fails with `AllocError` if it runs out of memory.
 fn all_end<W: PlayableWorld>(world: &mut W) -> Result<(), AllocError>
     ensures { OnOk result (W.seen world.new
         ≡ run_of W.kind (W.seen world.old)
@@ -279,10 +243,6 @@ fn all_end<W: PlayableWorld>(world: &mut W) -> Result<(), AllocError>
 }
 
 /// Closes the round if one is open.
-///
-/// # Errors
-///
-/// Fails with `AllocError` if it runs out of memory.
 fn end_round<W: PlayableWorld>(world: &mut W) -> Result<(), AllocError>
     ensures { OnOk result (W.seen world.new ≡ happen W.kind (W.seen world.old) Close) }
 {
@@ -307,10 +267,6 @@ pub fn wind_up<W: PlayableWorld>(world: &mut W) -> Result<(), AllocError>
 }
 
 /// Plays a round by a line of a schedule, and finishes it.
-///
-/// # Errors
-///
-/// Fails with `AllocError` if it runs out of memory.
 fn listed_round<W: PlayableWorld>(world: &mut W, line: &[Repeat]) -> Result<(), AllocError>
     ensures { OnOk result (W.seen world.new
         ≡ run_of W.kind

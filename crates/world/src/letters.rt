@@ -20,10 +20,6 @@ use std::mem::replace;
 
 /// Returns the drafts of all generals' letters from their current parts. No other memory is needed for the letters in
 /// the round's list.
-///
-/// # Errors
-///
-/// Fails with `AllocError` if there is no memory for the drafts.
 pub(crate) fn drafts(
     alloc: Global,
     told: &Received,
@@ -44,10 +40,6 @@ pub(crate) fn drafts(
 }
 
 /// Returns the draft of one general's letter.
-///
-/// # Errors
-///
-/// Fails with `AllocError` if there is no memory for the draft.
 fn draft(
     alloc: Global,
     told: &Received,
@@ -78,10 +70,6 @@ fn draft(
 }
 
 /// Returns a loyal general's letter of the open round.
-///
-/// # Errors
-///
-/// Fails with `AllocError` if there is no memory for the letter.
 fn loyal(
     alloc: Global,
     told: &Received,

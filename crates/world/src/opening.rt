@@ -19,10 +19,6 @@ use verify::Verified;
 
 /// Returns all generals' parts at the start of the round after `before` closed ones. The contexts are not written yet.
 /// If no round is left, there are no parts. Opening a round needs no other memory.
-///
-/// # Errors
-///
-/// Fails with `AllocError` if there is no memory for the parts.
 pub(crate) fn blanks(
     alloc: Global,
     scenario: &Scenario,
@@ -41,10 +37,6 @@ pub(crate) fn blanks(
 }
 
 /// Appends one general's part. The list must have capacity for it.
-///
-/// # Errors
-///
-/// Fails with `AllocError` if there is no memory for a traitor's activation.
 fn push_blank(
     parts: &mut Vec<Progress>,
     alloc: Global,
@@ -72,10 +64,6 @@ fn push_blank(
 }
 
 /// Returns the activation of a traitor with a context of zero bytes and an empty outbox.
-///
-/// # Errors
-///
-/// Fails with `AllocError` if there is no memory for the activation.
 fn blank(
     alloc: Global,
     scenario: &Scenario,
@@ -97,10 +85,6 @@ fn blank(
 }
 
 /// Returns a context that consists of 4,096 zero bytes.
-///
-/// # Errors
-///
-/// Fails with `AllocError` if there is no memory for the bytes.
 fn zeros(alloc: Global) -> Result<Vec<u8>, AllocError>
     ensures same { IfOk result (λ bytes. bytes.items ≡ zeros) }
     ensures long { IfOk result (λ bytes. length bytes.items ≡ 4096) }
