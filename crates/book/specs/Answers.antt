@@ -36,7 +36,8 @@ IsFilled n m c order liar text =
     (head : ℕ × ℕ × ℕ × Rule) × (numbers_in n m c ≡ Some head) × (is_within head.0 head.1 head.2 ≡ true)
     × (text ≡ written (loyal order liar) head.0 head.1 head.2 head.3)
 
--- States that the text is a message table and that `lines` list its decisions. The decisions agree if the bound holds.
+-- States that the text is a message table and that `lines` list its decisions. They agree if the bound holds and all
+-- loyal generals relay faithfully what they received.
 abbrev pub DecidesTable : List ℕ → List ℕ → Type 0
 DecidesTable text lines =
     (table : MessageTable) × (table_told text ≡ Ok table) × (lines ≡ decision_lines table)

@@ -6,7 +6,7 @@ use Rattle.book.specs.declared.message.Message.{Message}
 use Rattle.book.specs.Places.{Place, places}
 use Rattle.book.specs.Table.{MessageTable}
 
--- Returns the message that order `v` was received at place `z`.
+-- Returns the message with which order `v` was received at place `z`.
 abbrev pub message : Place → ℕ → Message
 message z v = record { label = z.0; receiver = z.1; order = v }
 

@@ -75,7 +75,8 @@ list_lines t (suc k) w p =
 abbrev pub head_line : ℕ → List ℕ
 head_line p = codes "lieutenant " ++ decimal p ++ codes "\n"
 
--- Returns the mark between the number and the order of a decision, which names a traitor as such.
+-- Returns the text between the number and the order of a decision, which says whether the lieutenant is named as a
+-- traitor.
 abbrev pub mark : Bool → List ℕ
 mark named = if named then codes " traitor " else codes " "
 
@@ -100,7 +101,7 @@ enough_words is_so = if is_so then codes "more than 3 times " else codes "not mo
 unfoldable pub few_words : Bool → List ℕ
 few_words is_so = if is_so then codes "at most " else codes "more than "
 
--- Writes whether the bound holds, and whether there are more than three times as many generals as the bound.
+-- Writes whether the bound holds, and whether there are more generals than three times the bound.
 abbrev pub enough_part : MessageTable → Conditions → List ℕ
 enough_part t met = codes "bound " ++ yes_no met.bound ++ codes ": " ++ decimal t.generals ++ codes " generals, "
     ++ enough_words met.enough ++ decimal t.bound

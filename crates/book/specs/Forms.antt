@@ -17,8 +17,8 @@ head_text n m c =
 abbrev pub place_line : List ℕ → ℕ → List ℕ → List ℕ
 place_line w p mark = codes "tell " ++ dotted w ++ codes " " ++ decimal p ++ codes " " ++ mark ++ codes "\n"
 
--- Writes the lines of the labels that have `k` generals more than `w`, with a line for each general who is off the
--- label. Each place has its own mark.
+-- Writes the lines of the labels that have `k` generals more than `w` and begin with it, with a line for each general
+-- who is off the label. Each place has its own mark.
 unfoldable pub place_lines : (List ℕ → ℕ → List ℕ) → ℕ → ℕ → List ℕ → List ℕ
 place_lines mark n zero w = flat_map (λ p. place_line w p (mark w p)) (others n w)
 place_lines mark n (suc k) w = flat_map (λ j. place_lines mark n k (w ++ j ∷ [])) (others n w)

@@ -77,8 +77,8 @@ is_place t w p =
     is_distinct w && begins_with t.commander w && list_all (λ x. nat_lt x t.generals) w
     && nat_le (length w) (t.bound + 1) && nat_lt p t.generals && not (on w p)
 
--- Checks a further line: returns its message, or the first of its faults. A line has the wrong shape, its label and
--- receiver are not a place, or an earlier line has the same place.
+-- Checks a further line: returns its message, or the first of its faults. The faults are, in this order: the line has
+-- the wrong shape, its label and receiver are not a place, or an earlier line has the same place.
 abbrev pub checked : MessageTable → Option Message → Result Message TableFault
 checked t None = Err Line
 checked t (Some said) = if is_place t said.label said.receiver

@@ -7,9 +7,9 @@ use Rattle.book.specs.Decisions.{decision_of}
 use Rattle.book.specs.Explained.{decided, list_of}
 use Rattle.book.specs.Table.{MessageTable}
 
--- States the agreement theorem. The rule returns the order of a majority, there are more than three times as many
--- generals as the bound, and there are at most as many traitors as the bound. Then the loyal lieutenants decide alike,
--- whatever the traitors send or leave out, and they decide on the order of a loyal commander.
+-- States the agreement theorem. It assumes that the rule returns the order of a majority, that there are more generals
+-- than three times the bound and at most as many traitors as the bound, and that the loyal generals are faithful. Then
+-- the loyal lieutenants decide alike, and on the order of a loyal commander, whatever the traitors send or leave out.
 abbrev pub AgreementHolds : Type 0
 AgreementHolds = (f : List ℕ → ℕ) → IsMajorityRule f →
     (n c m order : ℕ) (traitor : ℕ → Bool) (M : Messages) → c < n → IsBound n m traitor →

@@ -32,8 +32,8 @@ line_of label p Silence = []
 abbrev pub Marking : Type 0
 Marking = List ℕ → ℕ → TableMark
 
--- Writes the lines of the labels that have `k` generals more than `w`, with a line for each general who is off the
--- label.
+-- Writes the lines of the labels that have `k` generals more than `w` and begin with it, with a line for each general
+-- who is off the label.
 unfoldable pub lines_from : Marking → ℕ → ℕ → List ℕ → List ℕ
 lines_from mark n zero w = flat_map (λ p. line_of (dotted w) p (mark w p)) (others n w)
 lines_from mark n (suc k) w = flat_map (λ j. lines_from mark n k (w ++ j ∷ [])) (others n w)

@@ -17,11 +17,11 @@ pub enum Obedience {
 pub struct Conditions {
     /// How many generals are named as traitors.
     pub named: u8,
-    /// Whether there are more than three times as many generals as the bound.
+    /// Whether there are more generals than three times the bound.
     pub enough: bool,
     /// Whether at most as many generals as the bound are named as traitors.
     pub few: bool,
-    /// Whether `enough` and `few` both hold, so that the loyal lieutenants must agree.
+    /// Whether `enough` and `few` both hold, which is the bound of the agreement theorem.
     pub bound: bool,
     /// Whether all loyal lieutenants decide alike (IC1).
     pub alike: bool,

@@ -114,7 +114,8 @@ fn push_decision(
     write!(lines, "decision {general}{mark}{order}\n")
 }
 
-/// Returns the mark in the line of a decision, which says whether the lieutenant is named as a traitor.
+/// Returns the text between the number and the order of a decision, which says whether the lieutenant is named as a
+/// traitor.
 fn mark(named: bool) -> &'static str
     ensures { result.now ≡ mark named }
 {

@@ -20,7 +20,7 @@ pub fn decision<H: Heard>(table: &H, general: u8) -> u32
 }
 
 /// Returns what the lieutenants decide, in ascending order of the lieutenants. The loyal lieutenants decide alike if
-/// the bound holds.
+/// the bound holds and all loyal generals relay faithfully what they received.
 pub fn decisions(table: &Table) -> ArrayVec<u32, 12>
     ensures values { result.items ≡ decisions_of table.now }
     ensures agree { TableAgrees table.now result.items }

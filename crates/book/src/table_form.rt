@@ -1,4 +1,4 @@
-//! Makes the message table to fill in from the words of a command line.
+//! Makes the message table to fill in from a campaign's numbers, given as text.
 ghost use Rattle.std.specs.Prelude.{◌≡◌, ◌≢◌, IfOk, IfErr, Err, min, string_bytes};
 ghost use Rattle.book.specs.Grammar.{opened};
 ghost use Rattle.book.specs.declared.fault.TableError.TheVariants.{Memory};

@@ -5,8 +5,8 @@ ghost use Rattle.book.specs.Forms.{FormsAreRead};
 ghost use Rattle.book.specs.Laws.{ToldTablesAreWhole};
 ghost use Rattle.book.specs.Theorem.{AgreementHolds, ListsMean};
 
-/// Does nothing. Its contract is the agreement theorem (TOPLAS 1982, Theorem 1): if the bound holds, loyal lieutenants
-/// decide alike, and on the order of a loyal commander, whatever the traitors send.
+/// Does nothing. Its contract is the agreement theorem (TOPLAS 1982, Theorem 1). If the bound holds and loyal generals
+/// are faithful, the loyal lieutenants decide alike, and on the order of a loyal commander, whatever the traitors send.
 pub fn agreement()
     ensures { AgreementHolds }
 {}

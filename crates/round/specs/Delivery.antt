@@ -51,7 +51,7 @@ pub record AreEach (Are : LieutenantTree → LieutenantTree → Type 0) (old new
   pub count : length new ≡ length old
   pub each : (j : ℕ) (t u : LieutenantTree) → slice_get old j ≡ Some t → slice_get new j ≡ Some u → Are t u
 
--- States that `u` is the tree `t` after it has received the letters.
+-- States that `u` is the tree `t` filled with the messages of the letters.
 pub record IsTold (letters : List Letter) (t u : LieutenantTree) : Type 0 where
   pub same : SameCampaign t u
   pub filled : (M : Messages) → IsFilled t M → IsFilled u (heard_also M letters)
@@ -121,8 +121,8 @@ pub record AreTellersOf (letters : List Letter) (t : LieutenantTree) (f : LabelP
   pub within : i < count
   pub own : slice_index generals i ≡ t.general
 
--- States that `u` has received what the letters contain for the labels that begin with this one. If the tree's
--- lieutenant is on the label, the tree is unchanged.
+-- States that `u` is the tree `t` filled with what the letters contain for the labels that begin with this one. If the
+-- tree's lieutenant is on the label, the tree is unchanged.
 pub record IsToldUnder (letters : List Letter) (k : ℕ) (f : LabelPrefix) (t u : LieutenantTree) : Type 0 where
   pub on : slice_index_or f.on t.general false ≡ true → u ≡ t
   pub off : slice_index_or f.on t.general false ≡ false →

@@ -16,7 +16,7 @@ use Rattle.round.specs.Contexts.{AreWords, took, context_of, number_told, at_gen
 use Rattle.round.specs.Activation.{Activation, started, has_ended}
 use Rattle.round.specs.Runs.{Runs, IsWithin, AreFitting, IsLetter}
 
--- States what a context contains: the general's number, the round, the shape of his relay, that orders are oral, and
+-- States what a context contains: the general's number, the round, the shape of his relay, the mark of oral orders, and
 -- the order that he took for each label that he relays.
 pub record ContextsTell : Type 0 where
   pub own : (s : Scenario) (before : List (List Letter)) (g : ℕ) → IsScenario s → g < s.generals →

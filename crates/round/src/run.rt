@@ -24,7 +24,8 @@ use std::marker::Model;
 use std::sync::Arc;
 use verify::Verified;
 
-/// A running program with its context. In contracts it is its state, and whether it has exited.
+/// A running program with its context. In contracts it is an activation: the program, the context, the relay, the
+/// patience, the state, and whether the program has exited.
 ///
 /// The activation takes 3 KB. It is in a box, so that an absent optional activation takes little room.
 #[derive(Drop)]

@@ -1,5 +1,5 @@
-//! Plays campaigns from a scenario to their chronicle, by a schedule or as a replay. The functions that play on work
-//! for worlds of every kind.
+//! Plays campaigns from a scenario to their chronicle, by a schedule or as a replay. The functions that take a world
+//! work for every kind of campaign.
 ghost use Rattle.std.specs.Prelude.{◌≡◌, IfOk, ◌<◌, [], suc, OnOk, replicate, slice_get, slice_index_or};
 ghost use Rattle.round.specs.Letters.{messages};
 ghost use Rattle.world.specs.Agreement.{IsFinished};
@@ -181,7 +181,7 @@ fn tick_to_access<W: PlayableWorld>(world: &mut W, general: u32) -> Result<(), A
 ///
 /// # Errors
 ///
-/// Fails with `AllocError` if it runs out of memory. The world is then valid, but it may be any world of its kind, and
+/// Fails with `AllocError` if it runs out of memory. The world is then valid, but nothing else is known about it, and it
 /// should be dropped.
 pub fn play_names<W: PlayableWorld>(world: &mut W, names: &[u8]) -> Result<(), AllocError>
     ensures { OnOk result (W.seen world.new
@@ -256,7 +256,7 @@ fn end_round<W: PlayableWorld>(world: &mut W) -> Result<(), AllocError>
 ///
 /// # Errors
 ///
-/// Fails with `AllocError` if it runs out of memory. The world is then valid, but it may be any world of its kind, and
+/// Fails with `AllocError` if it runs out of memory. The world is then valid, but nothing else is known about it, and it
 /// should be dropped.
 pub fn wind_up<W: PlayableWorld>(world: &mut W) -> Result<(), AllocError>
     ensures { OnOk result (W.seen world.new ≡ run_of W.kind (W.seen world.old) (wound_up (W.seen world.old).scenario)) }
@@ -281,7 +281,7 @@ fn listed_round<W: PlayableWorld>(world: &mut W, line: &[Repeat]) -> Result<(), 
 ///
 /// # Errors
 ///
-/// Fails with `AllocError` if it runs out of memory. The world is then valid, but it may be any world of its kind, and
+/// Fails with `AllocError` if it runs out of memory. The world is then valid, but nothing else is known about it, and it
 /// should be dropped.
 pub fn named_round<W: PlayableWorld>(world: &mut W, names: &[u8]) -> Result<(), AllocError>
     ensures { OnOk result (W.seen world.new
@@ -296,7 +296,7 @@ pub fn named_round<W: PlayableWorld>(world: &mut W, names: &[u8]) -> Result<(), 
 ///
 /// # Errors
 ///
-/// Fails with `AllocError` if it runs out of memory. The world is then valid, but it may be any world of its kind, and
+/// Fails with `AllocError` if it runs out of memory. The world is then valid, but nothing else is known about it, and it
 /// should be dropped.
 pub fn play_listed<W: PlayableWorld>(world: &mut W, schedule: &Schedule) -> Result<(), AllocError>
     ensures { OnOk result (W.seen world.new
@@ -315,7 +315,7 @@ pub fn play_listed<W: PlayableWorld>(world: &mut W, schedule: &Schedule) -> Resu
 ///
 /// # Errors
 ///
-/// Fails with `AllocError` if it runs out of memory. The world is then valid, but it may be any world of its kind, and
+/// Fails with `AllocError` if it runs out of memory. The world is then valid, but nothing else is known about it, and it
 /// should be dropped.
 pub fn play_named<W: PlayableWorld>(world: &mut W, names: &[Vec<u8>]) -> Result<(), AllocError>
     ensures { OnOk result (W.seen world.new

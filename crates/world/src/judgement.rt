@@ -52,8 +52,7 @@ pub fn obeyed(scenario: &Scenario, loyal: &[u32]) -> Option<bool>
     Some(are_all(loyal, scenario.order()))
 }
 
-/// Checks whether there are more than three times as many generals as the bound, and at most as many traitors as the
-/// bound.
+/// Checks whether there are more generals than three times the bound, and at most as many traitors as the bound.
 fn is_bound(scenario: &Scenario) -> bool
     ensures { result ≡ (nat_lt (3 * scenario.now.bound) scenario.now.generals
         && nat_le (count_by (is_traitor scenario.now) (generals scenario.now.generals)) scenario.now.bound) }

@@ -4,7 +4,7 @@ ghost use Rattle.world.specs.Part.{owes_no_letter};
 
 use round::Running;
 
-/// The part of a general in the open round.
+/// The part of a general in the open round: a traitor's activation, or whether a loyal general has posted his letter.
 #[derive(Drop)]
 pub enum Progress {
     /// A traitor in his activation.

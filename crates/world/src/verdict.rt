@@ -6,7 +6,6 @@ pub struct Verdict {
     pub alike: bool,
     /// Whether each loyal lieutenant decides on the commander's order. It is `None` if the commander is a traitor.
     pub obeyed: Option<bool>,
-    /// Whether there are more than three times as many generals as the bound, and at most as many traitors as the
-    /// bound.
+    /// Whether there are more generals than three times the bound, and at most as many traitors as the bound.
     pub bound: bool,
 }
