@@ -47,7 +47,11 @@ fn unknown(key: Result<String, AllocError>) -> SettingError
     }
 }
 
-/// Fails if there is an unknown key.
+/// Checks that there is no unknown key.
+///
+/// # Errors
+///
+/// Fails with `Unknown` and the key, or with `Memory` if there is no memory for its text.
 fn refuse_unknown(alloc: Global, key: Option<&str>) -> Result<(), SettingError>
     ensures { Gives (λ _. tt) result (known (option_map (λ k. k.now) key.entry)) }
 {

@@ -181,8 +181,8 @@ fn tick_to_access<W: PlayableWorld>(world: &mut W, general: u32) -> Result<(), A
 ///
 /// # Errors
 ///
-/// Fails with `AllocError` if it runs out of memory. The world is then valid, but nothing else is known about it, and it
-/// should be dropped.
+/// Fails with `AllocError` if it runs out of memory. The world is then valid, but nothing else is known about it, and
+/// it should be dropped.
 pub fn play_names<W: PlayableWorld>(world: &mut W, names: &[u8]) -> Result<(), AllocError>
     ensures { OnOk result (W.seen world.new
         ≡ run_of W.kind (W.seen world.old) (names_events W.kind (W.seen world.old) names.now)) }
@@ -256,8 +256,8 @@ fn end_round<W: PlayableWorld>(world: &mut W) -> Result<(), AllocError>
 ///
 /// # Errors
 ///
-/// Fails with `AllocError` if it runs out of memory. The world is then valid, but nothing else is known about it, and it
-/// should be dropped.
+/// Fails with `AllocError` if it runs out of memory. The world is then valid, but nothing else is known about it, and
+/// it should be dropped.
 pub fn wind_up<W: PlayableWorld>(world: &mut W) -> Result<(), AllocError>
     ensures { OnOk result (W.seen world.new ≡ run_of W.kind (W.seen world.old) (wound_up (W.seen world.old).scenario)) }
 {
@@ -281,8 +281,8 @@ fn listed_round<W: PlayableWorld>(world: &mut W, line: &[Repeat]) -> Result<(), 
 ///
 /// # Errors
 ///
-/// Fails with `AllocError` if it runs out of memory. The world is then valid, but nothing else is known about it, and it
-/// should be dropped.
+/// Fails with `AllocError` if it runs out of memory. The world is then valid, but nothing else is known about it, and
+/// it should be dropped.
 pub fn named_round<W: PlayableWorld>(world: &mut W, names: &[u8]) -> Result<(), AllocError>
     ensures { OnOk result (W.seen world.new
         ≡ run_of W.kind (run_of W.kind (W.seen world.old) (names_events W.kind (W.seen world.old) names.now))
@@ -296,8 +296,8 @@ pub fn named_round<W: PlayableWorld>(world: &mut W, names: &[u8]) -> Result<(), 
 ///
 /// # Errors
 ///
-/// Fails with `AllocError` if it runs out of memory. The world is then valid, but nothing else is known about it, and it
-/// should be dropped.
+/// Fails with `AllocError` if it runs out of memory. The world is then valid, but nothing else is known about it, and
+/// it should be dropped.
 pub fn play_listed<W: PlayableWorld>(world: &mut W, schedule: &Schedule) -> Result<(), AllocError>
     ensures { OnOk result (W.seen world.new
         ≡ run_of W.kind (W.seen world.old)
@@ -315,8 +315,8 @@ pub fn play_listed<W: PlayableWorld>(world: &mut W, schedule: &Schedule) -> Resu
 ///
 /// # Errors
 ///
-/// Fails with `AllocError` if it runs out of memory. The world is then valid, but nothing else is known about it, and it
-/// should be dropped.
+/// Fails with `AllocError` if it runs out of memory. The world is then valid, but nothing else is known about it, and
+/// it should be dropped.
 pub fn play_named<W: PlayableWorld>(world: &mut W, names: &[Vec<u8>]) -> Result<(), AllocError>
     ensures { OnOk result (W.seen world.new
         ≡ run_of W.kind (W.seen world.old)
