@@ -13,8 +13,8 @@ use Rattle.round.specs.Scenario.{Scenario, shape_of}
 use Rattle.round.specs.Letters.{Letter, messages, telling}
 
 -- Returns the order that general `g` took for the label `u` in these rounds: the one that the label's last general sent
--- him for the rest of it. For the empty label it is the scenario's order. Only the commander relays that label, whether
--- he is loyal or not.
+-- him for the rest of it, or RETREAT if he sent none. For the empty label it is the scenario's order. Only the
+-- commander relays that label, whether he is loyal or not.
 abbrev pub took : Scenario → List (List Letter) → ℕ → List ℕ → ℕ
 took s before g u = heard (messages before) s.order u g
 

@@ -43,7 +43,7 @@ AreLinesOf program r0 s [] (line ∷ []) = line ≡ decimal s.unit ++ codes " ex
 AreLinesOf program r0 s (t ∷ ts) (line ∷ lines) = Tells program s line × AreLinesOf program r0 t ts lines
 AreLinesOf program r0 s later lines = ⊥
 
--- States that the text has a line for each step of the run with this ending, which shows the state before the step.
+-- States that the text has a line for each step of the run with this ending. Each line shows the state before its step.
 pub record IsTraceOf (words : List ℕ) (program : List Insn) (context : List ℕ) (relay : Relay) (e : Ending)
     (text : List ℕ) : Type 0 where
   pub later : List State

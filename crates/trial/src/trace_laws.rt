@@ -1,8 +1,8 @@
 //! Laws of traces and of the notes on calls. Each function does nothing, and its contract is the law.
 ghost use Rattle.trial.specs.TraceLaws.{ReasonsHold, TracesAreTrials};
 
-/// Does nothing. Its contract says that a trace describes the trial. It has a line for each step, which shows the state
-/// before that step, and the last line shows the value with which the program exits.
+/// Does nothing. Its contract says that a trace describes the trial. A trace has a line for each step, and the line
+/// shows the state before the step. The last line shows the value with which the program exits.
 pub fn traces_are_trials()
     ensures { TracesAreTrials }
 {}

@@ -98,7 +98,8 @@ listed_rounds s (suc k) lines =
 abbrev pub listed : Scenario → List (List ℕ) → List Event
 listed s lines = listed_rounds s (suc s.bound) lines
 
--- Returns the number of turns of an activation if it takes this turn first and `rest` after it.
+-- Returns how many turns an activation takes from this one on: one if the turn makes a request, and none if the
+-- activation has ended. If the turn goes on, it is one more than `rest` gives for the activation after it.
 abbrev pub further_turns : (Activation → ℕ) → Turn → ℕ
 further_turns rest (Goes a) = suc (rest a)
 further_turns rest (Asks request answered) = 1
