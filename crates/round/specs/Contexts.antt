@@ -18,7 +18,7 @@ use Rattle.round.specs.Letters.{Letter, messages, telling}
 abbrev pub took : Scenario → List (List Letter) → ℕ → List ℕ → ℕ
 took s before g u = heard (messages before) s.order u g
 
--- Returns the context that general `g` receives at the start of the round after these.
+-- Returns the context that general `g` receives at the start of the round after these closed rounds.
 abbrev pub context_of : Scenario → List (List Letter) → ℕ → List ℕ
 context_of s before g =
     let shape = shape_of s g (suc (length before)) in
@@ -77,7 +77,7 @@ faithful_letter_with g round context outbox =
 abbrev pub letter_told : ℕ → ℕ → List ℕ → Letter
 letter_told g round context = faithful_letter_with g round context (outbox_told (shape_told g round context) context)
 
--- Returns a loyal general's letter of the round after these: he sends each receiver what he took.
+-- Returns a loyal general's letter of the round after these closed rounds: he sends each receiver what he took.
 abbrev pub faithful_letter : Scenario → List (List Letter) → ℕ → Letter
 faithful_letter s before g =
     let round = suc (length before) in

@@ -181,7 +181,7 @@ impl Received {
     }
 }
 
-/// Returns the context that a general receives as the round after these begins.
+/// Returns the context that a general receives as the round after these closed rounds begins.
 ///
 /// # Errors
 ///

@@ -41,7 +41,7 @@ TrialsEnd =
     → IsBoard words → IsSound program → IsContext context → IsRelay relay →
     IsSome (trial_on words program context relay)
 
--- Returns the setting of a general in the round after these, with a board of these words.
+-- Returns the setting of a general in the round after these closed rounds, with a board of these words.
 abbrev pub setting_of : Scenario → List (List Letter) → ℕ → List ℕ → Setting
 setting_of s before g words =
     let shape = shape_of s g (suc (length before)) in

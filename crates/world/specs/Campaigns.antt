@@ -1,4 +1,4 @@
--- What a kind owes its campaigns (own).
+-- What a kind of campaign must guarantee for its campaigns (own).
 use Rattle.std.specs.Prelude.{ℕ, suc, ◌≡◌, ◌<◌, ◌≤◌, List, length}
 use Rattle.semantics.specs.Relay.{IsContext, IsRelay, Oral}
 use Rattle.round.specs.Scenario.{Scenario, IsScenario}

@@ -1,4 +1,4 @@
--- The texts of the errors of rejected events.
+-- The texts of the errors with which an event may fail.
 use Rattle.std.specs.Prelude.{ℕ, List, codes}
 use Rattle.world.specs.declared.event.EventError.{EventError}
 use Rattle.world.specs.declared.event.EventError.TheVariants.{NotOpen, NoGeneral, Memory}

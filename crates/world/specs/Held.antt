@@ -17,6 +17,6 @@ letter_held s closed accesses g part = held.letter_held oral_kind s closed acces
 abbrev pub letters_held : Scenario → List (List Letter) → List Access → List Progress → List Letter
 letters_held s closed accesses parts = held.letters_held oral_kind s closed accesses parts
 
--- Returns the parts of the generals at the start of the round after these.
+-- Returns the parts of the generals at the start of the round after these closed rounds.
 abbrev pub beginnings : Scenario → List (List Letter) → List Progress
 beginnings s closed = held.beginnings oral_kind s closed

@@ -15,8 +15,8 @@ use Rattle.world.specs.declared.event.EventError.{EventError}
 use Rattle.world.specs.declared.event.EventError.TheVariants.{NotOpen, NoGeneral}
 use Rattle.world.specs.Part.{Progress, Acting, Silent, Posted, owes_no_letter}
 
--- A kind of campaign. For a general in the round after these it says which context he receives, which labels he relays
--- to whom, and, if he is loyal, what his outbox contains.
+-- A kind of campaign. For a general in the round after these closed rounds it says which context he receives, which
+-- labels he relays to whom, and, if he is loyal, what his outbox contains.
 pub record Kind : Type 0 where
   pub context : Scenario → List (List Letter) → ℕ → List ℕ
   pub relay : Scenario → List (List Letter) → ℕ → Relay
@@ -40,16 +40,16 @@ abbrev pub each : {A : Type 0} → ℕ → (ℕ → List A) → List A
 each zero f = []
 each (suc n) f = each n f ++ f n
 
--- Checks whether a round is open after these.
+-- Checks whether a round is left after these closed rounds.
 abbrev pub round_open : Scenario → List (List Letter) → Bool
 round_open s closed = nat_lt (length closed) (suc s.bound)
 
--- Returns the part of a general at the start of the round after these.
+-- Returns the part of a general at the start of the round after these closed rounds.
 abbrev pub begins : Kind → Scenario → List (List Letter) → ℕ → Option (List Insn) → Progress
 begins K s closed g None = Silent
 begins K s closed g (Some program) = Acting (started s.patience program (K.context s closed g) (K.relay s closed g))
 
--- Returns the world at the start of the round after these. After the last round no general has a part.
+-- Returns the world at the start of the round after these closed rounds. After the last round no general has a part.
 abbrev pub begun : Kind → Scenario → List (List Letter) → List ℕ → List Access → Bool → World
 begun K s closed words ledger full = record {
   scenario = s;
@@ -69,8 +69,8 @@ opening K s = begun K s [] s.board [] true
 abbrev pub accesses_of : ℕ → List Access → List Access
 accesses_of g accesses = filter (λ a. a.general == g) accesses
 
--- Returns a traitor's letter of the round after these, from what his program has done: its accesses, its steps, and its
--- current state, whose outbox counts as it is.
+-- Returns a traitor's letter of the round after these closed rounds, from what his program has done: its accesses, its
+-- steps, and its current state, whose outbox counts as it is.
 abbrev pub traitor_letter_with : Kind → Scenario → List (List Letter) → ℕ → Option (List Insn) → List Access → ℕ →
     Activation → Letter
 traitor_letter_with K s before g program transcript steps a = record {
@@ -84,7 +84,7 @@ traitor_letter_with K s before g program transcript steps a = record {
   exited = a.over;
 }
 
--- Returns a loyal general's letter of the round after these. He runs no program.
+-- Returns a loyal general's letter of the round after these closed rounds. He runs no program.
 abbrev pub loyal_letter : Kind → Scenario → List (List Letter) → ℕ → Letter
 loyal_letter K s before g =
     faithful_letter_with g (suc (length before)) (K.context s before g)

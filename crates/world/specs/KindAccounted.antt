@@ -8,9 +8,9 @@ use Rattle.round.specs.Activation.{Activation, started, is_reached}
 use Rattle.round.specs.Runs.{Runs, IsWithin}
 use Rattle.world.specs.Kind.{Kind, accesses_of, each, traitor_letter_with, loyal_letter}
 
--- States that the letter is the one that the general's program, or the loyal general, makes in the round after these.
--- The program has run within the patience as the letter says, and has ended by itself or because the patience was used
--- up.
+-- States that the letter is the one that the general's program, or the loyal general, makes in the round after these
+-- closed rounds. The program has run within the patience as the letter says, and has ended by itself or because the
+-- patience was used up.
 abbrev pub IsLetterOf : Kind → Scenario → List (List Letter) → ℕ → Option (List Insn) → Letter → Type 0
 IsLetterOf K s before g None l = l ≡ loyal_letter K s before g
 IsLetterOf K s before g (Some program) l =
@@ -27,8 +27,8 @@ pub record IsAccountedRound (K : Kind) (s : Scenario) (before : List (List Lette
       IsLetterOf K s before g (program_of s g) l × (accesses_of g piece ≡ l.transcript)
   pub entries : All (λ a. (a.general < s.generals) × (a.round ≡ suc (length before))) piece
 
--- States that the ledger accounts for the rounds after these. Each round takes as many entries from the ledger as its
--- transcripts have in total.
+-- States that the ledger accounts for these rounds, which come after the rounds `before`. Each round takes as many
+-- entries from the ledger as its transcripts have in total.
 abbrev pub AreAccounted : Kind → Scenario → List (List Letter) → List Access → List (List Letter) → Type 0
 AreAccounted K s before ledger [] = (length before ≡ suc s.bound) × (ledger ≡ [])
 AreAccounted K s before ledger (letters ∷ rounds) =

@@ -63,7 +63,7 @@ letter_held K s closed accesses g part =
 abbrev pub letters_held : Kind → Scenario → List (List Letter) → List Access → List Progress → List Letter
 letters_held K s closed accesses parts = each s.generals (λ g. letter_held K s closed accesses g (slice_get parts g))
 
--- Returns the parts of the generals at the start of the round after these, or none after the last round.
+-- Returns the parts of the generals at the start of the round after these closed rounds, or none after the last round.
 abbrev pub beginnings : Kind → Scenario → List (List Letter) → List Progress
 beginnings K s closed = cond (round_open s closed) (each s.generals (λ g. begins K s closed g (program_of s g) ∷ [])) []
 

@@ -26,8 +26,8 @@ pub record ActivationsAreSafe (K : Kind) : Type 0 where
   pub letters : (s : Scenario) (events : List Event) → IsScenario s →
       All (λ letters. All IsShort letters) (run K (opening K s) events).closed
 
--- States that the activation is that of general `g` in the round after these, which is a round of the campaign. It has
--- his program, his context, his relay and the scenario's patience.
+-- States that the activation is that of general `g` in the round after these closed rounds, which is a round of the
+-- campaign. It has his program, his context, his relay and the scenario's patience.
 pub record IsPlaced (K : Kind) (s : Scenario) (closed : List (List Letter)) (g : ℕ) (a : Activation) : Type 0 where
   pub general : g < s.generals
   pub rounds : length closed ≤ s.bound
@@ -54,8 +54,8 @@ abbrev pub IsMade : Kind → Scenario → List (List Letter) → Letter → Opti
 IsMade K s before l None = l ≡ loyal_letter K s before l.general
 IsMade K s before l (Some program) = IsRunOf l (Some program)
 
--- States that the letter belongs to the round after these, which is a round of the campaign, and that its steps are
--- within the patience.
+-- States that the letter belongs to the round after these closed rounds, which is a round of the campaign, and that its
+-- steps are within the patience.
 pub record IsLetterIn (K : Kind) (s : Scenario) (before : List (List Letter)) (l : Letter) : Type 0 where
   pub general : l.general < s.generals
   pub rounds : length before ≤ s.bound
