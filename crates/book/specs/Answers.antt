@@ -1,4 +1,4 @@
--- What is printed of a message table, and of the numbers of one.
+-- What the subcommands that read or make a message table print.
 use Rattle.std.specs.Prelude.{ℕ, ◌≡◌, true, List, Option, Some, Ok}
 use Rattle.combine.specs.declared.campaign_rule.Rule.{Rule}
 use Rattle.book.specs.Decisions.{decisions_of, TableAgrees}
@@ -10,30 +10,34 @@ use Rattle.book.specs.Lines.{decision_lines}
 use Rattle.book.specs.Numbers.{numbers_in}
 use Rattle.book.specs.Written.{loyal, written}
 
--- the text tells a table, and this is how its decisions come about, where these generals are named as traitors
+-- States that the text is a message table, and that `lines` explain the decisions of its lieutenants if these generals
+-- are named as traitors.
 abbrev pub ExplainsTable : List ℕ → List ℕ → List ℕ → Type 0
 ExplainsTable text traitors lines =
     (table : MessageTable) × (table_told text ≡ Ok table) × (lines ≡ explained table traitors)
 
--- the text tells a table, and this is how the decision of one general comes about
+-- States that the text is a message table, and that `lines` explain the decision of general `g` if these generals are
+-- named as traitors.
 abbrev pub ExplainsOne : List ℕ → List ℕ → ℕ → List ℕ → Type 0
 ExplainsOne text traitors g lines =
     (table : MessageTable) × (table_told text ≡ Ok table) × (lines ≡ explained_one table traitors g)
 
--- the words are numbers within the limits of a campaign, and this is its table to fill in
+-- States that the words are decimal numbers within the limits of a campaign, and that `text` is this campaign's table
+-- with a question mark for each order.
 abbrev pub IsFormOf : List ℕ → List ℕ → List ℕ → List ℕ → Type 0
 IsFormOf n m c text =
     (head : ℕ × ℕ × ℕ × Rule) × (numbers_in n m c ≡ Some head) × (is_within head.0 head.1 head.2 ≡ true)
     × (text ≡ form_text head.0 head.1 head.2)
 
--- the words are numbers within the limits of a campaign, and this is its table in which all tell this order, and what
--- the liar tells is open
+-- States that the words are decimal numbers within the limits of a campaign, and that `text` is this campaign's table
+-- in which every general sends `order`. If a liar is named, the orders that he sends are question marks.
 abbrev pub IsFilled : List ℕ → List ℕ → List ℕ → ℕ → Option ℕ → List ℕ → Type 0
 IsFilled n m c order liar text =
     (head : ℕ × ℕ × ℕ × Rule) × (numbers_in n m c ≡ Some head) × (is_within head.0 head.1 head.2 ≡ true)
     × (text ≡ written (loyal order liar) head.0 head.1 head.2 head.3)
 
--- the text tells a table, and these are its decisions, which agree where the bound holds
+-- States that the text is a message table and that `lines` list its decisions. They agree if the bound holds and all
+-- loyal generals relay faithfully what they received.
 abbrev pub DecidesTable : List ℕ → List ℕ → Type 0
 DecidesTable text lines =
     (table : MessageTable) × (table_told text ≡ Ok table) × (lines ≡ decision_lines table)

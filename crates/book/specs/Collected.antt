@@ -1,4 +1,4 @@
--- The table of what is told at the places of a campaign, in the order in which it is written.
+-- The message table of a campaign, collected from a message function in the order in which a table is written.
 use Rattle.std.specs.Prelude.{ℕ, List, [], ◌∷◌, Option, None, Some}
 use Rattle.combine.specs.declared.campaign_rule.Rule.{Rule}
 use Rattle.label.specs.Oral.{Messages}
@@ -6,21 +6,21 @@ use Rattle.book.specs.declared.message.Message.{Message}
 use Rattle.book.specs.Places.{Place, places}
 use Rattle.book.specs.Table.{MessageTable}
 
--- the message of a place
+-- Returns the message with which order `v` was received at place `z`.
 abbrev pub message : Place → ℕ → Message
 message z v = record { label = z.0; receiver = z.1; order = v }
 
--- one message more, where an order was told
+-- Puts the message of place `z` in front of `ms` if an order was received there.
 abbrev pub told_more : Place → Option ℕ → List Message → List Message
 told_more z None ms = ms
 told_more z (Some v) ms = message z v ∷ ms
 
--- what is told at these places
+-- Returns the messages that `M` contains at these places, in the order of the places.
 abbrev pub messages_at : Messages → List Place → List Message
 messages_at M [] = []
 messages_at M (z ∷ zs) = told_more z (M z.0 z.1) (messages_at M zs)
 
--- all that is told, of a campaign with these numbers
+-- Returns the table of all messages that `M` contains in a campaign with these numbers and this rule.
 abbrev pub collected : Messages → ℕ → ℕ → ℕ → Rule → MessageTable
 collected M n m c rule =
     record { generals = n; bound = m; commander = c; rule = rule; messages = messages_at M (places n m c) }

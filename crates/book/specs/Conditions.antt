@@ -1,4 +1,4 @@
--- Interactive consistency (TOPLAS 1982, IC1 and IC2), as far as a table tells it: some generals are named as traitors,
+-- Interactive consistency (TOPLAS 1982, IC1 and IC2), judged from a message table: some generals are named as traitors,
 -- and all others count as loyal.
 use Rattle.std.specs.Prelude.{ℕ, ◌*◌, ◌==◌, ◌&&◌, nat_lt, nat_le, Bool, true, false, if◌then◌else◌, List, [], ◌∷◌, map, count_by, Option, None, Some}
 use Rattle.std.specs.List.{list_all}
@@ -10,45 +10,50 @@ use Rattle.book.specs.declared.conditions.Obedience.TheVariants.{Traitor, Unlike
 use Rattle.book.specs.Table.{MessageTable, told}
 use Rattle.book.specs.Decisions.{decision_of}
 
--- the lieutenants who are not named, and what they decide
+-- Returns the loyal lieutenants, ascending: those that are not named as traitors.
 abbrev pub loyal : MessageTable → List ℕ → List ℕ
 loyal t traitors = others t.generals (t.commander ∷ traitors)
 
+-- Returns what the loyal lieutenants decide, in ascending order of the lieutenants.
 unfoldable pub loyal_decisions : MessageTable → List ℕ → List ℕ
 loyal_decisions t traitors = map (decision_of t) (loyal t traitors)
 
--- all are the same
+-- Checks whether all orders in the list are the same.
 abbrev pub are_alike : List ℕ → Bool
 are_alike [] = true
 are_alike (x ∷ xs) = list_all (λ y. y == x) xs
 
--- what the commander told the lieutenants
+-- Returns what the commander sent to each lieutenant, in ascending order of the lieutenants.
 unfoldable pub sent : MessageTable → List (Option ℕ)
 sent t = map (told t.messages (t.commander ∷ [])) (lieutenants t.generals t.commander)
 
+-- Checks whether an order was received and is equal to `order`.
 abbrev pub is_told : ℕ → Option ℕ → Bool
 is_told order None = false
 is_told order (Some other) = other == order
 
--- the order that all were told, if they were told the same
+-- Returns the order that all lieutenants received, if they all received the same order. Returns `None` for the empty
+-- list.
 abbrev pub same_order : List (Option ℕ) → Option ℕ
 same_order [] = None
 same_order (None ∷ rest) = None
 same_order (Some order ∷ rest) = if list_all (is_told order) rest then Some order else None
 
--- whether a commander who told all the same order is obeyed
+-- Says whether a commander who is not named as a traitor is obeyed. `Some order` is the order that all lieutenants
+-- received from him. `None` means that he did not send the same order to all.
 abbrev pub obedience_to : Option ℕ → List ℕ → Obedience
 obedience_to None decisions = Unlike
 obedience_to (Some order) decisions = if list_all (λ d. d == order) decisions then Obeyed order else Disobeyed order
 
+-- Says whether the commander is obeyed, or that he is named as a traitor.
 abbrev pub obedience_in : Bool → Option ℕ → List ℕ → Obedience
 obedience_in named order decisions = if named then Traitor else obedience_to order decisions
 
--- how many generals are named
+-- Returns how many of the table's generals are named as traitors.
 abbrev pub named_in : MessageTable → List ℕ → ℕ
 named_in t traitors = count_by (on traitors) (generals t.generals)
 
--- what a table shows of the conditions
+-- Returns what a table shows about IC1 and IC2 if these generals are named as traitors.
 unfoldable pub judged : MessageTable → List ℕ → Conditions
 judged t traitors = record {
   named = named_in t traitors;

@@ -1,5 +1,5 @@
--- What the conditions of a table mean (TOPLAS 1982, IC1 and IC2). The statement is the contract of a function of this
--- crate.
+-- What the conditions that are judged from a table mean (TOPLAS 1982, IC1 and IC2). The statement is the contract of a
+-- function of this crate.
 use Rattle.std.specs.Prelude.{ℕ, ◌<◌, ◌≡◌, ◌≢◌, ◌↔◌, true, false, List, [], ◌∷◌, Some}
 use Rattle.label.specs.Labels.{on}
 use Rattle.label.specs.Oral.{IsLoyalLieutenant, IsBound, IsFaithful}
@@ -8,33 +8,35 @@ use Rattle.book.specs.Conditions.{judged}
 use Rattle.book.specs.Decisions.{decision_of}
 use Rattle.book.specs.Table.{MessageTable, AreNumbersWithin, told}
 
--- he is a lieutenant who is not named
+-- States that general `p` is a lieutenant who is not named as a traitor.
 abbrev pub IsLoyal : MessageTable → List ℕ → ℕ → Type 0
 IsLoyal t traitors p = IsLoyalLieutenant t.generals t.commander (on traitors) p
 
--- all who are not named decide alike
+-- States that all lieutenants who are not named as traitors decide on the same order (IC1).
 abbrev pub DecideAlike : MessageTable → List ℕ → Type 0
 DecideAlike t traitors = (p q : ℕ) → IsLoyal t traitors p → IsLoyal t traitors q → decision_of t p ≡ decision_of t q
 
--- all who are not named decide this order
+-- States that all lieutenants who are not named as traitors decide on this order (IC2).
 abbrev pub DecideOn : MessageTable → List ℕ → ℕ → Type 0
 DecideOn t traitors order = (p : ℕ) → IsLoyal t traitors p → decision_of t p ≡ order
 
--- the commander told each lieutenant this order
+-- States that the commander sent this order to each lieutenant.
 abbrev pub TellsAll : MessageTable → ℕ → Type 0
 TellsAll t order = (p : ℕ) → p < t.generals → p ≢ t.commander → told t.messages (t.commander ∷ []) p ≡ Some order
 
--- the numbers of a table are within their limits
+-- States that the table's numbers are within the limits of a campaign.
 abbrev pub IsWithin : MessageTable → Type 0
 IsWithin t = AreNumbersWithin t.generals t.bound t.commander
 
--- where few enough are named, and all others tell what they took
+-- States that the agreement theorem applies to a table: few enough generals are named as traitors, and all others relay
+-- faithfully what they received.
 pub record IsTrusted (t : MessageTable) (traitors : List ℕ) (order : ℕ) : Type 0 where
   pub bound : IsBound t.generals t.bound (on traitors)
   pub faithful : (g : ℕ) → g < t.generals → on traitors g ≡ false →
       IsFaithful t.generals t.commander t.bound order (told t.messages) g
 
--- the conditions say what they mean, and hold where the agreement theorem says so
+-- States that the fields of `judged` mean IC1 and IC2 as defined here, and that both conditions hold if the agreement
+-- theorem applies.
 pub record ConditionsMean : Type 0 where
   pub bound : (t : MessageTable) (traitors : List ℕ) →
       ((judged t traitors).bound ≡ true) ↔ IsBound t.generals t.bound (on traitors)

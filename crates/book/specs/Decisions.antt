@@ -1,24 +1,25 @@
--- What the lieutenants of a table decide, and when they agree.
+-- What the lieutenants of a message table decide, and when their decisions agree.
 use Rattle.std.specs.Prelude.{ℕ, ◌≡◌, ◌<◌, Bool, false, List, [], ◌∷◌, map}
 use Rattle.combine.specs.Rule.{combined_by}
 pub use Rattle.label.specs.Lieutenants.{lieutenants, IsLoyalAt, AgreeInList}
 use Rattle.label.specs.Oral.{Messages, om, IsBound, IsFaithful}
 use Rattle.book.specs.Table.{MessageTable, told}
 
--- what a lieutenant decides by the table's rule of the messages that it tells
+-- Returns what a lieutenant decides by OM(m) with the table's rule, from the messages of the table.
 unfoldable pub decision_of : MessageTable → ℕ → ℕ
 decision_of t p = om (combined_by t.rule) t.generals (told t.messages) t.bound (t.commander ∷ []) p
 
--- the decisions of the lieutenants, ascending
+-- Returns the decisions of the lieutenants, in ascending order of the lieutenants.
 unfoldable pub decisions_of : MessageTable → List ℕ
 decisions_of t = map (decision_of t) (lieutenants t.generals t.commander)
 
--- with the bound, and loyal generals that tell what they took, the decisions agree
+-- States that the decisions agree if the bound holds and all loyal generals relay faithfully what they received.
 abbrev pub AgreesIfBound : ℕ → ℕ → ℕ → Messages → List ℕ → Type 0
 AgreesIfBound n c m M decisions =
     (order : ℕ) (traitor : ℕ → Bool) → IsBound n m traitor
     → ((g : ℕ) → g < n → traitor g ≡ false → IsFaithful n c m order M g) → AgreeInList n c order traitor decisions
 
--- so do those of a table
+-- States that the decisions of a table agree if its bound holds and all loyal generals relay faithfully what they
+-- received.
 abbrev pub TableAgrees : MessageTable → List ℕ → Type 0
 TableAgrees t decisions = AgreesIfBound t.generals t.commander t.bound (told t.messages) decisions

@@ -1,21 +1,21 @@
--- The places of a table: a label, and a general who is off it, in the order in which a table is written.
+-- The places of a table, a label and a general who is off it, in the order in which a table is written.
 use Rattle.std.specs.Prelude.{ℕ, zero, suc, ◌+◌, List, [], ◌∷◌, ◌++◌}
 use Rattle.std.specs.List.{flat_map, range_with_len}
 use Rattle.label.specs.Labels.{others}
 
--- a label, and a general who is off it
+-- A place: a label, and a general who is off it.
 abbrev pub Place : Type 0
 Place = List ℕ × ℕ
 
--- those of a label
+-- Returns the places of the label `w`.
 abbrev pub places_at : ℕ → List ℕ → List Place
 places_at n w = flat_map (λ p. (w, p) ∷ []) (others n w)
 
--- those of the labels that have k generals more
+-- Returns the places of the labels that have `k` generals more than `w` and begin with it.
 abbrev pub places_from : ℕ → ℕ → List ℕ → List Place
 places_from n zero w = places_at n w
 places_from n (suc k) w = flat_map (λ j. places_from n k (w ++ j ∷ [])) (others n w)
 
--- all of a campaign's, the shorter labels first
+-- Returns all places of a campaign, those of the shorter labels first.
 abbrev pub places : ℕ → ℕ → ℕ → List Place
 places n m c = flat_map (λ k. places_from n k (c ∷ [])) (range_with_len 0 (m + 1))

@@ -1,4 +1,4 @@
-//! Message tables to fill in.
+//! Writes the message table of a campaign with a question mark for each order, to be filled in.
 ghost use Rattle.std.specs.Prelude.{◌≡◌, ◌≢◌, ◌≤◌, ◌+◌, ◌++◌, true, false, length, IfOk, IfErr, OnOk, string_bytes};
 ghost use Rattle.book.specs.declared.fault.TableFault.TheVariants.{Range};
 ghost use Rattle.book.specs.declared.fault.TableError.TheVariants.{At, Memory};
@@ -11,13 +11,14 @@ use crate::reader::is_within;
 use label::Label;
 use std::alloc::{AllocError, Global};
 
-/// The message table of a campaign, to fill in: its first line, and a line for each label and receiver, the shorter
-/// labels first, with a question mark for the order. `read_table` refuses each line until its mark is an order.
+/// Returns the message table of a campaign, to fill in. It has a first line and a line for each label and receiver, the
+/// shorter labels first, with a question mark for the order. `read_table` rejects each such line until the mark is
+/// replaced by an order.
 ///
 /// # Errors
 ///
-/// `Range` exactly where the numbers are out of their limits, as `read_table` refuses such a first line; `Memory`
-/// where there is none for the text.
+/// Fails with `Range` at line 1 if the numbers are out of their limits, as `read_table` does for such a first line.
+/// Fails with `Memory` if there is no memory for the text.
 pub fn form(alloc: Global, generals: u64, bound: u64, commander: u64) -> Result<String, TableError>
     ensures form { IfOk result (λ text. string_bytes text ≡ form_text generals bound commander) }
     ensures within { IfOk result (λ _. is_within generals bound commander ≡ true) }
@@ -38,7 +39,7 @@ pub fn form(alloc: Global, generals: u64, bound: u64, commander: u64) -> Result<
     Ok(text)
 }
 
-/// Adds the lines of the labels that have so many generals more than this one.
+/// Appends the lines of the labels that have `more` generals more than this one and begin with it.
 fn push_blanks(
     alloc: Global,
     text: &mut String,
@@ -61,7 +62,7 @@ fn push_blanks(
     Ok(())
 }
 
-/// Adds the lines of a label, for all who are off it.
+/// Appends the lines of a label, one for each general who is off it.
 fn push_receivers(
     alloc: Global,
     text: &mut String,
@@ -78,7 +79,7 @@ fn push_receivers(
     Ok(())
 }
 
-/// Adds the line of a label and a receiver.
+/// Appends the line of a label and a receiver, with a question mark for the order.
 fn push_blank(
     alloc: Global,
     text: &mut String,

@@ -1,3 +1,4 @@
+//! Prints the decisions of a message table that is read from a text, or explains them.
 ghost use Rattle.std.specs.Prelude.{◌≡◌, ◌≢◌, ◌<◌, ◌++◌, IfOk, IfErr, OnOk, Err, string_bytes};
 ghost use Rattle.book.specs.Decisions.{decisions_of, TableAgrees};
 ghost use Rattle.book.specs.Grammar.{table_told};
@@ -12,11 +13,11 @@ use crate::recursion::decisions;
 use crate::table::Table;
 use std::alloc::{AllocError, Global};
 
-/// What the lieutenants of the message table decide.
+/// Returns the decisions of the lieutenants of the message table, a line for each.
 ///
 /// # Errors
 ///
-/// What the table refuses, or want of memory.
+/// Fails with the first fault of the table, or with `Memory` if it runs out of memory.
 pub fn decided(alloc: Global, text: &str) -> Result<String, TableError>
     ensures decided { IfOk result (λ lines. DecidesTable text.now (string_bytes lines)) }
     ensures refused { IfErr result (λ e. e ≢ Memory → table_told text.now ≡ Err e) }
@@ -25,11 +26,11 @@ pub fn decided(alloc: Global, text: &str) -> Result<String, TableError>
     Ok(decisions_text(alloc, &table)?)
 }
 
-/// How the decisions of the message table come about, where these generals are named as traitors.
+/// Returns how the lieutenants of the message table decide if these generals are named as traitors.
 ///
 /// # Errors
 ///
-/// What the table refuses, or want of memory.
+/// Fails with the first fault of the table, or with `Memory` if it runs out of memory.
 pub fn explained(alloc: Global, text: &str, traitors: &[u8]) -> Result<String, TableError>
     ensures explained { IfOk result (λ lines. ExplainsTable text.now traitors.now (string_bytes lines)) }
     ensures refused { IfErr result (λ e. e ≢ Memory → table_told text.now ≡ Err e) }
@@ -38,7 +39,7 @@ pub fn explained(alloc: Global, text: &str, traitors: &[u8]) -> Result<String, T
     Ok(explain(alloc, &table, traitors)?)
 }
 
-/// A line for each lieutenant, ascending: his number and what he decides.
+/// Returns a line for each lieutenant, ascending: his number and the order that he decides on.
 fn decisions_text(alloc: Global, table: &Table) -> Result<String, AllocError>
     ensures lines { IfOk result (λ lines. string_bytes lines ≡ decision_lines table.now) }
     ensures agree { IfOk result (λ _. TableAgrees table.now (decisions_of table.now)) }
@@ -56,7 +57,7 @@ fn decisions_text(alloc: Global, table: &Table) -> Result<String, AllocError>
     Ok(lines)
 }
 
-/// Adds a lieutenant's line.
+/// Appends the line of a lieutenant's decision.
 fn push_decision(
     alloc: Global,
     lines: &mut String,

@@ -1,4 +1,4 @@
-//! How the lieutenants of a table come to their decisions, as a text.
+//! Explains in text how the lieutenants of a message table decide, and whether the bound, IC1 and IC2 hold.
 ghost use Rattle.std.specs.Prelude.{◌≡◌, ◌≢◌, ◌<◌, ◌++◌, IfOk, OnOk, string_bytes};
 ghost use Rattle.book.specs.Conditions.{judged};
 ghost use Rattle.book.specs.Explained.{alike_line, bound_line, condition_lines, decision_line, enough_part, enough_words, explained, explained_one};
@@ -11,12 +11,13 @@ use crate::message_source::Heard;
 use label::Label;
 use std::alloc::{AllocError, Global};
 
-/// How the lieutenants come to their decisions: for each, ascending, the list that he combines at each label, and his
-/// decision; then whether the bound and the conditions hold, where these generals are named as traitors.
+/// Returns how the lieutenants decide. The text has the list that each lieutenant combines at each label, and his
+/// decision, in ascending order of the lieutenants. Then it says whether the bound and the conditions hold if these
+/// generals are named as traitors.
 ///
 /// # Errors
 ///
-/// No memory for the text.
+/// Fails with `AllocError` if there is no memory for the text.
 pub fn explain<H: Heard>(alloc: Global, table: &H, traitors: &[u8]) -> Result<String, AllocError>
     ensures { IfOk result (λ text. string_bytes text ≡ explained (H.seen table.now) traitors.now) }
 {
@@ -30,11 +31,11 @@ pub fn explain<H: Heard>(alloc: Global, table: &H, traitors: &[u8]) -> Result<St
     Ok(lines)
 }
 
-/// The same of one general alone: his lines where he is a lieutenant, then the conditions.
+/// Returns how one general decides: his lists and his decision if he is a lieutenant, then the conditions.
 ///
 /// # Errors
 ///
-/// No memory for the text.
+/// Fails with `AllocError` if there is no memory for the text.
 #[tactic(auto, unfolding(crate::specs::Explained::explained_one))]
 pub fn explain_one<H: Heard>(
     alloc: Global,
@@ -50,7 +51,7 @@ pub fn explain_one<H: Heard>(
     Ok(lines)
 }
 
-/// The lines of this general, and none where he is no lieutenant.
+/// Returns the lines of this general, or an empty text if he is not a lieutenant.
 fn part<H: Heard>(
     alloc: Global,
     table: &H,
@@ -67,14 +68,14 @@ fn part<H: Heard>(
     Ok(lines)
 }
 
-/// Whether the general is one of the lieutenants.
+/// Checks whether the general is one of the lieutenants.
 fn is_lieutenant<H: Heard>(table: &H, general: u8) -> bool
     ensures { result ≡ is_lieutenant (H.seen table.now) general }
 {
     general < table.generals() && general != table.commander()
 }
 
-/// Adds the lines of a lieutenant.
+/// Appends the lines of a lieutenant: his number, his lists and his decision.
 fn push_lieutenant<H: Heard>(
     alloc: Global,
     lines: &mut String,
@@ -100,7 +101,7 @@ fn push_lieutenant<H: Heard>(
     )
 }
 
-/// Adds the line of a decision.
+/// Appends the line of a lieutenant's decision.
 fn push_decision(
     lines: &mut String,
     general: u8,
@@ -113,14 +114,15 @@ fn push_decision(
     write!(lines, "decision {general}{mark}{order}\n")
 }
 
-/// What marks the decision of one who is named.
+/// Returns the text between the number and the order of a decision, which says whether the lieutenant is named as a
+/// traitor.
 fn mark(named: bool) -> &'static str
     ensures { result.now ≡ mark named }
 {
     if named { " traitor " } else { " " }
 }
 
-/// Adds whether the bound and the conditions hold.
+/// Appends the lines that say whether the bound and the conditions hold.
 fn push_conditions<H: Heard>(
     alloc: Global,
     lines: &mut String,
@@ -137,7 +139,7 @@ fn push_conditions<H: Heard>(
     lines.push_str(obedience.as_str())
 }
 
-/// Whether the bound holds, with its numbers.
+/// Returns the line that says whether the bound holds, with its numbers.
 fn bound_line<H: Heard>(alloc: Global, table: &H, met: &Conditions) -> Result<String, AllocError>
     ensures { IfOk result (λ text. string_bytes text ≡ bound_line (H.seen table.now) met.now) }
 {
@@ -147,7 +149,7 @@ fn bound_line<H: Heard>(alloc: Global, table: &H, met: &Conditions) -> Result<St
     Ok(line)
 }
 
-/// Whether there are enough generals.
+/// Returns the first part of the bound's line: whether the bound holds, and whether there are enough generals.
 fn enough_part<H: Heard>(alloc: Global, table: &H, met: &Conditions) -> Result<String, AllocError>
     ensures { IfOk result (λ text. string_bytes text ≡ enough_part (H.seen table.now) met.now) }
 {
@@ -158,7 +160,7 @@ fn enough_part<H: Heard>(alloc: Global, table: &H, met: &Conditions) -> Result<S
     format!(in alloc; "bound {holds}: {generals} generals, {enough}{bound}")
 }
 
-/// Whether few enough are named.
+/// Returns the second part of the bound's line: whether few enough generals are named as traitors.
 fn few_part<H: Heard>(alloc: Global, table: &H, met: &Conditions) -> Result<String, AllocError>
     ensures { IfOk result (λ text. string_bytes text ≡ few_part (H.seen table.now) met.now) }
 {
@@ -168,6 +170,7 @@ fn few_part<H: Heard>(alloc: Global, table: &H, met: &Conditions) -> Result<Stri
     format!(in alloc; "; {named} named as traitors, {few}{bound}\n")
 }
 
+/// Returns `yes` or `no`.
 #[tactic(auto, unfolding(crate::specs::Explained::yes_no))]
 fn yes_no(is_so: bool) -> &'static str
     ensures { result.now ≡ yes_no is_so }
@@ -175,7 +178,7 @@ fn yes_no(is_so: bool) -> &'static str
     if is_so { "yes" } else { "no" }
 }
 
-/// More than, or not.
+/// Returns the words that compare the number of generals with three times the bound.
 #[tactic(auto, unfolding(crate::specs::Explained::enough_words))]
 fn enough_words(is_so: bool) -> &'static str
     ensures { result.now ≡ enough_words is_so }
@@ -187,7 +190,7 @@ fn enough_words(is_so: bool) -> &'static str
     }
 }
 
-/// At most, or not.
+/// Returns the words that compare the number of named traitors with the bound.
 #[tactic(auto, unfolding(crate::specs::Explained::few_words))]
 fn few_words(is_so: bool) -> &'static str
     ensures { result.now ≡ few_words is_so }
@@ -195,7 +198,7 @@ fn few_words(is_so: bool) -> &'static str
     if is_so { "at most " } else { "more than " }
 }
 
-/// Whether the loyal lieutenants decide alike.
+/// Returns the line of IC1: whether the loyal lieutenants decide alike.
 fn alike_line(alike: bool) -> &'static str
     ensures { result.now ≡ alike_line alike }
 {
@@ -206,7 +209,7 @@ fn alike_line(alike: bool) -> &'static str
     }
 }
 
-/// Whether they follow the commander.
+/// Returns the line of IC2: whether the loyal lieutenants obey the commander.
 fn obedience_line(alloc: Global, obedience: Obedience) -> Result<String, AllocError>
     ensures { IfOk result (λ text. string_bytes text ≡ obedience_line obedience) }
 {

@@ -1,3 +1,4 @@
+//! Why a text is not a message table: the fault of a line, and its text.
 ghost use Rattle.std.specs.Prelude.{◌≡◌};
 ghost use Rattle.book.specs.declared.fault.TableError.TheVariants.{Memory};
 
@@ -8,13 +9,14 @@ use std::fmt;
 /// What is wrong with a line of a message table.
 #[derive(Clone, Copy, Debug, PartialEq, Eq, Drop)]
 pub enum TableFault {
-    /// No shape, or an order above 2^32 - 1.
+    /// The line has the wrong shape, or its order is above 2^32 - 1.
     Line,
-    /// Numbers of the first line out of their limits.
+    /// The numbers of the first line are out of their limits.
     Range,
-    /// No label, a label longer than the rounds, or a receiver that no relay of it goes to.
+    /// The label is not a label of the campaign or is too long for its rounds, or the receiver is not a general who is
+    /// off the label.
     Place,
-    /// A label and receiver that an earlier line tells.
+    /// An earlier line has the same label and receiver.
     Twice,
 }
 
@@ -36,12 +38,12 @@ impl fmt::Display for TableFault {
 
 impl Error for TableFault {}
 
-/// Why a text tells no message table: the first fault with its line, or want of memory.
+/// Why a text is not a message table: the first fault with its line, or too little memory.
 #[derive(Clone, Copy, Debug, PartialEq, Eq, Drop)]
 pub enum TableError {
-    /// A fault at a line, counted from 1.
+    /// The line of this number, counted from 1, has this fault.
     At(TableFault, u64),
-    /// No memory for a further line.
+    /// There is no memory for the table.
     Memory,
 }
 

@@ -1,3 +1,4 @@
+//! Writes the message table of a campaign in which all generals but at most one send the same order.
 ghost use Rattle.std.specs.Prelude.{◌≡◌, ◌≢◌, IfOk, IfErr, Err, Some, string_bytes};
 ghost use Rattle.combine.specs.Names.{default_rule};
 ghost use Rattle.book.specs.Grammar.{opened};
@@ -13,12 +14,12 @@ use combine::Rule;
 use std::alloc::Global;
 use text::decimal;
 
-/// The message table of a campaign with these numbers, filled in as loyal generals would to whom the commander gave
-/// this order. What the liar tells, if there is one, is left to fill in.
+/// Returns the message table of a campaign with these numbers, in which all generals send this order. If a liar is
+/// given, the orders that he sends are question marks, to be filled in.
 ///
 /// # Errors
 ///
-/// What the first line of a table is refused for that has these numbers, or want of memory.
+/// Fails with the fault of a first line with these numbers, or with `Memory` if it runs out of memory.
 pub fn filled(
     alloc: Global,
     generals: &str,
@@ -37,11 +38,11 @@ pub fn filled(
     Ok(write(alloc, &marks, generals, bound, commander, Rule::DEFAULT)?)
 }
 
-/// How many generals a campaign with these numbers has.
+/// Returns how many generals a campaign with these numbers has.
 ///
 /// # Errors
 ///
-/// What the first line of a table is refused for that has these numbers.
+/// Fails with the fault of a first line with these numbers.
 pub fn generals_in(generals: &str, bound: &str, commander: &str) -> Result<u8, TableError>
     ensures told { IfOk result (HasGenerals generals.now bound.now commander.now) }
     ensures refused { IfErr result (λ e. opened (numbers_in generals.now bound.now commander.now) ≡ Err e) }
@@ -51,7 +52,12 @@ pub fn generals_in(generals: &str, bound: &str, commander: &str) -> Result<u8, T
     Ok(generals)
 }
 
-/// The numbers of a campaign, as they stand on the first line of a table.
+/// Returns the numbers of a campaign, checked like those of the first line of a table.
+///
+/// # Errors
+///
+/// Fails with `Line` if a word is not a decimal number, and with `Range` if the numbers are out of their limits. Both
+/// are at line 1.
 #[tactic(auto, unfolding(crate::specs::Numbers::numbers_in))]
 fn numbers(generals: &str, bound: &str, commander: &str) -> Result<(u8, u8, u8), TableError>
     ensures told { IfOk result

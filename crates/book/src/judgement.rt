@@ -1,4 +1,4 @@
-//! Whether the lieutenants of a table agree, as far as their decisions tell it.
+//! Judges from a message table whether the bound, IC1 and IC2 hold.
 ghost use Rattle.std.specs.Prelude.{◌≡◌, ◌≤◌, ◌==◌, ◌*◌, nat_lt, count_by, length};
 ghost use Rattle.std.specs.List.{list_all};
 ghost use Rattle.label.specs.Labels.{on, generals};
@@ -10,7 +10,7 @@ use crate::recursion::decision;
 use arrayvec::ArrayVec;
 use label::Label;
 
-/// Whether the bound and the conditions hold in a table, where these generals are named as traitors and all others
+/// Returns whether the bound and the conditions hold in a table. These generals are named as traitors, and all others
 /// count as loyal.
 #[tactic(auto, unfolding(crate::specs::Conditions::judged))]
 pub fn judge<H: Heard>(table: &H, traitors: &[u8]) -> Conditions
@@ -33,14 +33,14 @@ pub fn judge<H: Heard>(table: &H, traitors: &[u8]) -> Conditions
     }
 }
 
-/// Whether the general is named.
+/// Checks whether the general is named as a traitor.
 pub(crate) fn is_named(traitors: &[u8], general: u8) -> bool
     ensures { result ≡ on traitors.now general }
 {
     traitors.iter().any(|x| *x == general)
 }
 
-/// How many of so many generals are named.
+/// Returns how many of the generals `0..all` are named as traitors.
 fn named_among(traitors: &[u8], all: u8) -> u8
     ensures count { result ≡ count_by (on traitors.now) (generals all) }
     ensures few { result ≤ all }
@@ -54,7 +54,7 @@ fn named_among(traitors: &[u8], all: u8) -> u8
     named
 }
 
-/// What the lieutenants who are not named decide, ascending.
+/// Returns what the lieutenants who are not named as traitors decide, in ascending order of the lieutenants.
 fn loyal_decisions<H: Heard>(table: &H, traitors: &[u8]) -> ArrayVec<u32, 13>
     ensures { result.items ≡ loyal_decisions (H.seen table.now) traitors.now }
 {
@@ -68,7 +68,7 @@ fn loyal_decisions<H: Heard>(table: &H, traitors: &[u8]) -> ArrayVec<u32, 13>
     decisions
 }
 
-/// What the commander told the lieutenants, ascending.
+/// Returns what the commander sent to the lieutenants, in ascending order of the lieutenants.
 fn sent<H: Heard>(table: &H) -> ArrayVec<Option<u32>, 13>
     ensures { result.items ≡ sent (H.seen table.now) }
 {
@@ -83,7 +83,7 @@ fn sent<H: Heard>(table: &H) -> ArrayVec<Option<u32>, 13>
     orders
 }
 
-/// Whether all are the same.
+/// Checks whether all decisions are the same.
 fn are_alike(decisions: &[u32]) -> bool
     ensures { result ≡ are_alike decisions.now }
 {
@@ -93,14 +93,14 @@ fn are_alike(decisions: &[u32]) -> bool
     }
 }
 
-/// Whether each is this order.
+/// Checks whether each decision is this order.
 fn all_are(decisions: &[u32], order: u32) -> bool
     ensures { result ≡ list_all (λ d. d == order) decisions.now }
 {
     decisions.iter().all(|decision| *decision == order)
 }
 
-/// The order that all were told, if they were told the same.
+/// Returns the order that all lieutenants received, if they all received the same order.
 fn same_order(orders: &[Option<u32>]) -> Option<u32>
     ensures { result ≡ same_order orders.now }
 {
@@ -110,14 +110,14 @@ fn same_order(orders: &[Option<u32>]) -> Option<u32>
     }
 }
 
-/// Whether each was told this order.
+/// Checks whether each lieutenant received this order.
 fn all_told(orders: &[Option<u32>], order: u32) -> bool
     ensures { result ≡ list_all (is_told order) orders.now }
 {
     orders.iter().all(|told| is_told(*told, order))
 }
 
-/// Whether this order was told.
+/// Checks whether this order was received.
 fn is_told(told: Option<u32>, order: u32) -> bool
     ensures { result ≡ is_told order told }
 {
@@ -127,7 +127,8 @@ fn is_told(told: Option<u32>, order: u32) -> bool
     }
 }
 
-/// Whether a commander is obeyed who told all this order.
+/// Returns whether a commander is obeyed who is not named as a traitor. `order` is the order that all lieutenants
+/// received, if they received the same.
 fn obedience_to(order: Option<u32>, decisions: &[u32]) -> Obedience
     ensures { result ≡ obedience_to order decisions.now }
 {
@@ -143,7 +144,7 @@ fn obedience_to(order: Option<u32>, decisions: &[u32]) -> Obedience
     }
 }
 
-/// The same of a commander who may be named.
+/// Returns whether the commander is obeyed, or that he is named as a traitor.
 fn obedience_in(is_named: bool, order: Option<u32>, decisions: &[u32]) -> Obedience
     ensures { result ≡ obedience_in is_named order decisions.now }
 {

@@ -1,5 +1,5 @@
-//! What is known of the trees of what lieutenants were told: each function does nothing,
-//! and recalls what their types keep.
+//! Facts about lieutenants' trees for use in proofs. Each function does nothing, and its contract recalls what the
+//! types guarantee.
 ghost use Rattle.std.specs.Prelude.{◌≡◌, ◌<◌, ◌^◌, ℕ, All, Some, slice_get};
 ghost use Rattle.book.specs.Hearing.{heard};
 ghost use Rattle.book.specs.WrittenLaws.{AreOrders};
@@ -7,7 +7,7 @@ ghost use Rattle.tree.specs.LieutenantTree.{level_of};
 
 use tree::Tree;
 
-/// Does nothing. What trees tell are orders of 32 bits.
+/// Does nothing. Its contract says that the orders in the trees have 32 bits.
 pub fn recall_orders(trees: &[Tree])
     ensures { AreOrders (heard trees.now) }
 {
@@ -16,7 +16,7 @@ pub fn recall_orders(trees: &[Tree])
     }
 }
 
-/// Does nothing. What a tree tells are orders of 32 bits.
+/// Does nothing. Its contract says that the orders in a tree have 32 bits.
 fn recall_tree(tree: &Tree)
     ensures { (k i v : ℕ) → slice_get (level_of tree.now k) i ≡ Some (Some v) → v < 2 ^ 32 }
 {
@@ -26,7 +26,7 @@ fn recall_tree(tree: &Tree)
     }
 }
 
-/// Does nothing. What a level tells are orders of 32 bits.
+/// Does nothing. Its contract says that the orders in a level have 32 bits.
 fn recall_level(level: &[u32])
     ensures { All (λ order. order < 2 ^ 32) level.now }
 {

@@ -1,6 +1,7 @@
-//! Oral messages by the book: the recursion over a table of messages, and the agreement theorem.
-//! What is printed of a message table: its decisions, how they come about, the table to fill in, and tables that are
-//! filled in.
+//! Oral messages by the book: message tables, their decisions by OM(m), and the agreement theorem (TOPLAS 1982).
+//!
+//! The crate reads and writes message tables. It prints their decisions, explains them, and makes tables to fill in or
+//! filled in with one order.
 #![tactic(auto)]
 
 mod blanks;

@@ -1,4 +1,4 @@
-//! The lists that a lieutenant combines, label by label.
+//! Writes the lists that a lieutenant combines, label by label, for the explanation of his decision.
 ghost use Rattle.std.specs.Prelude.{◌≡◌, ◌≤◌, ◌+◌, ◌++◌, ◌∷◌, [], ℕ, List, true, length, IfOk, OnOk, None, string_bytes};
 ghost use Rattle.std.specs.Fmt.{decimal};
 ghost use Rattle.book.specs.Grammar.{is_place};
@@ -9,7 +9,7 @@ use arrayvec::ArrayVec;
 use label::Label;
 use std::alloc::{AllocError, Global};
 
-/// A label as it is written.
+/// Returns a label as text: its generals in decimal, joined by dots.
 pub(crate) fn dotted(alloc: Global, label: &Label) -> Result<String, AllocError>
     ensures { IfOk result (λ text. string_bytes text ≡ dotted label.now) }
 {
@@ -19,7 +19,7 @@ pub(crate) fn dotted(alloc: Global, label: &Label) -> Result<String, AllocError>
     }
 }
 
-/// A general, and those behind him, each behind a dot.
+/// Returns the label of `first` and the generals `rest` as text, joined by dots.
 fn joined(alloc: Global, first: u8, rest: &[u8]) -> Result<String, AllocError>
     ensures { IfOk result (λ text. string_bytes text ≡ dotted (first ∷ rest.now)) }
 {
@@ -31,14 +31,16 @@ fn joined(alloc: Global, first: u8, rest: &[u8]) -> Result<String, AllocError>
     Ok(text)
 }
 
-/// Room for how a label of four generals begins: a number of two digits and a dot for each.
+/// The capacity in bytes for the beginning of a label of five generals: a number of two digits and a dot for each of
+/// the first four.
 const ROOM_AHEAD: usize = 12;
 
-/// Room for the parts of a list: eight labels of five generals, each of two digits, and an order of ten digits behind
-/// each.
+/// The capacity in bytes for the parts of a list: eight labels of five generals of two digits, each with an order of
+/// ten digits.
 const ROOM_FOR_PARTS: usize = 216;
 
-/// How the labels begin that go on from one that is written so far, and then its last general.
+/// Returns the text with which the labels one general longer than `label` begin. `label` is written as `front` and its
+/// last general `last`.
 fn behind(alloc: Global, label: &Label, front: &str, last: u8) -> Result<String, AllocError>
     requires { front.now ++ decimal last ≡ dotted label.now }
     ensures { IfOk result (λ text. (other : ℕ) →
@@ -50,8 +52,8 @@ fn behind(alloc: Global, label: &Label, front: &str, last: u8) -> Result<String,
     Ok(text)
 }
 
-/// Adds what a general adds to a list: the label with him, which is written so before his number, and what is held of
-/// it.
+/// Appends the part that a general contributes to a list: a label, and the order that is held of it. The label is
+/// written as `front` and the general's number.
 fn push_part(
     parts: &mut String,
     front: &str,
@@ -67,7 +69,8 @@ fn push_part(
     }
 }
 
-/// Adds the line of a label of which nothing was told.
+/// Appends the line of a label for which no order was received. The label is written as `front` and its last general
+/// `last`.
 fn push_silent_list(
     lines: &mut String,
     front: &str,
@@ -84,7 +87,8 @@ fn push_silent_list(
     write!(lines, "nothing{parts}: {words}{order}\n")
 }
 
-/// Adds the line of a label, which is written so before its last general.
+/// Appends the line of a label: the order that was received for it, the parts of its list, and the outcome. The label
+/// is written as `front` and its last general `last`.
 fn push_list(
     lines: &mut String,
     front: &str,
@@ -104,8 +108,11 @@ fn push_list(
     }
 }
 
-/// Adds the lines of a label, which is written so before its last general, and of those that go on from it, with so
-/// many relays left: what the lieutenant then holds of the label.
+/// Appends the lines of a label and of the longer labels that begin with it, with `relays` relays left. The label is
+/// written as `front` and its last general `last`.
+///
+/// Returns what lieutenant `general` then holds of the label: his decision about it, or with no relays left the order
+/// that he received, if any.
 pub(crate) fn push_lists<H: Heard>(
     alloc: Global,
     lines: &mut String,

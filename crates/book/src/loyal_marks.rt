@@ -1,11 +1,11 @@
-//! What loyal generals tell, where all are loyal but one.
+//! The marks of a message table in which all generals but at most one send the same order.
 ghost use Rattle.std.specs.Prelude.{◌≡◌};
 ghost use Rattle.book.specs.Written.{ends_in};
 
 use crate::mark::{Marks, TableMark};
 use label::Label;
 
-/// All tell this order, and what the liar tells is open.
+/// The marks of a table in which all generals send `order`, and in which the orders that the liar sends are left open.
 #[derive(Clone, Copy)]
 pub(crate) struct LoyalMarks {
     pub(crate) order: u32,
@@ -25,7 +25,7 @@ impl Marks for LoyalMarks {
     }
 }
 
-/// Whether the general is the last of the label.
+/// Checks whether the general is the last of the label.
 fn ends_in(label: &[u8], general: u8) -> bool
     ensures { result ≡ ends_in label.now general }
 {

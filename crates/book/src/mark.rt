@@ -1,19 +1,19 @@
-//! What stands at the places of a message table that is written.
+//! The marks at the places of a message table: an order, a question mark, or no line.
 
 use label::Label;
 
-/// What stands at a place.
+/// The mark at a place of a message table.
 #[derive(Clone, Copy)]
 pub enum TableMark {
-    /// An order, 0 for RETREAT.
+    /// An order, where 0 is RETREAT.
     Order(u32),
-    /// A question mark, to be made an order.
+    /// A question mark, to be replaced by an order.
     Open,
-    /// Nothing was told there: the place has no line.
+    /// Nothing was received at the place, and it has no line.
     Silence,
 }
 
-/// The marks of a table's places.
+/// A source of marks: it has one for each place of a message table.
 pub(crate) trait Marks {
     ghost use Rattle.std.specs.Prelude.{◌≡◌};
     ghost use Rattle.book.specs.Written.{Marking};
@@ -21,7 +21,7 @@ pub(crate) trait Marks {
     // The mark of each label and receiver.
     ghost marking: { Self → Marking };
 
-    /// What stands where the last of the label tells this receiver of the rest.
+    /// Returns the mark of the message that the last general of the label sends to this receiver.
     fn mark(&self, label: &Label, receiver: u8) -> TableMark
         ensures { result ≡ marking self.now label.now receiver };
 }

@@ -1,12 +1,13 @@
+//! A message of a message table: a label, a receiver and an order.
 use label::Label;
 
-/// A message: what the last of a label told a receiver of the rest.
+/// A message: the order that the last general of the label sends to the receiver, relayed along the rest of the label.
 #[derive(Drop)]
 pub struct Message {
-    /// Whom the order came through.
+    /// The generals through whom the order came, the commander first.
     pub label: Label,
-    /// The number of the general who was told.
+    /// The number of the general who received the order.
     pub receiver: u8,
-    /// The order, 0 for RETREAT.
+    /// The order, where 0 is RETREAT.
     pub order: u32,
 }

@@ -1,4 +1,4 @@
-//! The labels of messages, read from a line.
+//! Reads the label of a message from a line of a message table.
 ghost use Rattle.std.specs.Prelude.{◌≡◌, ◌≤◌, ◌<◌, ◌+◌, ◌&&◌, not, nat_le, nat_lt, length, Err, None};
 ghost use Rattle.std.specs.Bool.{OnTrue};
 ghost use Rattle.text.specs.Stop.{dot};
@@ -14,12 +14,13 @@ use crate::table::Table;
 use label::Label;
 use text::{decimal, piece};
 
-/// The label of a part of a line, its numbers joined by dots: the commander first. Each number is
-/// read once.
+/// Returns the label that a part of a line contains: numbers joined by dots, the commander first. Each number is read
+/// once.
 ///
 /// # Errors
 ///
-/// `Line` where one is no number, else `Place` where they are no label of the campaign.
+/// Fails with `Line` if one of the parts between dots is not a decimal number. Otherwise fails with `Place` if the
+/// numbers are not a label of the campaign.
 #[tactic(auto, unfolding(crate::specs::Reading::label_read, crate::specs::Reading::begun_label))]
 pub fn label_in(table: &Table, part: &[u8]) -> Result<Label, TableFault>
     ensures label { result ≡ label_read table.now part.now }
@@ -37,7 +38,12 @@ pub fn label_in(table: &Table, part: &[u8]) -> Result<Label, TableFault>
     }
 }
 
-/// The label with the generals that are left behind it, where each is a general and new to it.
+/// Returns the label extended by the generals in the rest of the part.
+///
+/// # Errors
+///
+/// Fails with `Line` if one of them is not a decimal number. Otherwise fails with `Place` if one is not a general, is
+/// already on the label, or makes the label longer than `bound + 1` generals.
 #[tactic(auto, unfolding(crate::specs::Reading::prolonged_label))]
 fn prolonged(table: &Table, label: Label, rest: Option<&[u8]>) -> Result<Label, TableFault>
     requires { length label ≤ table.now.bound + 1 }
@@ -58,7 +64,8 @@ fn prolonged(table: &Table, label: Label, rest: Option<&[u8]>) -> Result<Label, 
     }
 }
 
-/// The fault of a line whose label ends here: there is no such place, where what is left are numbers.
+/// Returns the fault of a line whose label cannot be extended: `Place` if the rest of the part contains only numbers,
+/// and `Line` otherwise.
 fn no_label(rest: Option<&[u8]>) -> TableFault
     ensures { Err result ≡ numbers_or (λ ns. None) (numbers_of (left dot rest.entry)) }
 {
@@ -69,7 +76,7 @@ fn no_label(rest: Option<&[u8]>) -> TableFault
     }
 }
 
-/// Whether the label may go on with this general.
+/// Checks whether the label can be extended by this general.
 fn is_next(table: &Table, label: &Label, next: u128) -> bool
     ensures small { OnTrue result ((next < 13) × (length label.now < 13)) }
     ensures value { result ≡ (nat_le (length label.now) table.now.bound && nat_lt next table.now.generals
@@ -80,7 +87,7 @@ fn is_next(table: &Table, label: &Label, next: u128) -> bool
         && !label.has(next as u8)
 }
 
-/// Whether the receiver is a general who does not stand on the label.
+/// Checks whether the receiver is a general who is not on the label.
 pub fn can_hear(table: &Table, label: &Label, receiver: u128) -> bool
     ensures small { OnTrue result (receiver < 13) }
     ensures value { result ≡ (nat_lt receiver table.now.generals && not (on label.now receiver)) }

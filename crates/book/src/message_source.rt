@@ -1,44 +1,44 @@
-//! What is asked of whatever tells the messages of a table.
+//! The trait of sources of messages: a campaign's numbers, its rule, and what each lieutenant received.
 
 use combine::Rule;
 use label::Label;
 use tree::Tree;
 
-/// A campaign's numbers and rule, and what each of its lieutenants was told.
+/// A campaign's numbers and rule, and what each of its lieutenants received.
 pub trait Heard {
     ghost use Rattle.std.specs.Prelude.{◌≡◌, ◌≢◌, ◌<◌, true};
     ghost use Rattle.book.specs.Grammar.{is_place};
     ghost use Rattle.book.specs.Table.{AreNumbersWithin, MessageTable, told};
     ghost use Rattle.book.specs.Trees.{tree_of};
 
-    // The table that tells the same.
+    // The table that contains the same messages.
     ghost seen: { Self → MessageTable };
 
-    /// How many generals there are, 2 to 13.
+    /// Returns how many generals there are, 2 to 13.
     fn generals(&self) -> u8
         ensures value { result ≡ (seen self.now).generals }
         ensures within { AreNumbersWithin (seen self.now).generals (seen self.now).bound (seen self.now).commander };
 
-    /// The greatest number of traitors that the campaign is made for, 0 to 4.
+    /// Returns the bound, 0 to 4: the greatest number of traitors that the campaign provides for.
     fn bound(&self) -> u8
         ensures value { result ≡ (seen self.now).bound }
         ensures within { AreNumbersWithin (seen self.now).generals (seen self.now).bound (seen self.now).commander };
 
-    /// The commander's number.
+    /// Returns the commander's number.
     fn commander(&self) -> u8
         ensures value { result ≡ (seen self.now).commander }
         ensures within { AreNumbersWithin (seen self.now).generals (seen self.now).bound (seen self.now).commander };
 
-    /// The rule by which orders are combined.
+    /// Returns the rule by which orders are combined.
     fn rule(&self) -> Rule
         ensures { result ≡ (seen self.now).rule };
 
-    /// What is told of a label to a receiver, who does not stand on it.
+    /// Returns the order that the receiver received for the label, if any. The receiver must not be on the label.
     fn told(&self, label: &Label, receiver: u8) -> Option<u32>
         requires { is_place (seen self.now) label.now receiver ≡ true }
         ensures { result ≡ told (seen self.now).messages label.now receiver };
 
-    /// The tree of a lieutenant, filled from the messages.
+    /// Returns a reference to the tree of a lieutenant, filled from the messages.
     fn tree(&self, general: u8) -> &Tree
         requires general { general < (seen self.now).generals }
         requires lieutenant { general ≢ (seen self.now).commander }

@@ -1,4 +1,4 @@
-//! The parts of a message table's lines.
+//! Splits the lines of a message table into their parts.
 ghost use Rattle.std.specs.Prelude.{◌≡◌, ◌≤◌, ◌<◌, ◌^◌, IfSome, option_map, is_some};
 ghost use Rattle.text.specs.Stop.{space, dot};
 ghost use Rattle.text.specs.Parts.{pieces, left};
@@ -10,9 +10,10 @@ use text::{Stop, decimal, piece};
 
 const SPACE: Stop = Stop::Byte(b' ');
 
+/// The stop between the generals of a label.
 pub const DOT: Stop = Stop::Byte(b'.');
 
-/// The three numbers of the first line, and its rule.
+/// Returns the three numbers of the first line and its rule, or `None` if the line has another shape.
 #[tactic(auto, unfolding(crate::specs::Grammar::head_of))]
 pub fn head(line: &[u8]) -> Option<(u128, u128, u128, Rule)>
     ensures value { result ≡ head_of line.now }
@@ -25,7 +26,7 @@ pub fn head(line: &[u8]) -> Option<(u128, u128, u128, Rule)>
     Some((generals, bound, commander, rule))
 }
 
-/// The parts of `generals N bound M commander C` that are numbers, and the rule that may follow.
+/// Returns the parts of `generals N bound M commander C` that are numbers, and the rule of an optional ` rule NAME`.
 fn cut_head(line: &[u8]) -> Option<(&[u8], &[u8], &[u8], Rule)>
     ensures { option_map (λ p. (p.0.now, p.1.now, p.2.now, p.3)) result ≡ head_parts (pieces space line.now) }
 {
@@ -55,7 +56,7 @@ fn cut_head(line: &[u8]) -> Option<(&[u8], &[u8], &[u8], Rule)>
     }
 }
 
-/// The rule of ` rule NAME`, that of a table that names none where nothing is left of the line.
+/// Returns the rule of ` rule NAME`, or the default rule if nothing is left of the line.
 #[tactic(auto, using(crate::proofs::PartLemmas::rule_too_long))]
 fn rule(rest: Option<&[u8]>) -> Option<Rule>
     ensures { result ≡ rule_parts (left space rest.entry) }
@@ -76,7 +77,7 @@ fn rule(rest: Option<&[u8]>) -> Option<Rule>
     }
 }
 
-/// The parts of `tell LABEL RECEIVER V` behind its word.
+/// Returns the label, the receiver and the order of a line `tell LABEL RECEIVER V` as text.
 #[tactic(auto, using(crate::proofs::PartLemmas::tell_too_long))]
 fn cut_tell(line: &[u8]) -> Option<(&[u8], &[u8], &[u8])>
     ensures { option_map (λ p. (p.0.now, p.1.now, p.2.now)) result ≡ tell_parts (pieces space line.now) }
@@ -100,7 +101,7 @@ fn cut_tell(line: &[u8]) -> Option<(&[u8], &[u8], &[u8])>
     }
 }
 
-/// Whether what is left of a label are decimal numbers, joined by dots.
+/// Checks whether the rest of a label consists of decimal numbers joined by dots. Without a rest it returns true.
 pub fn are_numbers(rest: Option<&[u8]>) -> bool
     ensures { result ≡ is_some (numbers_of (left dot rest.entry)) }
 {
@@ -115,7 +116,7 @@ pub fn are_numbers(rest: Option<&[u8]>) -> bool
     true
 }
 
-/// An order of 32 bits.
+/// Returns an order of 32 bits, or `None` if the part is not a decimal number below 2^32.
 #[tactic(auto, unfolding(crate::specs::Grammar::order_in))]
 fn order(part: &[u8]) -> Option<u32>
     ensures { result ≡ order_in part.now }
@@ -128,7 +129,7 @@ fn order(part: &[u8]) -> Option<u32>
     }
 }
 
-/// The label's part, the receiver and the order of a line.
+/// Returns the label of a line as text, its receiver and its order, or `None` if the line has another shape.
 #[tactic(auto, unfolding(crate::specs::Reading::shape_of))]
 pub fn shape(line: &[u8]) -> Option<(&[u8], u128, u32)>
     ensures { option_map (λ s. (s.0.now, s.1, s.2)) result ≡ shape_of line.now }

@@ -1,3 +1,4 @@
+//! Reads a message table from a text, line by line.
 ghost use Rattle.std.specs.Prelude.{◌≡◌, ◌≢◌, ◌≤◌, ◌++◌, ◌∷◌, [], IfOk, IfErr, Ok, Err};
 ghost use Rattle.book.specs.declared.fault.TableError.TheVariants.{Memory};
 ghost use Rattle.book.specs.Grammar.{opened, head_of, checked, at_line, message_of, is_within, table_told};
@@ -10,11 +11,12 @@ use crate::table::Table;
 use std::alloc::Global;
 use text::line;
 
-/// The message table that a text tells.
+/// Returns the message table that a text contains.
 ///
 /// # Errors
 ///
-/// The first fault in the order of the lines, with its line; `Memory` where there is none for a message.
+/// Fails with the first fault in the order of the lines, with the number of its line. Fails with `Memory` if there is
+/// no memory for the table.
 #[tactic(auto, unfolding(crate::specs::Grammar::table_told))]
 pub fn read_table(alloc: Global, text: &str) -> Result<Table, TableError>
     ensures told { IfOk result (λ t. table_told text.now ≡ Ok t) }
@@ -35,7 +37,12 @@ pub fn read_table(alloc: Global, text: &str) -> Result<Table, TableError>
     Ok(table)
 }
 
-/// The table of a first line, without messages.
+/// Returns the table of a first line, without messages.
+///
+/// # Errors
+///
+/// Fails with `Line` at line 1 if the line has another shape, with `Range` at line 1 if its numbers are out of their
+/// limits, and with `Memory` if there is no memory for the table.
 fn read_head(alloc: Global, line: &[u8]) -> Result<Table, TableError>
     ensures told { IfOk result (λ t. opened (head_of line.now) ≡ Ok t) }
     ensures fault { IfErr result (λ e. e ≢ Memory → opened (head_of line.now) ≡ Err e) }
@@ -50,14 +57,18 @@ fn read_head(alloc: Global, line: &[u8]) -> Result<Table, TableError>
     }
 }
 
-/// Whether a campaign's numbers are within their limits.
+/// Checks whether a campaign's numbers are within their limits.
 pub(crate) fn is_within(generals: u128, bound: u128, commander: u128) -> bool
     ensures { result ≡ is_within generals bound commander }
 {
     generals <= 13 && bound <= 4 && bound + 2 <= generals && commander < generals
 }
 
-/// The message of the further line of this number, its first fault otherwise.
+/// Returns the message of a further line.
+///
+/// # Errors
+///
+/// Fails with the first fault of the line, at the line's number.
 fn message_at(table: &Table, number: u64, line: &[u8]) -> Result<Message, TableError>
     ensures { result ≡ at_line number (checked table.now (message_of line.now)) }
 {
@@ -67,7 +78,11 @@ fn message_at(table: &Table, number: u64, line: &[u8]) -> Result<Message, TableE
     }
 }
 
-/// The message of a further line, the first fault of the line otherwise.
+/// Returns the message of a further line.
+///
+/// # Errors
+///
+/// Fails with the first fault of the line.
 fn read_message(table: &Table, line: &[u8]) -> Result<Message, TableFault>
     ensures { result ≡ checked table.now (message_of line.now) }
 {

@@ -1,3 +1,4 @@
+//! Computes the decisions of a message table's lieutenants.
 ghost use Rattle.std.specs.Prelude.{◌≡◌, ◌≢◌, ◌<◌};
 ghost use Rattle.book.specs.Decisions.{decision_of, decisions_of, TableAgrees};
 
@@ -7,8 +8,8 @@ use crate::theorem::agreement;
 use arrayvec::ArrayVec;
 use resolve::resolve;
 
-/// What a lieutenant decides: by the table's rule, the decision of OM(m) of the messages that the table
-/// tells (TOPLAS 1982).
+/// Returns what a lieutenant decides by the table's rule: the decision of OM(m) from the messages of the table (TOPLAS
+/// 1982).
 #[tactic(auto, unfolding(crate::specs::Decisions::decision_of))]
 pub fn decision<H: Heard>(table: &H, general: u8) -> u32
     requires general { general < (H.seen table.now).generals }
@@ -18,7 +19,8 @@ pub fn decision<H: Heard>(table: &H, general: u8) -> u32
     resolve(table.tree(general), &table.rule())
 }
 
-/// What the lieutenants decide, ascending by number: the loyal ones alike, where few enough are traitors.
+/// Returns what the lieutenants decide, in ascending order of the lieutenants. The loyal lieutenants decide alike if
+/// the bound holds and all loyal generals relay faithfully what they received.
 pub fn decisions(table: &Table) -> ArrayVec<u32, 12>
     ensures values { result.items ≡ decisions_of table.now }
     ensures agree { TableAgrees table.now result.items }

@@ -1,3 +1,4 @@
+//! The message table: a campaign's numbers, its rule and its messages, with a tree for each lieutenant.
 ghost use Rattle.std.specs.Prelude.{◌≡◌, ◌≢◌, ◌<◌, ◌≤◌, [], ◌∷◌, true, false, length, IfOk};
 ghost use Rattle.std.specs.List.{list_any};
 ghost use Rattle.label.specs.Labels.{others};
@@ -15,8 +16,8 @@ use tree::Tree;
 
 /// A message table: a campaign's numbers, its rule of combination, and its messages.
 ///
-/// Beside the messages stands a tree for each lieutenant, filled from them: what the table tells of a
-/// label is read there, at its rank.
+/// In addition to the messages it has a tree for each lieutenant, filled from them. The order that a lieutenant
+/// received for a label is looked up there by the label's rank.
 #[derive(Drop)]
 pub struct Table {
     generals: u8,
@@ -45,7 +46,7 @@ impl Model for Table {
     ghost invariant = { λ t. AreTableTrees t.generals t.bound t.commander t.messages.items t.trees.items };
 }
 
-/// The place of a lieutenant among the lieutenants, ascending.
+/// Returns the position of a lieutenant in the ascending list of the lieutenants.
 fn place(commander: u8, general: u8) -> usize
     requires { general ≢ commander }
     ensures { result ≡ length (others general (commander ∷ [])) }
@@ -58,7 +59,7 @@ fn place(commander: u8, general: u8) -> usize
 }
 
 impl Table {
-    /// The table of a campaign, without messages.
+    /// Returns the table of a campaign, without messages.
     pub(crate) fn open(
         alloc: Global,
         generals: u8,
@@ -91,7 +92,7 @@ impl Table {
         })
     }
 
-    /// The table with one message more, of a place that was not told before.
+    /// Returns the table with one message appended. The table must not yet have a message with this label and receiver.
     pub(crate) fn with(mut self, message: Message) -> Result<Table, AllocError>
         requires place { is_place self message.label message.receiver ≡ true }
         requires fresh { list_any (is_about message.label message.receiver) self.messages ≡ false }
@@ -103,7 +104,7 @@ impl Table {
         Ok(self)
     }
 
-    /// The tree of a lieutenant, filled from the messages.
+    /// Returns a reference to the tree of a lieutenant, filled from the messages.
     pub(crate) fn tree(&self, general: u8) -> &Tree
         requires general { general < self.now.generals }
         requires lieutenant { general ≢ self.now.commander }
@@ -113,7 +114,7 @@ impl Table {
         &self.trees[place(self.commander, general)]
     }
 
-    /// What is told of a label to a receiver, who does not stand on it.
+    /// Returns the order that the receiver received for the label, if any. The receiver must not be on the label.
     pub fn told(&self, label: &Label, receiver: u8) -> Option<u32>
         requires { is_place self.now label.now receiver ≡ true }
         ensures { result ≡ told self.now.messages label.now receiver }
@@ -121,7 +122,7 @@ impl Table {
         self.tree(receiver).value(label)
     }
 
-    /// How many generals there are, 2 to 13.
+    /// Returns how many generals there are, 2 to 13.
     pub fn generals(&self) -> u8
         ensures value { result ≡ self.now.generals }
         ensures within { AreNumbersWithin self.now.generals self.now.bound self.now.commander }
@@ -129,7 +130,7 @@ impl Table {
         self.generals
     }
 
-    /// The greatest number of traitors that the campaign is made for, 0 to 4.
+    /// Returns the bound, 0 to 4: the greatest number of traitors that the campaign provides for.
     pub fn bound(&self) -> u8
         ensures value { result ≡ self.now.bound }
         ensures within { AreNumbersWithin self.now.generals self.now.bound self.now.commander }
@@ -137,7 +138,7 @@ impl Table {
         self.bound
     }
 
-    /// The commander's number.
+    /// Returns the commander's number.
     pub fn commander(&self) -> u8
         ensures value { result ≡ self.now.commander }
         ensures within { AreNumbersWithin self.now.generals self.now.bound self.now.commander }
@@ -145,14 +146,14 @@ impl Table {
         self.commander
     }
 
-    /// The rule by which orders are combined.
+    /// Returns the rule by which orders are combined.
     pub fn rule(&self) -> Rule
         ensures { result ≡ self.now.rule }
     {
         self.rule
     }
 
-    /// The messages, in the order of the text.
+    /// Returns the messages in the order of the text.
     pub fn messages(&self) -> &[Message]
         ensures { result.now ≡ self.now.messages }
     {

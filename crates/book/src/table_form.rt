@@ -1,3 +1,4 @@
+//! Makes the message table to fill in from a campaign's numbers, given as text.
 ghost use Rattle.std.specs.Prelude.{◌≡◌, ◌≢◌, IfOk, IfErr, Err, min, string_bytes};
 ghost use Rattle.book.specs.Grammar.{opened};
 ghost use Rattle.book.specs.declared.fault.TableError.TheVariants.{Memory};
@@ -9,11 +10,11 @@ use crate::fault::{TableError, TableFault};
 use std::alloc::Global;
 use text::decimal;
 
-/// The message table to fill in, of a campaign with these numbers.
+/// Returns the message table to fill in, of a campaign with these numbers.
 ///
 /// # Errors
 ///
-/// What the first line of a table is refused for that has them, or want of memory.
+/// Fails with the fault of a first line with these numbers, or with `Memory` if it runs out of memory.
 #[tactic(auto, unfolding(crate::specs::Numbers::numbers_in))]
 pub fn formed(
     alloc: Global,
@@ -42,7 +43,7 @@ pub fn formed(
     )?)
 }
 
-/// The number, and in place of one past 64 bits the largest of 64: both are out of every limit.
+/// Returns the number, or 2^64 - 1 if it has more than 64 bits. Numbers this large are out of every limit.
 fn narrowed(number: u128) -> u64
     ensures { result ≡ min number 18446744073709551615 }
 {

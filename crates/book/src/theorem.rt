@@ -1,33 +1,36 @@
-//! The agreement theorem, and what holds of every table that is told: each function does nothing, and its contract is
-//! the law.
+//! The agreement theorem, and laws of message tables that are read from text. Each function does nothing, and its
+//! contract is the law.
 ghost use Rattle.book.specs.Consistency.{ConditionsMean};
 ghost use Rattle.book.specs.Forms.{FormsAreRead};
 ghost use Rattle.book.specs.Laws.{ToldTablesAreWhole};
 ghost use Rattle.book.specs.Theorem.{AgreementHolds, ListsMean};
 
-/// Whatever the traitors say, loyal lieutenants decide alike, and on the order of a loyal commander (TOPLAS 1982,
-/// Theorem 1).
+/// Does nothing. Its contract is the agreement theorem (TOPLAS 1982, Theorem 1). If the bound holds and loyal generals
+/// are faithful, the loyal lieutenants decide alike, and on the order of a loyal commander, whatever the traitors send.
 pub fn agreement()
     ensures { AgreementHolds }
 {}
 
-/// A table that a text tells has numbers within their limits, messages of its campaign, and each at most once.
+/// Does nothing. Its contract says that a table that is read from a text has numbers within their limits and messages
+/// of its campaign, of which no two have the same label and receiver.
 pub fn told_tables_are_whole()
     ensures { ToldTablesAreWhole }
 {}
 
-/// The conditions that `judge` tells are IC1 and IC2 of the decisions of those who are not named, and hold where the
-/// theorem says so.
+/// Does nothing. Its contract says that the conditions that `judge` returns are IC1 and IC2 for the decisions of the
+/// generals who are not named as traitors. They hold if the agreement theorem applies.
 pub fn conditions_mean()
     ensures { ConditionsMean }
 {}
 
-/// A form that is filled in, an order for each question mark, tells a table with all of these orders.
+/// Does nothing. Its contract says that a form filled in with an order for each question mark is read as a table with
+/// all of these orders.
 pub fn forms_are_read()
     ensures { FormsAreRead }
 {}
 
-/// The lists that `explain` writes come to what OM(m) decides, and a majority is told exactly where there is one.
+/// Does nothing. Its contract says that the lists that `explain` writes evaluate to the decisions of OM(m), and that a
+/// majority is reported exactly if there is one.
 pub fn lists_mean()
     ensures { ListsMean }
 {}

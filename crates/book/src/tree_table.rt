@@ -1,4 +1,4 @@
-//! The message table that lieutenants' trees tell, without a list of its messages.
+//! A message table that reads its messages from lieutenants' trees and keeps no list of them.
 ghost use Rattle.std.specs.Prelude.{◌≡◌, ◌≢◌, ◌∷◌, [], Ok, length, map};
 ghost use Rattle.label.specs.Labels.{others};
 ghost use Rattle.label.specs.Lieutenants.{lieutenants};
@@ -16,7 +16,7 @@ use label::Label;
 use std::marker::Model;
 use tree::Tree;
 
-/// A message table that is told by lieutenants' trees: it has the messages of their labels, in the order in which it
+/// A message table made from lieutenants' trees. It has the messages of their labels, in the order in which the table
 /// would be written.
 #[derive(Drop)]
 pub struct TreeTable<'a> {
@@ -41,7 +41,7 @@ impl<'a> Model for TreeTable<'a> {
         (collected (heard t.trees.now) t.generals t.bound t.commander t.rule).messages t.trees.now };
 }
 
-/// The place of a lieutenant among the lieutenants, ascending.
+/// Returns the position of a lieutenant in the ascending list of the lieutenants.
 fn place(commander: u8, general: u8) -> usize
     requires { general ≢ commander }
     ensures { result ≡ length (others general (commander ∷ [])) }
@@ -54,7 +54,8 @@ fn place(commander: u8, general: u8) -> usize
 }
 
 impl<'a> TreeTable<'a> {
-    /// The table that these trees tell, all filled from the same messages: that which its text is read as.
+    /// Returns the table of these trees, which are all filled from the same messages. It is the table that `read_table`
+    /// returns for its text.
     pub fn of(
         trees: &'a [Tree],
         generals: u8,

@@ -1,4 +1,4 @@
-//! Message tables of what lieutenants' trees tell.
+//! Writes lieutenants' trees as a message table.
 ghost use Rattle.std.specs.Prelude.{◌≡◌, IfOk, Ok, Some, string_bytes};
 ghost use Rattle.book.specs.Grammar.{table_told};
 ghost use Rattle.book.specs.Table.{AreNumbersWithin, MessageTable};
@@ -14,12 +14,12 @@ use label::Label;
 use std::alloc::{AllocError, Global};
 use tree::Tree;
 
-/// The message table of a campaign with these numbers and this rule that tells what the lieutenants' trees tell. It is
-/// read again: the table has the same numbers, messages and decisions.
+/// Returns the message table of a campaign with these numbers and this rule, with the messages that the lieutenants'
+/// trees contain. It is read back as a table with the same numbers, messages and decisions.
 ///
 /// # Errors
 ///
-/// No memory for the text.
+/// Fails with `AllocError` if there is no memory for the text.
 pub fn table_of(
     alloc: Global,
     trees: &[Tree],
@@ -45,7 +45,8 @@ pub fn table_of(
     )
 }
 
-/// Each lieutenant's tree has what he was told.
+/// The marks of a message table that is made from lieutenants' trees: at each place the order that the receiver's tree
+/// contains.
 #[derive(Clone, Copy)]
 struct TreeMarks<'a> {
     trees: &'a [Tree],
@@ -65,7 +66,7 @@ impl<'a> Marks for TreeMarks<'a> {
     }
 }
 
-/// What the receiver's tree has of the label, where he has one.
+/// Returns the order that the receiver's tree contains for the label, or `None` if he has no tree.
 #[tactic(auto, unfolding(crate::specs::Hearing::heard))]
 fn heard(trees: &[Tree], label: &Label, receiver: u8) -> Option<u32>
     ensures { result ≡ heard trees.now label.now receiver }
@@ -78,7 +79,7 @@ fn heard(trees: &[Tree], label: &Label, receiver: u8) -> Option<u32>
     None
 }
 
-/// What a tree has of a label.
+/// Returns the order that a tree contains for a label.
 fn value(tree: &Tree, label: &Label) -> Option<u32>
     ensures { result ≡ value_of (Some tree.now) label.now }
 {

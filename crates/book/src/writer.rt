@@ -1,4 +1,4 @@
-//! Message tables, written line by line.
+//! Writes a message table as text, line by line, from a source of marks.
 ghost use Rattle.std.specs.Prelude.{◌≡◌, ◌≤◌, ◌+◌, ◌++◌, ◌∷◌, [], length, IfOk, OnOk, string_bytes};
 ghost use Rattle.book.specs.Explained.{dotted};
 ghost use Rattle.book.specs.Table.{AreNumbersWithin};
@@ -9,12 +9,12 @@ use combine::Rule;
 use label::Label;
 use std::alloc::{AllocError, Global};
 
-/// The table of a campaign with these numbers and this rule: its first line, and a line for each place that has a mark,
-/// the shorter labels first.
+/// Returns the table of a campaign with these numbers and this rule: its first line, and a line for each place that has
+/// a mark, the shorter labels first.
 ///
 /// # Errors
 ///
-/// No memory for the text.
+/// Fails with `AllocError` if there is no memory for the text.
 pub(crate) fn write<M: Marks>(
     alloc: Global,
     marks: &M,
@@ -43,14 +43,14 @@ pub(crate) fn write<M: Marks>(
     Ok(text)
 }
 
-/// How the label of one general is written.
+/// Returns the text of the label of one general.
 fn alone(alloc: Global, general: u8) -> Result<String, AllocError>
     ensures { IfOk result (λ name. string_bytes name ≡ dotted (general ∷ [])) }
 {
     format!(in alloc; "{general}")
 }
 
-/// How a label that is written so is written with one general more.
+/// Returns the text of a label extended by one general. `name` is the text of the label.
 fn prolonged(alloc: Global, label: &Label, name: &str, general: u8) -> Result<String, AllocError>
     requires { name.now ≡ dotted label.now }
     ensures { IfOk result (λ name. string_bytes name ≡ dotted (label.now ++ general ∷ [])) }
@@ -59,7 +59,7 @@ fn prolonged(alloc: Global, label: &Label, name: &str, general: u8) -> Result<St
     format!(in alloc; "{name}.{general}")
 }
 
-/// The campaign's numbers, and its rule, but for the one that is so where none is named.
+/// Returns the first line: the campaign's numbers and its rule. The default rule is left out.
 fn first_line(
     alloc: Global,
     generals: u8,
@@ -74,7 +74,7 @@ fn first_line(
     format!(in alloc; "generals {generals} bound {bound} commander {commander}{rule}\n")
 }
 
-/// What stands behind the numbers.
+/// Returns the words of the rule after the numbers of the first line, or an empty text for the default rule.
 fn rule_words(alloc: Global, rule: Rule) -> Result<String, AllocError>
     ensures { IfOk result (λ words. string_bytes words ≡ rule_words rule) }
 {
@@ -85,7 +85,8 @@ fn rule_words(alloc: Global, rule: Rule) -> Result<String, AllocError>
     format!(in alloc; " rule {name}")
 }
 
-/// Adds the lines of the labels that have so many generals more than this one, which is written so.
+/// Appends the lines of the labels that have `more` generals more than this one and begin with it. `name` is the text
+/// of this label.
 fn push_labels<M: Marks>(
     alloc: Global,
     text: &mut String,
@@ -122,7 +123,7 @@ fn push_labels<M: Marks>(
     Ok(())
 }
 
-/// Adds the lines of a label, which is written so, for all who are off it.
+/// Appends the lines of a label, one for each general who is off it. `name` is the text of the label.
 fn push_receivers<M: Marks>(
     alloc: Global,
     text: &mut String,
@@ -143,7 +144,7 @@ fn push_receivers<M: Marks>(
     Ok(())
 }
 
-/// Adds the line of a label that is written so, if it has one.
+/// Appends the line of a label and a receiver, unless nothing was received there.
 fn push_line(
     alloc: Global,
     text: &mut String,

@@ -1,4 +1,4 @@
-//! Many trees, both halves at once.
+//! Resolves many trees in parallel (fork and join): the decision of each tree's lieutenant.
 ghost use Rattle.std.specs.Prelude.{IfOk};
 ghost use Rattle.std.specs.List.{AllZip};
 ghost use Rattle.resolve.specs.Decided.{Decides};
@@ -10,7 +10,7 @@ use std::thread;
 use std::thread::Threads;
 use tree::Tree;
 
-/// What the lieutenants of these trees decide, one after another.
+/// Returns what the lieutenants of these trees decide, and computes one tree after another.
 fn in_turn<C: Combine + Sync, R: Threads + Sync>(
     rt: &R,
     alloc: Global,
@@ -26,16 +26,16 @@ fn in_turn<C: Combine + Sync, R: Threads + Sync>(
     Ok(decisions)
 }
 
-/// What the lieutenants of these trees decide by this rule, in the order of the trees: at each place
-/// what `resolve` says.
+/// Returns what the lieutenants of these trees decide by this rule, in the order of the trees. Each decision is the one
+/// that `resolve` returns for the tree.
 ///
-/// Both halves are worked on at once, by fork and join: where no thread can be started, the caller
-/// works on the other half too. Within a tree the ranks of a level are worked on at once. The rule may
-/// be asked from several threads at a time.
+/// The two halves of the list are resolved in parallel by fork and join. If no thread can be started, the caller
+/// resolves both halves. Within a tree the ranks of a level are combined in parallel. Several threads may call the rule
+/// at the same time.
 ///
 /// # Errors
 ///
-/// No memory for the decisions, or for a level of them.
+/// Fails with `AllocError` if there is no memory for the decisions or for a level of them.
 pub fn resolve_all<C: Combine + Sync, R: Threads + Sync>(
     rt: &R,
     alloc: Global,

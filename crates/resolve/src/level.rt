@@ -1,4 +1,4 @@
-//! One tree, level by level from the longest labels upwards, the ranks of each level at once.
+//! Resolves one tree bottom-up, level by level from the longest labels. The ranks of a level are combined in parallel.
 ghost use Rattle.std.specs.Prelude.{◌≡◌, ◌<◌, ◌≤◌, ◌+◌, ◌-◌, ℕ, List, map, length, IfOk};
 ghost use Rattle.rayon.specs.Numbers.{nat_range};
 ghost use Rattle.label.specs.Labels.{labels};
@@ -15,7 +15,7 @@ use std::alloc::{AllocError, Global};
 use std::thread::Threads;
 use tree::Tree;
 
-/// Of the generals below the lieutenant, how many are off the label at a rank.
+/// Returns how many generals with a lower number than the lieutenant are off the label of length `size` at this rank.
 fn lower_off(tree: &Tree, size: u8, rank: usize) -> u8
     requires some { 0 < size }
     requires short { size ≤ tree.now.bound + 1 }
@@ -39,7 +39,8 @@ fn lower_off(tree: &Tree, size: u8, rank: usize) -> u8
     }
 }
 
-/// What is decided about the label at a rank, from what is decided about its children.
+/// Returns what the lieutenant decides about the label of length `size` at this rank. `below` holds what he decides
+/// about the labels of length `size + 1`, by rank.
 fn upward<C: Combine>(tree: &Tree, rule: &C, size: u8, below: &[u32], rank: usize) -> u32
     requires some { 0 < size }
     requires short { size ≤ tree.now.bound }
@@ -60,8 +61,8 @@ fn upward<C: Combine>(tree: &Tree, rule: &C, size: u8, below: &[u32], rank: usiz
     rule.combine(orders.as_slice())
 }
 
-/// What is decided about the labels of a length, from what is decided about those of the next, over
-/// the ranks at once.
+/// Returns what the lieutenant decides about every label of length `size`, by rank. `below` holds what he decides about
+/// the labels of length `size + 1`. The ranks are combined in parallel.
 fn level_at_once<C: Combine + Sync, R: Threads + Sync>(
     rt: &R,
     alloc: Global,
@@ -93,7 +94,7 @@ fn level_at_once<C: Combine + Sync, R: Threads + Sync>(
         .collect(rt, alloc)
 }
 
-/// The orders that were told of the longest labels, by rank.
+/// Returns the orders that the lieutenant received for the longest labels, by rank.
 fn longest(alloc: Global, tree: &Tree) -> Result<Vec<u32>, AllocError>
     ensures long { IfOk result
         (λ v. length v.items ≡ length
@@ -105,11 +106,12 @@ fn longest(alloc: Global, tree: &Tree) -> Result<Vec<u32>, AllocError>
     tree.level(tree.bound() + 1).to_vec(alloc)
 }
 
-/// What the lieutenant of the tree decides, level by level from the longest labels upwards.
+/// Returns what the lieutenant of the tree decides. The levels are computed one after another, from the longest labels
+/// to the commander's.
 ///
 /// # Errors
 ///
-/// No memory for a level of decisions.
+/// Fails with `AllocError` if there is no memory for a level of decisions.
 pub(crate) fn resolve_by_levels<C: Combine + Sync, R: Threads + Sync>(
     rt: &R,
     alloc: Global,

@@ -1,3 +1,4 @@
+//! Resolves one tree by recursion over ranks: the lieutenant's decision by OM(m), without memory.
 ghost use Rattle.std.specs.Prelude.{◌≡◌, ◌<◌, ◌≤◌, ◌+◌, ◌-◌, ◌*◌, length, slice_range};
 ghost use Rattle.label.specs.Labels.{labels};
 ghost use Rattle.resolve.specs.Decided.{Decides, decided};
@@ -6,8 +7,8 @@ use arrayvec::ArrayVec;
 use combine::Combine;
 use tree::Tree;
 
-/// What the lieutenant of the tree decides by this rule: the decision of OM(m) of the messages that
-/// fill the tree, m its bound. Takes no memory and makes no label.
+/// Returns what the lieutenant of the tree decides by this rule: the decision of OM(m) from the messages that fill the
+/// tree, where m is the tree's bound. The function allocates no memory and builds no label.
 pub fn resolve<C: Combine>(tree: &Tree, rule: &C) -> u32
     ensures { Decides (C.combined rule.now) tree.now result }
 {
@@ -20,10 +21,10 @@ pub fn resolve<C: Combine>(tree: &Tree, rule: &C) -> u32
     decide(tree, rule, tree.bound(), 1, 0, lower_off)
 }
 
-/// What is decided about the label of this length and rank, with so many relays left.
+/// Returns what the lieutenant decides about the label of length `size` at this rank, with `relays` relays left.
 ///
-/// `lower_off` says how many of the generals below the lieutenant are off the label: so many of its
-/// children come before his own value in the list that is combined.
+/// `lower_off` is the number of generals with a lower number than the lieutenant that are off the label. The decisions
+/// about that many of the label's children precede his own order in the list that is combined.
 fn decide<C: Combine>(
     tree: &Tree,
     rule: &C,
@@ -73,7 +74,8 @@ fn decide<C: Combine>(
     rule.combine(orders.as_slice())
 }
 
-/// The part of a level that belongs to the children of a rank of the level above, `width` each.
+/// Returns the part of a level that belongs to the children of the label at this rank of the level above. Each label
+/// has `width` children.
 pub(crate) fn children(level: &[u32], width: usize, rank: usize) -> &[u32]
     requires { rank * width + width ≤ length level.now }
     ensures { result.now ≡ slice_range level.now (rank * width) (rank * width + width) }

@@ -8,8 +8,8 @@ use Rattle.semantics.specs.Outbox.{empty_outbox}
 use Rattle.semantics.specs.Call.{resumed}
 use Rattle.semantics.specs.Execution.{step}
 
--- what is run, with which context and for which relay, how many steps it may take, where it stands, and whether it has
--- exited
+-- An activation: a program with its context and its relay, how many steps it may take, its current state, and whether
+-- it has exited.
 pub record Activation : Type 0 where
   pub program : List Insn
   pub context : List ℕ
@@ -18,6 +18,7 @@ pub record Activation : Type 0 where
   pub state : State
   pub over : Bool
 
+-- Returns the activation at the start of its program, with an empty outbox.
 abbrev pub started : Option ℕ → List Insn → List ℕ → Relay → Activation
 started patience program context relay =
     record {
@@ -29,28 +30,29 @@ started patience program context relay =
       over = false;
     }
 
--- so many steps have reached a patience
+-- Checks whether the given number of steps has used up the patience. Without a patience it is false.
 abbrev pub is_reached : Option ℕ → ℕ → Bool
 is_reached None steps = false
 is_reached (Some patience) steps = nat_le patience steps
 
--- what an activation does next: it goes on, asks the board, or has ended
+-- The next turn of an activation: it goes on, makes a request and waits for its reply, or has ended.
 pub data Turn : Type 0 where
   Goes : Activation → Turn
   Asks : Request → (List ℕ → Activation) → Turn
   Ended : Turn
 
--- a trap would count its step and stay where it is, and without a patience never end
+-- Returns the turn that follows from the outcome of one step. A trap counts its step and leaves the state as it is, so
+-- without a patience the activation would never end.
 abbrev pub turned : Activation → Outcome → Turn
 turned a (Next s) = Goes (record a { state = s })
 turned a (Ask request s) = Asks request (λ answer. record a { state = resumed request answer s })
 turned a (Exit r0 s) = Goes (record a { state = s; over = true })
 turned a (Trap cause) = Goes (record a { state = record a.state { steps = a.state.steps + 1 } })
 
--- it has exited, or its patience is at an end
+-- Checks whether the activation has ended: its program has exited, or its patience is used up.
 abbrev pub has_ended : Activation → Bool
 has_ended a = a.over || is_reached a.patience a.state.steps
 
--- what an activation does next: one step of its program, or nothing once it has ended
+-- Returns the next turn of an activation: one step of its program, or `Ended` if it has ended.
 abbrev pub turn : Activation → Turn
 turn a = cond (has_ended a) Ended (turned a (step a.program a.context a.relay a.state))

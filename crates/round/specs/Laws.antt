@@ -1,4 +1,4 @@
--- What holds of contexts, letters and activations. Each statement is the contract of a function of this crate.
+-- What holds for contexts, letters and activations. Each statement is the contract of a function of this crate.
 use Rattle.std.specs.Prelude.{ℕ, suc, ◌≡◌, ◌≢◌, ◌<◌, ◌≤◌, ◌^◌, false, List, length, map, slice_get, Option, None, Some}
 use Rattle.insn.specs.declared.insn.Insn.{Insn}
 use Rattle.label.specs.Relay.{IsShape, relay}
@@ -16,8 +16,8 @@ use Rattle.round.specs.Contexts.{AreWords, took, context_of, number_told, at_gen
 use Rattle.round.specs.Activation.{Activation, started, has_ended}
 use Rattle.round.specs.Runs.{Runs, IsWithin, AreFitting, IsLetter}
 
--- a context tells its general who he is, the round, whose relay he has, that orders are oral, and what he took for each
--- label that he relays
+-- States what a context contains: the general's number, the round, the shape of his relay, the mark of oral orders, and
+-- the order that he took for each label that he relays.
 pub record ContextsTell : Type 0 where
   pub own : (s : Scenario) (before : List (List Letter)) (g : ℕ) → IsScenario s → g < s.generals →
       length before ≤ s.bound → IsToldTo g (suc (length before)) (context_of s before g)
@@ -30,8 +30,8 @@ pub record ContextsTell : Type 0 where
       slice_get (relay (shape_of s g (suc (length before)))) rank ≡ Some label → took s before g label < 2 ^ 32 →
       taken_value (context_of s before g) rank ≡ took s before g label
 
--- a loyal general's letter follows from his context, where what he took has 32 bits; and what a context tells is a
--- letter of the general and round that it tells, whatever it is
+-- States that a loyal general's letter is determined by his context if the orders that he took have 32 bits. What is
+-- computed from any context is a letter of the general and the round that the context names.
 pub record LoyalLettersFollow : Type 0 where
   pub letter : (s : Scenario) (before : List (List Letter)) (g : ℕ) → IsScenario s → g < s.generals →
       length before ≤ s.bound → AreWords s before g →
@@ -39,18 +39,19 @@ pub record LoyalLettersFollow : Type 0 where
   pub kept : (context : List ℕ) → IsContext context →
       IsLetter (letter_told (number_told context at_general) (number_told context at_round) context)
 
--- what an outbox tells a receiver of a label that its general relays is the order that was put at the label's rank
+-- States that the order that an outbox sends to a receiver of a label is the one at the label's rank.
 pub record OutboxesTell : Type 0 where
   pub orders : (outbox : Contents) (label : List ℕ) (rank receiver : ℕ) → IsShape outbox.relay.shape →
       slice_get (relay outbox.relay.shape) rank ≡ Some label →
       tells outbox label receiver ≡ order_at outbox.relay outbox.rows rank receiver
 
--- runs of one beginning, in as many steps and with the same accesses, have one end, also an unfinished one
+-- States that runs are deterministic: two runs with the same start, number of steps and accesses have the same end. The
+-- runs need not be finished.
 abbrev pub RunsHaveOneEnd : Type 0
 RunsHaveOneEnd = (k : ℕ) (start : Activation) (transcript : List Access) (one two : Activation) →
     Runs k start transcript one → Runs k start transcript two → one ≡ two
 
--- a run under a patience is the run without one, as far as the patience goes
+-- States that a run with a patience is the run without one, until the patience is used up.
 pub record PatienceIsKept : Type 0 where
   pub steps : (patience : Option ℕ) (program : List Insn) (context : List ℕ) (relay : Relay) (k : ℕ)
       (transcript : List Access) (end : Activation) →
@@ -67,7 +68,8 @@ pub record PatienceIsKept : Type 0 where
       Runs k (started None program context relay) transcript end →
       Runs k (started patience program context relay) transcript (record end { patience = patience })
 
--- a sound program's run takes at most as many steps as it has instructions, and stands before no trap
+-- States that the run of a sound program takes at most as many steps as the program has instructions, and that its next
+-- step is never a trap.
 pub record RunsAreSafe : Type 0 where
   pub fewer : (patience : Option ℕ) (program : List Insn) (context : List ℕ) (relay : Relay) (k : ℕ)
       (transcript : List Access) (end : Activation) →
@@ -79,8 +81,8 @@ pub record RunsAreSafe : Type 0 where
       Runs k (started patience program context relay) transcript end →
       has_ended end ≡ false → step end.program end.context end.relay end.state ≢ Trap cause
 
--- where a sound program has come by its accesses and has not exited, there the replies lead; and where its next step is
--- the exit, the run of the replies has exited
+-- States that the state of a sound program's run follows from the replies that it received. This includes the exit, if
+-- the next step is one.
 pub record RunsFollowAnswers : Type 0 where
   pub reached : (program : List Insn) (context : List ℕ) (relay : Relay) (k : ℕ) (transcript : List Access)
       (end : Activation) →

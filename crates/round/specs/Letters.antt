@@ -8,7 +8,7 @@ use Rattle.semantics.specs.Relay.{oral, relayed}
 use Rattle.outbox.specs.Contents.{Contents}
 use Rattle.board.specs.Board.{Access}
 
--- what a general was told and did in a round, whom he told what, and whether his program had exited
+-- A letter: what a general received and did in a round, the orders that he sent, and whether his program had exited.
 pub record Letter : Type 0 where
   pub general : ℕ
   pub round : ℕ
@@ -19,20 +19,21 @@ pub record Letter : Type 0 where
   pub outbox : Contents
   pub exited : Bool
 
--- what stands in the second list beside the first element of the first that passes, or this default
+-- Returns the element of the second list at the position of the first element of the first list that passes, or the
+-- default if there is none.
 abbrev pub value_beside : {A B : Type 0} → (A → Bool) → B → List A → List B → B
 value_beside passes default (x ∷ xs) (y ∷ ys) = cond (passes x) y (value_beside passes default xs ys)
 value_beside passes default _ _ = default
 
--- the orders that an outbox has on a label, by receiver
+-- Returns the orders that an outbox has for a label, by receiver.
 abbrev pub orders_on : Contents → List ℕ → List (Option ℕ)
 orders_on outbox u = value_beside (λ v. same_label v u) [] (relayed outbox.relay) outbox.rows
 
--- what it tells a receiver of the label
+-- Returns the order that an outbox sends to receiver `p` for the label `u`, if any.
 abbrev pub tells : Contents → List ℕ → ℕ → Option ℕ
 tells outbox u p = value_beside (λ j. j == p) None (receivers outbox.relay.shape u) (orders_on outbox u)
 
--- the outbox that tells each receiver of each label that label's value
+-- Returns the outbox that sends each receiver of each label the value of that label.
 abbrev pub telling : Shape → (List ℕ → ℕ) → Contents
 telling shape value = record {
   relay = oral shape;
@@ -40,15 +41,17 @@ telling shape value = record {
   entries = [];
 }
 
+-- Returns the first letter of general `g`, if there is one.
 abbrev pub letter_of : List Letter → ℕ → Option Letter
 letter_of letters g = find (λ l. l.general == g) letters
 
+-- Returns the order that a letter sends to receiver `p` for the label `u`, if any.
 abbrev pub told_by : Option Letter → List ℕ → ℕ → Option ℕ
 told_by None u p = None
 told_by (Some l) u p = tells l.outbox u p
 
--- who told whom what in these rounds: the last general of a label told it by his letter of the round of its length; of
--- the empty label it means nothing, and nothing asks for it
+-- Returns the message function of these rounds. The last general of a label sends its order by his letter of the round
+-- whose number is the label's length. The value for the empty label is never used.
 unfoldable pub messages : List (List Letter) → Messages
 messages closed w p =
     let last = length w - 1 in

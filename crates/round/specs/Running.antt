@@ -1,5 +1,5 @@
--- How code holds an activation, and what a turn leaves of it and of the board (own). No headline of docs/TRUSTED.md
--- rests on this: what a tick does, World.antt of `world` says.
+-- How the code holds an activation, and what a turn leaves of it and of the board (own). No headline of docs/TRUSTED.md
+-- rests on this file. World.antt of `world` says what a tick does.
 use Rattle.std.specs.Prelude.{ℕ, ◌≡◌, ◌≤◌, Bool, true, false, ◌||◌, Option, Some, None, min, All, List, [], ◌∷◌, ◌++◌}
 use Rattle.semantics.specs.declared.request.Request.{Request}
 use Rattle.semantics.specs.State.{State, Outcome, Next, Ask, Exit}
@@ -16,28 +16,30 @@ use Rattle.round.specs.Contexts.{relay_told}
 use Rattle.round.specs.Runs.{Runs, AreFitting, IsRunOf, IsWithin}
 use Rattle.round.specs.Activation.{Activation, Turn, Goes, Asks, Ended, started, is_reached}
 
+-- Returns the relay and the current state of an activation.
 abbrev pub standing : Activation → Standing
 standing a = record { relay = a.relay; state = a.state }
 
--- until it has exited it stands in a run of its program; its steps lie within its patience
+-- States what every activation that the code holds satisfies. It is in a run of its program until it has exited, and
+-- its steps are within its patience.
 pub record IsLive (a : Activation) : Type 0 where
   pub context : IsContext a.context
   pub of_run : a.over ≡ false → IsOfRun a.program a.context (standing a)
   pub within : IsWithin a.patience a.state.steps
 
--- the outcome is why it stopped, and where
+-- States that the reason and the state of a stopped machine are those of the step's outcome.
 abbrev pub Stopped : Outcome → StopReason → State → Type 0
 Stopped (Next s) Limit new = new ≡ s
 Stopped (Ask request s) (Asked r) new = (r ≡ request) × (new ≡ s)
 Stopped (Exit r0 s) (Exited n) new = (n ≡ r0) × (new ≡ s)
 Stopped _ _ new = ⊥
 
--- what was asked, taken back, is the state before
+-- States that withdrawing a request restores the state before it.
 abbrev pub IsBack : StopReason → State → State → Type 0
 IsBack (Asked r) old new = before new ≡ old
 IsBack _ old new = Unit {0}
 
--- a served request is entered into the ledger
+-- Returns the board after it has served a request and entered it into the ledger.
 abbrev pub access_entered : ℕ → ℕ → Request → RecordedBoard → RecordedBoard
 access_entered general round request k = record k {
   words = next k.words request;
@@ -49,14 +51,14 @@ access_entered general round request k = record k {
   } ∷ [];
 }
 
--- what a turn leaves of the activation and of the board; a request is served within it
+-- Returns the activation and the board after a turn. The board serves the turn's request, if it has one.
 abbrev pub moved : ℕ → ℕ → Activation → RecordedBoard → Turn → Activation × RecordedBoard
 moved general round a k (Goes b) = (b, k)
 moved general round a k (Asks request answered) =
     (answered (reply k.words request), access_entered general round request k)
 moved general round a k Ended = (a, k)
 
--- an activation by what it is made of
+-- Returns the activation with these parts.
 abbrev pub activation_of : Option ℕ → List Insn → List ℕ → Standing → Bool → Activation
 activation_of patience program context standing over =
     record {
@@ -68,61 +70,62 @@ activation_of patience program context standing over =
       over = over;
     }
 
--- so many turns without an access lead from the one to the other
+-- States that some number of turns without an access leads from `a` to `b`.
 abbrev pub Silently : Activation → Activation → Type 0
 Silently a b = (k : ℕ) × Runs k a [] b
 
--- it has ended, or taken as many steps as the limit says, or asks next
+-- States that the activation pauses: it has ended, has taken at least `limit` steps, or makes a request next.
 abbrev pub Pauses : ℕ → Activation → Turn → Type 0
 Pauses limit a (Goes b) = limit ≤ a.state.steps
 Pauses limit a (Asks request answered) = Unit {0}
 Pauses limit a Ended = Unit {0}
 
--- the lesser of a limit and a patience
+-- Returns the lesser of a limit and a patience.
 abbrev pub lesser : Option ℕ → ℕ → ℕ
 lesser None limit = limit
 lesser (Some patience) limit = min patience limit
 
--- it takes this turn, with the access that it made, or none
+-- States that `new` is the activation after this turn, which made this access or none.
 abbrev pub TakesTurn : Turn → Option Access → Activation → Type 0
 TakesTurn (Goes b) None new = new ≡ b
 TakesTurn (Asks request answered) (Some access) new = (access.request ≡ request) × (new ≡ answered access.reply)
 TakesTurn _ _ new = ⊥
 
--- it runs the same program in the same context and relay, with the same patience
+-- States that two activations have the same program, context, relay and patience.
 pub record IsSameRun (a b : Activation) : Type 0 where
   pub program : b.program ≡ a.program
   pub context : b.context ≡ a.context
   pub relay : b.relay ≡ a.relay
   pub patience : b.patience ≡ a.patience
 
--- the general's accesses of this round
+-- States that all accesses were made by this general in this round.
 abbrev pub AreAccessesOf : ℕ → ℕ → List Access → Type 0
 AreAccessesOf general round accesses = All (λ a. (a.general ≡ general) × (a.round ≡ round)) accesses
 
--- from its start it has come here with just these accesses, whose replies fit
+-- States that the activation `start` has run to `a` with exactly the accesses of the transcript, whose replies fit.
 pub record IsOnWay (general round : ℕ) (start a : Activation) (transcript : List Access) : Type 0 where
   pub same : IsSameRun start a
   pub run : (k : ℕ) × Runs k start transcript a
   pub own : AreAccessesOf general round transcript
   pub fitting : AreFitting transcript
 
--- it has come here by the accesses that were served to it, behind those served before
+-- States that the activation `start` has run to `a`, and that `served` is the list `before` with the run's accesses
+-- appended.
 pub record IsWayServed (general round : ℕ) (start a : Activation)
     (before transcript served : List Access) : Type 0 where
   pub way : IsOnWay general round start a transcript
   pub whole : served ≡ before ++ transcript
 
--- a run of the program that was given up: what was served to it, behind what was served before, are its accesses as far
--- as it came
+-- States that a run of the program was given up. `served` is the list `before` with the accesses appended that the run
+-- made until then.
 abbrev pub IsGivenUp : ℕ → ℕ → List Insn → List ℕ → Option ℕ → List Access → List Access → Type 0
 IsGivenUp general round program context patience before served =
     (a : Activation) × (transcript : List Access)
     × IsWayServed general round
     (started patience program context (relay_told general round context)) a before transcript served
 
--- the letter of an activation that was run to its end, or to its patience: its program, run in this context with just
--- the accesses of its transcript, whose replies fit, has come to its outbox
+-- States that `l` is the letter of an activation that ran to its end or until its patience was used up. Its program,
+-- run in this context with exactly the accesses of the transcript, whose replies fit, produced its outbox.
 pub record IsLived (general round : ℕ) (program : List Insn) (context : List ℕ) (patience : Option ℕ)
     (l : Letter) : Type 0 where
   pub own_general : l.general ≡ general
@@ -135,7 +138,7 @@ pub record IsLived (general round : ℕ) (program : List Insn) (context : List �
   pub within : IsWithin patience l.steps
   pub ended : (l.exited || is_reached patience l.steps) ≡ true
 
--- the letter of an activation as it stands, with these accesses
+-- Returns the letter of an activation in its current state, with these accesses.
 abbrev pub letter_left : ℕ → ℕ → List Access → Activation → Letter
 letter_left general round transcript a =
     record {

@@ -1,11 +1,11 @@
--- What the letters of closed rounds have told the lieutenants (own; Lynch, Distributed Algorithms, section 6.2).
+-- The lieutenants' trees, filled from the letters of closed rounds (own; Lynch, Distributed Algorithms, section 6.2).
 use Rattle.std.specs.Prelude.{ℕ, ◌+◌, ◌-◌, ◌≡◌, ◌≢◌, ◌<◌, ◌==◌, nat_lt, if◌then◌else◌, cond, List, [], ◌∷◌, length, take, slice_index, slice_get, Option, Some}
 use Rattle.label.specs.Oral.{Messages}
 use Rattle.tree.specs.LieutenantTree.{LieutenantTree, IsFilled}
 use Rattle.round.specs.Scenario.{Scenario}
 use Rattle.round.specs.Letters.{Letter, messages, told_by, letter_of}
 
--- the tree is a lieutenant's of the campaign, filled from the letters of these rounds
+-- States that the tree is that of lieutenant `g` of the campaign, filled from the letters of these rounds.
 pub record IsTreeOf (s : Scenario) (before : List (List Letter)) (g : ℕ) (t : LieutenantTree) : Type 0 where
   pub generals : t.generals ≡ s.generals
   pub bound : t.bound ≡ s.bound
@@ -15,39 +15,40 @@ pub record IsTreeOf (s : Scenario) (before : List (List Letter)) (g : ℕ) (t : 
   pub lieutenant : g ≢ s.commander
   pub filled : IsFilled t (messages before)
 
--- what the letters of one round tell p of a label: what its last general told him of the rest
+-- Returns the order that the letters of one round send to `p` for the label `w`: the order of its last general for the
+-- rest of the label.
 abbrev pub told_now : List Letter → List ℕ → ℕ → Option ℕ
 told_now letters w p = let last = length w - 1 in told_by (letter_of letters (slice_index w last)) (take last w) p
 
--- the round of these letters, by the first of them; 0 where there are none
+-- Returns the round of these letters, taken from the first of them, or 0 if there are none.
 abbrev pub round_of : List Letter → ℕ
 round_of [] = 0
 round_of (l ∷ letters) = l.round
 
--- M, but for the labels whose last general tells them in the round of these letters
+-- Returns the message function `M`, replaced by the letters at the labels whose length is the number of their round.
 unfoldable pub heard_also : Messages → List Letter → Messages
 heard_also M letters w p = cond (length w == round_of letters) (told_now letters w p) (M w p)
 
--- the letters are of one round of the campaign of so many generals under this commander
+-- States that the letters belong to one round of the campaign of `n` generals under commander `c`.
 abbrev pub AreOfCampaign : ℕ → ℕ → List Letter → Type 0
 AreOfCampaign n c letters = (i : ℕ) (l : Letter) → slice_get letters i ≡ Some l →
     l.outbox.relay.shape ≡ record { generals = n; commander = c; general = l.general; round = round_of letters }
 
--- the letters are of one round of the tree's campaign
+-- States that the letters belong to one round of the tree's campaign.
 pub record AreDue (t : LieutenantTree) (given : List Letter) : Type 0 where
   pub round : round_of given < t.bound + 2
   pub letters : AreOfCampaign t.generals t.commander given
 
--- how many rounds were told, and each lieutenant's tree, ascending
+-- What the lieutenants have received: the number of rounds, and a tree for each lieutenant, ascending.
 pub record ToldSeen : Type 0 where
   pub rounds : ℕ
   pub trees : List LieutenantTree
 
--- the lieutenant at an index among those under a commander
+-- Returns the number of the lieutenant at an index of the ascending list of lieutenants under a commander.
 abbrev pub lieutenant_at : ℕ → ℕ → ℕ
 lieutenant_at commander i = if nat_lt i commander then i else i + 1
 
--- it was told the letters of these rounds of the campaign
+-- States that `h` is what the lieutenants have received from the letters of these rounds of the campaign.
 pub record WasTold (s : Scenario) (before : List (List Letter)) (h : ToldSeen) : Type 0 where
   pub rounds : h.rounds ≡ length before
   pub count : length h.trees + 1 ≡ s.generals

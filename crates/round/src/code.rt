@@ -1,16 +1,16 @@
-//! Whether two programs are the same.
+//! Compares programs instruction by instruction.
 ghost use Rattle.std.specs.Prelude.{◌≡◌, ◌↔◌, IsTrue};
 
 use insn::{Insn, Operand};
 
-/// Whether two operands are the same.
+/// Checks whether two operands are the same.
 fn same_operand(insn: &Operand, other: &Operand) -> bool
     ensures { IsTrue result ↔ (insn.now ≡ other.now) }
 {
     insn == other
 }
 
-/// Whether two instructions are the same.
+/// Checks whether two instructions are the same.
 fn same_insn(insn: &Insn, other: &Insn) -> bool
     ensures { IsTrue result ↔ (insn.now ≡ other.now) }
 {
@@ -156,7 +156,7 @@ fn same_insn(insn: &Insn, other: &Insn) -> bool
     }
 }
 
-/// Whether two programs have the same instructions.
+/// Checks whether two programs have the same instructions.
 pub fn same_code(insns: &[Insn], others: &[Insn]) -> bool
     ensures { IsTrue result ↔ (insns.now ≡ others.now) }
 {

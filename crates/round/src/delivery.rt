@@ -1,4 +1,4 @@
-//! What the letters of a round add to the lieutenants' trees.
+//! Delivers the letters of a round: fills their orders into the lieutenants' trees.
 ghost use Rattle.std.specs.Prelude.{◌≡◌, ◌<◌, ◌≤◌, ◌+◌, [], ℕ, length, slice_get, slice_index};
 ghost use Rattle.label.specs.Oral.{Messages};
 ghost use Rattle.tree.specs.LieutenantTree.{IsFilled, SameCampaign};
@@ -13,8 +13,8 @@ use outbox::Orders;
 use std::slice;
 use tree::Tree;
 
-/// Fills in what the letters of one round tell the tree's lieutenant: for each label of the round, what the
-/// letter of its last general tells him of the rest, or nothing where there is no such letter.
+/// Fills the tree of a lieutenant with what the letters of one round send him. Each label of the round receives the
+/// order that the letter of its last general contains for the rest of the label, or nothing if there is no such letter.
 pub fn deliver(letters: &[Letter], tree: &mut Tree)
     requires { AreDue tree.old letters.now }
     ensures filled { (M : Messages) → IsFilled tree.old M → IsFilled tree.new (heard_also M letters.now) }
@@ -29,7 +29,8 @@ pub fn deliver(letters: &[Letter], tree: &mut Tree)
     );
 }
 
-/// Fills in each tree of the campaign of so many generals under this commander, no two of them of one lieutenant.
+/// Fills the trees of a campaign of this many generals under this commander with the letters of one round. No two trees
+/// may be those of the same lieutenant.
 pub(crate) fn deliver_to_all(letters: &[Letter], generals: u8, commander: u8, trees: &mut [Tree])
     requires few { generals ≤ 13 }
     requires commander { commander < generals }
@@ -42,7 +43,7 @@ pub(crate) fn deliver_to_all(letters: &[Letter], generals: u8, commander: u8, tr
         return;
     }
     let first = &letters[0];
-    // A round's labels are as long as its number.
+    // The labels of a round have as many generals as its number.
     let size = first.outbox.shape().round as u8;
     let indices = letter_indices(letters);
     if size == 1 {
@@ -62,7 +63,7 @@ pub(crate) fn deliver_to_all(letters: &[Letter], generals: u8, commander: u8, tr
     );
 }
 
-/// Fills in what the commander's letter tells of the label on which the commander stands alone.
+/// Fills in what the commander's letter of the first round contains for the label that has only the commander.
 fn fill_first(letters: &[Letter], indices: &[usize; 13], commander: u8, trees: &mut [Tree])
     requires round { round_of letters.now ≡ 1 }
     requires indices { AreLetterIndices letters.now indices.now }
@@ -78,7 +79,7 @@ fn fill_first(letters: &[Letter], indices: &[usize; 13], commander: u8, trees: &
     }
 }
 
-/// Fills in what the letters tell of all labels of the round's length that begin with this one, which is shorter.
+/// Fills in what the letters contain for all labels of length `size` that begin with this shorter label.
 fn descend(
     letters: &[Letter],
     indices: &[usize; 13],
@@ -114,7 +115,7 @@ fn descend(
     }
 }
 
-/// Fills in what the letters tell of the labels that have one general more than this one.
+/// Fills in what the letters contain for the labels that have one general more than this one and begin with it.
 fn fill_all_children(
     letters: &[Letter],
     indices: &[usize; 13],
@@ -147,7 +148,7 @@ fn fill_all_children(
     }
 }
 
-/// For the lieutenant of each tree its index, for each other general the index past the last.
+/// Returns, by general, the index of his tree, or the index past the last tree if he has none.
 fn find_trees(trees: &[Tree]) -> [usize; 13]
     requires { AreApart trees.now }
     ensures { AreTreeIndices trees.now result }
@@ -160,7 +161,7 @@ fn find_trees(trees: &[Tree]) -> [usize; 13]
     tree_indices
 }
 
-/// For each general the index of his letter, or past the last where there is none.
+/// Returns, by general, the index of his letter, or the index past the last letter if there is none.
 fn letter_indices(letters: &[Letter]) -> [usize; 13]
     ensures { AreLetterIndices letters.now result }
 {
@@ -171,7 +172,7 @@ fn letter_indices(letters: &[Letter]) -> [usize; 13]
     indices
 }
 
-/// The index of the first letter of this general, or past the last.
+/// Returns the index of the first letter of this general, or the index past the last letter if there is none.
 fn letter_index(letters: &[Letter], general: u32) -> usize
     ensures { slice_get letters.now result ≡ letter_of letters.now general }
 {

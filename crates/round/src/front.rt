@@ -1,21 +1,22 @@
+//! A label held by its ranks, which are updated as the label is extended.
 ghost use Rattle.std.specs.Prelude.{◌≡◌, ◌<◌, ◌≤◌, ◌+◌, ◌*◌, ◌-◌, ◌^◌, ◌∷◌, ◌++◌, [], false, cond, nat_lt, ℕ, List, length, slice_index, slice_index_or};
 ghost use Rattle.label.specs.Labels.{on, others};
 ghost use Rattle.round.specs.Fronts.{IsFront};
 
-/// A label as its ranks tell it: who stands on it, and for each general off it, its place among the labels of its
+/// A label held by its ranks: which generals are on it, and for each general off it, its rank among the labels of its
 /// length that lack him.
 #[derive(Clone, Copy)]
 pub(crate) struct LabelPrefix {
-    /// How many generals stand on it.
+    /// How many generals are on the label.
     pub size: u8,
-    /// By general, whether he stands on it.
+    /// Whether a general is on the label, by general.
     pub on: [bool; 13],
-    /// By general, its rank where he is off it. The ranks of the others mean nothing.
+    /// The label's rank for each general who is off it, by general. The ranks of the generals on it mean nothing.
     pub ranks: [u32; 13],
 }
 
 impl LabelPrefix {
-    /// The label of the commander alone.
+    /// Returns the label that has only the commander.
     pub fn of(commander: u8) -> LabelPrefix
         requires { commander < 13 }
         ensures { (n : ℕ) → commander < n → n ≤ 13 → IsFront n commander (commander ∷ []) result }
@@ -29,7 +30,8 @@ impl LabelPrefix {
         }
     }
 
-    /// The label with one general more, of so many generals; `below` generals off it are below him.
+    /// Returns the label extended by one general, in a campaign of `generals` generals. `below` is the number of
+    /// generals off the label with a lower number than his.
     pub fn with(&self, generals: u8, general: u8, below: u32) -> LabelPrefix
         requires general { general < 13 }
         requires size { self.now.size < 13 }
@@ -52,7 +54,7 @@ impl LabelPrefix {
     }
 }
 
-/// The ranks of the label with one general more.
+/// Returns the ranks of the label extended by one general.
 fn ranks_with(old: [u32; 13], width: u32, below: u32, general: u8) -> [u32; 13]
     ensures wide { length result ≡ 13 }
     ensures ranks { (x t : ℕ) → x < 13 → t + cond (nat_lt x general) 1 0 ≡ below →
@@ -65,7 +67,8 @@ fn ranks_with(old: [u32; 13], width: u32, below: u32, general: u8) -> [u32; 13]
     ranks
 }
 
-/// The rank with one general more, for one who is below him or not.
+/// Returns the rank of the label extended by one general. `is_below` says whether the general for whom the rank counts
+/// has the lower number of the two.
 fn rank_with(rank: u32, width: u32, below: u32, is_below: bool) -> u32
     ensures { (t : ℕ) → t + cond is_below 1 0 ≡ below → rank * width + t < 2 ^ 32 → result ≡ rank * width + t }
 {

@@ -1,3 +1,4 @@
+//! A letter: what a general received and did in one round, and the orders that he sent.
 ghost use Rattle.std.specs.Prelude.{◌≡◌, ◌↔◌, IfOk, IsTrue};
 
 use crate::accesses::{copied, same_accesses};
@@ -7,27 +8,29 @@ use outbox::Outbox;
 use std::alloc::{AllocError, Global};
 use std::marker::Model;
 
-/// What a general was told and did in a round, and whom he told what. Its outbox has the shape that the context tells,
-/// and is oral where that tells so; a traitor's is what his program, run on the context with the transcript's replies,
-/// has put, or entered where orders are signed, after so many steps, a loyal general's tells each receiver what the
-/// context has.
+/// A letter: what a general received and did in a round, and the orders that he sent.
+///
+/// The shape of the outbox is the one that the context describes, and the outbox is oral if the context says so. A
+/// traitor's outbox is what his program produced in `steps` steps, run on the context with the replies of the
+/// transcript. Where orders are signed, this includes the orders that it entered. A loyal general's outbox sends each
+/// receiver what the context contains.
 #[derive(Drop)]
 pub struct Letter {
     /// The general's number.
     pub general: u32,
-    /// The round, from 1.
+    /// The round, counted from 1.
     pub round: u32,
-    /// What he was told, 4,096 bytes.
+    /// The context that he received, 4,096 bytes.
     pub context: Vec<u8>,
-    /// His program, or none where he is loyal.
+    /// His program, or none if he is loyal.
     pub program: Player,
     /// The accesses that his program made.
     pub transcript: Vec<Access>,
-    /// How many steps it took.
+    /// How many steps his program took.
     pub steps: u32,
-    /// Whom he told what.
+    /// The orders that he sent, by label and receiver.
     pub outbox: Outbox,
-    /// Whether his program has exited; a loyal general's letter is whole.
+    /// Whether his program has exited. It is true for a loyal general.
     pub exited: bool,
 }
 
@@ -61,11 +64,11 @@ impl Model for Letter {
 }
 
 impl Letter {
-    /// The same letter.
+    /// Returns a copy of the letter.
     ///
     /// # Errors
     ///
-    /// `AllocError` where memory for one of its parts is refused.
+    /// Fails with `AllocError` if there is no memory for one of its parts.
     pub fn copy(&self, alloc: Global) -> Result<Letter, AllocError>
         ensures { IfOk result (λ letter. letter ≡ self.now) }
     {
@@ -81,7 +84,7 @@ impl Letter {
         })
     }
 
-    /// Whether it is the same letter.
+    /// Checks whether the letters are the same.
     pub fn same(&self, other: &Letter) -> bool
         ensures { IsTrue result ↔ (self.now ≡ other.now) }
     {

@@ -1,10 +1,10 @@
-//! A call that does nothing at run time: it recalls, for the proof of its caller, what a letter's type keeps.
+//! A fact about letters for use in proofs: a function that does nothing, and recalls what a letter's type guarantees.
 ghost use Rattle.round.specs.Runs.{IsLetter};
 
 use crate::letter::Letter;
 
 impl Letter {
-    /// Does nothing. What a letter's type keeps.
+    /// Does nothing. Its contract says what every letter satisfies.
     pub fn recall(&self)
         ensures { IsLetter self.now }
     {

@@ -1,4 +1,4 @@
-//! One activation from its start to its end.
+//! Runs one activation of a traitor's program from its start to its end, and returns the letter.
 ghost use Rattle.std.specs.Prelude.{◌≡◌, ◌<◌, ◌≤◌, ◌+◌, ◌++◌, ◌∷◌, [], true, false, ℕ, List, length, option_to_list, IfOk, IfSome, OnOk, OnErr};
 ghost use Rattle.std.specs.Arc.{arc_value};
 ghost use Rattle.insn.specs.declared.insn.Insn.{Insn};
@@ -25,14 +25,14 @@ use std::alloc::{AllocError, Global};
 use std::sync::Arc;
 use verify::Verified;
 
-/// Runs a general's program in its context to its end, or until it has taken as many steps as the patience says; a
-/// request that is the last of these steps is still served. The letter tells what it did and put; its transcript is
-/// just what the server has served meanwhile.
+/// Runs a general's program in its context until it exits, or until it has taken as many steps as the patience allows.
+/// A request that is the last of these steps is still served. The letter says what the program did and sent. Its
+/// transcript is exactly what the server has served in this call.
 ///
 /// # Errors
 ///
-/// `AllocError` where the memory for the outbox, an access or the transcript is refused. What the server has served
-/// until then is what the program had asked so far.
+/// Fails with `AllocError` if there is no memory for the outbox, an access or the transcript. What the server has
+/// served until then is what the program has requested until then.
 pub fn live<S: Server>(
     alloc: Global,
     server: &mut S,
@@ -66,7 +66,7 @@ pub fn live<S: Server>(
     Ok(running.into_letter(general, round, transcript))
 }
 
-/// One turn, and on to the next access or the end.
+/// Takes one turn, and then runs on to the next access or the end.
 fn go_on<S: Server>(
     running: &mut Running,
     transcript: &mut Vec<Access>,
@@ -94,8 +94,11 @@ fn go_on<S: Server>(
 }
 
 impl Running {
-    /// One turn, whose request the server serves: the access that was made, if there was one. Without memory for it
-    /// nothing changes.
+    /// Takes one turn, whose request the server serves. Returns the access that was made, if any.
+    ///
+    /// # Errors
+    ///
+    /// Fails with `AllocError` if there is no memory for the access. Then nothing has changed.
     fn next<S: Server>(
         &mut self,
         server: &mut S,
@@ -127,7 +130,11 @@ impl Running {
     }
 }
 
-/// The server serves what was asked; without memory it is taken back.
+/// Lets the server serve a request, and resumes the activation with the reply.
+///
+/// # Errors
+///
+/// Fails with `AllocError` if there is no memory for the access. Then the request is withdrawn and nothing was served.
 fn answered<S: Server>(
     activation: &mut Machine,
     server: &mut S,

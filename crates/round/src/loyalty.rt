@@ -1,4 +1,4 @@
-//! The letters of loyal generals.
+//! Writes the letters of loyal generals.
 ghost use Rattle.std.specs.Prelude.{◌≡◌, length, IfOk};
 ghost use Rattle.label.specs.Relay.{IsShape};
 ghost use Rattle.round.specs.Contexts.{IsToldTo, shape_told, outbox_told, letter_told};
@@ -11,13 +11,15 @@ use mem::number_told;
 use outbox::Outbox;
 use std::alloc::{AllocError, Global};
 
-/// A loyal general's letter of a round: he tells each receiver of each label what his context says that he took. The
-/// context is that of this general in this round. The definition `faithful_letter` tells it of what he took in the
-/// rounds before; that they agree is the law `loyal_letters_follow`.
+/// Returns a loyal general's letter of a round: he sends each receiver of each label the order that his context says he
+/// took. The context must be that of this general in this round.
+///
+/// The definition `faithful_letter` describes the letter by what he took in the rounds before. The law
+/// `loyal_letters_follow` says that both letters are the same.
 ///
 /// # Errors
 ///
-/// `AllocError` where the memory for the outbox is refused.
+/// Fails with `AllocError` if there is no memory for the outbox.
 pub fn loyal_letter(
     alloc: Global,
     general: u32,
@@ -43,7 +45,7 @@ pub fn loyal_letter(
     })
 }
 
-/// The outbox that tells each receiver what was taken.
+/// Returns the outbox that sends each receiver what the general took.
 fn faithful(alloc: Global, shape: Shape, context: &[u8]) -> Result<Outbox, AllocError>
     requires shape { IsShape shape }
     requires context { length context.now ≡ 4096 }
@@ -54,7 +56,7 @@ fn faithful(alloc: Global, shape: Shape, context: &[u8]) -> Result<Outbox, Alloc
     Ok(outbox)
 }
 
-/// The relay of a general in a round, in the campaign that his context tells.
+/// Returns the shape of a general's relay in a round, in the campaign that his context describes.
 pub fn shape_told(general: u32, round: u32, context: &[u8]) -> Shape
     requires { length context.now ≡ 4096 }
     ensures { result ≡ shape_told general round context.now }

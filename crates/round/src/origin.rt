@@ -1,4 +1,4 @@
-//! Of which campaign and round letters are.
+//! Checks to which campaign and round letters belong.
 ghost use Rattle.std.specs.Prelude.{◌≡◌, ◌<◌, ◌^◌, ◌↔◌, IsTrue, length};
 ghost use Rattle.round.specs.Scenario.{shape_of};
 ghost use Rattle.round.specs.Origin.{AreLettersOf, AreRoundsOf};
@@ -7,7 +7,7 @@ use crate::letter::Letter;
 use crate::round::Round;
 use crate::scenario::Scenario;
 
-/// Whether the letters are of this round of the campaign.
+/// Checks whether the letters belong to this round of the campaign.
 pub fn are_letters_of(scenario: &Scenario, round: u32, letters: &[Letter]) -> bool
     ensures { IsTrue result ↔ AreLettersOf scenario.now round letters.now }
 {
@@ -19,7 +19,7 @@ pub fn are_letters_of(scenario: &Scenario, round: u32, letters: &[Letter]) -> bo
     true
 }
 
-/// Whether the letters of each round are of that round of the campaign, the first of the first.
+/// Checks whether the letters of each round belong to that round of the campaign. The first element is round 1.
 pub fn are_rounds_of(scenario: &Scenario, rounds: &[Round]) -> bool
     requires { length rounds.now < 2 ^ 32 }
     ensures { IsTrue result ↔ AreRoundsOf scenario.now rounds.now }
@@ -34,6 +34,7 @@ pub fn are_rounds_of(scenario: &Scenario, rounds: &[Round]) -> bool
     true
 }
 
+/// Checks whether the letter belongs to this round of the campaign.
 fn is_letter_of(scenario: &Scenario, round: u32, letter: &Letter) -> bool
     ensures { IsTrue result ↔ ((letter.now.round ≡ round)
         × (letter.now.outbox.relay.shape ≡ shape_of scenario.now letter.now.general round)) }

@@ -1,12 +1,13 @@
+//! The letters of one round.
 ghost use Rattle.std.specs.Prelude.{◌≡◌};
 
 use crate::letter::Letter;
 use std::marker::Model;
 
-/// The letters of a round, seen as their list.
+/// The letters of a round. In contracts it is the list of its letters.
 #[derive(Drop)]
 pub struct Round {
-    /// One for each general who wrote one, ascending.
+    /// The letters in ascending order of their generals, one for each general who wrote one.
     pub letters: Vec<Letter>,
 }
 
@@ -20,7 +21,7 @@ impl Model for Round {
 }
 
 impl Round {
-    /// Its letters.
+    /// Returns the letters of the round.
     pub fn letters(&self) -> &[Letter]
         ensures { result.now ≡ self.now }
     {

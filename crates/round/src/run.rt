@@ -1,4 +1,4 @@
-//! A traitor's activation with what it runs on.
+//! A running traitor's program: its activation with its program and its context.
 ghost use Rattle.std.specs.Prelude.{◌≡◌, ◌<◌, ◌≤◌, ◌↔◌, IfOk, IsTrue, List, [], length};
 ghost use Rattle.std.specs.Arc.{arc_value};
 ghost use Rattle.semantics.specs.Outbox.{empty_outbox};
@@ -24,9 +24,10 @@ use std::marker::Model;
 use std::sync::Arc;
 use verify::Verified;
 
-/// A running program with its context, seen as it stands and whether it has exited.
+/// A running program with its context. In contracts it is an activation: the program, the context, the relay, the
+/// patience, the state, and whether the program has exited.
 ///
-/// The activation, of 3 KB, stands in a box, so that where a general may have one and has none no room is taken for it.
+/// The activation takes 3 KB. It is in a box, so that an absent optional activation takes little room.
 #[derive(Drop)]
 pub struct Running {
     pub(crate) program: Arc<Verified>,
@@ -64,12 +65,12 @@ impl Model for Running {
 }
 
 impl Running {
-    /// The program at its start in the context, with an outbox in which nothing is put, nor entered where orders are
-    /// signed. It has so many steps, or as many as it needs.
+    /// Returns the program at its start in the context. The outbox must be empty, and must have no entries where orders
+    /// are signed. The program may take `patience` steps, or any number if there is no patience.
     ///
     /// # Errors
     ///
-    /// `AllocError` where memory for its activation is refused.
+    /// Fails with `AllocError` if there is no memory for the activation.
     pub fn start(
         alloc: Global,
         program: Arc<Verified>,
@@ -93,11 +94,12 @@ impl Running {
         })
     }
 
-    /// The same, kept apart.
+    /// Returns an independent copy of the running program.
     ///
     /// # Errors
     ///
-    /// `AllocError` where memory for its context or its outbox is refused, or the program cannot be shared once more.
+    /// Fails with `AllocError` if there is no memory for its context or its outbox, or if the program's reference count
+    /// cannot be increased.
     pub fn copy(&self, alloc: Global) -> Result<Running, AllocError>
         ensures { IfOk result (λ running. running ≡ self.now) }
     {
@@ -110,7 +112,7 @@ impl Running {
         })
     }
 
-    /// Whether they run the same program in the same context, with the same patience, and stand alike.
+    /// Checks whether both run the same program in the same context, with the same patience, and are in the same state.
     pub fn same(&self, other: &Running) -> bool
         ensures { IsTrue result ↔ (self.now ≡ other.now) }
     {
@@ -124,8 +126,8 @@ impl Running {
             )
     }
 
-    /// Tells an activation, before its first step, what its general is told as the next round begins, in place of what
-    /// it was started with. It takes no memory.
+    /// Replaces the context of an activation that has not taken a step by the one that its general receives as the next
+    /// round begins. It allocates no memory.
     pub fn brief(&mut self, told: &Received, scenario: &Scenario, general: u8)
         requires start { self.old ≡ started self.old.patience self.old.program self.old.context self.old.relay }
         requires told { (before : List (List Written)) × WasTold scenario.now before told.now }
@@ -138,8 +140,8 @@ impl Running {
         told.write_context_after(scenario, general, told.rounds(), &mut self.context);
     }
 
-    /// The letter of the activation as it stands, with the accesses that it made. The program, the context and the
-    /// outbox are moved into it.
+    /// Returns the letter of the activation in its current state, with these accesses. The program, the context and the
+    /// outbox are moved into the letter.
     pub fn into_letter(self, general: u32, round: u32, transcript: Vec<Access>) -> Letter
         requires { IsLetter (letter_left general round transcript.items self) }
         ensures { result ≡ letter_left general round transcript.items self }
@@ -165,21 +167,21 @@ impl Running {
         }
     }
 
-    /// What it runs.
+    /// Returns a reference to the program that runs.
     pub fn program(&self) -> &Arc<Verified>
         ensures { arc_value result.now ≡ self.now.program }
     {
         &self.program
     }
 
-    /// What it was told.
+    /// Returns the context in which the program runs.
     pub fn context(&self) -> &[u8]
         ensures { result.now ≡ self.now.context }
     {
         self.context.as_slice()
     }
 
-    /// How it stands.
+    /// Returns a reference to the machine with its current state.
     pub fn activation(&self) -> &Machine
         ensures relay { result.now.relay ≡ self.now.relay }
         ensures state { result.now.state ≡ self.now.state }
@@ -187,14 +189,14 @@ impl Running {
         &self.activation
     }
 
-    /// How many steps it has taken.
+    /// Returns how many steps the activation has taken.
     pub fn steps(&self) -> u32
         ensures { result ≡ self.now.state.steps }
     {
         self.activation.steps()
     }
 
-    /// Whether it has exited, or its patience is at an end.
+    /// Checks whether the activation has ended: its program has exited, or its patience is used up.
     pub fn has_ended(&self) -> bool
         ensures ended { result ≡ has_ended self.now }
         ensures within { IsWithin self.now.patience self.now.state.steps }
@@ -203,14 +205,14 @@ impl Running {
         self.over || is_reached(self.patience, self.activation.steps())
     }
 
-    /// Whether it has exited.
+    /// Checks whether the program has exited.
     pub fn has_exited(&self) -> bool
         ensures { result ≡ self.now.over }
     {
         self.over
     }
 
-    /// What it has put so far, or entered where orders are signed.
+    /// Returns what the program has put into its outbox so far, and what it has entered where orders are signed.
     pub fn outbox(&self) -> &Outbox
         ensures relay { result.now.relay ≡ self.now.relay }
         ensures rows { result.now.rows ≡ self.now.state.outbox }
@@ -220,14 +222,14 @@ impl Running {
     }
 }
 
-/// The activation in a box.
+/// Moves the activation into a box.
 fn boxed(alloc: Global, activation: Machine) -> Result<Box<Machine>, AllocError>
     ensures { IfOk result (λ own. own.value ≡ activation) }
 {
     Ok(Box::new(alloc, activation)?)
 }
 
-/// Whether so many steps have reached the patience.
+/// Checks whether the number of steps has used up the patience.
 pub(crate) fn is_reached(patience: Option<u32>, steps: u32) -> bool
     ensures { result ≡ is_reached patience steps }
 {
@@ -237,7 +239,7 @@ pub(crate) fn is_reached(patience: Option<u32>, steps: u32) -> bool
     }
 }
 
-/// Whether both have the same patience, or none.
+/// Checks whether both have the same patience, or both have none.
 fn same_patience(patience: Option<u32>, other: Option<u32>) -> bool
     ensures { IsTrue result ↔ (patience ≡ other) }
 {

@@ -1,3 +1,4 @@
+//! A campaign as a value: its numbers, its board, and a program for each traitor.
 ghost use Rattle.std.specs.Prelude.{◌≡◌, ◌<◌, ◌≤◌, ◌+◌, length, IfOk};
 ghost use Rattle.round.specs.Scenario.{IsScenario, IsPatience, program_of, is_traitor, shape_of};
 
@@ -9,8 +10,8 @@ use label::Shape;
 use std::alloc::{AllocError, Global};
 use std::marker::Model;
 
-/// A campaign: the generals, the bound on traitors, the commander with his order, the board's words, each
-/// general's program, the patience with an activation, and the rule of combination. It is within its limits.
+/// A campaign within its limits: the generals, the bound on traitors, the commander with his order, and the board's
+/// words. It also has each general's program, the patience of an activation, and the rule of combination.
 #[derive(Drop)]
 pub struct Scenario {
     generals: u8,
@@ -52,8 +53,8 @@ impl Model for Scenario {
 }
 
 impl Scenario {
-    /// The campaign of 2 to 13 generals, with a bound of 0 to 4 that is at least 2 below their number, and a seat for
-    /// each; an activation may take 1 to 4,096 steps, or as many as it needs.
+    /// Returns the campaign of 2 to 13 generals with a player for each. The bound is 0 to 4 and at least 2 below the
+    /// number of generals. An activation may take 1 to 4,096 steps, or any number if there is no patience.
     pub fn new(
         generals: u8,
         bound: u8,
@@ -95,7 +96,7 @@ impl Scenario {
         }
     }
 
-    /// How many generals there are, 2 to 13.
+    /// Returns how many generals there are, 2 to 13.
     pub fn generals(&self) -> u8
         ensures same { result ≡ self.now.generals }
         ensures whole { IsScenario self.now }
@@ -103,7 +104,8 @@ impl Scenario {
         self.generals
     }
 
-    /// How many traitors are provided for, 0 to 4. There is one round more.
+    /// Returns the bound, 0 to 4: the greatest number of traitors that the campaign provides for. There is one round
+    /// more than the bound.
     pub fn bound(&self) -> u8
         ensures same { result ≡ self.now.bound }
         ensures whole { IsScenario self.now }
@@ -111,7 +113,7 @@ impl Scenario {
         self.bound
     }
 
-    /// The commander's number.
+    /// Returns the commander's number.
     pub fn commander(&self) -> u8
         ensures same { result ≡ self.now.commander }
         ensures whole { IsScenario self.now }
@@ -119,21 +121,21 @@ impl Scenario {
         self.commander
     }
 
-    /// The commander's order.
+    /// Returns the commander's order.
     pub fn order(&self) -> u32
         ensures { result ≡ self.now.order }
     {
         self.order
     }
 
-    /// The words that the board opens with.
+    /// Returns the words with which the board opens.
     pub fn board(&self) -> &[u64; 64]
         ensures { result.now ≡ self.now.board }
     {
         &self.board
     }
 
-    /// The general's program, or none.
+    /// Returns a reference to the general's player: his program, or none.
     pub fn seat(&self, general: u8) -> &Player
         requires { general < self.now.generals }
         ensures { result.now ≡ program_of self.now general }
@@ -141,7 +143,7 @@ impl Scenario {
         &self.programs[usize::from(general)]
     }
 
-    /// Whether the general has a program: he is a traitor.
+    /// Checks whether the general is a traitor, which means that he has a program.
     pub fn is_traitor(&self, general: u8) -> bool
         requires { general < self.now.generals }
         ensures { result ≡ is_traitor self.now general }
@@ -149,21 +151,21 @@ impl Scenario {
         self.seat(general).program().is_some()
     }
 
-    /// How many steps an activation may take, where that is bounded.
+    /// Returns the greatest number of steps of an activation, if it is bounded.
     pub fn patience(&self) -> Option<u32>
         ensures { result ≡ self.now.patience }
     {
         self.patience
     }
 
-    /// The rule of combination.
+    /// Returns the rule of combination.
     pub fn rule(&self) -> Rule
         ensures { result ≡ self.now.rule }
     {
         self.rule
     }
 
-    /// The general's relay in a round.
+    /// Returns the shape of the general's relay in a round.
     pub fn shape(&self, general: u8, round: u8) -> Shape
         ensures same { result ≡ shape_of self.now general round }
         ensures whole { IsScenario self.now }
@@ -176,11 +178,11 @@ impl Scenario {
         }
     }
 
-    /// The same campaign.
+    /// Returns a copy of the campaign.
     ///
     /// # Errors
     ///
-    /// `AllocError` where the memory for the seats is refused.
+    /// Fails with `AllocError` if there is no memory for the players.
     pub fn copy(&self, alloc: Global) -> Result<Scenario, AllocError>
         ensures { IfOk result (λ scenario. scenario ≡ self.now) }
     {

@@ -1,4 +1,5 @@
-//! Calls that do nothing at run time: each recalls, for the proof of its caller, what the type of its argument keeps.
+//! Facts about scenarios and players for use in proofs. Each function does nothing, and its contract recalls what the
+//! type of its argument guarantees.
 ghost use Rattle.std.specs.Prelude.{◌≡◌, ℕ, List, Option, Some, IfSome, slice_get};
 ghost use Rattle.insn.specs.declared.insn.Insn.{Insn};
 ghost use Rattle.semantics.specs.Run.{IsSound};
@@ -8,7 +9,7 @@ use crate::scenario::Scenario;
 use crate::seat::Player;
 
 impl Scenario {
-    /// Does nothing. What a scenario's type keeps: its limits.
+    /// Does nothing. Its contract says that a scenario is within its limits.
     pub fn recall(&self)
         ensures { IsScenario self.now }
     {
@@ -16,7 +17,7 @@ impl Scenario {
     }
 }
 
-/// Does nothing. The programs of seats are sound.
+/// Does nothing. Its contract says that the programs of players are sound.
 pub(crate) fn recall_sound(seats: &[Player])
     ensures { (i : ℕ) (program : List Insn) → slice_get seats.now i ≡ Some (Some program) → IsSound program }
 {

@@ -1,3 +1,4 @@
+//! A general's player: a verified program for a traitor, or none for a loyal general.
 ghost use Rattle.std.specs.Prelude.{◌≡◌, ◌↔◌, IfOk, IfSome, IsTrue};
 ghost use Rattle.std.specs.Option.{option_map};
 ghost use Rattle.std.specs.Arc.{arc_value};
@@ -9,7 +10,7 @@ use std::marker::Model;
 use std::sync::Arc;
 use verify::Verified;
 
-/// A general's program, or none where he is loyal, seen as its instructions.
+/// A general's program, or none if he is loyal. In contracts it is the program's instructions.
 #[derive(Drop)]
 pub struct Player {
     program: Option<Arc<Verified>>,
@@ -27,14 +28,14 @@ impl Model for Player {
 }
 
 impl Player {
-    /// With this program, or none.
+    /// Returns the player with this program, or without one.
     pub fn new(program: Option<Arc<Verified>>) -> Player
         ensures { result ≡ option_map arc_value program }
     {
         Player { program }
     }
 
-    /// The program, or none.
+    /// Returns a reference to the program, or to `None` for a loyal general.
     pub fn program(&self) -> &Option<Arc<Verified>>
         ensures same { option_map arc_value result.now ≡ self.now }
         ensures sound { IfSome self.now IsSound }
@@ -45,11 +46,11 @@ impl Player {
         &self.program
     }
 
-    /// The same program, or none.
+    /// Returns a copy of the player, which shares the program.
     ///
     /// # Errors
     ///
-    /// `AllocError` where the program cannot be shared once more.
+    /// Fails with `AllocError` if the program's reference count cannot be increased.
     pub fn copy(&self) -> Result<Player, AllocError>
         ensures { IfOk result (λ seat. seat ≡ self.now) }
     {
@@ -61,7 +62,7 @@ impl Player {
         }
     }
 
-    /// Whether both have the same program, or none.
+    /// Checks whether both have the same program, or both have none.
     pub fn same(&self, other: &Player) -> bool
         ensures { IsTrue result ↔ (self.now ≡ other.now) }
     {
@@ -81,7 +82,7 @@ impl Player {
     }
 }
 
-/// The same programs.
+/// Returns a copy of the players, which share their programs.
 pub(crate) fn copied(alloc: Global, seats: &[Player]) -> Result<Vec<Player>, AllocError>
     ensures { IfOk result (λ copy. copy.items ≡ seats.now) }
 {

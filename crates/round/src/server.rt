@@ -1,3 +1,4 @@
+//! The trait of boards that serve the requests of a running program.
 ghost use Rattle.std.specs.Prelude.{◌≡◌, ◌++◌, ◌∷◌, [], true, List, IfOk, OnErr};
 ghost use Rattle.semantics.specs.Call.{fits};
 ghost use Rattle.semantics.specs.Replies.{words_in};
@@ -8,18 +9,19 @@ use board::Board;
 use semantics::{Reply, Request};
 use std::alloc::AllocError;
 
-/// Who serves the accesses of a running program: a board, or a board behind a lock, held by one general's thread. It
-/// owes that a reply fits its request, and that what it has served is put down as it was asked and answered, in order;
-/// what it answers, and what others do to its board, is its own affair.
+/// A server of a running program's requests: a board, or a board behind a lock that one general's thread holds.
+///
+/// The trait promises that a reply fits its request, and that what was served is recorded with its request and reply,
+/// in order. It does not say which reply is given, or what others do to the board.
 pub trait Server {
-    /// What it has served so far to those who asked through it, in order; a board's is its ledger.
+    /// What was served so far through this server, in order. For a board it is the ledger.
     ghost served: { Self → List Entry };
 
-    /// Serves a general's request of a round.
+    /// Serves a request that a general makes in a round, and returns the reply.
     ///
     /// # Errors
     ///
-    /// `AllocError` where the access found no memory; then nothing was served.
+    /// Fails with `AllocError` if there is no memory for the access. Then nothing was served.
     fn serve(&mut self, general: u32, round: u32, request: Request) -> Result<Reply, AllocError>
         ensures fits { IfOk result (λ r. fits request (words_in r) ≡ true) }
         ensures form { IfOk result (λ r. IsReplyTo request r) }

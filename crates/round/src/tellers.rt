@@ -1,4 +1,4 @@
-//! Who is off a label, and what the others' letters tell of it.
+//! Lists the generals off a label and the orders that their letters contain for it, and fills them into the trees.
 ghost use Rattle.std.specs.Prelude.{◌≡◌, ◌<◌, ◌≤◌, ◌+◌, ℕ, List, Some, length, slice_get};
 ghost use Rattle.outbox.specs.Orders.{order_of_row, orders_seen};
 ghost use Rattle.outbox.specs.Rows.{order_in};
@@ -12,12 +12,13 @@ use crate::letter::Letter;
 use outbox::Orders;
 use tree::Tree;
 
-/// Lists the generals off the front, ascending, of so many, and for each the row of the label in his letter, or
-/// one that nobody hears of where there is none: how many they are. What stands behind them means nothing.
+/// Lists the generals below `generals` who are off the label, ascending, each with the label's row in his letter. A
+/// general without a letter has a row that sends no order to anybody. Returns how many there are. The entries after
+/// them mean nothing.
 ///
-/// They are listed where the caller keeps them: to move them would take as long as to list them. Each general is
-/// written behind those before him, and stays there where he is off the front: who is changes from label to label, and
-/// a branch on it would be guessed wrong.
+/// The lists are written into the caller's arrays, because moving them would take as long as making them. Each general
+/// is written after those before him, and the count is increased only if he is off the label. This avoids a branch,
+/// which would be mispredicted because the generals change from label to label.
 pub(crate) fn list_tellers<'a>(
     letters: &'a [Letter],
     indices: &[usize; 13],
@@ -53,8 +54,8 @@ pub(crate) fn list_tellers<'a>(
     count
 }
 
-/// Fills in what the generals off a label tell the tree's lieutenant of it, each with himself behind it. The
-/// lieutenant is the one of number `own` among them.
+/// Fills the tree with the orders that the generals off a label send to the tree's lieutenant for it. The order of each
+/// goes to the label extended by him. The lieutenant is number `own` among these generals, and his own row is skipped.
 pub(crate) fn fill_children(
     own: usize,
     rows: &[Orders<'_>],
@@ -78,7 +79,7 @@ pub(crate) fn fill_children(
     });
 }
 
-/// What the row at this index tells a receiver, where the row of number `own` is passed over.
+/// Returns the order that the row at this index sends to a receiver, if the row of number `own` is skipped in counting.
 fn order_past(rows: &[Orders<'_>], own: usize, index: usize, receiver: u8) -> Option<u32>
     requires { index + 1 < length rows.now }
     ensures { (row : Orders) → slice_get rows.now (lieutenant_at own index) ≡ Some row →
@@ -88,7 +89,7 @@ fn order_past(rows: &[Orders<'_>], own: usize, index: usize, receiver: u8) -> Op
     rows[number].order(u32::from(receiver))
 }
 
-/// The row of the label of that rank in a general's letter, where there is one.
+/// Returns the row of the label of this rank in a general's letter, if there is one.
 pub(crate) fn row_in<'a>(
     letters: &'a [Letter],
     indices: &[usize; 13],
@@ -105,7 +106,7 @@ pub(crate) fn row_in<'a>(
     }
 }
 
-/// What a row, where there is one, tells a receiver.
+/// Returns the order that a row sends to a receiver, or `None` if there is no row.
 pub(crate) fn order_in_row(row: Option<Orders<'_>>, receiver: u8) -> Option<u32>
     ensures { result ≡ order_of_row row.entry receiver }
 {

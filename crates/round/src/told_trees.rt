@@ -1,3 +1,4 @@
+//! What the lieutenants have received from the letters of closed rounds, and the contexts made from it.
 ghost use Rattle.std.specs.Prelude.{◌≡◌, ◌≢◌, ◌<◌, ◌≤◌, ◌++◌, ◌∷◌, [], suc, List, IfOk, OnOk, length, take, vec_capacity};
 ghost use Rattle.round.specs.Letters.{Letter as LetterSeen};
 ghost use Rattle.round.specs.Contexts.{context_of, AreWords};
@@ -13,10 +14,11 @@ use std::alloc::{AllocError, Global};
 use std::marker::Model;
 use tree::Tree;
 
-/// What the letters of closed rounds have told the lieutenants: a tree for each, ascending, filled round by round.
+/// What the lieutenants have received from the letters of closed rounds: a tree for each, ascending, filled round by
+/// round.
 #[derive(Drop)]
 pub struct Received {
-    /// How many rounds were told.
+    /// How many rounds were delivered.
     rounds: u8,
     trees: Vec<Tree>,
 }
@@ -30,11 +32,11 @@ impl Model for Received {
 }
 
 impl Received {
-    /// Nothing is told yet. Nothing that is told later takes memory.
+    /// Returns the trees before any round is delivered. Delivering letters to them later allocates no memory.
     ///
     /// # Errors
     ///
-    /// `AllocError` where the memory for a tree is refused.
+    /// Fails with `AllocError` if there is no memory for a tree.
     pub fn new(alloc: Global, scenario: &Scenario) -> Result<Received, AllocError>
         ensures { IfOk result (WasTold scenario.now []) }
     {
@@ -49,21 +51,21 @@ impl Received {
         Ok(Received { rounds: 0, trees })
     }
 
-    /// How many rounds were told.
+    /// Returns how many rounds were delivered.
     pub fn rounds(&self) -> u8
         ensures { result ≡ self.now.rounds }
     {
         self.rounds
     }
 
-    /// The lieutenants' trees, ascending.
+    /// Returns the lieutenants' trees, in ascending order of the lieutenants.
     pub fn trees(&self) -> &[Tree]
         ensures { result.now ≡ self.now.trees }
     {
         self.trees.as_slice()
     }
 
-    /// Takes in the letters of one round more.
+    /// Delivers the letters of the next round.
     pub fn deliver(&mut self, scenario: &Scenario, letters: &[Letter])
         requires told { (before : List (List LetterSeen)) × WasTold scenario.now before self.old }
         requires left { self.old.rounds ≤ scenario.now.bound }
@@ -81,7 +83,7 @@ impl Received {
         self.rounds += 1;
     }
 
-    /// Takes back the letters of the round that was told last. It takes no memory.
+    /// Removes the letters of the last round that was delivered. It allocates no memory.
     pub fn forget(&mut self, scenario: &Scenario)
         requires told { (before : List (List LetterSeen)) × (letters : List LetterSeen)
             × WasTold scenario.now (before ++ letters ∷ []) self.old }
@@ -95,11 +97,11 @@ impl Received {
         self.rounds -= 1;
     }
 
-    /// What a general is told as the next round begins.
+    /// Returns the context that a general receives as the next round begins.
     ///
     /// # Errors
     ///
-    /// `AllocError` where the memory for the 4,096 bytes is refused.
+    /// Fails with `AllocError` if there is no memory for the 4,096 bytes.
     pub fn context(
         &self,
         alloc: Global,
@@ -117,12 +119,13 @@ impl Received {
         self.context_after(alloc, scenario, general, self.rounds)
     }
 
-    /// What a general was told as the round behind the first so many began. The rounds told since change nothing of it:
-    /// it tells of the labels of one length alone, and each round fills in labels of its own length.
+    /// Returns the context that a general received after the first `rounds` rounds. Rounds that were delivered since
+    /// then do not change it: the context depends on the labels of one length only, and each round fills in labels of
+    /// its own length.
     ///
     /// # Errors
     ///
-    /// `AllocError` where the memory for the 4,096 bytes is refused.
+    /// Fails with `AllocError` if there is no memory for the 4,096 bytes.
     pub fn context_after(
         &self,
         alloc: Global,
@@ -144,7 +147,9 @@ impl Received {
         Ok(bytes)
     }
 
-    /// [`Received::context_after`] in place of what the vector held, which has room for it. It takes no memory.
+    /// Writes the context that a general received after the first `rounds` rounds, as [`Received::context_after`]
+    /// returns it, in place of what the vector contains. The vector must have capacity for it, and no memory is
+    /// allocated.
     pub fn write_context_after(
         &self,
         scenario: &Scenario,
@@ -176,11 +181,11 @@ impl Received {
     }
 }
 
-/// What a general is told as the round behind these begins.
+/// Returns the context that a general receives as the round after these closed rounds begins.
 ///
 /// # Errors
 ///
-/// `AllocError` where the memory for a tree or for the 4,096 bytes is refused.
+/// Fails with `AllocError` if there is no memory for a tree or for the 4,096 bytes.
 pub fn context_for(
     alloc: Global,
     scenario: &Scenario,
@@ -200,8 +205,8 @@ pub fn context_for(
     told.context(alloc, scenario, general)
 }
 
-/// What a general is told as the first round begins, in place of what the vector held, which has room for it: the
-/// commander his order, the others nothing.
+/// Writes the context that a general receives as the first round begins, in place of what the vector contains. The
+/// vector must have capacity for it. The commander receives his order, and the others receive none.
 fn write_first_context(scenario: &Scenario, general: u8, bytes: &mut Vec<u8>)
     requires room { 4096 ≤ vec_capacity bytes.old }
     requires general { general < scenario.now.generals }
@@ -215,7 +220,7 @@ fn write_first_context(scenario: &Scenario, general: u8, bytes: &mut Vec<u8>)
     write_context(bytes, shape, bound, &[]);
 }
 
-/// The lieutenant at an index, from 0, among those under the commander.
+/// Returns the number of the lieutenant at an index, counted from 0, of the ascending list of lieutenants.
 fn lieutenant_at(commander: u8, index: u8) -> u8
     requires { index < 255 }
     ensures { result ≡ lieutenant_at commander index }
@@ -223,7 +228,7 @@ fn lieutenant_at(commander: u8, index: u8) -> u8
     if index < commander { index } else { index + 1 }
 }
 
-/// The index of a lieutenant among those under the commander.
+/// Returns the index of a lieutenant in the ascending list of lieutenants under the commander.
 fn lieutenant_index(commander: u8, general: u8) -> u8
     requires { general ≢ commander }
     ensures there { lieutenant_at commander result ≡ general }

@@ -1,4 +1,4 @@
-//! The turns of an activation.
+//! Takes the turns of an activation, one by one or up to the next access.
 ghost use Rattle.std.specs.Prelude.{◌≡◌, ◌≤◌, ◌+◌, false, ℕ, None, List, OnOk, OnErr};
 ghost use Rattle.insn.specs.declared.insn.Insn.{Insn};
 ghost use Rattle.semantics.specs.Call.{resumed};
@@ -19,7 +19,11 @@ use std::alloc::AllocError;
 use verify::Verified;
 
 impl Running {
-    /// One turn. Its request is served by the board, in the general's name; without memory for that, nothing changes.
+    /// Takes one turn. The board serves its request, if it makes one, in the general's name.
+    ///
+    /// # Errors
+    ///
+    /// Fails with `AllocError` if there is no memory for the access. Then nothing has changed.
     pub fn turn(&mut self, board: &mut Board, general: u32, round: u32) -> Result<(), AllocError>
         ensures done { OnOk result ((self.new, board.new) ≡ moved general round self.old board.old (turn self.old)) }
         ensures undone { OnErr result ((self.new ≡ self.old) × (board.new ≡ board.old)) }
@@ -43,7 +47,8 @@ impl Running {
         }
     }
 
-    /// As many turns as it has before its next access or its end, to so many steps in all. The board is not asked.
+    /// Takes turns until the activation makes a request next, has ended, or has taken `limit` steps in all. The board
+    /// is not used.
     pub fn ahead(&mut self, limit: u32)
         ensures went { Silently self.old self.new }
         ensures pauses { Pauses limit self.new (turn self.new) }
@@ -63,7 +68,8 @@ impl Running {
     }
 }
 
-/// As many steps as there are before the next access or the exit: whether it has exited.
+/// Takes steps until the program makes a request next, exits, or has taken `limit` steps in all. Returns whether it has
+/// exited.
 fn many(activation: &mut Machine, verified: &Verified, bytes: &[u8], limit: u32) -> bool
     requires context { IsContext bytes.now }
     requires of_run { IsOfRun verified.now bytes.now activation.old }
@@ -86,7 +92,7 @@ fn many(activation: &mut Machine, verified: &Verified, bytes: &[u8], limit: u32)
     }
 }
 
-/// One step.
+/// Takes one step, and returns why the machine stopped.
 pub(crate) fn one(activation: &mut Machine, verified: &Verified, bytes: &[u8]) -> StopReason
     requires context { IsContext bytes.now }
     requires of_run { IsOfRun verified.now bytes.now activation.old }
@@ -105,7 +111,12 @@ pub(crate) fn one(activation: &mut Machine, verified: &Verified, bytes: &[u8]) -
     activation.run(verified, &context, limit)
 }
 
-/// The board serves what was asked; without memory it is taken back.
+/// Lets the board serve a request, and resumes the activation with the reply.
+///
+/// # Errors
+///
+/// Fails with `AllocError` if there is no memory for the access. Then the request is withdrawn and the board is
+/// unchanged.
 fn serve(
     activation: &mut Machine,
     board: &mut Board,
@@ -135,7 +146,7 @@ fn serve(
     }
 }
 
-/// The lesser of a limit and a patience.
+/// Returns the lesser of a limit and a patience.
 fn lesser(patience: Option<u32>, limit: u32) -> u32
     ensures { result ≡ lesser patience limit }
 {

@@ -14,30 +14,35 @@ use Rattle.trial.specs.Names.{is_key}
 use Rattle.trial.specs.Flaws.{Flaw, unknown, faulty, ◌>>=◌}
 use Rattle.trial.specs.Setting.{Setting}
 
--- the least key by bytes that is none of a setting, since members ascend
+-- Returns the first key that no setting has. Members ascend, so it is the least such key by bytes.
 abbrev pub first_unknown : Members → Option (List ℕ)
 first_unknown no_members = None
 first_unknown (member k d ms) = cond (is_key k) (first_unknown ms) (Some k)
 
+-- Returns the flaw of an unknown key, if there is one.
 abbrev pub known : Option (List ℕ) → Result (Unit {0}) Flaw
 known None = Ok tt
 known (Some k) = Err (unknown k)
 
+-- Returns the value of a required key, or the fault `Key` if it is missing.
 abbrev pub required : SettingPlace → Option Data → Result Data Flaw
 required s None = Err (faulty faults.Key s)
 required s (Some d) = Ok d
 
+-- Returns the integer that a value is, or the fault `Kind`.
 abbrev pub whole : SettingPlace → Data → Result ℤ Flaw
 whole s d = ok_or (as_integer d) (faulty faults.Kind s)
 
+-- Returns an integer that is not negative, or this fault.
 abbrev pub natural : SettingFault → SettingPlace → ℤ → Result ℕ Flaw
 natural f s (pos n) = Ok n
 natural f s (negsuc n) = Err (faulty f s)
 
+-- Returns this fault unless the condition holds.
 abbrev pub test : Bool → SettingFault → SettingPlace → Result (Unit {0}) Flaw
 test b f s = cond b (Ok tt) (Err (faulty f s))
 
--- a number between two others
+-- Returns the number of a required key, which must be at least `least` and at most `most`.
 unfoldable pub number : SettingPlace → ℕ → ℕ → Option Data → Result ℕ Flaw
 number s least most o = do
   d ← required s o
@@ -46,7 +51,7 @@ number s least most o = do
   within ← test (nat_le least n && nat_le n most) faults.Range s
   Ok n
 
--- one of n generals
+-- Returns the general of a required key, which must be below the number `n` of generals.
 unfoldable pub general : SettingPlace → ℕ → Option Data → Result ℕ Flaw
 general s n o = do
   d ← required s o
@@ -55,67 +60,69 @@ general s n o = do
   within ← test (nat_lt g n) faults.General s
   Ok g
 
--- one item after the other, from place i on
+-- Applies a step to each item in order, where the first item has the index `i`, and stops at the first flaw.
 unfoldable pub over : {A : Type 0} → (ℕ → A → Data → Result A Flaw) → ℕ → A → Items → Result A Flaw
 over step i x no_items = Ok x
 over step i x (item d ds) = step i x d >>= λ y. over step (i + 1) y ds
 
--- the order taken for the label of a rank
+-- Sets the order that was taken for the label of this rank.
 abbrev pub set_order : ℕ → List ℕ → Data → Result (List ℕ) Flaw
 set_order rank orders d = number (places.Order rank) 0 4294967295 (Some d) >>= λ order. Ok (slice_set orders rank order)
 
+-- Returns the number of items.
 abbrev pub items_length : Items → ℕ
 items_length no_items = 0
 items_length (item d ds) = suc (items_length ds)
 
--- the items of an array
+-- Returns the items of an array, or the fault `Kind` if the value is not an array.
 abbrev pub elements : SettingPlace → Data → Result Items Flaw
 elements s d = ok_or (as_array d) (faulty faults.Kind s)
 
--- at most as many orders as labels
+-- Returns the fault `Range` if there are more orders than labels.
 abbrev pub are_few : ℕ → ℕ → Result (Unit {0}) Flaw
 are_few labels number = test (nat_le number labels) faults.Range (places.Key names.Taken)
 
--- the order for each label; RETREAT for those of further ranks
+-- Returns the order for each label, by rank. Labels without an item have RETREAT.
 unfoldable pub orders : ℕ → Items → Result (List ℕ) Flaw
 orders labels ds = do
   few ← are_few labels (items_length ds)
   over set_order 0 (replicate labels 0) ds
 
--- the orders taken for so many labels
+-- Returns the orders that were taken for the labels, by rank. Without the key all of them are RETREAT.
 unfoldable pub taken : ℕ → Option Data → Result (List ℕ) Flaw
 taken labels None = Ok (replicate labels 0)
 taken labels (Some d) = do
   ds ← elements (places.Key names.Taken) d
   orders labels ds
 
--- a word of the board, which no integer of the text exceeds
+-- Returns a word of the board. An integer of TOML that is not negative always fits.
 unfoldable pub word : SettingPlace → Data → Result ℕ Flaw
 word s d = do
   z ← whole s d
   natural faults.Range s z
 
+-- Sets the word of the board at this slot.
 abbrev pub set_word : ℕ → List ℕ → Data → Result (List ℕ) Flaw
 set_word slot words d = word (places.Word slot) d >>= λ w. Ok (slice_set words slot w)
 
--- at most 64 words; zeros for those that are missing
+-- Returns the words of the board, at most 64. The missing ones are zero.
 unfoldable pub words : Items → Result (List ℕ) Flaw
 words ds = do
   few ← test (nat_le (items_length ds) board_words) faults.Range (places.Key names.Board)
   over set_word 0 (replicate board_words 0) ds
 
--- the words of the board at first
+-- Returns the words with which the board opens. Without the key all of them are zero.
 unfoldable pub board : Option Data → Result (List ℕ) Flaw
 board None = Ok (replicate board_words 0)
 board (Some d) = do
   ds ← elements (places.Key names.Board) d
   words ds
 
--- the relay of general g in round r, among n generals under c
+-- Returns the shape of the relay of general `g` in round `r`, among `n` generals under commander `c`.
 abbrev pub shape_of : ℕ → ℕ → ℕ → ℕ → Shape
 shape_of n c g r = record { generals = n; commander = c; general = g; round = r }
 
--- the setting of a table, or its first fault
+-- Returns the setting of a table, or its first flaw.
 unfoldable pub setting : Members → Result Setting Flaw
 setting ms = do
   none ← known (first_unknown ms)

@@ -1,4 +1,4 @@
--- What holds of every trial. Each statement is the contract of a function of this crate.
+-- What holds for every trial. Each statement is the contract of a function of this crate.
 use Rattle.std.specs.Prelude.{ℕ, suc, ◌≡◌, ◌<◌, ◌≤◌, false, List, None, Some, length, map, IsSome}
 use Rattle.insn.specs.declared.insn.Insn.{Insn}
 use Rattle.label.specs.Relay.{relay}
@@ -15,8 +15,8 @@ use Rattle.round.specs.Contexts.{context_of, took}
 use Rattle.trial.specs.Setting.{Setting, IsTold, context_in}
 use Rattle.trial.specs.Trial.{Ending, accesses_on, trial_on}
 
--- a general's run of the program, by just these accesses, its trial's, which are a legal history of a board of these
--- words and leave those, has come to where its step is this exit
+-- States that a trial is a general's run of the program. The run makes exactly the trial's accesses, and its next step
+-- is this exit. The accesses are a legal history of a board with these words, and result in the words at the end.
 pub record IsGeneralsRun (words : List ℕ) (program : List Insn) (context : List ℕ) (relay : Relay)
     (e : Ending) : Type 0 where
   pub ledger : List Access
@@ -28,25 +28,26 @@ pub record IsGeneralsRun (words : List ℕ) (program : List Insn) (context : Lis
   pub legal : IsLegal words ledger
   pub left : e.words ≡ words_after words ledger
 
+-- States that every trial that ends is a general's run of the program.
 abbrev pub TrialsAreRuns : Type 0
 TrialsAreRuns =
     (words : List ℕ) (program : List Insn) (context : List ℕ) (relay : Relay) (e : Ending)
     → IsBoard words → trial_on words program context relay ≡ Some e → IsGeneralsRun words program context relay e
 
--- whatever it is told, a sound program's trial ends
+-- States that the trial of a sound program ends, whatever its context contains.
 abbrev pub TrialsEnd : Type 0
 TrialsEnd =
     (words : List ℕ) (program : List Insn) (context : List ℕ) (relay : Relay)
     → IsBoard words → IsSound program → IsContext context → IsRelay relay →
     IsSome (trial_on words program context relay)
 
--- the setting of a general in the round behind these, with a board of these words
+-- Returns the setting of a general in the round after these closed rounds, with a board of these words.
 abbrev pub setting_of : Scenario → List (List Letter) → ℕ → List ℕ → Setting
 setting_of s before g words =
     let shape = shape_of s g (suc (length before)) in
     record { shape = shape; bound = s.bound; taken = map (took s before g) (relay shape); board = words }
 
--- what a general is told in a campaign he is told in a setting
+-- States that the context of a general in a campaign is the context of a setting.
 pub record ContextsAreSettings : Type 0 where
   pub possible : (s : Scenario) (before : List (List Letter)) (g : ℕ) (words : List ℕ)
       → IsScenario s → g < s.generals → length before ≤ s.bound →

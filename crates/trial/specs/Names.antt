@@ -1,9 +1,10 @@
--- The keys of a setting, as they are written (own).
+-- The keys of a setting, as text (own).
 use Rattle.std.specs.Prelude.{ℕ, Bool, ◌||◌, List, codes}
 use Rattle.std.specs.Str.{bytes_eq}
 use Rattle.trial.specs.declared.place.SettingKey.{SettingKey}
 use Rattle.trial.specs.declared.place.SettingKey.TheVariants.{Generals, Bound, Commander, General, Round, Taken, Board}
 
+-- Returns the text of a key.
 abbrev pub text_of : SettingKey → List ℕ
 text_of Generals = codes "generals"
 text_of Bound = codes "bound"
@@ -13,6 +14,7 @@ text_of Round = codes "round"
 text_of Taken = codes "taken"
 text_of Board = codes "board"
 
+-- Checks whether the text is a key of a setting.
 abbrev pub is_key : List ℕ → Bool
 is_key k =
     bytes_eq k (codes "generals") || (bytes_eq k (codes "bound") || (bytes_eq k (codes "commander") ||

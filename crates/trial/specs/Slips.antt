@@ -1,4 +1,4 @@
--- What is told of the calls of a run that put no order: a line for each, with the reason.
+-- The notes on the calls of a run that put no order: a line for each, with the reason.
 use Rattle.std.specs.Prelude.{ℕ, zero, suc, ◌-◌, ◌==◌, nat_lt, if◌then◌else◌, Bool, false, List, [], ◌∷◌, ◌++◌, flat_map, codes, decimal, length, slice_get, string_bytes, Option, Some, None, Result, Ok, String}
 use Rattle.std.specs.declared.alloc.Global.{Global}
 use Rattle.insn.specs.declared.insn.Insn.{Insn}
@@ -19,57 +19,60 @@ use Rattle.explain.specs.Names.{helper_name}
 use Rattle.trial.specs.Trace.{Rest}
 use Rattle.trial.specs.declared.reasons.HelperCall.{HelperCall}
 
--- ---- the reason
+-- The definitions down to `no_label` write the reason.
 
--- a label, its generals between dots; a dash where there is none on it
+-- Writes a label: its generals in decimal, joined by dots, or a dash for the empty label.
 abbrev pub dotted : List ℕ → List ℕ
 dotted [] = codes "-"
 dotted (g ∷ gs) = decimal g ++ flat_map (λ h. codes "." ++ decimal h) gs
 
--- a rank that none of so many labels has
+-- Writes that none of the labels has this rank.
 abbrev pub past : ℕ → ℕ → List ℕ
 past rank labels =
     if labels == 0 then codes "nothing is relayed in this round"
     else codes "rank " ++ decimal rank ++ codes " is past the last, " ++ decimal (labels - 1)
 
--- a receiver to whom no relay of such labels goes
+-- Writes why no label of this description goes to the receiver: he is the sender, or he is on the label.
 abbrev pub passed_over : ℕ → ℕ → List ℕ → List ℕ
 passed_over sender receiver such =
     if receiver == sender then codes "general " ++ decimal receiver ++ codes " is the sender himself"
     else codes "general " ++ decimal receiver ++ codes " stands on " ++ such
 
+-- Writes why no label of this description goes to the receiver, or that there is no such general.
 abbrev pub unheard : Shape → ℕ → List ℕ → List ℕ
 unheard shape receiver such =
     if nat_lt receiver shape.generals then passed_over shape.general receiver such
     else codes "there is no general " ++ decimal receiver
 
--- of send: no label of that rank, or a receiver to whom that label does not go
+-- Writes why `send` puts nothing: there is no label of this rank, or the label does not go to this receiver.
 abbrev pub no_place : Relay → ℕ → ℕ → Option (List ℕ) → List ℕ
 no_place r rank receiver None = past rank (length (relayed r))
 no_place r rank receiver (Some label) = unheard r.shape receiver (codes "the label " ++ dotted label)
 
--- of send_row: no label of that rank, no order, or a label that goes to nobody
+-- Writes why `send_row` puts nothing: there is no label of this rank, no orders were given, or the label goes to
+-- nobody.
 abbrev pub no_row : Relay → ℕ → ℕ → Option (List ℕ) → List ℕ
 no_row r rank orders None = past rank (length (relayed r))
 no_row r rank orders (Some label) =
     if orders == 0 then codes "no orders were given" else codes "nobody hears of the label " ++ dotted label
 
--- of sway and honest, with so many labels: none of them, or a receiver to whom none goes
+-- Writes why `sway` and `honest` put nothing: there is no label, or no label goes to this receiver.
 abbrev pub no_label : Shape → ℕ → ℕ → List ℕ
 no_label shape receiver labels =
     if labels == 0 then codes "nothing is relayed in this round" else unheard shape receiver (codes "every label")
 
--- ---- a call
+-- The definitions down to `where_said` describe one call.
 
--- the number in a register
+-- Returns the number that a value is, or 0 if it is not a number.
 abbrev pub number_in : Value → ℕ
 number_in (Number n) = n
 number_in _ = 0
 
+-- Returns the number in a register, or 0 if it has no number.
 abbrev pub number_at : State → ℕ → ℕ
 number_at s r = number_in (value_at s.registers r)
 
--- the call of a helper that an instruction is, with the numbers in r1, r2 and r3
+-- Returns the call of a helper, with the numbers in r1, r2 and r3.
 abbrev pub call_by : State → Option Helper → Option HelperCall
 call_by s None = None
 call_by s (Some helper) = Some (record {
@@ -80,11 +83,12 @@ call_by s (Some helper) = Some (record {
   third = number_at s 3;
 })
 
+-- Returns the call of a helper that the instruction makes, if it makes one.
 abbrev pub call_at : State → Insn → Option HelperCall
 call_at s (insn.Call number) = call_by s (helper_of number)
 call_at s _ = None
 
--- why a call of a helper that puts orders puts nothing
+-- Writes why a call of this helper puts nothing.
 abbrev pub reason_by : Relay → ℕ → ℕ → ℕ → Helper → List ℕ
 reason_by r first second third Send = no_place r first second (slice_get (relayed r) first)
 reason_by r first second third SendRow = no_row r first third (slice_get (relayed r) first)
@@ -92,30 +96,34 @@ reason_by r first second third Sway = no_label r.shape first (length (relayed r)
 reason_by r first second third Honest = no_label r.shape first (length (relayed r))
 reason_by r first second third _ = []
 
+-- Writes why a call puts nothing.
 abbrev pub reason_of : Relay → HelperCall → List ℕ
 reason_of r call = reason_by r call.first call.second call.third call.helper
 
--- the place of a unit in the text that the program was written in, in brackets; nothing where that is not known
+-- Writes a space and the text in brackets, or nothing for an empty text.
 abbrev pub in_brackets : List ℕ → List ℕ
 in_brackets [] = []
 in_brackets (c ∷ cs) = codes " (" ++ (c ∷ cs) ++ codes ")"
 
+-- Returns the place of a unit in the text in which the program was written, or nothing if it is not known.
 abbrev pub place_of : Option (String Global) → List ℕ
 place_of None = []
 place_of (Some text) = string_bytes text
 
--- `5`, or `5 (line 7)`, where these are the places of the units
+-- Writes a unit as `5`, or as `5 (line 7)` if its place is known.
 unfoldable pub unit_told : List (String Global) → ℕ → List ℕ
 unit_told places unit = decimal unit ++ in_brackets (place_of (slice_get places unit))
 
+-- Writes that a call of this helper puts nothing.
 unfoldable pub slip_told : Helper → List ℕ
 slip_told helper = codes ", " ++ helper_name helper ++ codes " puts nothing: "
 
+-- Writes the whole note on a call: its unit, its helper, and the reason.
 abbrev pub note_of : List (String Global) → Relay → HelperCall → List ℕ
 note_of places r call = codes "note: at " ++ unit_told places call.unit ++ slip_told call.helper ++ reason_of r call
     ++ codes "\n"
 
--- the places that a call chooses, of those helpers that put orders
+-- Returns the places of the outbox that a call chooses, if its helper is one that puts orders.
 abbrev pub chosen : List ℕ → State → Helper → Option (Result Choice Cause)
 chosen context s Send = Some (send_in s)
 chosen context s SendRow = Some (send_row_in context s)
@@ -123,21 +131,22 @@ chosen context s Sway = Some (sway_in s)
 chosen context s Honest = Some (honest_in context s)
 chosen context s _ = None
 
--- the line, where a call sets no place
+-- Returns the line if the call sets no place of the outbox, and nothing otherwise.
 abbrev pub where_none : Relay → List ℕ → Option (Result Choice Cause) → List ℕ
 where_none r line (Some (Ok choice)) = if places_set r choice == 0 then line else []
 where_none r line _ = []
 
--- what is told of a call, and of the instruction that stands at a state's unit
+-- Writes the note on a call, if it puts nothing.
 abbrev pub slip : List (String Global) → List ℕ → Relay → State → Option HelperCall → List ℕ
 slip places context r s None = []
 slip places context r s (Some call) = where_none r (note_of places r call) (chosen context s call.helper)
 
+-- Writes the note on the instruction at a state's unit, if it is a call that puts nothing.
 abbrev pub slip_at : List (String Global) → List ℕ → Relay → State → Option Insn → List ℕ
 slip_at places context r s None = []
 slip_at places context r s (Some i) = slip places context r s (call_at s i)
 
--- a call says in r0 that it set no place
+-- Checks whether this value of r0 means that the call set no place.
 abbrev pub says_none : Helper → ℕ → Bool
 says_none Send r0 = r0 == 1
 says_none SendRow r0 = r0 == 0
@@ -145,32 +154,33 @@ says_none Sway r0 = r0 == 0
 says_none Honest r0 = r0 == 0
 says_none _ r0 = false
 
--- the line, where a call said so, and left this number there
+-- Writes the note on a call if the value that it left in r0 means that it set no place.
 abbrev pub where_said : List (String Global) → Relay → ℕ → Option HelperCall → List ℕ
 where_said places r r0 None = []
 where_said places r r0 (Some call) = if says_none call.helper r0 then note_of places r call else []
 
--- ---- the run
+-- The remaining definitions describe the run.
 
--- what follows a step, with a board of these words, which answers a request at once
+-- Returns the notes on the steps after this outcome. A board of these words replies to a request at once.
 abbrev pub followed : Rest → List ℕ → Outcome → List ℕ
 followed rest words (Next t) = rest words t
 followed rest words (Ask request t) = rest (next words request) (resumed request (reply words request) t)
 followed rest words (Exit r0 t) = []
 followed rest words (Trap cause) = []
 
+-- Writes the note on the next step, if there is one, and those on the steps after it.
 abbrev pub slips_at : List (String Global) → List Insn → List ℕ → Relay → Rest → List ℕ → State → List ℕ
 slips_at places program context r rest words s =
     slip_at places context r s (instruction_at program s.unit) ++ followed rest words (step program context r s)
 
--- those of at most so many steps from a state on, with a board of these words
+-- Writes the notes on at most `k` steps from a state on, with a board of these words.
 unfoldable pub slips_from : List (String Global) → List Insn → List ℕ → Relay → ℕ → List ℕ → State → List ℕ
 slips_from places program context r zero words s = []
 slips_from places program context r (suc k) words s =
     slips_at places program context r (λ left t. slips_from places program context r k left t) words s
 
--- those of the whole run, with a board of these words, of a program with these places of its units: within as many
--- steps as it has instructions
+-- Writes the notes on a whole run with a board of these words. `places` has the places of the program's units. The run
+-- takes at most as many steps as the program has instructions.
 abbrev pub slips_on : List (String Global) → List ℕ → List Insn → List ℕ → Relay → List ℕ
 slips_on places words program context r =
     slips_from places program context r (length program) words (entry (empty_outbox r))

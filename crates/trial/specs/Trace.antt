@@ -1,4 +1,4 @@
--- A run of a program, step by step, with a board of its own.
+-- The trace of a run: its steps as text, with a board of the run's own.
 use Rattle.std.specs.Prelude.{ℕ, zero, suc, List, [], ◌++◌, Option, Some, None, codes, length}
 use Rattle.insn.specs.declared.insn.Insn.{Insn}
 use Rattle.insn.specs.Program.{instruction_at}
@@ -10,11 +10,12 @@ use Rattle.semantics.specs.Execution.{step}
 use Rattle.board.specs.Board.{reply, next}
 use Rattle.trial.specs.StepLines.{before_told, after_told, request_told}
 
--- what follows from a state and the board's words
+-- The text of the rest of a run, as a function of the board's words and the state.
 abbrev pub Rest : Type 0
 Rest = List ℕ → State → List ℕ
 
--- the line of an instruction, by what its step leads to, and the lines behind it; the board answers a request at once
+-- Writes the line of an instruction from the outcome of its step, and the rest of the run after it. The board replies
+-- to a request at once.
 abbrev pub line_of : Rest → List ℕ → State → Insn → Outcome → List ℕ
 line_of rest words s i (Next t) =
     before_told s.unit s.registers i ++ (after_told t.unit t.registers i ++ (codes "\n" ++ rest words t))
@@ -26,22 +27,24 @@ line_of rest words s i (Ask request t) =
 line_of rest words s i (Exit r0 t) = before_told s.unit s.registers i ++ codes "\n"
 line_of rest words s i (Trap cause) = []
 
+-- Writes the line of an instruction and the rest of the run, or nothing if there is no instruction.
 abbrev pub told : Rest → List ℕ → State → Option Insn → Outcome → List ℕ
 told rest words s None outcome = []
 told rest words s (Some i) outcome = line_of rest words s i outcome
 
--- the line of the instruction that stands there, and those behind it
+-- Writes the line of the instruction at the state's unit, and the rest of the run after it.
 abbrev pub told_at : List Insn → List ℕ → Relay → Rest → List ℕ → State → List ℕ
 told_at program context relay rest words s =
     told rest words s (instruction_at program s.unit) (step program context relay s)
 
--- the lines of at most so many steps from a state on, with a board of these words
+-- Writes the lines of at most `k` steps from a state on, with a board of these words.
 unfoldable pub lines_from : List Insn → List ℕ → Relay → ℕ → List ℕ → State → List ℕ
 lines_from program context relay zero words s = []
 lines_from program context relay (suc k) words s =
     told_at program context relay (λ left t. lines_from program context relay k left t) words s
 
--- the lines of the whole run, with a board of these words: within as many steps as the program has instructions
+-- Writes the lines of a whole run with a board of these words. The run takes at most as many steps as the program has
+-- instructions.
 abbrev pub trace_on : List ℕ → List Insn → List ℕ → Relay → List ℕ
 trace_on words program context relay =
     lines_from program context relay (length program) words (entry (empty_outbox relay))

@@ -12,38 +12,40 @@ use Rattle.board.specs.Board.{Access, reply, next}
 use Rattle.board.specs.Ledger.{RecordedBoard}
 use Rattle.trial.specs.Setting.{Setting, context_in}
 
--- how a run has ended: the number that it exited with, its last state, and the board's words
+-- The ending of a run: the value with which it exited, its last state, and the board's words.
 pub record Ending : Type 0 where
   pub r0 : ℕ
   pub state : State
   pub words : List ℕ
 
--- what follows an outcome: a board of these words answers a request at once
+-- Returns the ending of the run after an outcome. A board of these words replies to a request at once.
 abbrev pub served : (List ℕ → State → Option Ending) → List ℕ → Outcome → Option Ending
 served rest words (Next s) = rest words s
 served rest words (Ask request s) = rest (next words request) (resumed request (reply words request) s)
 served rest words (Exit r0 s) = Some (record { r0 = r0; state = s; words = words })
 served rest words (Trap cause) = None
 
--- how it ends within k steps from a state, with a board of these words
+-- Returns the ending of a run within `k` steps from a state, with a board of these words.
 unfoldable pub ending : List Insn → List ℕ → Relay → ℕ → List ℕ → State → Option Ending
 ending program context relay zero words s = None
 ending program context relay (suc k) words s =
     served (λ left t. ending program context relay k left t) words (step program context relay s)
 
--- how it ends from its entry, within as many steps as it has instructions, with a board of these words
+-- Returns the ending of a program's run from its entry, with a board of these words. The run may take as many steps as
+-- the program has instructions.
 abbrev pub trial_on : List ℕ → List Insn → List ℕ → Relay → Option Ending
 trial_on words program context relay = ending program context relay (length program) words (entry (empty_outbox relay))
 
--- the same with a board of zeros
+-- Returns the ending of a program's run from its entry, with a board of zeros.
 abbrev pub trial : List Insn → List ℕ → Relay → Option Ending
 trial program context relay = trial_on (replicate board_words 0) program context relay
 
--- the trial in a setting
+-- Returns the ending of a program's run in a setting.
 abbrev pub trial_in : Setting → List Insn → Option Ending
 trial_in s program = trial_on s.board program (context_in s) (oral s.shape)
 
--- what a board of these words enters at an outcome, and by what follows it: of a request who has asked, and its answer
+-- Returns the accesses that a board of these words records for an outcome and for the rest of the run. An access has
+-- the general, his request, and its reply.
 abbrev pub entered : Shape → (List ℕ → State → List Access) → List ℕ → Outcome → List Access
 entered shape rest words (Next s) = rest words s
 entered shape rest words (Ask request s) =
@@ -52,29 +54,29 @@ entered shape rest words (Ask request s) =
 entered shape rest words (Exit r0 s) = []
 entered shape rest words (Trap cause) = []
 
--- its accesses within k steps from a state, in order, with a board of these words
+-- Returns the accesses of a run within `k` steps from a state, in order, with a board of these words.
 unfoldable pub accesses : List Insn → List ℕ → Relay → ℕ → List ℕ → State → List Access
 accesses program context relay zero words s = []
 accesses program context relay (suc k) words s =
     entered relay.shape (λ left t. accesses program context relay k left t) words (step program context relay s)
 
--- the accesses of its trial, in order, with a board of these words
+-- Returns the accesses of a program's trial, in order, with a board of these words.
 abbrev pub accesses_on : List ℕ → List Insn → List ℕ → Relay → List Access
 accesses_on words program context relay =
     accesses program context relay (length program) words (entry (empty_outbox relay))
 
--- the accesses of its trial in a setting, in order
+-- Returns the accesses of a program's trial in a setting, in order.
 abbrev pub accesses_in : Setting → List Insn → List Access
 accesses_in s program = accesses_on s.board program (context_in s) (oral s.shape)
 
--- since it was the old one the board has served this general in this round alone
+-- States that the board, since it was `old`, has served only this general in this round.
 pub record ServesOne (shape : Shape) (old new : RecordedBoard) : Type 0 where
   pub opening : new.opening ≡ old.opening
   pub more : List Access
   pub ledger : new.ledger ≡ old.ledger ++ more
   pub own : All (λ a. (a.general ≡ shape.general) × (a.round ≡ shape.round)) more
 
--- since it was the old one the board has entered a beginning of these accesses alone
+-- States that the board, since it was `old`, has recorded only accesses of this list, from its beginning on.
 pub record EntersFirst (all : List Access) (old new : RecordedBoard) : Type 0 where
   pub opening : new.opening ≡ old.opening
   pub more : List Access
@@ -82,7 +84,7 @@ pub record EntersFirst (all : List Access) (old new : RecordedBoard) : Type 0 wh
   pub rest : List Access
   pub first : all ≡ more ++ rest
 
--- it opened with these words, and has never served another
+-- States that the board opened with these words, and has served only this general in this round.
 pub record IsOfOne (shape : Shape) (words : List ℕ) (b : RecordedBoard) : Type 0 where
   pub opening : b.opening ≡ words
   pub own : All (λ a. (a.general ≡ shape.general) × (a.round ≡ shape.round)) b.ledger

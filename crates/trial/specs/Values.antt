@@ -1,4 +1,4 @@
--- What a register holds, as it is told.
+-- The texts of the values that a register holds.
 use Rattle.std.specs.Prelude.{ℕ, ℤ, ◌+ℤ◌, List, [], ◌++◌, codes, decimal}
 use Rattle.std.specs.Fmt.{signed_decimal}
 use Rattle.semantics.specs.declared.value.Region.{Region}
@@ -8,21 +8,22 @@ use Rattle.semantics.specs.declared.value.Value.TheVariants.{Unset, Number, Poin
 use Rattle.semantics.specs.State.{value_at}
 use Rattle.asm.specs.Printing.{register_text}
 
+-- Returns the name of a region of memory.
 abbrev pub region_text : Region → List ℕ
 region_text Stack = codes "stack"
 region_text Context = codes "context"
 
--- a number, or a region and an offset
+-- Writes a value: a number, a region with an offset, or `unset`.
 abbrev pub value_text : Value → List ℕ
 value_text Unset = codes "unset"
 value_text (Number n) = decimal n
 value_text (Pointer region offset) = region_text region ++ codes " " ++ signed_decimal offset
 
--- `r3 stack -8`
+-- Writes a register and its value, for example `r3 stack -8`.
 abbrev pub register_told : List Value → ℕ → List ℕ
 register_told registers r = register_text r ++ codes " " ++ value_text (value_at registers r)
 
--- where a store with this offset writes
+-- Writes where a store with this offset writes, if its base is a pointer.
 abbrev pub place_told : ℤ → Value → List ℕ
 place_told offset (Pointer region at) = codes " -> " ++ region_text region ++ codes " " ++ signed_decimal (at +ℤ offset)
 place_told offset _ = []

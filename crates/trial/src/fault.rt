@@ -1,4 +1,4 @@
-//! Why a text tells no setting.
+//! Why a text is not a setting: the fault of a key, and its text.
 ghost use Rattle.std.specs.Prelude.{◌≡◌};
 ghost use Rattle.trial.specs.declared.fault.SettingError.TheVariants.{Memory};
 
@@ -6,12 +6,12 @@ use crate::place::SettingPlace;
 use std::alloc::{AllocError, AllocFailed};
 use std::fmt;
 
-/// What is wrong at a place.
+/// What is wrong at a place of a setting.
 #[derive(Clone, Copy, Debug, PartialEq, Eq)]
 pub enum SettingFault {
     /// The key is missing.
     Key,
-    /// The value is of another kind.
+    /// The value has the wrong type.
     Kind,
     /// The value is out of its range.
     Range,
@@ -35,16 +35,16 @@ impl fmt::Display for SettingFault {
     }
 }
 
-/// The first fault of a text that tells no setting, or want of memory.
+/// The first fault of a text that is not a setting, or too little memory.
 #[derive(Debug, Drop)]
 pub enum SettingError {
-    /// K1: the text is no TOML.
+    /// K1: the text is not TOML.
     Toml,
-    /// K2: a key is none.
+    /// K2: this key is not a key of a setting.
     Unknown(String),
-    /// K2 to K5: a fault at a place.
+    /// K2 to K5: a place has this fault.
     At(SettingFault, SettingPlace),
-    /// Memory was refused.
+    /// There is not enough memory.
     Memory,
 }
 

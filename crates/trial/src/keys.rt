@@ -1,4 +1,4 @@
-//! The values of single keys, each the value or the first fault of its checks.
+//! Reads the values of single keys of a setting, and checks them in order.
 ghost use Rattle.std.specs.Prelude.{◌≡◌, ◌≢◌, ℕ, ◌≤◌, ◌<◌, option_map, IfOk, IfErr, MatchResult};
 ghost use Rattle.toml.specs.Data.{get_member};
 ghost use Rattle.toml.specs.View.{view, table_view, items_view};
@@ -12,7 +12,7 @@ use crate::place::{SettingKey, SettingPlace};
 use std::alloc::{AllocError, Global};
 use toml::{Table, Value};
 
-/// Whether a setting has the key.
+/// Checks whether the text is a key of a setting.
 fn is_key(key: &str) -> bool
     ensures { result ≡ is_key key.now }
 {
@@ -25,6 +25,7 @@ fn is_key(key: &str) -> bool
         || key == "board"
 }
 
+/// Returns the first key of the table that is not a key of a setting.
 fn first_unknown(table: &Table) -> Option<&str>
     ensures { option_map (λ k. k.now) result ≡ first_unknown (table_view table.now) }
 {
@@ -36,7 +37,7 @@ fn first_unknown(table: &Table) -> Option<&str>
     None
 }
 
-/// Why a text tells no setting where a key is unknown: that key, unless memory was refused for it.
+/// Returns the error of an unknown key, or `Memory` if there was no memory for the key's text.
 fn unknown(key: Result<String, AllocError>) -> SettingError
     ensures { MatchResult key (λ key. result ≡ Unknown key) (λ _. result ≡ Memory) }
 {
@@ -46,6 +47,11 @@ fn unknown(key: Result<String, AllocError>) -> SettingError
     }
 }
 
+/// Checks that there is no unknown key.
+///
+/// # Errors
+///
+/// Fails with `Unknown` and the key, or with `Memory` if there is no memory for its text.
 fn refuse_unknown(alloc: Global, key: Option<&str>) -> Result<(), SettingError>
     ensures { Gives (λ _. tt) result (known (option_map (λ k. k.now) key.entry)) }
 {
@@ -55,21 +61,29 @@ fn refuse_unknown(alloc: Global, key: Option<&str>) -> Result<(), SettingError>
     }
 }
 
-/// All keys are known.
+/// Checks that all keys of the table are keys of a setting.
+///
+/// # Errors
+///
+/// Fails with `Unknown` and the first unknown key, or with `Memory` if there is no memory for its text.
 pub fn keys_are_known(alloc: Global, table: &Table) -> Result<(), SettingError>
     ensures { Gives (λ _. tt) result (known (first_unknown (table_view table.now))) }
 {
     refuse_unknown(alloc, first_unknown(table))
 }
 
-/// The value at a key.
+/// Returns the value of a key, if the table has it.
 pub fn at<'a>(table: &'a Table, name: SettingKey) -> Option<&'a Value>
     ensures { option_map (λ v. view v.now) result ≡ get_member (text_of name) (table_view table.now) }
 {
     table.get(name.text())
 }
 
-/// The value of a required key.
+/// Returns the value of a required key.
+///
+/// # Errors
+///
+/// Fails with `Key` at this place if the key is missing.
 fn required(place: SettingPlace, value: Option<&Value>) -> Result<&Value, SettingError>
     ensures value { Gives (λ v. view v.now) result (required place (option_map (λ v. view v.now) value.entry)) }
     ensures fault { IfErr result (λ e. e ≢ Memory) }
@@ -80,7 +94,11 @@ fn required(place: SettingPlace, value: Option<&Value>) -> Result<&Value, Settin
     }
 }
 
-/// An integer.
+/// Returns the integer that a value is.
+///
+/// # Errors
+///
+/// Fails with `Kind` at this place if the value is not an integer.
 pub fn whole(place: SettingPlace, value: &Value) -> Result<i64, SettingError>
     ensures value { Gives (λ z. z) result (whole place (view value.now)) }
     ensures fault { IfErr result (λ e. e ≢ Memory) }
@@ -91,7 +109,11 @@ pub fn whole(place: SettingPlace, value: &Value) -> Result<i64, SettingError>
     }
 }
 
-/// The elements of an array.
+/// Returns the elements of an array.
+///
+/// # Errors
+///
+/// Fails with `Kind` at this place if the value is not an array.
 pub fn elements(place: SettingPlace, value: &Value) -> Result<&[Value], SettingError>
     ensures value { Gives (λ a. items_view a.now) result (elements place (view value.now)) }
     ensures fault { IfErr result (λ e. e ≢ Memory) }
@@ -102,7 +124,11 @@ pub fn elements(place: SettingPlace, value: &Value) -> Result<&[Value], SettingE
     }
 }
 
-/// An integer that is not below 0.
+/// Returns an integer that is not negative.
+///
+/// # Errors
+///
+/// Fails with this fault at this place if the integer is negative.
 pub fn natural(fault: SettingFault, place: SettingPlace, integer: i64) -> Result<u64, SettingError>
     ensures value { Gives (λ n. n) result (natural fault place integer) }
     ensures fault { IfErr result (λ e. e ≢ Memory) }
@@ -113,7 +139,12 @@ pub fn natural(fault: SettingFault, place: SettingPlace, integer: i64) -> Result
     }
 }
 
-/// A number between two others.
+/// Returns the number of a required key, at least `least` and at most `most`.
+///
+/// # Errors
+///
+/// Fails at this place with `Key` if the key is missing, with `Kind` if the value is not an integer, and with `Range`
+/// if it is out of its range.
 #[tactic(auto, unfolding(crate::specs::Checks::number))]
 pub fn number(
     place: SettingPlace,
@@ -134,7 +165,12 @@ pub fn number(
     Err(SettingError::At(SettingFault::Range, place))
 }
 
-/// One of the generals.
+/// Returns the general of a required key, a number below `generals`.
+///
+/// # Errors
+///
+/// Fails at this place with `Key` if the key is missing, with `Kind` if the value is not an integer, and with `General`
+/// if there is no such general.
 #[tactic(auto, unfolding(crate::specs::Checks::general))]
 pub fn general(
     place: SettingPlace,

@@ -1,4 +1,4 @@
-//! What is printed of a trial.
+//! Prints the result of a trial: the program's size, its exit, its orders, and the board's words that changed.
 ghost use Rattle.std.specs.Prelude.{◌≡◌, ◌<◌, ◌≤◌, ◌++◌, ℕ, List, Some, IfOk, OnOk, length, slice_get, string_bytes};
 ghost use Rattle.insn.specs.Program.{slots_of};
 ghost use Rattle.semantics.specs.Relay.{relayed};
@@ -12,13 +12,13 @@ use outbox::Outbox;
 use std::alloc::{AllocError, Global};
 use verify::Verified;
 
-/// Runs a program in a setting: what is printed of it. How large the program is, what it exited with and after how many
-/// steps, what it put, by the rank of the label and the receiver, and the words of the board that are not what they
-/// were.
+/// Runs a program in a setting, and returns the lines of its trial. They contain the program's size, its exit value,
+/// and how many steps it took. Then follow the orders that it put, by the rank of the label and the receiver, and the
+/// words of the board that changed.
 ///
 /// # Errors
 ///
-/// `AllocError` where the memory for the context, the outbox, an access or the lines is refused.
+/// Fails with `AllocError` if there is no memory for the context, the outbox, an access or the lines.
 pub fn tried(alloc: Global, verified: &Verified, setting: &Setting) -> Result<String, AllocError>
     ensures { IfOk result (λ text. IsTried verified.now setting.now (string_bytes text)) }
 {
@@ -26,7 +26,7 @@ pub fn tried(alloc: Global, verified: &Verified, setting: &Setting) -> Result<St
     lines(alloc, verified.program(), &setting.board(), &exited)
 }
 
-/// The lines of a run that has ended, of a board that began with these words.
+/// Returns the lines of a run that has ended, with a board that opened with these words.
 fn lines(
     alloc: Global,
     program: &Program,
@@ -54,11 +54,12 @@ fn lines(
     Ok(text)
 }
 
-/// How large the program is, and how it exited.
+/// Returns the lines with the size of the program in instructions and units, its exit value, and how many steps it
+/// took.
 ///
 /// # Errors
 ///
-/// `AllocError` where the memory for the lines is refused.
+/// Fails with `AllocError` if there is no memory for the lines.
 pub fn first_lines(
     alloc: Global,
     instructions: usize,
@@ -71,7 +72,7 @@ pub fn first_lines(
     format!(in alloc; "accepted {instructions} instructions {units} units\nr0 {r0} steps {steps}\n")
 }
 
-/// Adds a line for each order that was put.
+/// Appends a line for each order that was put.
 fn push_orders(alloc: Global, text: &mut String, outbox: &Outbox) -> Result<(), AllocError>
     ensures { OnOk result (string_bytes text.new ≡ string_bytes text.old ++ put_lines outbox.now) }
 {
@@ -81,7 +82,7 @@ fn push_orders(alloc: Global, text: &mut String, outbox: &Outbox) -> Result<(), 
     Ok(())
 }
 
-/// Adds the lines of the label of that rank.
+/// Appends the lines of the orders for the label of this rank.
 fn push_label(
     alloc: Global,
     text: &mut String,
@@ -103,7 +104,7 @@ fn push_label(
     Ok(())
 }
 
-/// Adds the line of one order.
+/// Appends the line of one order.
 fn push_order(
     alloc: Global,
     text: &mut String,
@@ -117,7 +118,7 @@ fn push_order(
     text.push_str(line.as_str())
 }
 
-/// Adds a line for each word that is not what it was.
+/// Appends a line for each word that has changed.
 fn push_words(
     alloc: Global,
     text: &mut String,
@@ -133,7 +134,7 @@ fn push_words(
     Ok(())
 }
 
-/// Adds the line of one word.
+/// Appends the line of one word, unless it has not changed.
 fn push_word(
     alloc: Global,
     text: &mut String,

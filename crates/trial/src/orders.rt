@@ -1,4 +1,4 @@
-//! The orders that a general has taken.
+//! Reads the orders that a general took, the key `taken` of a setting.
 ghost use Rattle.std.specs.Prelude.{◌≡◌, ◌≢◌, ◌≤◌, IfOk, IfErr, length, replicate, option_map};
 ghost use Rattle.toml.specs.View.{view, items_view};
 ghost use Rattle.trial.specs.Checks.{over, set_order, are_few, orders, taken};
@@ -11,7 +11,11 @@ use crate::place::{SettingKey, SettingPlace};
 use std::alloc::Global;
 use toml::Value;
 
-/// The orders of a list, and 0 for the labels of further ranks.
+/// Returns the orders of a list, by rank. Labels without an item have order 0.
+///
+/// # Errors
+///
+/// Fails with the first fault of an order, at its index, or with `Memory` if it runs out of memory.
 fn listed(alloc: Global, labels: u32, values: &[Value]) -> Result<Vec<u32>, SettingError>
     requires { length values.now ≤ labels }
     ensures gives { Gives (λ orders. orders.items) result
@@ -30,7 +34,11 @@ fn listed(alloc: Global, labels: u32, values: &[Value]) -> Result<Vec<u32>, Sett
     Ok(orders)
 }
 
-/// There are no more orders than labels.
+/// Checks that there are at most as many orders as labels.
+///
+/// # Errors
+///
+/// Fails with `Range` at `taken` if there are more.
 fn are_few(labels: u32, number: usize) -> Result<(), SettingError>
     ensures value { Gives (λ _. tt) result (are_few labels number) }
     ensures few { IfOk result (λ _. number ≤ labels) }
@@ -42,6 +50,11 @@ fn are_few(labels: u32, number: usize) -> Result<(), SettingError>
     Ok(())
 }
 
+/// Returns the order for each label, by rank. Labels without an item have order 0.
+///
+/// # Errors
+///
+/// Fails with the first fault of the list, or with `Memory` if it runs out of memory.
 #[tactic(auto, unfolding(crate::specs::Checks::orders), using(crate::proofs::Items::items_length_view))]
 fn orders(alloc: Global, labels: u32, values: &[Value]) -> Result<Vec<u32>, SettingError>
     ensures gives { Gives (λ orders. orders.items) result (orders labels (items_view values.now)) }
@@ -51,7 +64,11 @@ fn orders(alloc: Global, labels: u32, values: &[Value]) -> Result<Vec<u32>, Sett
     listed(alloc, labels, values)
 }
 
-/// The order taken for each of so many labels, by rank; 0, which is RETREAT, where none is told.
+/// Returns the order that was taken for each of the labels, by rank. It is 0, which is RETREAT, for labels without one.
+///
+/// # Errors
+///
+/// Fails with the first fault of the key, or with `Memory` if it runs out of memory.
 #[tactic(auto, unfolding(crate::specs::Checks::taken))]
 pub fn taken(alloc: Global, labels: u32, value: Option<&Value>) -> Result<Vec<u32>, SettingError>
     ensures gives { Gives (λ orders. orders.items) result (taken labels (option_map (λ v. view v.now) value.entry)) }

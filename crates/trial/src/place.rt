@@ -1,4 +1,4 @@
-//! Where a fault of a setting stands.
+//! The places of a setting: its keys, and the items of its lists.
 ghost use Rattle.std.specs.Prelude.{◌≡◌};
 ghost use Rattle.trial.specs.Names.{text_of};
 
@@ -17,7 +17,7 @@ pub enum SettingKey {
 }
 
 impl SettingKey {
-    /// The key as it is written.
+    /// Returns the text of the key.
     pub fn text(self) -> &'static str
         ensures { result.now ≡ text_of self }
     {
@@ -33,12 +33,12 @@ impl SettingKey {
     }
 }
 
-/// A place in a setting.
+/// A place in a setting, at which a fault is reported.
 #[derive(Clone, Copy, Debug, PartialEq, Eq)]
 pub enum SettingPlace {
-    /// A key.
+    /// The value of a key.
     Key(SettingKey),
-    /// An order of the list of those taken, counted from 0.
+    /// An item of the list of orders, counted from 0.
     Order(usize),
     /// A word of the board, counted from 0.
     Word(usize),

@@ -1,4 +1,4 @@
-//! One run of a program, with a board of its own.
+//! Runs a program to its exit, with a board of its own.
 ghost use Rattle.std.specs.Prelude.{◌≡◌, ◌++◌, Some, IfOk, OnErr};
 ghost use Rattle.label.specs.Relay.{IsShape};
 ghost use Rattle.semantics.specs.Relay.{oral};
@@ -16,14 +16,14 @@ use outbox::Outbox;
 use std::alloc::{AllocError, Global};
 use verify::Verified;
 
-/// A program that has exited.
+/// The result of a program's run: it has exited.
 #[derive(Drop)]
 pub struct Exited {
-    /// What it exited with.
+    /// The value with which the program exited.
     pub r0: u64,
-    /// The activation at its end, with its outbox.
+    /// The machine at its end, with its outbox.
     pub activation: Machine,
-    /// The board as it left it.
+    /// The board at the end of the run.
     pub board: Board,
 }
 
@@ -31,7 +31,7 @@ pub struct Exited {
 ///
 /// # Errors
 ///
-/// `AllocError` where the memory for the context, the outbox or an access is refused.
+/// Fails with `AllocError` if there is no memory for the context, the outbox or an access.
 pub fn run_in(alloc: Global, verified: &Verified, setting: &Setting) -> Result<Exited, AllocError>
     ensures ending { IfOk result
         (λ e. trial_in setting.now verified.now ≡ Some (record {
@@ -48,7 +48,7 @@ pub fn run_in(alloc: Global, verified: &Verified, setting: &Setting) -> Result<E
     run(alloc, verified, &context, setting.shape(), setting.board())
 }
 
-/// Runs a program to its exit, in this context and with an outbox of this relay, with a board that begins with these
+/// Runs a program to its exit in this context, with an empty outbox of this shape, and a board that opens with these
 /// words.
 #[tactic(auto, using(crate::proofs::Owning::all_of_one, crate::proofs::Entering::all_entered))]
 fn run(
@@ -80,11 +80,11 @@ fn run(
     })
 }
 
-/// Runs an activation that has just been started to its exit, on this board: what it exits with.
+/// Runs an activation from its start to its exit on this board, and returns the value with which it exits.
 ///
 /// # Errors
 ///
-/// `AllocError` where the memory for an access is refused.
+/// Fails with `AllocError` if there is no memory for an access.
 #[tactic(auto, using(crate::proofs::Entering::served_none))]
 pub fn run_on(
     board: &mut Board,
@@ -110,7 +110,7 @@ pub fn run_on(
     ensures unserved { OnErr result
         (EntersFirst (accesses_on board.old.words verified.now context.now (oral shape)) board.old board.new) }
 {
-    // A sound program is over within as many steps as it has instructions.
+    // A sound program ends within as many steps as it has instructions.
     let limit = verified.program().len() as u32;
     loop {
         match activation.run(verified, context, limit) {

@@ -1,4 +1,4 @@
-//! Settings, read from their text.
+//! Reads a setting from its text.
 ghost use Rattle.std.specs.Prelude.{◌≡◌, ◌-◌, ◌≤◌, min, MatchBool, Some};
 ghost use Rattle.toml.specs.Parse.{parse_document};
 ghost use Rattle.toml.specs.View.{table_view};
@@ -18,14 +18,18 @@ use label::Shape;
 use std::alloc::Global;
 use toml::Table;
 
-/// The greatest bound that so many generals may have.
+/// Returns the greatest bound of a campaign with this many generals.
 fn greatest_bound(generals: u32) -> u32
     ensures { result ≡ min 4 (generals - 2) }
 {
     generals.saturating_sub(2).min(4)
 }
 
-/// The setting of a table.
+/// Returns the setting of a table.
+///
+/// # Errors
+///
+/// Fails with the first fault, at its place, or with `Memory` if it runs out of memory.
 #[tactic(auto, unfolding(crate::specs::Checks::setting))]
 fn setting(alloc: Global, table: &Table) -> Result<Setting, SettingError>
     ensures { Gives (λ s. s) result (setting (table_view table.now)) }
@@ -71,7 +75,7 @@ fn setting(alloc: Global, table: &Table) -> Result<Setting, SettingError>
     Ok(Setting::new(shape, bound, taken, board))
 }
 
-/// Why a text that was not parsed tells no setting: it is no TOML, or memory was refused.
+/// Returns the error of a text that was not parsed: `Memory` if memory ran out, and `Toml` otherwise.
 fn unparsed(is_memory: bool) -> SettingError
     ensures { MatchBool is_memory (result ≡ Memory) (result ≡ Toml) }
 {
@@ -82,12 +86,13 @@ fn unparsed(is_memory: bool) -> SettingError
     }
 }
 
-/// The setting that a text tells.
+/// Returns the setting that a text contains.
 ///
 /// # Errors
 ///
-/// The first fault, with its place: that the text is no TOML, then an unknown key (the least by bytes), then
-/// `generals`, `bound`, `commander`, `general`, `round`, `taken` and `board`.
+/// Fails with the first fault, at its place. The faults are checked in this order: the text is not TOML, a key is
+/// unknown (the least such key by bytes), then the keys `generals`, `bound`, `commander`, `general`, `round`, `taken`
+/// and `board`. Fails with `Memory` if it runs out of memory.
 pub fn read(alloc: Global, text: &str) -> Result<Setting, SettingError>
     ensures { Reads (parse_document text.now) result }
 {

@@ -1,4 +1,4 @@
-//! Why a call puts nothing.
+//! Explains in text why a call of a helper puts no order.
 ghost use Rattle.std.specs.Prelude.{◌≡◌, ◌<◌, ◌∷◌, ◌++◌, List, ℕ, Some, length, slice_get, string_bytes, IfOk, OnOk};
 ghost use Rattle.label.specs.Relay.{IsShape, relay};
 ghost use Rattle.semantics.specs.Relay.{relayed};
@@ -10,7 +10,7 @@ use label::{Shape, Space, unrank};
 use outbox::Outbox;
 use std::alloc::{AllocError, Global};
 
-/// A call of a helper: where it stands, and the numbers in r1, r2 and r3.
+/// A call of a helper: the unit of the call, the helper, and the numbers in r1, r2 and r3.
 #[derive(Clone, Copy)]
 pub struct HelperCall {
     pub unit: usize,
@@ -20,7 +20,7 @@ pub struct HelperCall {
     pub third: u64,
 }
 
-/// Whether the helper, with this in r0, says that it put nothing.
+/// Checks whether this value of r0 means that the helper put nothing.
 pub fn says_none(helper: Helper, r0: u64) -> bool
     ensures { result ≡ says_none helper r0 }
 {
@@ -31,7 +31,11 @@ pub fn says_none(helper: Helper, r0: u64) -> bool
     }
 }
 
-/// Adds the line of a call that puts nothing, in a program with these places of its units.
+/// Appends the note on a call that puts nothing. `places` has the places of the program's units.
+///
+/// # Errors
+///
+/// Fails with `AllocError` if there is no memory for the text.
 pub fn put_note(
     alloc: Global,
     out: &mut String,
@@ -48,7 +52,7 @@ pub fn put_note(
     out.push_str("\n")
 }
 
-/// Adds that a call of a helper puts nothing.
+/// Appends that a call of a helper puts nothing.
 #[tactic(auto, unfolding(crate::specs::Slips::slip_told))]
 fn put_slip(out: &mut String, helper: Helper) -> Result<(), AllocError>
     ensures { OnOk result (string_bytes out.new ≡ string_bytes out.old ++ slip_told helper) }
@@ -57,7 +61,7 @@ fn put_slip(out: &mut String, helper: Helper) -> Result<(), AllocError>
     write!(out, ", {name} puts nothing: ")
 }
 
-/// Adds a unit and, where that is known, its place in the text that the program was written in.
+/// Appends a unit and, if it is known, the unit's place in the text in which the program was written.
 #[tactic(auto, unfolding(crate::specs::Slips::unit_told))]
 fn put_unit(out: &mut String, places: &[String], unit: usize) -> Result<(), AllocError>
     ensures { OnOk result (string_bytes out.new ≡ string_bytes out.old ++ unit_told places.now unit) }
@@ -66,7 +70,7 @@ fn put_unit(out: &mut String, places: &[String], unit: usize) -> Result<(), Allo
     put_in_brackets(out, place_of(places, unit))
 }
 
-/// The place of a unit, an empty text where it is not known.
+/// Returns the place of a unit, or an empty text if it is not known.
 fn place_of(places: &[String], unit: usize) -> &str
     ensures { result.now ≡ place_of (slice_get places.now unit) }
 {
@@ -76,7 +80,7 @@ fn place_of(places: &[String], unit: usize) -> &str
     }
 }
 
-/// Adds a place in brackets, if it is not empty.
+/// Appends a place in brackets, unless it is empty.
 fn put_in_brackets(out: &mut String, place: &str) -> Result<(), AllocError>
     ensures { OnOk result (string_bytes out.new ≡ string_bytes out.old ++ in_brackets place.now) }
 {
@@ -88,7 +92,7 @@ fn put_in_brackets(out: &mut String, place: &str) -> Result<(), AllocError>
     out.push_str(")")
 }
 
-/// Adds why a call of a helper that puts orders puts nothing.
+/// Appends why a call of a helper that puts orders puts nothing.
 fn put_reason(
     alloc: Global,
     out: &mut String,
@@ -105,7 +109,7 @@ fn put_reason(
     }
 }
 
-/// Adds why `send` puts nothing, for a receiver of the label of that rank.
+/// Appends why `send` puts nothing for this receiver of the label of this rank.
 fn put_no_place(
     alloc: Global,
     out: &mut String,
@@ -125,7 +129,7 @@ fn put_no_place(
     put_unheard(out, outbox.shape(), receiver, such.as_str())
 }
 
-/// Adds why `send_row` puts nothing, with so many orders for the label of that rank.
+/// Appends why `send_row` puts nothing for the label of this rank. `orders` is the number of orders that were given.
 fn put_no_row(
     alloc: Global,
     out: &mut String,
@@ -147,7 +151,7 @@ fn put_no_row(
     write!(out, "nobody hears of the label {label}")
 }
 
-/// Adds why `sway` and `honest` put nothing for a receiver.
+/// Appends why `sway` or `honest` puts nothing for a receiver.
 fn put_no_label(out: &mut String, outbox: &Outbox, receiver: u64) -> Result<(), AllocError>
     ensures { OnOk result (string_bytes out.new ≡ string_bytes out.old
         ++ no_label outbox.now.relay.shape receiver (length (relayed outbox.now.relay))) }
@@ -158,7 +162,7 @@ fn put_no_label(out: &mut String, outbox: &Outbox, receiver: u64) -> Result<(), 
     put_unheard(out, outbox.shape(), receiver, "every label")
 }
 
-/// Adds that none of so many labels has the rank.
+/// Appends that none of the `labels` labels has this rank.
 fn put_past(out: &mut String, rank: u64, labels: u32) -> Result<(), AllocError>
     ensures { OnOk result (string_bytes out.new ≡ string_bytes out.old ++ past rank labels) }
 {
@@ -169,7 +173,7 @@ fn put_past(out: &mut String, rank: u64, labels: u32) -> Result<(), AllocError>
     write!(out, "rank {rank} is past the last, {last}")
 }
 
-/// Adds why no relay of such labels goes to a receiver.
+/// Appends why no label of the description `such` goes to a receiver, or that there is no such general.
 fn put_unheard(out: &mut String, shape: Shape, receiver: u64, such: &str) -> Result<(), AllocError>
     ensures { OnOk result (string_bytes out.new ≡ string_bytes out.old ++ unheard shape receiver such.now) }
 {
@@ -179,7 +183,8 @@ fn put_unheard(out: &mut String, shape: Shape, receiver: u64, such: &str) -> Res
     write!(out, "there is no general {receiver}")
 }
 
-/// Adds why no relay of such labels goes to a general of the campaign.
+/// Appends why no label of the description `such` goes to a general of the campaign: he is the sender, or he is on the
+/// label.
 fn put_passed_over(
     out: &mut String,
     sender: u32,
@@ -194,7 +199,7 @@ fn put_passed_over(
     write!(out, "general {receiver} stands on {such}")
 }
 
-/// The label of that rank that is relayed, as it is written.
+/// Returns the text of the label of this rank, among those that the outbox relays.
 fn label_text(alloc: Global, outbox: &Outbox, rank: u32) -> Result<String, AllocError>
     requires { rank < length (relayed outbox.now.relay) }
     ensures { IfOk result (λ text. (label : List ℕ) → slice_get (relayed outbox.now.relay) rank ≡ Some label →
@@ -203,7 +208,7 @@ fn label_text(alloc: Global, outbox: &Outbox, rank: u32) -> Result<String, Alloc
     relay_text(alloc, outbox.shape(), rank)
 }
 
-/// The label of that rank that a general relays, as it is written.
+/// Returns the text of the label of this rank, among those that a general relays.
 fn relay_text(alloc: Global, shape: Shape, rank: u32) -> Result<String, AllocError>
     requires shape { IsShape shape }
     requires within { rank < length (relay shape) }
@@ -224,7 +229,7 @@ fn relay_text(alloc: Global, shape: Shape, rank: u32) -> Result<String, AllocErr
     }
 }
 
-/// A label as it is written.
+/// Returns a label as text: its generals in decimal, joined by dots, or a dash for the empty label.
 fn dotted(alloc: Global, generals: &[u8]) -> Result<String, AllocError>
     ensures { IfOk result (λ text. string_bytes text ≡ dotted generals.now) }
 {
@@ -234,7 +239,7 @@ fn dotted(alloc: Global, generals: &[u8]) -> Result<String, AllocError>
     }
 }
 
-/// A general, and those behind him, each behind a dot.
+/// Returns the label of `first` and the generals `rest` as text, joined by dots.
 fn joined(alloc: Global, first: u8, rest: &[u8]) -> Result<String, AllocError>
     ensures { IfOk result (λ text. string_bytes text ≡ dotted (first ∷ rest.now)) }
 {

@@ -1,4 +1,4 @@
-//! The calls of a run that put nothing.
+//! Runs a program and notes its calls that put no order.
 ghost use Rattle.std.specs.Prelude.{◌≡◌, ◌<◌, ◌≤◌, ◌+◌, ◌++◌, ℕ, List, length, string_bytes, true, false, IfOk, OnOk};
 ghost use Rattle.insn.specs.declared.insn.Insn.{Insn as InsnValue};
 ghost use Rattle.label.specs.Relay.{IsShape};
@@ -22,14 +22,14 @@ use semantics::{Request, Value};
 use std::alloc::{AllocError, Global};
 use verify::Verified;
 
-/// A line for each call of a helper that puts orders that puts none, with the reason, of the run of a program to its
-/// exit, in this context and with an outbox of this relay. The board that it asks is its own, and begins with these
-/// words. With its unit stands a call's place in the text that the program was written in, where `places` has it for
-/// the unit.
+/// Runs a program to its exit, and returns a line for each call of a helper that should put orders and puts none, with
+/// the reason. The program runs in this context, with an outbox of this shape, and with a board of its own that opens
+/// with these words. A line names the call's unit. If `places` has the unit's place in the text in which the program
+/// was written, the line names it, too.
 ///
 /// # Errors
 ///
-/// `AllocError` where the memory for the outbox, an access or the lines is refused.
+/// Fails with `AllocError` if there is no memory for the outbox, an access or the lines.
 pub fn slips(
     alloc: Global,
     verified: &Verified,
@@ -61,7 +61,7 @@ pub fn slips(
     }
 }
 
-/// Takes a step, and tells it where it is a call that puts nothing: whether the run has ended.
+/// Takes a step, and appends its note if it is a call that puts nothing. Returns whether the run has ended.
 fn go_on(
     alloc: Global,
     out: &mut String,
@@ -107,7 +107,7 @@ fn go_on(
     }
 }
 
-/// Has the board answer what was asked.
+/// Lets the board reply to a request, and resumes the activation.
 fn answer(
     shape: Shape,
     request: Request,
@@ -126,7 +126,7 @@ fn answer(
     Ok(())
 }
 
-/// The number in a register.
+/// Returns the number in a register, or 0 if it has no number.
 fn number_at(activation: &Machine, register: u8) -> u64
     requires { register ≤ 10 }
     ensures { result ≡ number_at activation.now.state register }
@@ -137,7 +137,7 @@ fn number_at(activation: &Machine, register: u8) -> u64
     }
 }
 
-/// The call of a helper that the instruction is.
+/// Returns the call of a helper that the instruction makes, if it makes one.
 fn call_at(activation: &Machine, insn: &Insn) -> Option<HelperCall>
     ensures { result ≡ call_at activation.now.state insn.now }
 {
@@ -147,7 +147,7 @@ fn call_at(activation: &Machine, insn: &Insn) -> Option<HelperCall>
     }
 }
 
-/// The call of this helper.
+/// Returns the call of this helper at the current unit, with the numbers in r1, r2 and r3.
 fn call_by(activation: &Machine, helper: Option<Helper>) -> Option<HelperCall>
     ensures { result ≡ call_by activation.now.state helper }
 {
@@ -161,7 +161,7 @@ fn call_by(activation: &Machine, helper: Option<Helper>) -> Option<HelperCall>
     })
 }
 
-/// Adds the line of a call that was made, if it says that it put nothing.
+/// Appends the note on a call that was made, if r0 means that it put nothing.
 fn put_slip(
     alloc: Global,
     out: &mut String,

@@ -1,3 +1,4 @@
+//! The setting of a trial: the general, the round, the orders that he took, and the board.
 ghost use Rattle.std.specs.Prelude.{◌≡◌, ◌≤◌, ◌+◌, length, vec_len, IfOk};
 ghost use Rattle.label.specs.Relay.{IsShape, relay};
 ghost use Rattle.trial.specs.Setting.{bench, context_in};
@@ -7,8 +8,8 @@ use mem::context_telling;
 use std::alloc::{AllocError, Global};
 use std::marker::Model;
 
-/// What a program is tried in: whose relay it is, the campaign's bound, the order that the general took for each label
-/// that he relays, by rank, and the words of the board at first.
+/// The setting in which a program is tried: the shape of the general's relay, the campaign's bound, the order that he
+/// took for each label that he relays, by rank, and the words with which the board opens.
 #[derive(Drop)]
 pub struct Setting {
     shape: Shape,
@@ -28,8 +29,8 @@ impl Model for Setting {
 }
 
 impl Setting {
-    /// The setting of a general's relay in a campaign with this bound, with an order for each label that he relays, and
-    /// a board of these words.
+    /// Returns the setting of a general's relay in a campaign with this bound, with an order for each label that he
+    /// relays, and a board with these words.
     pub(crate) fn new(shape: Shape, bound: u32, taken: Vec<u32>, board: [u64; 64]) -> Setting
         requires shape { IsShape shape }
         requires rounds { shape.round ≤ bound + 1 }
@@ -46,8 +47,8 @@ impl Setting {
         }
     }
 
-    /// Where a program is checked: the last of 4 generals in the first round, where he relays nothing, with a board of
-    /// zeros.
+    /// Returns the setting in which a program is checked: the last of 4 generals in the first round, in which he relays
+    /// nothing, and a board of zeros.
     pub fn bench(alloc: Global) -> Setting
         ensures { result ≡ bench }
     {
@@ -60,7 +61,7 @@ impl Setting {
         Setting::new(shape, 1, Vec::new(alloc), [0; 64])
     }
 
-    /// Whose relay it is.
+    /// Returns the shape of the general's relay.
     pub fn shape(&self) -> Shape
         ensures same { result ≡ self.now.shape }
         ensures within { IsShape result }
@@ -68,18 +69,18 @@ impl Setting {
         self.shape
     }
 
-    /// The words of the board at first.
+    /// Returns the words with which the board opens.
     pub fn board(&self) -> [u64; 64]
         ensures { result ≡ self.now.board }
     {
         self.board
     }
 
-    /// What the general is told there: the 4,096 bytes of his context.
+    /// Returns the general's context, 4,096 bytes.
     ///
     /// # Errors
     ///
-    /// `AllocError` where the memory for them is refused.
+    /// Fails with `AllocError` if there is no memory for them.
     pub fn context(&self, alloc: Global) -> Result<Vec<u8>, AllocError>
         ensures bytes { IfOk result (λ bytes. bytes.items ≡ context_in self.now) }
         ensures whole { IfOk result (λ bytes. vec_len bytes ≡ 4096) }
@@ -91,8 +92,8 @@ impl Setting {
             round,
         } = self.shape;
         let taken = self.taken.as_slice();
-        // The eight numbers with which a context begins (`context_numbers` of `contexts`): behind the round how many
-        // labels are relayed, how many receivers each has, and 0, as orders are oral.
+        // The eight numbers with which a context begins (`context_numbers` of `mem`). After the round they are the
+        // number of labels that are relayed, the number of receivers of each, and 0, because orders are oral.
         let header = [
             generals,
             self.bound,

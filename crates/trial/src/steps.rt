@@ -1,4 +1,4 @@
-//! The line of a step.
+//! Writes the line of a step in a trace.
 ghost use Rattle.std.specs.Prelude.{◌≡◌, ◌++◌, ◌+◌, ◌<◌, ◌≤◌, codes, decimal, length, slice_index, string_bytes, OnOk};
 ghost use Rattle.trial.specs.StepLines.{read_told, reads_told, stored_told, before_told, wrote, went, after_told, word_told, words_told, request_told};
 ghost use Rattle.trial.specs.Values.{register_told, place_told};
@@ -12,7 +12,7 @@ use machine::Machine;
 use semantics::{Request, Value};
 use std::alloc::AllocError;
 
-/// Adds a register and what it holds.
+/// Appends a register and its value.
 fn put_register(out: &mut String, activation: &Machine, register: Reg) -> Result<(), AllocError>
     ensures { OnOk result (string_bytes out.new ≡ string_bytes out.old
         ++ register_told activation.now.state.registers register) }
@@ -22,7 +22,7 @@ fn put_register(out: &mut String, activation: &Machine, register: Reg) -> Result
     write!(out, "r{number} {held}")
 }
 
-/// Adds a register that is read.
+/// Appends a register that the instruction reads, with its value. It appends nothing if there is no register.
 fn put_read(out: &mut String, activation: &Machine, register: Option<Reg>) -> Result<(), AllocError>
     ensures { OnOk result (string_bytes out.new ≡ string_bytes out.old
         ++ read_told activation.now.state.registers register) }
@@ -34,7 +34,7 @@ fn put_read(out: &mut String, activation: &Machine, register: Option<Reg>) -> Re
     put_register(out, activation, register)
 }
 
-/// Adds the registers that are read.
+/// Appends the registers that the instruction reads, with their values.
 fn put_reads(out: &mut String, activation: &Machine, read: RegisterTriple) -> Result<(), AllocError>
     ensures { OnOk result (string_bytes out.new ≡ string_bytes out.old
         ++ reads_told activation.now.state.registers read) }
@@ -45,7 +45,7 @@ fn put_reads(out: &mut String, activation: &Machine, read: RegisterTriple) -> Re
     put_read(out, activation, third)
 }
 
-/// Adds where a store with this offset writes.
+/// Appends where a store with this offset writes, if its base is a pointer.
 fn put_place(out: &mut String, base: Value, offset: i16) -> Result<(), AllocError>
     ensures { OnOk result (string_bytes out.new ≡ string_bytes out.old ++ place_told offset base) }
 {
@@ -57,7 +57,7 @@ fn put_place(out: &mut String, base: Value, offset: i16) -> Result<(), AllocErro
     write!(out, " -> {place} {at}")
 }
 
-/// Adds where an instruction stores, if it does.
+/// Appends where an instruction stores, if it is a store.
 fn put_stored(out: &mut String, activation: &Machine, insn: &Insn) -> Result<(), AllocError>
     ensures { OnOk result (string_bytes out.new ≡ string_bytes out.old
         ++ stored_told activation.now.state.registers insn.now) }
@@ -68,7 +68,12 @@ fn put_stored(out: &mut String, activation: &Machine, insn: &Insn) -> Result<(),
     }
 }
 
-/// Adds what is told before a step: the unit, its instruction, the registers that it reads, and where it stores.
+/// Appends the part of the line before a step: the unit, its instruction, the registers that it reads, and where it
+/// stores.
+///
+/// # Errors
+///
+/// Fails with `AllocError` if there is no memory for the text.
 pub fn put_before(out: &mut String, activation: &Machine, insn: &Insn) -> Result<(), AllocError>
     ensures { OnOk result (string_bytes out.new ≡ string_bytes out.old
         ++ before_told activation.now.state.unit activation.now.state.registers insn.now) }
@@ -80,7 +85,7 @@ pub fn put_before(out: &mut String, activation: &Machine, insn: &Insn) -> Result
     put_stored(out, activation, insn)
 }
 
-/// Adds a register that was written.
+/// Appends a register that the instruction wrote, with its value.
 fn put_wrote(out: &mut String, activation: &Machine, register: Reg) -> Result<(), AllocError>
     ensures { OnOk result (string_bytes out.new ≡ string_bytes out.old
         ++ wrote activation.now.state.registers register) }
@@ -89,7 +94,7 @@ fn put_wrote(out: &mut String, activation: &Machine, register: Reg) -> Result<()
     put_register(out, activation, register)
 }
 
-/// Adds where a jump led.
+/// Appends the unit to which a jump led.
 fn put_went(out: &mut String, activation: &Machine) -> Result<(), AllocError>
     ensures { OnOk result (string_bytes out.new ≡ string_bytes out.old ++ went activation.now.state.unit) }
 {
@@ -97,7 +102,11 @@ fn put_went(out: &mut String, activation: &Machine) -> Result<(), AllocError>
     write!(out, " -> unit {unit}")
 }
 
-/// Adds what is told behind a step: the register that it wrote, or where it led.
+/// Appends the part of the line after a step: the register that the instruction wrote, or the unit to which it led.
+///
+/// # Errors
+///
+/// Fails with `AllocError` if there is no memory for the text.
 pub fn put_after(out: &mut String, activation: &Machine, insn: &Insn) -> Result<(), AllocError>
     ensures { OnOk result (string_bytes out.new ≡ string_bytes out.old
         ++ after_told activation.now.state.unit activation.now.state.registers insn.now) }
@@ -118,7 +127,7 @@ pub fn put_after(out: &mut String, activation: &Machine, insn: &Insn) -> Result<
     }
 }
 
-/// Adds a word of the board, before and after.
+/// Appends a word of the board with its value before and after a request.
 fn put_word(
     out: &mut String,
     slot: usize,
@@ -132,7 +141,7 @@ fn put_word(
     write!(out, " ; word {slot} {before} to {after}")
 }
 
-/// Adds so many words of the board in a row.
+/// Appends `count` consecutive words of the board with their values before and after a request.
 #[tactic(auto, unfolding(crate::specs::StepLines::words_told))]
 fn put_words(
     out: &mut String,
@@ -151,7 +160,11 @@ fn put_words(
     put_words(out, slot + 1, count - 1, words, left)
 }
 
-/// Adds what is told of a request, of the board's words before and after it.
+/// Appends the words of the board that a request asked for, with their values before and after it.
+///
+/// # Errors
+///
+/// Fails with `AllocError` if there is no memory for the text.
 pub fn put_request(
     out: &mut String,
     request: &Request,

@@ -1,14 +1,14 @@
-//! Laws of what is told of a run: each function does nothing, and its contract is the law.
+//! Laws of traces and of the notes on calls. Each function does nothing, and its contract is the law.
 ghost use Rattle.trial.specs.TraceLaws.{ReasonsHold, TracesAreTrials};
 
-/// What a trace tells is the trial: a line for each of its steps, of the state before that step, and in the last one
-/// the number that it ends with.
+/// Does nothing. Its contract says that a trace describes the trial. A trace has a line for each step, and the line
+/// shows the state before the step. The last line shows the value with which the program exits.
 pub fn traces_are_trials()
     ensures { TracesAreTrials }
 {}
 
-/// The reasons of calls that put nothing hold: where no place is set of a label that is relayed, a receiver who is
-/// another general stands on it, and nobody hears of a row for which there are orders.
+/// Does nothing. Its contract says that the reasons of calls that put nothing hold. If no place of a relayed label is
+/// set, a receiver who is another general is on the label. If orders were given for a row, the label goes to nobody.
 pub fn reasons_hold()
     ensures { ReasonsHold }
 {}

@@ -1,4 +1,4 @@
-//! The run that is told.
+//! Runs a program and writes its trace, step by step.
 ghost use Rattle.std.specs.Prelude.{◌≡◌, ◌≤◌, ◌+◌, ◌++◌, ℕ, List, codes, length, string_bytes, true, false, IfOk, OnOk};
 ghost use Rattle.insn.specs.declared.insn.Insn.{Insn as InsnValue};
 ghost use Rattle.label.specs.Relay.{IsShape};
@@ -20,12 +20,12 @@ use semantics::Request;
 use std::alloc::{AllocError, Global};
 use verify::Verified;
 
-/// The run of a program to its exit, in this context and with an outbox of this relay, told step by step. The board
-/// that it asks is its own, and begins with these words.
+/// Runs a program to its exit, and returns its trace, a line for each step. The program runs in this context, with an
+/// outbox of this shape, and with a board of its own that opens with these words.
 ///
 /// # Errors
 ///
-/// `AllocError` where the memory for the outbox, an access or the lines is refused.
+/// Fails with `AllocError` if there is no memory for the outbox, an access or the lines.
 pub fn traced(
     alloc: Global,
     verified: &Verified,
@@ -53,7 +53,7 @@ pub fn traced(
     }
 }
 
-/// Takes a step and tells it: whether the run has ended.
+/// Takes a step and appends its line. Returns whether the run has ended.
 fn turn(
     out: &mut String,
     verified: &Verified,
@@ -99,7 +99,7 @@ fn turn(
     }
 }
 
-/// Has the board answer what was asked, and ends the line.
+/// Lets the board reply to a request, resumes the activation, and appends the rest of the line.
 fn serve(
     out: &mut String,
     shape: Shape,

@@ -1,7 +1,8 @@
+//! The texts of regions and of register values.
 use semantics::{Region, Value};
 use std::fmt;
 
-/// A region, as it is told.
+/// A region of memory, displayed by its name.
 #[derive(Clone, Copy)]
 pub struct RegionText(pub Region);
 
@@ -19,7 +20,7 @@ impl fmt::Display for RegionText {
     }
 }
 
-/// What a register holds, as it is told.
+/// The value of a register, displayed as a number, a region with an offset, or `unset`.
 #[derive(Clone, Copy)]
 pub struct ValueText(pub Value);
 

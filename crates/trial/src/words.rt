@@ -1,4 +1,4 @@
-//! The words of the board at first.
+//! Reads the words with which the board opens, the key `board` of a setting.
 ghost use Rattle.std.specs.Prelude.{◌≡◌, ◌≢◌, ◌≤◌, IfErr, length, replicate, option_map};
 ghost use Rattle.toml.specs.View.{view, items_view};
 ghost use Rattle.semantics.specs.Limits.{board_words};
@@ -11,7 +11,11 @@ use crate::keys::{elements, natural, whole};
 use crate::place::{SettingKey, SettingPlace};
 use toml::Value;
 
-/// A word, 0 to 2^63 - 1.
+/// Returns a word, 0 to 2^63 - 1.
+///
+/// # Errors
+///
+/// Fails at this place with `Kind` if the value is not an integer, and with `Range` if it is negative.
 #[tactic(auto, unfolding(crate::specs::Checks::word))]
 fn word(place: SettingPlace, value: &Value) -> Result<u64, SettingError>
     ensures value { Gives (λ n. n) result (word place (view value.now)) }
@@ -21,7 +25,11 @@ fn word(place: SettingPlace, value: &Value) -> Result<u64, SettingError>
     natural(SettingFault::Range, place, integer)
 }
 
-/// The words of a list, and 0 for those that are missing.
+/// Returns the words of a list. The missing ones are 0.
+///
+/// # Errors
+///
+/// Fails with the first fault of a word, at its index.
 fn listed(values: &[Value]) -> Result<[u64; 64], SettingError>
     requires { length values.now ≤ board_words }
     ensures gives { Gives (λ words. words) result (over set_word 0 (replicate board_words 0) (items_view values.now)) }
@@ -34,6 +42,11 @@ fn listed(values: &[Value]) -> Result<[u64; 64], SettingError>
     Ok(words)
 }
 
+/// Returns the words of a list of at most 64. The missing ones are 0.
+///
+/// # Errors
+///
+/// Fails with `Range` at `board` if there are more than 64, and otherwise with the first fault of a word.
 #[tactic(auto, unfolding(crate::specs::Checks::words), using(crate::proofs::Items::items_length_view))]
 fn words(values: &[Value]) -> Result<[u64; 64], SettingError>
     ensures gives { Gives (λ words. words) result (words (items_view values.now)) }
@@ -45,7 +58,11 @@ fn words(values: &[Value]) -> Result<[u64; 64], SettingError>
     listed(values)
 }
 
-/// The words of the board at first, zeros where none is told.
+/// Returns the words with which the board opens. Without a value all of them are 0.
+///
+/// # Errors
+///
+/// Fails with the first fault of the key.
 #[tactic(auto, unfolding(crate::specs::Checks::board))]
 pub fn board(value: Option<&Value>) -> Result<[u64; 64], SettingError>
     ensures gives { Gives (λ words. words) result (board (option_map (λ v. view v.now) value.entry)) }

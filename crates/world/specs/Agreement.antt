@@ -1,5 +1,5 @@
--- Agreement in worlds, as a list of decisions and as the verdict says it (TOPLAS 1982, Theorem 1, IC1 and IC2). Each
--- law is the contract of a function of this crate.
+-- Agreement in worlds, for the list of decisions and for the verdict (TOPLAS 1982, Theorem 1, IC1 and IC2). Each law is
+-- the contract of a function of this crate.
 use Rattle.std.specs.Prelude.{ℕ, suc, ◌≡◌, ◌≢◌, ◌<◌, ◌↔◌, true, false, List, length, slice_index, None, Some}
 use Rattle.label.specs.Oral.{IsFaithful, IsBound, Agree}
 use Rattle.label.specs.Lieutenants.{lieutenants, IsLoyalAt, AgreeInList}
@@ -10,12 +10,13 @@ use Rattle.world.specs.World.{World, opening, run}
 use Rattle.world.specs.Lists.{IsPunctual}
 use Rattle.world.specs.Chronicle.{decision, decisions, verdict_of, chronicle_of}
 
--- all rounds are closed, and in each of them every loyal general had posted
+-- States that all rounds of the world are closed, and that every loyal general had posted his letter in each of them.
 pub record IsFinished (w : World) : Type 0 where
   pub closed : length w.closed ≡ suc w.scenario.bound
   pub full : w.full ≡ true
 
--- where the loyal generals posted in every round they are faithful, and under the bound the decisions agree
+-- States the agreement theorem for worlds. A punctual list of events leaves a world in which every loyal general posted
+-- in each round. In a finished world the loyal generals are faithful, and the decisions agree if the bound holds.
 pub record WorldsAgree : Type 0 where
   pub full : (s : Scenario) (events : List Event) → IsPunctual s events → (run (opening s) events).full ≡ true
   pub faithful : (s : Scenario) (events : List Event) → IsScenario s → IsFinished (run (opening s) events) → (g : ℕ) →
@@ -25,23 +26,24 @@ pub record WorldsAgree : Type 0 where
       IsBound s.generals s.bound (is_traitor s) →
       Agree s.generals s.commander s.order (is_traitor s) (decision s (messages (run (opening s) events).closed))
 
--- so does the list of decisions, in the order of the lieutenants
+-- States that, in a finished world whose bound holds, the list of decisions agrees. The list is in the order of the
+-- lieutenants.
 abbrev pub DecisionsAgree : Type 0
 DecisionsAgree = (s : Scenario) (events : List Event) → IsScenario s → IsFinished (run (opening s) events) →
     IsBound s.generals s.bound (is_traitor s) →
     AgreeInList s.generals s.commander s.order (is_traitor s) (decisions s (messages (run (opening s) events).closed))
 
--- the loyal lieutenants decide alike
+-- States that the loyal lieutenants decide alike (IC1).
 abbrev pub AreAlike : Scenario → List ℕ → Type 0
 AreAlike s ds = (i j : ℕ) → IsLoyalAt s.generals s.commander (is_traitor s) i →
     IsLoyalAt s.generals s.commander (is_traitor s) j → slice_index ds i ≡ slice_index ds j
 
--- each of them decides the order
+-- States that each loyal lieutenant decides on the commander's order (IC2).
 abbrev pub AreObedient : Scenario → List ℕ → Type 0
 AreObedient s ds = (i : ℕ) → IsLoyalAt s.generals s.commander (is_traitor s) i → slice_index ds i ≡ s.order
 
--- the verdict means what it says, of obedience nothing exactly where the commander is a traitor, and in a finished
--- world whose bound holds it says that all is well
+-- States what the fields of a verdict mean. The verdict says nothing about obedience exactly if the commander is a
+-- traitor. In a finished world whose bound holds, it says that the lieutenants decide alike, and not that they disobey.
 pub record VerdictsMean : Type 0 where
   pub bound : (s : Scenario) (ds : List ℕ) →
       ((verdict_of s ds).bound ≡ true) ↔ IsBound s.generals s.bound (is_traitor s)

@@ -1,6 +1,5 @@
--- How code makes a close: what it takes memory for before it changes anything, the letters as far as they take any, and
--- the next parts (own).
--- No claim rests on this: what a close does, World.antt says.
+-- How the code closes a round: the memory that it allocates before anything changes, the drafts of the letters, and the
+-- parts of the next round (own). No claim rests on this file. World.antt says what a close does.
 use Rattle.std.specs.Prelude.{ℕ, suc, ◌≡◌, nat_lt, cond, List, [], ◌∷◌, replicate, slice_get, Option, None, Some}
 use Rattle.semantics.specs.Limits.{context_size}
 use Rattle.insn.specs.declared.insn.Insn.{Insn}
@@ -17,39 +16,43 @@ pub use Rattle.world.specs.declared.draft.LetterDraft.TheVariants.{Begun, Whole,
 use Rattle.world.specs.Part.{Progress, Acting, Silent, Posted}
 use Rattle.world.specs.World.{each, accesses_of}
 
--- of a traitor's letter his accesses, a loyal general's letter, or none
+-- Returns the draft of a general's letter: a traitor's accesses, a loyal general's whole letter, or `Missing`.
 abbrev pub draft_of : Scenario → List (List Letter) → List Access → ℕ → Option Progress → LetterDraft
 draft_of s closed accesses g (Some (Acting a)) = Begun (accesses_of g accesses)
 draft_of s closed accesses g (Some Silent) = Missing
 draft_of s closed accesses g (Some Posted) = Whole (faithful_letter s closed g)
 draft_of s closed accesses g None = Missing
 
+-- Returns the drafts of all generals' letters.
 abbrev pub drafts_held : Scenario → List (List Letter) → List Access → List Progress → List LetterDraft
 drafts_held s closed accesses parts = each s.generals (λ g. draft_of s closed accesses g (slice_get parts g) ∷ [])
 
--- the letter of a draft and a part, where there is one
+-- Returns the letter that is made from a general's draft and part, if there is one.
 abbrev pub letter_from : ℕ → ℕ → Option LetterDraft → Option Progress → List Letter
 letter_from g round (Some (Begun transcript)) (Some (Acting a)) = letter_left g round transcript a ∷ []
 letter_from g round (Some (Whole letter)) part = letter ∷ []
 letter_from g round _ _ = []
 
+-- Returns the letters that are made from the drafts and the parts of `n` generals.
 abbrev pub letters_from : ℕ → ℕ → List LetterDraft → List Progress → List Letter
 letters_from n round drafts parts = each n (λ g. letter_from g round (slice_get drafts g) (slice_get parts g))
 
--- each activation has done what its letter tells
+-- States that each activation with a draft has run as its letter says.
 abbrev pub AreDraftsOf : ℕ → List LetterDraft → List Progress → Type 0
 AreDraftsOf round drafts parts = (g : ℕ) (transcript : List Access) (a : Activation) →
     slice_get drafts g ≡ Some (Begun transcript) → slice_get parts g ≡ Some (Acting a) →
     IsLetter (letter_left g round transcript a)
 
--- a context in which nothing is told
+-- Returns a context that consists of zero bytes.
 unfoldable pub zeros : List ℕ
 zeros = replicate context_size 0
 
--- how a general begins the round behind so many before he is told anything
+-- Returns the part of a general at the start of the round after `before` rounds, before he receives his context.
 abbrev pub blank : Scenario → ℕ → ℕ → Option (List Insn) → Progress
 blank s before g None = Silent
 blank s before g (Some program) = Acting (started s.patience program zeros (oral (shape_of s g (suc before))))
 
+-- Returns the parts of all generals at the start of the round after `before` rounds, before they receive their
+-- contexts. If no round is left, there are none.
 abbrev pub blanks : Scenario → ℕ → List Progress
 blanks s before = cond (nat_lt before (suc s.bound)) (each s.generals (λ g. blank s before g (program_of s g) ∷ [])) []

@@ -1,5 +1,5 @@
--- How code holds the world of an oral campaign (own). `World::apply` cites `IsAnswer` of this: which error comes. What
--- a world is and does, World.antt says.
+-- How the code holds the world of an oral campaign (own). `World::apply` cites `IsAnswer` of this file, which says
+-- which error is returned. World.antt says what a world is and does.
 use Rattle.std.specs.Prelude.{ℕ, List, Option}
 use Rattle.board.specs.Board.{Access}
 use Rattle.round.specs.Scenario.{Scenario}
@@ -9,14 +9,14 @@ use Rattle.world.specs.World.{oral_kind}
 use Rattle.world.specs.KindHeld as held
 pub use Rattle.world.specs.KindHeld.{TakesMemory, IsAnswer, ticked_of, posted_of, AheadTo, steps_of, AreLetters}
 
--- a general's letter, or none, from his part and the round's accesses
+-- Returns a general's letter, if he has one, from his part and the accesses of the round.
 abbrev pub letter_held : Scenario → List (List Letter) → List Access → ℕ → Option Progress → List Letter
 letter_held s closed accesses g part = held.letter_held oral_kind s closed accesses g part
 
--- the letters of a round
+-- Returns the letters of a round.
 abbrev pub letters_held : Scenario → List (List Letter) → List Access → List Progress → List Letter
 letters_held s closed accesses parts = held.letters_held oral_kind s closed accesses parts
 
--- how the generals begin the round behind these
+-- Returns the parts of the generals at the start of the round after these closed rounds.
 abbrev pub beginnings : Scenario → List (List Letter) → List Progress
 beginnings s closed = held.beginnings oral_kind s closed

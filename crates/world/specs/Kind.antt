@@ -1,5 +1,4 @@
--- The world of a campaign of some kind, as a fold of events (own). What orders are, oral or signed, it leaves to the
--- kind.
+-- The world of a campaign of some kind, as a fold of events (own). The kind says whether orders are oral or signed.
 use Rattle.std.specs.Prelude.{ℕ, zero, suc, nat_lt, ◌==◌, ◌&&◌, cond, Bool, true, List, [], ◌∷◌, ◌++◌, length, drop, filter, slice_get, slice_set, Option, None, Some}
 use Rattle.std.specs.List.{list_all}
 use Rattle.insn.specs.declared.insn.Insn.{Insn}
@@ -16,16 +15,17 @@ use Rattle.world.specs.declared.event.EventError.{EventError}
 use Rattle.world.specs.declared.event.EventError.TheVariants.{NotOpen, NoGeneral}
 use Rattle.world.specs.Part.{Progress, Acting, Silent, Posted, owes_no_letter}
 
--- a kind of campaign: of a general in the round behind these, what he is told, to whom he relays what,
--- and what is in his outbox where he is loyal
+-- A kind of campaign. For a general in the round after these closed rounds it says which context he receives, which
+-- labels he relays to whom, and, if he is loyal, what his outbox contains.
 pub record Kind : Type 0 where
   pub context : Scenario → List (List Letter) → ℕ → List ℕ
   pub relay : Scenario → List (List Letter) → ℕ → Relay
   pub rows : Scenario → List (List Letter) → ℕ → List (List (Option ℕ))
   pub entries : Scenario → List (List Letter) → ℕ → List Entry
 
--- the letters of the closed rounds, the board's words and ledger, where the open round's entries begin in it,
--- by general the parts of the open round, and whether in each closed round all loyal generals had posted
+-- A world: the letters of the closed rounds, the board's words and its ledger, and the index at which the open round
+-- begins in the ledger. It also has each general's part in the open round, and whether all loyal generals had posted in
+-- each closed round.
 pub record World : Type 0 where
   pub scenario : Scenario
   pub closed : List (List Letter)
@@ -35,20 +35,21 @@ pub record World : Type 0 where
   pub parts : List Progress
   pub full : Bool
 
--- what f gives for each number below n, in order
+-- Returns the concatenation of the lists `f 0` to `f (n - 1)`.
 abbrev pub each : {A : Type 0} → ℕ → (ℕ → List A) → List A
 each zero f = []
 each (suc n) f = each n f ++ f n
 
+-- Checks whether a round is left after these closed rounds.
 abbrev pub round_open : Scenario → List (List Letter) → Bool
 round_open s closed = nat_lt (length closed) (suc s.bound)
 
--- how a general begins the round behind these
+-- Returns the part of a general at the start of the round after these closed rounds.
 abbrev pub begins : Kind → Scenario → List (List Letter) → ℕ → Option (List Insn) → Progress
 begins K s closed g None = Silent
 begins K s closed g (Some program) = Acting (started s.patience program (K.context s closed g) (K.relay s closed g))
 
--- the world where a round begins: behind the last one nobody has a part
+-- Returns the world at the start of the round after these closed rounds. After the last round no general has a part.
 abbrev pub begun : Kind → Scenario → List (List Letter) → List ℕ → List Access → Bool → World
 begun K s closed words ledger full = record {
   scenario = s;
@@ -60,16 +61,16 @@ begun K s closed words ledger full = record {
   full = full;
 }
 
--- the world before its first event: round 1 is open, on the scenario's board
+-- Returns the world before its first event: round 1 is open, and the board has the scenario's words.
 abbrev pub opening : Kind → Scenario → World
 opening K s = begun K s [] s.board [] true
 
--- the accesses of one general
+-- Returns the accesses of one general.
 abbrev pub accesses_of : ℕ → List Access → List Access
 accesses_of g accesses = filter (λ a. a.general == g) accesses
 
--- a traitor's letter in the round behind these, by what his program has done: its accesses, its steps, and where it
--- stands, whose outbox counts as it is
+-- Returns a traitor's letter of the round after these closed rounds, from what his program has done: its accesses, its
+-- steps, and its current state, whose outbox counts as it is.
 abbrev pub traitor_letter_with : Kind → Scenario → List (List Letter) → ℕ → Option (List Insn) → List Access → ℕ →
     Activation → Letter
 traitor_letter_with K s before g program transcript steps a = record {
@@ -83,20 +84,20 @@ traitor_letter_with K s before g program transcript steps a = record {
   exited = a.over;
 }
 
--- a loyal general's letter in the round behind these: he runs nothing
+-- Returns a loyal general's letter of the round after these closed rounds. He runs no program.
 abbrev pub loyal_letter : Kind → Scenario → List (List Letter) → ℕ → Letter
 loyal_letter K s before g =
     faithful_letter_with g (suc (length before)) (K.context s before g)
     (record { relay = K.relay s before g; rows = K.rows s before g; entries = K.entries s before g })
 
--- the letter of a part, or none: an activation's, or a loyal general's who has posted it
+-- Returns the letter of a part: that of an activation, that of a loyal general who has posted, or none.
 abbrev pub letter_of_part : (Activation → Letter) → Letter → Option Progress → List Letter
 letter_of_part acted loyal (Some (Acting a)) = acted a ∷ []
 letter_of_part acted loyal (Some Silent) = []
 letter_of_part acted loyal (Some Posted) = loyal ∷ []
 letter_of_part acted loyal None = []
 
--- a general's letter as he stands, or none
+-- Returns a general's letter in his current part, if he has one.
 abbrev pub letters_at : Kind → World → ℕ → Option Progress → List Letter
 letters_at K w g part =
     letter_of_part
@@ -104,11 +105,11 @@ letters_at K w g part =
     (accesses_of g (drop w.opened w.ledger)) a.state.steps a)
     (loyal_letter K w.scenario w.closed g) part
 
--- the letters of the open round, by general: what closing it makes of where each stands
+-- Returns the letters of the open round by general, as closing it would make them from the generals' current parts.
 abbrev pub round_letters : Kind → World → List Letter
 round_letters K w = each w.scenario.generals (λ g. letters_at K w g (slice_get w.parts g))
 
--- a request is served within the same event
+-- Returns the world after a turn of general `g`. A request is served within the same event.
 abbrev pub served : World → ℕ → Turn → World
 served w g (Goes a) = record w { parts = slice_set w.parts g (Acting a) }
 served w g (Asks request answered) =
@@ -121,33 +122,36 @@ served w g (Asks request answered) =
     }
 served w g Ended = w
 
--- a traitor's activation takes its next step; with a loyal general nothing happens
+-- Returns the world after one step of a traitor's activation. For a loyal general nothing changes.
 abbrev pub ticked : World → ℕ → Option Progress → World
 ticked w g (Some (Acting a)) = served w g (turn a)
 ticked w g _ = w
 
--- a loyal general's letter of the open round counts as given
+-- Returns the world after a loyal general's letter of the open round is marked as posted.
 abbrev pub posting : World → ℕ → Option Progress → World
 posting w g (Some Silent) = record w { parts = slice_set w.parts g Posted }
 posting w g _ = w
 
--- the letters of the round are made and kept, and the next round begins
+-- Returns the world after its open round is closed: the letters of the round are made and kept, and the next round
+-- begins.
 abbrev pub closing : Kind → World → World
 closing K w =
     begun K w.scenario (w.closed ++ round_letters K w ∷ []) w.words w.ledger (w.full && list_all owes_no_letter w.parts)
 
--- what an event does; a refused one, a tick of an ended activation and a second post change nothing
+-- Returns the world after an event. An event that is rejected, a tick of an ended activation and a second post change
+-- nothing.
 abbrev pub happen : Kind → World → Event → World
 happen K w (Tick g) = ticked w g (slice_get w.parts g)
 happen K w (Post g) = posting w g (slice_get w.parts g)
 happen K w Close = cond (round_open w.scenario w.closed) (closing K w) w
 
--- the world after these events, one after another
+-- Returns the world after these events, one after another.
 abbrev pub run : Kind → World → List Event → World
 run K w [] = w
 run K w (e ∷ events) = run K (happen K w e) events
 
--- that there is no such general, or he is not of that kind
+-- Returns `NoGeneral` if the event's general does not exist or is not of the event's kind: a traitor for a tick, a
+-- loyal general for a post.
 abbrev pub unfit : Event → Option Progress → Option EventError
 unfit (Tick g) (Some (Acting a)) = None
 unfit (Post g) (Some Silent) = None
@@ -155,12 +159,13 @@ unfit (Post g) (Some Posted) = None
 unfit Close part = None
 unfit _ _ = Some NoGeneral
 
--- the general of an event; of a close none, told as 0
+-- Returns the general of an event, or 0 for a close, which has none.
 abbrev pub named_by : Event → ℕ
 named_by (Tick g) = g
 named_by (Post g) = g
 named_by Close = 0
 
--- why an event is refused: all rounds are closed, or there is no such general, or he is not of that kind
+-- Returns why an event is rejected, if it is: all rounds are closed, or the general does not exist or is not of the
+-- event's kind.
 abbrev pub refusal : World → Event → Option EventError
 refusal w e = cond (round_open w.scenario w.closed) (unfit e (slice_get w.parts (named_by e))) (Some NotOpen)

@@ -8,8 +8,9 @@ use Rattle.round.specs.Activation.{Activation, started, is_reached}
 use Rattle.round.specs.Runs.{Runs, IsWithin}
 use Rattle.world.specs.Kind.{Kind, accesses_of, each, traitor_letter_with, loyal_letter}
 
--- the letter is what the general's program, or the loyal general, makes of the round behind these:
--- it has run, as far as the letter tells, within the patience, and has ended by itself or by the patience
+-- States that the letter is the one that the general's program, or the loyal general, makes in the round after these
+-- closed rounds. The program has run within the patience as the letter says, and has ended by itself or because the
+-- patience was used up.
 abbrev pub IsLetterOf : Kind → Scenario → List (List Letter) → ℕ → Option (List Insn) → Letter → Type 0
 IsLetterOf K s before g None l = l ≡ loyal_letter K s before g
 IsLetterOf K s before g (Some program) l =
@@ -18,7 +19,7 @@ IsLetterOf K s before g (Some program) l =
     × (l ≡ traitor_letter_with K s before g (Some program) l.transcript l.steps end) × IsWithin s.patience l.steps
     × ((l.exited || is_reached s.patience l.steps) ≡ true)
 
--- the letters of a round, by general, and the entries of a ledger that are theirs
+-- States that these are the letters of a round, by general, and that `piece` has exactly their accesses.
 pub record IsAccountedRound (K : Kind) (s : Scenario) (before : List (List Letter)) (piece : List Access)
     (letters : List Letter) : Type 0 where
   pub count : length letters ≡ s.generals
@@ -26,7 +27,8 @@ pub record IsAccountedRound (K : Kind) (s : Scenario) (before : List (List Lette
       IsLetterOf K s before g (program_of s g) l × (accesses_of g piece ≡ l.transcript)
   pub entries : All (λ a. (a.general < s.generals) × (a.round ≡ suc (length before))) piece
 
--- the rounds behind these: the ledger is cut behind as many entries as a round's transcripts have together
+-- States that the ledger accounts for these rounds, which come after the rounds `before`. Each round takes as many
+-- entries from the ledger as its transcripts have in total.
 abbrev pub AreAccounted : Kind → Scenario → List (List Letter) → List Access → List (List Letter) → Type 0
 AreAccounted K s before ledger [] = (length before ≡ suc s.bound) × (ledger ≡ [])
 AreAccounted K s before ledger (letters ∷ rounds) =
@@ -34,19 +36,20 @@ AreAccounted K s before ledger (letters ∷ rounds) =
     IsAccountedRound K s before (take count ledger) letters
     × AreAccounted K s (before ++ letters ∷ []) (drop count ledger) rounds
 
--- the first letter of a general in a round, where there is one
+-- Returns the first letter of a general in a round, if there is one.
 abbrev pub letter_by : ℕ → ℕ → List Letter → Option Letter
 letter_by g round letters = find (λ l. (l.general == g) && (l.round == round)) letters
 
--- the letters of a round, by general
+-- Returns the letters of a round, by general.
 abbrev pub letters_by : ℕ → ℕ → List Letter → List Letter
 letters_by n round letters = each n (λ g. option_to_list (letter_by g round letters))
 
--- the letters by round and general
+-- Returns the letters by round and general.
 abbrev pub rounds_of : Scenario → List Letter → List (List Letter)
 rounds_of s letters = each (suc s.bound) (λ r. letters_by s.generals (suc r) letters ∷ [])
 
--- the letters, in whatever order, are one for each general and round, and the ledger has their accesses and no others
+-- States that the letters, in any order, are one for each general and round, and that the ledger has exactly their
+-- accesses.
 abbrev pub IsAccounted : Kind → Scenario → List Access → List Letter → Type 0
 IsAccounted K s ledger letters =
     (length letters ≡ suc s.bound * s.generals) × AreAccounted K s [] ledger (rounds_of s letters)

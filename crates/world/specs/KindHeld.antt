@@ -1,5 +1,5 @@
--- How code holds a world of some kind, and what one event leaves of its parts and its board (own). `apply` of both
--- worlds cites `IsAnswer` of this: which error comes. What a world is and does, Kind.antt says.
+-- How the code holds a world of some kind, and what one event leaves of its parts and its board (own). `apply` of both
+-- worlds cites `IsAnswer` of this file, which says which error is returned. Kind.antt says what a world is and does.
 use Rattle.std.specs.Prelude.{ℕ, suc, ◌≡◌, ◌≤◌, ◌-◌, cond, Bool, List, [], ◌∷◌, length, slice_set, slice_get, Option, None, Some}
 use Rattle.board.specs.Board.{Access}
 use Rattle.board.specs.Ledger.{RecordedBoard}
@@ -15,17 +15,19 @@ use Rattle.world.specs.declared.event.EventError.TheVariants.{Memory}
 use Rattle.world.specs.Part.{Progress, Acting, Silent, Posted}
 use Rattle.world.specs.Kind.{Kind, World, each, accesses_of, begins, round_open, opening, run, loyal_letter, letter_of_part}
 
--- a tick enters an access, and a close keeps letters; a post takes no memory
+-- States that an event may need memory. A tick enters an access into the ledger and a close keeps letters, but a post
+-- needs no memory.
 abbrev pub TakesMemory : Event → Type 0
 TakesMemory (Post g) = ⊥
 TakesMemory _ = Unit {0}
 
--- an error is the refusal, and where nothing is refused the want of memory
+-- States that the error is the reason for which the event is rejected. If it is not rejected, the error is `Memory`,
+-- and the event needs memory.
 abbrev pub IsAnswer : Event → EventError → Option EventError → Type 0
 IsAnswer event error (Some refused) = error ≡ refused
 IsAnswer event error None = (error ≡ Memory) × TakesMemory event
 
--- what a tick leaves
+-- Returns the parts and the board after a tick of a general.
 abbrev pub ticked_of : ℕ → ℕ → List Progress → RecordedBoard → Option Progress → List Progress × RecordedBoard
 ticked_of general round parts board (Some (Acting a)) = (
   slice_set parts general (Acting (moved general round a board (turn a)).0),
@@ -33,47 +35,48 @@ ticked_of general round parts board (Some (Acting a)) = (
 )
 ticked_of general round parts board _ = (parts, board)
 
--- what a post leaves
+-- Returns the parts after a post of a general.
 abbrev pub posted_of : ℕ → List Progress → Option Progress → List Progress
 posted_of general parts (Some Silent) = slice_set parts general Posted
 posted_of general parts _ = parts
 
--- what some turns of a general without an access leave, up to so many steps in all
+-- States that `new` has the parts after `taken` turns of a general without an access. He has then taken at most `limit`
+-- steps in all, and his activation pauses there.
 abbrev pub AheadTo : ℕ → ℕ → List Progress → ℕ → Option Progress → List Progress → Type 0
 AheadTo limit taken parts g (Some (Acting a)) new =
     (b : Activation) × Runs taken a [] b × (taken ≤ limit - a.state.steps) × Pauses limit b (turn b)
     × (new ≡ slice_set parts g (Acting b))
 AheadTo limit taken parts g _ new = (taken ≡ 0) × (new ≡ parts)
 
--- how many steps a part has taken
+-- Returns how many steps the activation of a part has taken, which is 0 for a loyal general.
 abbrev pub steps_of : Option Progress → ℕ
 steps_of (Some (Acting a)) = a.state.steps
 steps_of _ = 0
 
--- a general's letter, or none, from his part and the round's accesses
+-- Returns a general's letter, if he has one, from his part and the accesses of the round.
 abbrev pub letter_held : Kind → Scenario → List (List Letter) → List Access → ℕ → Option Progress → List Letter
 letter_held K s closed accesses g part =
     letter_of_part (λ a. letter_left g (suc (length closed)) (accesses_of g accesses) a) (loyal_letter K s closed g)
     part
 
--- the letters of a round
+-- Returns the letters of a round.
 abbrev pub letters_held : Kind → Scenario → List (List Letter) → List Access → List Progress → List Letter
 letters_held K s closed accesses parts = each s.generals (λ g. letter_held K s closed accesses g (slice_get parts g))
 
--- how the generals begin the round behind these
+-- Returns the parts of the generals at the start of the round after these closed rounds, or none after the last round.
 abbrev pub beginnings : Kind → Scenario → List (List Letter) → List Progress
 beginnings K s closed = cond (round_open s closed) (each s.generals (λ g. begins K s closed g (program_of s g) ∷ [])) []
 
--- what each acting general has done is a letter's run
+-- States that each activation has run as its letter says.
 abbrev pub AreLetters : ℕ → List Access → List Progress → Type 0
 AreLetters round accesses parts = (g : ℕ) (a : Activation) → slice_get parts g ≡ Some (Acting a) →
     IsLetter (letter_left g round (accesses_of g accesses) a)
 
--- some list of events leads here from the opening of its scenario
+-- States that some list of events leads from the opening of the world's scenario to the world.
 abbrev pub IsReached : Kind → World → Type 0
 IsReached K w = (events : List Event) × (run K (opening K w.scenario) events ≡ w)
 
--- a world by what it is made of
+-- Returns the world with these parts.
 abbrev pub world_of : Scenario → List (List Letter) → RecordedBoard → ℕ → List Progress → Bool → World
 world_of s closed board opened parts full =
     record {
@@ -86,7 +89,8 @@ world_of s closed board opened parts full =
       full = full;
     }
 
--- what is kept of a world: some list of events leads here, and its board opened as the scenario says
+-- States what the code guarantees about a world: some list of events leads to it, and its board opened with the
+-- scenario's words.
 pub record IsHeld (K : Kind) (s : Scenario) (closed : List (List Letter)) (board : RecordedBoard) (opened : ℕ)
     (parts : List Progress) (full : Bool) : Type 0 where
   pub reached : IsReached K (world_of s closed board opened parts full)

@@ -1,4 +1,4 @@
--- Worlds of oral campaigns that come about, as code holds them (own).
+-- Worlds of oral campaigns that events can lead to, as the code holds them (own).
 use Rattle.std.specs.Prelude.{ℕ, Bool, List}
 use Rattle.board.specs.Ledger.{RecordedBoard}
 use Rattle.round.specs.Scenario.{Scenario}
@@ -8,10 +8,11 @@ use Rattle.world.specs.World.{World, oral_kind}
 use Rattle.world.specs.KindHeld as held
 pub use Rattle.world.specs.KindHeld.{world_of}
 
--- some list of events leads here from the opening of its scenario
+-- States that some list of events leads from the opening of the world's scenario to the world.
 abbrev pub IsReached : World → Type 0
 IsReached w = held.IsReached oral_kind w
 
--- what is kept of a world: some list of events leads here, and its board opened as the scenario says
+-- States what the code guarantees about a world: some list of events leads to it, and its board opened with the
+-- scenario's words.
 abbrev pub IsHeld : Scenario → List (List Letter) → RecordedBoard → ℕ → List Progress → Bool → Type 0
 IsHeld s closed board opened parts full = held.IsHeld oral_kind s closed board opened parts full

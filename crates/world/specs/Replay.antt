@@ -1,5 +1,5 @@
--- What lists of events and ledgers decide, in campaigns of some kind. Each law is the contract of a function, here of
--- oral ones.
+-- What lists of events and ledgers determine, in campaigns of some kind. Each law is the contract of a function, here
+-- for oral ones.
 use Rattle.std.specs.Prelude.{ℕ, ◌≡◌, ◌<◌, true, All, List, [], map, flat_map}
 use Rattle.semantics.specs.declared.request.Request.{Request}
 use Rattle.board.specs.Board.{Access, words_after, IsLegal}
@@ -16,13 +16,13 @@ use Rattle.world.specs.KindAccounted.{AreAccounted, rounds_of, IsAccounted}
 use Rattle.world.specs.Chronicle.{chronicle_of}
 use Rattle.world.specs.Lists as plays
 
--- listed and replayed lists of events are complete
+-- States that the events of a schedule and the events of a replay are complete.
 pub record ListsAreComplete (K : Kind) : Type 0 where
   pub listed : (s : Scenario) (lines : List (List ℕ)) → IsScenario s → IsComplete K s (listed s lines)
   pub replayed : (s : Scenario) (names : List (List ℕ)) → IsScenario s → IsComplete K s (replayed K s names)
 
--- from one beginning two ripe worlds with one ledger are one world, and a general's next request follows from his
--- answers
+-- States that the ledger determines a ripe world: two ripe worlds that moves reach from the same world are the same if
+-- their ledgers are. A general's next request is determined by the replies to his earlier ones.
 pub record LedgersDecide (K : Kind) : Type 0 where
   pub worlds : (s : Scenario) (before events others : List Event) → IsScenario s → AreMoves events → AreMoves others →
       IsRipe (run K (run K (opening K s) before) events) → IsRipe (run K (run K (opening K s) before) others) →
@@ -34,24 +34,24 @@ pub record LedgersDecide (K : Kind) : Type 0 where
       Runs k start transcript one → Runs j start served two → turn one ≡ Asks request answered →
       turn two ≡ Asks other resumed → request ≡ other
 
--- a complete run is the replay of its own accesses, which are those of generals of the campaign
+-- States that a complete run is the replay of its own accesses, which are those of generals of the campaign.
 pub record RunsAreReplays (K : Kind) : Type 0 where
   pub worlds : (s : Scenario) (events : List Event) → IsScenario s → IsComplete K s events →
       replay_world K s (run K (opening K s) events).ledger ≡ run K (opening K s) events
   pub generals : (s : Scenario) (events : List Event) → IsScenario s → IsComplete K s events →
       All (λ a. a.general < s.generals) (run K (opening K s) events).ledger
 
--- of an oral campaign the world of the replay of a ledger
+-- Returns the world of the replay of a ledger in an oral campaign.
 abbrev pub replay_of : Scenario → List Access → World
 replay_of s ledger = replay_world oral_kind s ledger
 
--- and so the chronicle of a complete run is that of the replay
+-- States that the chronicle of a complete run is that of the replay of its accesses.
 abbrev pub ChroniclesAreReplays : Type 0
 ChroniclesAreReplays = (s : Scenario) (events : List Event) → IsScenario s → plays.IsComplete s events →
     chronicle_of (oral.run (oral.opening s) events)
     ≡ chronicle_of (replay_of s (oral.run (oral.opening s) events).ledger)
 
--- letters that a legal ledger accounts for are, by round and general, those of its replay, which is a complete run
+-- States that letters that a legal ledger accounts for are, by round and general, those of the replay of the ledger.
 pub record AccountsAreRuns (K : Kind) : Type 0 where
   pub rounds : (s : Scenario) (ledger : List Access) (rounds : List (List Letter)) → IsScenario s →
       IsLegal s.board ledger → AreAccounted K s [] ledger rounds →
@@ -63,7 +63,7 @@ pub record AccountsAreRuns (K : Kind) : Type 0 where
       IsLegal s.board ledger → IsAccounted K s ledger letters → IsAccounted K s ledger others →
       rounds_of s letters ≡ rounds_of s others
 
--- a complete run's ledger is legal and accounts for its letters
+-- States that the ledger of a complete run is legal and accounts for its letters.
 pub record RunsAreAccounted (K : Kind) : Type 0 where
   pub rounds : (s : Scenario) (events : List Event) → IsScenario s → IsComplete K s events →
       IsLegal s.board (run K (opening K s) events).ledger
@@ -72,13 +72,13 @@ pub record RunsAreAccounted (K : Kind) : Type 0 where
       IsAccounted K s (run K (opening K s) events).ledger
       (flat_map (λ (round : List Letter). round) (run K (opening K s) events).closed)
 
--- a ledger legal from the board's opening words on, which leaves its words, with accesses of the campaign's traitors
--- alone
+-- States that the world's ledger is legal from the board's opening words on, that it results in the board's words, and
+-- that it has accesses only of traitors of the campaign.
 pub record IsLedgerOf (s : Scenario) (w : World) : Type 0 where
   pub legal : IsLegal s.board w.ledger
   pub words : w.words ≡ words_after s.board w.ledger
   pub traitors : All (λ a. (a.general < s.generals) × (is_traitor s a.general ≡ true)) w.ledger
 
--- whatever happens, the world's is such a ledger
+-- States that the ledger of every world is legal, results in the board's words, and has accesses only of traitors.
 abbrev pub LedgersAreLegal : Kind → Type 0
 LedgersAreLegal K = (s : Scenario) (events : List Event) → IsScenario s → IsLedgerOf s (run K (opening K s) events)

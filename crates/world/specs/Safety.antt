@@ -1,5 +1,5 @@
--- What the activations and letters of every world are, in campaigns of some kind. Each law is the contract of a
--- function, here of oral ones.
+-- What holds for the activations and letters of every world, in campaigns of some kind. Each law is the contract of a
+-- function, here for oral ones.
 use Rattle.std.specs.Prelude.{ℕ, suc, ◌≡◌, ◌≢◌, ◌<◌, ◌≤◌, false, All, List, length, take, drop, slice_get, Option, None, Some}
 use Rattle.insn.specs.declared.insn.Insn.{Insn}
 use Rattle.semantics.specs.State.{Cause, Trap}
@@ -12,11 +12,11 @@ use Rattle.world.specs.declared.event.Event.{Event}
 use Rattle.world.specs.Part.{Acting}
 use Rattle.world.specs.Kind.{Kind, World, accesses_of, opening, run, loyal_letter}
 
--- a traitor's letter has no more steps than his program has instructions
+-- States that a traitor's letter has at most as many steps as his program has instructions.
 abbrev pub IsShort : Letter → Type 0
 IsShort l = (program : List Insn) → l.program ≡ Some program → l.steps ≤ length program
 
--- whatever happens, no activation traps or takes more steps than its program has instructions
+-- States that, whatever events happen, no activation traps or takes more steps than its program has instructions.
 pub record ActivationsAreSafe (K : Kind) : Type 0 where
   pub untrapped : (s : Scenario) (events : List Event) (g : ℕ) (a : Activation) (cause : Cause) → IsScenario s →
       slice_get (run K (opening K s) events).parts g ≡ Some (Acting a) → has_ended a ≡ false →
@@ -26,8 +26,8 @@ pub record ActivationsAreSafe (K : Kind) : Type 0 where
   pub letters : (s : Scenario) (events : List Event) → IsScenario s →
       All (λ letters. All IsShort letters) (run K (opening K s) events).closed
 
--- the activation is that of a general in the round behind these, which is one of the campaign: what he runs, what he
--- was told, whom he relays to, and his patience
+-- States that the activation is that of general `g` in the round after these closed rounds, which is a round of the
+-- campaign. It has his program, his context, his relay and the scenario's patience.
 pub record IsPlaced (K : Kind) (s : Scenario) (closed : List (List Letter)) (g : ℕ) (a : Activation) : Type 0 where
   pub general : g < s.generals
   pub rounds : length closed ≤ s.bound
@@ -36,24 +36,26 @@ pub record IsPlaced (K : Kind) (s : Scenario) (closed : List (List Letter)) (g :
   pub relay : a.relay ≡ K.relay s closed g
   pub patience : a.patience ≡ s.patience
 
--- each acting general has his program, the context and the relay of the open round, and the patience
+-- States that each acting general has his program, the context and the relay of the open round, and the patience.
 abbrev pub PartsArePlaced : Kind → Type 0
 PartsArePlaced K = (s : Scenario) (events : List Event) (g : ℕ) (a : Activation) → IsScenario s →
     slice_get (run K (opening K s) events).parts g ≡ Some (Acting a) →
     IsPlaced K s (run K (opening K s) events).closed g a
 
--- it has come from its start in the steps that it counts, by his accesses in the open round, whose replies fit
+-- States that the activation has come from its start in the steps that it counts, by the general's accesses in the open
+-- round, whose replies fit.
 abbrev pub HasRun : World → ℕ → Activation → Type 0
 HasRun w g a =
     let transcript = accesses_of g (drop w.opened w.ledger) in
     AreFitting transcript × Runs a.state.steps (started a.patience a.program a.context a.relay) transcript a
 
--- a loyal general's letter is what he took, a traitor's the run of its transcript
+-- States that a loyal general's letter contains what he took, and that a traitor's letter is the run of its transcript.
 abbrev pub IsMade : Kind → Scenario → List (List Letter) → Letter → Option (List Insn) → Type 0
 IsMade K s before l None = l ≡ loyal_letter K s before l.general
 IsMade K s before l (Some program) = IsRunOf l (Some program)
 
--- a letter of the round behind these, which is one of the campaign; its steps lie within the patience
+-- States that the letter belongs to the round after these closed rounds, which is a round of the campaign, and that its
+-- steps are within the patience.
 pub record IsLetterIn (K : Kind) (s : Scenario) (before : List (List Letter)) (l : Letter) : Type 0 where
   pub general : l.general < s.generals
   pub rounds : length before ≤ s.bound
@@ -64,7 +66,7 @@ pub record IsLetterIn (K : Kind) (s : Scenario) (before : List (List Letter)) (l
   pub made : IsMade K s before l l.program
   pub within : IsWithin s.patience l.steps
 
--- every open activation and every closed letter is a run of its transcript, also an unfinished one
+-- States that every open activation and every closed letter is a run of its transcript. The run may be unfinished.
 pub record ActivationsAreRuns (K : Kind) : Type 0 where
   pub parts : (s : Scenario) (events : List Event) (g : ℕ) (a : Activation) → IsScenario s →
       slice_get (run K (opening K s) events).parts g ≡ Some (Acting a) → HasRun (run K (opening K s) events) g a

@@ -2,10 +2,10 @@
 use Rattle.std.specs.Prelude.{ℕ, List, map, flat_map, replicate}
 use Rattle.world.specs.declared.schedule.Repeat.{Repeat}
 
--- the entries of a line one by one: each a general's number
+-- Returns the entries of a line one by one. Each entry is a general's number.
 abbrev pub entries_of : List Repeat → List ℕ
 entries_of repeats = flat_map (λ r. replicate r.times r.general) repeats
 
--- a schedule line by line, as the lists of events by a schedule take it
+-- Returns the entries of a schedule, line by line.
 abbrev pub lines_by : List (List Repeat) → List (List ℕ)
 lines_by schedule = map entries_of schedule

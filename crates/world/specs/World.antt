@@ -1,4 +1,5 @@
--- The world of an oral campaign: a world of that kind (own).
+-- The world of an oral campaign: a world of that kind (own). Each definition is the one of Kind.antt for oral
+-- campaigns.
 use Rattle.std.specs.Prelude.{ℕ, suc, Bool, List, [], length, Option}
 use Rattle.insn.specs.declared.insn.Insn.{Insn}
 use Rattle.board.specs.Board.{Access}
@@ -13,8 +14,8 @@ use Rattle.world.specs.Kind as kind
 use Rattle.world.specs.Kind.{Kind}
 pub use Rattle.world.specs.Kind.{World, each, round_open, accesses_of, served, ticked, posting, unfit, named_by, refusal}
 
--- orders are oral: a general is told what he took of each label that he relays, and a loyal one tells each receiver
--- just that
+-- The kind of campaigns with oral orders. A general receives the orders that he took for the labels that he relays, and
+-- a loyal general sends them to each receiver.
 abbrev pub oral_kind : Kind
 oral_kind = record {
   context = context_of;

@@ -1,4 +1,5 @@
-//! Campaigns from a scenario to their chronicle, and from their opening to their end in a world of whichever kind.
+//! Plays campaigns from a scenario to their chronicle, by a schedule or as a replay. The functions that take a world
+//! work for every kind of campaign.
 ghost use Rattle.std.specs.Prelude.{◌≡◌, IfOk, ◌<◌, [], suc, OnOk, replicate, slice_get, slice_index_or};
 ghost use Rattle.round.specs.Letters.{messages};
 ghost use Rattle.world.specs.Agreement.{IsFinished};
@@ -21,12 +22,13 @@ use crate::world::World;
 use round::Scenario;
 use std::alloc::{AllocError, Global};
 
-/// The chronicle of the scenario's campaign by a schedule: in each round its entries one by one, then the letters of
-/// all loyal generals and what is left of the traitors' instructions, ascending by number.
+/// Returns the chronicle of the scenario's campaign, played by a schedule. In each round the entries of its line are
+/// played one by one. Then all loyal generals post their letters, and the traitors run to their ends, each in ascending
+/// order.
 ///
 /// # Errors
 ///
-/// `AllocError` where memory is refused.
+/// Fails with `AllocError` if it runs out of memory.
 pub fn play(alloc: Global, scenario: Scenario, schedule: &Schedule) -> Result<Chronicle, AllocError>
     ensures listed { IfOk result
         (λ chronicle. chronicle ≡ chronicle_of (run (opening scenario) (listed scenario (lines_by schedule.now)))) }
@@ -44,12 +46,12 @@ pub fn play(alloc: Global, scenario: Scenario, schedule: &Schedule) -> Result<Ch
     }
 }
 
-/// The chronicle of the scenario's campaign in which these generals, by round, make their accesses in this order; a
-/// round without names has none, and names beyond the last round give nothing.
+/// Returns the chronicle of the scenario's campaign in which these generals, by round, make their accesses in this
+/// order. Accesses that are not named follow as each round is finished, and names after the last round are ignored.
 ///
 /// # Errors
 ///
-/// `AllocError` where memory is refused.
+/// Fails with `AllocError` if it runs out of memory.
 pub fn replay(alloc: Global, scenario: Scenario, names: &[Vec<u8>]) -> Result<Chronicle, AllocError>
     ensures replayed { IfOk result
         (λ chronicle. chronicle ≡ chronicle_of (run (opening scenario) (replayed scenario (lists_in names.now)))) }
@@ -65,7 +67,7 @@ pub fn replay(alloc: Global, scenario: Scenario, names: &[Vec<u8>]) -> Result<Ch
     }
 }
 
-/// The scenario's campaign by a schedule, to its end.
+/// Returns the world of the scenario's campaign, played by a schedule to its end.
 fn played(alloc: Global, scenario: Scenario, schedule: &Schedule) -> Result<World, AllocError>
     ensures listed { IfOk result (λ world. world ≡ run (opening scenario) (listed scenario (lines_by schedule.now))) }
     ensures finished { IfOk result IsFinished }
@@ -76,7 +78,8 @@ fn played(alloc: Global, scenario: Scenario, schedule: &Schedule) -> Result<Worl
     Ok(world)
 }
 
-/// The scenario's campaign in which these generals, by round, make their accesses in this order, to its end.
+/// Returns the world of the scenario's campaign, played to its end, in which these generals, by round, make their
+/// accesses in this order.
 fn replayed(alloc: Global, scenario: Scenario, names: &[Vec<u8>]) -> Result<World, AllocError>
     ensures replayed { IfOk result (λ world. world ≡ run (opening scenario) (replayed scenario (lists_in names.now))) }
     ensures finished { IfOk result IsFinished }
@@ -87,7 +90,8 @@ fn replayed(alloc: Global, scenario: Scenario, names: &[Vec<u8>]) -> Result<Worl
     Ok(world)
 }
 
-/// So many ticks of a general. They are not gone through one by one: from one access to the next he runs on.
+/// Ticks a general `times` times. The ticks are not taken one by one: the activation runs on from one access to the
+/// next.
 fn tick_often<W: PlayableWorld>(world: &mut W, general: u32, times: u32) -> Result<(), AllocError>
     ensures { OnOk result (W.seen world.new ≡ run_of W.kind (W.seen world.old) (replicate times (Tick general))) }
 {
@@ -107,7 +111,8 @@ fn tick_often<W: PlayableWorld>(world: &mut W, general: u32, times: u32) -> Resu
     Ok(())
 }
 
-/// A general's entries: a traitor's ticks or a loyal general's posts; none where there is no such general.
+/// Plays a repeated entry of a schedule's line: a traitor's ticks or a loyal general's posts. If there is no such
+/// general, it does nothing.
 fn play_entry<W: PlayableWorld>(world: &mut W, repeat: Repeat) -> Result<(), AllocError>
     ensures { OnOk result (W.seen world.new
         ≡ run_of W.kind (W.seen world.old)
@@ -122,7 +127,7 @@ fn play_entry<W: PlayableWorld>(world: &mut W, repeat: Repeat) -> Result<(), All
     repeated(world, repeat.general, u32::from(repeat.times))
 }
 
-/// So many entries of one general.
+/// Plays `times` entries of one general.
 fn repeated<W: PlayableWorld>(world: &mut W, general: u8, times: u32) -> Result<(), AllocError>
     requires inside { general < (W.seen world.old).scenario.generals }
     requires some { 0 < times }
@@ -137,7 +142,7 @@ fn repeated<W: PlayableWorld>(world: &mut W, general: u8, times: u32) -> Result<
     Ok(())
 }
 
-/// So many posts of a loyal general are one.
+/// Posts a loyal general's letter `times` times, which has the effect of posting it once.
 fn post_often<W: PlayableWorld>(world: &mut W, general: u32, times: u32)
     requires { 0 < times }
     ensures { W.seen world.new ≡ run_of W.kind (W.seen world.old) (replicate times (Post general)) }
@@ -146,7 +151,7 @@ fn post_often<W: PlayableWorld>(world: &mut W, general: u32, times: u32)
     world.give_post(general);
 }
 
-/// The entries of a schedule's line.
+/// Plays the entries of a schedule's line.
 fn play_line<W: PlayableWorld>(world: &mut W, repeats: &[Repeat]) -> Result<(), AllocError>
     ensures { OnOk result (W.seen world.new
         ≡ run_of W.kind (W.seen world.old) (line_events (W.seen world.old).scenario (entries_of repeats.now))) }
@@ -157,7 +162,7 @@ fn play_line<W: PlayableWorld>(world: &mut W, repeats: &[Repeat]) -> Result<(), 
     Ok(())
 }
 
-/// A named traitor's ticks until he has made one more access or has ended; nothing for another name.
+/// Ticks a traitor until he has made one more access or has ended. For any other general it does nothing.
 fn tick_to_access<W: PlayableWorld>(world: &mut W, general: u32) -> Result<(), AllocError>
     ensures { OnOk result (W.seen world.new
         ≡ run_of W.kind (W.seen world.old) (ticks_named general (slice_get (W.seen world.old).parts general))) }
@@ -172,11 +177,12 @@ fn tick_to_access<W: PlayableWorld>(world: &mut W, general: u32) -> Result<(), A
     }
 }
 
-/// The accesses of the generals that are named for a round, in their order.
+/// Lets the generals that are named for a round make their accesses in this order.
 ///
 /// # Errors
 ///
-/// `AllocError` where memory is refused. No more is said of the world then than of every world of its kind: let it go.
+/// Fails with `AllocError` if it runs out of memory. The world is then valid, but nothing else is known about it, and
+/// it should be dropped.
 pub fn play_names<W: PlayableWorld>(world: &mut W, names: &[u8]) -> Result<(), AllocError>
     ensures { OnOk result (W.seen world.new
         ≡ run_of W.kind (W.seen world.old) (names_events W.kind (W.seen world.old) names.now)) }
@@ -187,7 +193,7 @@ pub fn play_names<W: PlayableWorld>(world: &mut W, names: &[u8]) -> Result<(), A
     Ok(())
 }
 
-/// Marks the general as one who has posted, where he is loyal.
+/// Marks the general as having posted if he is loyal.
 fn post_if_loyal<W: PlayableWorld>(world: &mut W, general: u8)
     requires { general < (W.seen world.old).scenario.generals }
     ensures { W.seen world.new
@@ -198,7 +204,7 @@ fn post_if_loyal<W: PlayableWorld>(world: &mut W, general: u8)
     }
 }
 
-/// A traitor's ticks to his end.
+/// Ticks a traitor to his end. For a loyal general it does nothing.
 fn tick_to_end<W: PlayableWorld>(world: &mut W, general: u8) -> Result<(), AllocError>
     requires { general < (W.seen world.old).scenario.generals }
     ensures { OnOk result (W.seen world.new
@@ -213,7 +219,7 @@ fn tick_to_end<W: PlayableWorld>(world: &mut W, general: u8) -> Result<(), Alloc
     }
 }
 
-/// Marks all loyal generals as having posted, ascending.
+/// Marks all loyal generals as having posted, in ascending order.
 fn all_post<W: PlayableWorld>(world: &mut W)
     ensures { W.seen world.new
         ≡ run_of W.kind (W.seen world.old)
@@ -224,7 +230,7 @@ fn all_post<W: PlayableWorld>(world: &mut W)
     }
 }
 
-/// All traitors' ticks to their ends, ascending.
+/// Ticks all traitors to their ends, in ascending order.
 fn all_end<W: PlayableWorld>(world: &mut W) -> Result<(), AllocError>
     ensures { OnOk result (W.seen world.new
         ≡ run_of W.kind (W.seen world.old)
@@ -236,7 +242,7 @@ fn all_end<W: PlayableWorld>(world: &mut W) -> Result<(), AllocError>
     Ok(())
 }
 
-/// The end of the round, where one is open.
+/// Closes the round if one is open.
 fn end_round<W: PlayableWorld>(world: &mut W) -> Result<(), AllocError>
     ensures { OnOk result (W.seen world.new ≡ happen W.kind (W.seen world.old) Close) }
 {
@@ -246,11 +252,12 @@ fn end_round<W: PlayableWorld>(world: &mut W) -> Result<(), AllocError>
     world.close_round()
 }
 
-/// All loyal generals post, all traitors go to their ends, and the round is closed.
+/// Finishes the round: all loyal generals post, all traitors run to their ends, and the round is closed.
 ///
 /// # Errors
 ///
-/// `AllocError` where memory is refused. No more is said of the world then than of every world of its kind: let it go.
+/// Fails with `AllocError` if it runs out of memory. The world is then valid, but nothing else is known about it, and
+/// it should be dropped.
 pub fn wind_up<W: PlayableWorld>(world: &mut W) -> Result<(), AllocError>
     ensures { OnOk result (W.seen world.new ≡ run_of W.kind (W.seen world.old) (wound_up (W.seen world.old).scenario)) }
 {
@@ -259,7 +266,7 @@ pub fn wind_up<W: PlayableWorld>(world: &mut W) -> Result<(), AllocError>
     end_round(world)
 }
 
-/// A round by a line of a schedule.
+/// Plays a round by a line of a schedule, and finishes it.
 fn listed_round<W: PlayableWorld>(world: &mut W, line: &[Repeat]) -> Result<(), AllocError>
     ensures { OnOk result (W.seen world.new
         ≡ run_of W.kind
@@ -270,11 +277,12 @@ fn listed_round<W: PlayableWorld>(world: &mut W, line: &[Repeat]) -> Result<(), 
     wind_up(world)
 }
 
-/// A round by names.
+/// Plays a round in which these generals make their accesses in this order, and finishes it.
 ///
 /// # Errors
 ///
-/// `AllocError` where memory is refused. No more is said of the world then than of every world of its kind: let it go.
+/// Fails with `AllocError` if it runs out of memory. The world is then valid, but nothing else is known about it, and
+/// it should be dropped.
 pub fn named_round<W: PlayableWorld>(world: &mut W, names: &[u8]) -> Result<(), AllocError>
     ensures { OnOk result (W.seen world.new
         ≡ run_of W.kind (run_of W.kind (W.seen world.old) (names_events W.kind (W.seen world.old) names.now))
@@ -284,11 +292,12 @@ pub fn named_round<W: PlayableWorld>(world: &mut W, names: &[u8]) -> Result<(), 
     wind_up(world)
 }
 
-/// As many rounds more as the campaign has, by a schedule: from its opening on, all of it.
+/// Plays `bound + 1` rounds by a schedule. From the opening of a world on, this is the whole campaign.
 ///
 /// # Errors
 ///
-/// `AllocError` where memory is refused. No more is said of the world then than of every world of its kind: let it go.
+/// Fails with `AllocError` if it runs out of memory. The world is then valid, but nothing else is known about it, and
+/// it should be dropped.
 pub fn play_listed<W: PlayableWorld>(world: &mut W, schedule: &Schedule) -> Result<(), AllocError>
     ensures { OnOk result (W.seen world.new
         ≡ run_of W.kind (W.seen world.old)
@@ -301,12 +310,13 @@ pub fn play_listed<W: PlayableWorld>(world: &mut W, schedule: &Schedule) -> Resu
     Ok(())
 }
 
-/// As many rounds more as the campaign has, in which these generals, by round, make their accesses in this order: from
-/// its opening on, all of it. A round without names has no accesses.
+/// Plays `bound + 1` rounds in which these generals, by round, make their accesses in this order. Accesses that are not
+/// named follow as each round is finished. From the opening of a world on, this is the whole campaign.
 ///
 /// # Errors
 ///
-/// `AllocError` where memory is refused. No more is said of the world then than of every world of its kind: let it go.
+/// Fails with `AllocError` if it runs out of memory. The world is then valid, but nothing else is known about it, and
+/// it should be dropped.
 pub fn play_named<W: PlayableWorld>(world: &mut W, names: &[Vec<u8>]) -> Result<(), AllocError>
     ensures { OnOk result (W.seen world.new
         ≡ run_of W.kind (W.seen world.old)
@@ -319,7 +329,7 @@ pub fn play_named<W: PlayableWorld>(world: &mut W, names: &[Vec<u8>]) -> Result<
     Ok(())
 }
 
-/// The entries for a round, counted from 0.
+/// Returns the entries of a schedule for a round, counted from 0. They are empty if the schedule has no such line.
 fn line_at(schedule: &Schedule, round: usize) -> &[Repeat]
     ensures { result.now ≡ slice_index_or schedule.now round [] }
 {
@@ -329,7 +339,7 @@ fn line_at(schedule: &Schedule, round: usize) -> &[Repeat]
     }
 }
 
-/// The names for a round, counted from 0.
+/// Returns the names for a round, counted from 0. They are empty if there is no such round in the list.
 fn names_at(names: &[Vec<u8>], round: usize) -> &[u8]
     ensures { result.now ≡ slice_index_or (lists_in names.now) round [] }
 {

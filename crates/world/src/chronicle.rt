@@ -1,4 +1,4 @@
-//! What is told of a finished campaign.
+//! The chronicle of a finished campaign: letters, accesses, decisions and verdict.
 ghost use Rattle.std.specs.Prelude.{◌≡◌};
 ghost use Rattle.world.specs.Chronicle.{chronicle_with, verdict_of};
 
@@ -9,7 +9,7 @@ use board::Access;
 use round::{Round, Scenario};
 use std::marker::Model;
 
-/// What is told of a finished campaign: its letters, its accesses, the lieutenants' decisions and the verdict on them.
+/// The record of a finished campaign: its letters, its accesses, the lieutenants' decisions and the verdict on them.
 #[derive(Drop)]
 pub struct Chronicle {
     scenario: Scenario,
@@ -34,8 +34,8 @@ impl Model for Chronicle {
 }
 
 impl Chronicle {
-    /// The chronicle of these accesses in the board's order, these letters by round and in a round by general, and the
-    /// decision of each lieutenant, ascending by number. The verdict is computed of the scenario and the decisions.
+    /// Returns the chronicle with these accesses in the board's order, these letters by round and general, and the
+    /// decisions of the lieutenants, ascending by number. The verdict is computed from the scenario and the decisions.
     pub fn of(
         scenario: Scenario,
         accesses: Vec<Access>,
@@ -54,35 +54,35 @@ impl Chronicle {
         }
     }
 
-    /// Its campaign.
+    /// Returns the scenario of the campaign.
     pub fn scenario(&self) -> &Scenario
         ensures { result.now ≡ self.now.scenario }
     {
         &self.scenario
     }
 
-    /// The letters, by round from the first, and in a round by general.
+    /// Returns the letters by round, the first round first, and within a round by general.
     pub fn letters(&self) -> &[Round]
         ensures { result.now ≡ self.now.letters }
     {
         self.letters.as_slice()
     }
 
-    /// The accesses, in the board's order.
+    /// Returns the accesses in the board's order.
     pub fn accesses(&self) -> &[Access]
         ensures { result.now ≡ self.now.accesses }
     {
         self.accesses.as_slice()
     }
 
-    /// The decision of each lieutenant, ascending by number.
+    /// Returns the decisions of the lieutenants, ascending by number.
     pub fn decisions(&self) -> &[u32]
         ensures { result.now ≡ self.now.decisions }
     {
         self.decisions.as_slice()
     }
 
-    /// The verdict on the decisions.
+    /// Returns the verdict on the decisions.
     pub fn verdict(&self) -> Verdict
         ensures { result ≡ self.now.verdict }
     {

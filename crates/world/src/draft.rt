@@ -1,9 +1,9 @@
-//! What is written of a general's letter before his activation is taken apart.
+//! The draft of a general's letter, made before his activation is taken apart as a round is closed.
 use board::Access;
 use round::Letter;
 use std::marker::Model;
 
-/// One general's accesses of a round, seen as their list.
+/// One general's accesses of a round. In contracts it is the list of the accesses.
 #[derive(Drop)]
 pub struct Transcript {
     pub accesses: Vec<Access>,
@@ -18,10 +18,10 @@ impl Model for Transcript {
     ghost view = { λ t. t.accesses.items };
 }
 
-/// A general's letter as far as it takes memory.
+/// The parts of a general's letter for which memory must be allocated.
 #[derive(Drop)]
 pub enum LetterDraft {
-    /// A traitor's accesses: all else is in his activation.
+    /// A traitor's accesses. The rest of his letter is in his activation.
     Begun(Transcript),
     /// A loyal general's letter.
     Whole(Letter),

@@ -1,26 +1,28 @@
+//! The events of a campaign, and why an event is rejected.
 use std::alloc::AllocError;
 use std::error::Error;
 use std::fmt;
 
-/// What happens in a campaign.
+/// An event of a campaign.
 #[derive(Clone, Copy)]
 pub enum Event {
-    /// One instruction of this traitor's program.
+    /// A traitor's program executes one instruction. The number is the general's.
     Tick(u32),
-    /// This loyal general's letter counts as given.
+    /// A loyal general's letter is marked as posted. The number is the general's.
     Post(u32),
-    /// The end of the round.
+    /// The open round is closed.
     Close,
 }
 
-/// Why an event does not happen.
+/// Why an event is rejected or fails.
 #[derive(Clone, Copy, Debug, PartialEq, Eq)]
 pub enum EventError {
     /// E1: all rounds are closed.
     NotOpen,
-    /// E2: there is no such general, or he is not of that kind: no traitor to tick, or no loyal general to post.
+    /// E2: the general does not exist or is not of the event's kind. A tick needs a traitor, and a post needs a loyal
+    /// general.
     NoGeneral,
-    /// The memory that it takes is refused.
+    /// There is no memory for what the event needs.
     Memory,
 }
 

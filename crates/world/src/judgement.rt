@@ -1,4 +1,4 @@
-//! What decisions say of a campaign.
+//! Judges the lieutenants' decisions: the verdict on a campaign.
 ghost use Rattle.std.specs.Prelude.{◌≡◌, ◌<◌, ◌*◌, ◌++◌, ◌==◌, ◌&&◌, length, cond, None, Some, count_by, nat_lt, nat_le, slice_get};
 ghost use Rattle.std.specs.List.{list_all};
 ghost use Rattle.label.specs.Labels.{generals};
@@ -11,7 +11,7 @@ use crate::verdict::Verdict;
 use arrayvec::ArrayVec;
 use round::Scenario;
 
-/// The verdict on these decisions of the lieutenants, ascending by number.
+/// Returns the verdict on these decisions of the lieutenants, which are ascending by number.
 pub(crate) fn verdict(scenario: &Scenario, decisions: &[u32]) -> Verdict
     ensures { result ≡ verdict_of scenario.now decisions.now }
 {
@@ -23,7 +23,7 @@ pub(crate) fn verdict(scenario: &Scenario, decisions: &[u32]) -> Verdict
     }
 }
 
-/// Whether all these decisions of loyal lieutenants are one.
+/// Checks whether all these decisions of loyal lieutenants are the same.
 pub fn alike(loyal: &[u32]) -> bool
     ensures { result ≡ are_alike loyal.now }
 {
@@ -33,14 +33,15 @@ pub fn alike(loyal: &[u32]) -> bool
     }
 }
 
-/// Whether all these decisions are this order.
+/// Checks whether all these decisions are this order.
 fn are_all(decisions: &[u32], order: u32) -> bool
     ensures { result ≡ list_all (λ d. d == order) decisions.now }
 {
     decisions.iter().all(|decision| *decision == order)
 }
 
-/// Whether all these decisions of loyal lieutenants are the order; none where the commander is a traitor.
+/// Checks whether all these decisions of loyal lieutenants are the commander's order. Returns `None` if the commander
+/// is a traitor.
 pub fn obeyed(scenario: &Scenario, loyal: &[u32]) -> Option<bool>
     ensures { result ≡ cond (is_traitor scenario.now scenario.now.commander) None
         (Some (list_all (λ d. d == scenario.now.order) loyal.now)) }
@@ -51,8 +52,7 @@ pub fn obeyed(scenario: &Scenario, loyal: &[u32]) -> Option<bool>
     Some(are_all(loyal, scenario.order()))
 }
 
-/// Whether there are more than three times as many generals as traitors are provided for, and no more traitors than
-/// these.
+/// Checks whether there are more generals than three times the bound, and at most as many traitors as the bound.
 fn is_bound(scenario: &Scenario) -> bool
     ensures { result ≡ (nat_lt (3 * scenario.now.bound) scenario.now.generals
         && nat_le (count_by (is_traitor scenario.now) (generals scenario.now.generals)) scenario.now.bound) }
@@ -61,7 +61,7 @@ fn is_bound(scenario: &Scenario) -> bool
     3 * bound < scenario.generals() && traitors(scenario) <= bound
 }
 
-/// How many generals are traitors.
+/// Returns how many generals are traitors.
 pub fn traitors(scenario: &Scenario) -> u8
     ensures { result ≡ count_by (is_traitor scenario.now) (generals scenario.now.generals) }
 {
@@ -74,7 +74,7 @@ pub fn traitors(scenario: &Scenario) -> u8
     traitors
 }
 
-/// The decisions of the loyal lieutenants, ascending by number.
+/// Returns the decisions of the loyal lieutenants, ascending by number.
 pub fn loyal_decisions(scenario: &Scenario, decisions: &[u32]) -> ArrayVec<u32, 13>
     ensures { result.items ≡ of_loyal scenario.now
         (lieutenants scenario.now.generals scenario.now.commander) decisions.now }
@@ -90,7 +90,7 @@ pub fn loyal_decisions(scenario: &Scenario, decisions: &[u32]) -> ArrayVec<u32, 
     loyal
 }
 
-/// One lieutenant's decision more, where he is loyal.
+/// Appends one lieutenant's decision if he is loyal. `place` is its index in `decisions`.
 fn count(
     loyal: &mut ArrayVec<u32, 13>,
     scenario: &Scenario,

@@ -1,4 +1,4 @@
-//! The letters of a round.
+//! Makes the letters of a round as it is closed: first the drafts that need memory, then the letters.
 ghost use Rattle.std.specs.Prelude.{◌≡◌, ◌≢◌, ◌<◌, ◌≤◌, ◌+◌, ℕ, [], suc, List, Some, length, ◌++◌, ◌&&◌, drop, IfOk, slice_get, vec_len, vec_capacity};
 ghost use Rattle.std.specs.List.{list_all};
 ghost use Rattle.board.specs.Board.{Access as Entry};
@@ -18,7 +18,8 @@ use round::{Letter, Received, Round, Scenario, loyal_letter};
 use std::alloc::{AllocError, Global};
 use std::mem::replace;
 
-/// The drafts of all generals' letters, as they stand: all that the round's list takes memory for.
+/// Returns the drafts of all generals' letters from their current parts. No other memory is needed for the letters in
+/// the round's list.
 pub(crate) fn drafts(
     alloc: Global,
     told: &Received,
@@ -38,7 +39,7 @@ pub(crate) fn drafts(
     Ok(drafts)
 }
 
-/// The draft of one general's letter.
+/// Returns the draft of one general's letter.
 fn draft(
     alloc: Global,
     told: &Received,
@@ -68,7 +69,7 @@ fn draft(
     }
 }
 
-/// A loyal general's letter.
+/// Returns a loyal general's letter of the open round.
 fn loyal(
     alloc: Global,
     told: &Received,
@@ -87,11 +88,11 @@ fn loyal(
     loyal_letter(alloc, u32::from(general), round, context)
 }
 
-/// One general's accesses.
+/// Returns a copy of one general's accesses.
 ///
 /// # Errors
 ///
-/// `AllocError` where memory is refused.
+/// Fails with `AllocError` if there is no memory for the copy.
 pub fn transcript(
     alloc: Global,
     accesses: &[Access],
@@ -108,8 +109,10 @@ pub fn transcript(
     Ok(Transcript { accesses: own })
 }
 
-/// The letters of so many generals, in a list that has room for them: their drafts, and what the traitors' activations
-/// have. The activations are gone from the parts, which are of no use then: let them go. It takes no memory.
+/// Returns the letters of `generals` generals, made from their drafts and the traitors' activations. The letters are
+/// written into `list`, which must have capacity for them, and no memory is allocated.
+///
+/// The activations are moved out of the parts, which are useless afterwards and should be dropped.
 pub fn letters(
     mut list: Vec<Letter>,
     mut drafts: Vec<LetterDraft>,
@@ -129,7 +132,7 @@ pub fn letters(
     list
 }
 
-/// One general's letter, where there is one.
+/// Appends one general's letter, if there is one.
 fn write(
     list: &mut Vec<Letter>,
     drafts: &mut Vec<LetterDraft>,
@@ -168,7 +171,7 @@ fn write(
     }
 }
 
-/// A traitor's letter is what his activation leaves.
+/// Appends a traitor's letter, which is made from his accesses and his activation.
 fn leave(
     list: &mut Vec<Letter>,
     part: &mut Progress,
@@ -188,7 +191,7 @@ fn leave(
     }
 }
 
-/// The accesses from this place on.
+/// Returns the accesses from the index `opened` on.
 pub fn since(ledger: &[Access], opened: usize) -> &[Access]
     ensures { result.now ≡ drop opened ledger.now }
 {
@@ -198,14 +201,14 @@ pub fn since(ledger: &[Access], opened: usize) -> &[Access]
     &ledger[opened..]
 }
 
-/// Whether it was full before and every loyal general has posted.
+/// Checks whether the world was full before and every loyal general has posted in the open round.
 pub fn is_full(full: bool, parts: &[Progress]) -> bool
     ensures { result ≡ (full && list_all owes_no_letter parts.now) }
 {
     full && all_posted(parts)
 }
 
-/// Whether every loyal general has posted.
+/// Checks whether every loyal general has posted.
 fn all_posted(parts: &[Progress]) -> bool
     ensures { result ≡ list_all owes_no_letter parts.now }
 {

@@ -1,4 +1,4 @@
-//! The world of a campaign. What is said of it stands in specs/.
+//! The world of a campaign: plays a campaign event by event, and judges its decisions. The definitions are in specs/.
 #![tactic(auto)]
 
 mod campaign;

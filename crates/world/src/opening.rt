@@ -1,4 +1,4 @@
-//! How a round begins.
+//! Opens a round: makes the generals' parts, and gives the traitors' activations their contexts.
 ghost use Rattle.std.specs.Prelude.{◌≡◌, ◌<◌, ◌≤◌, ◌+◌, ◌++◌, ◌∷◌, [], suc, Some, length, slice_get, slice_set, IfOk, OnOk, vec_len, vec_capacity};
 ghost use Rattle.std.specs.Arc.{arc_value};
 ghost use Rattle.semantics.specs.Relay.{oral};
@@ -17,8 +17,8 @@ use std::alloc::{AllocError, Global};
 use std::sync::Arc;
 use verify::Verified;
 
-/// All generals' parts as the round after `before` closed ones begins, not yet told anything; none where no round is
-/// left. This takes all the memory that the beginning takes.
+/// Returns all generals' parts at the start of the round after `before` closed ones. The contexts are not written yet.
+/// If no round is left, there are no parts. Opening a round needs no other memory.
 pub(crate) fn blanks(
     alloc: Global,
     scenario: &Scenario,
@@ -36,7 +36,7 @@ pub(crate) fn blanks(
     Ok(parts)
 }
 
-/// One general's part behind, for which there is room.
+/// Appends one general's part. The list must have capacity for it.
 fn push_blank(
     parts: &mut Vec<Progress>,
     alloc: Global,
@@ -63,7 +63,7 @@ fn push_blank(
     Ok(())
 }
 
-/// A traitor's activation starts with an empty outbox.
+/// Returns the activation of a traitor with a context of zero bytes and an empty outbox.
 fn blank(
     alloc: Global,
     scenario: &Scenario,
@@ -84,7 +84,7 @@ fn blank(
     Running::start(alloc, program, context, scenario.patience(), outbox)
 }
 
-/// The bytes of a context that nothing is told in.
+/// Returns a context that consists of 4,096 zero bytes.
 fn zeros(alloc: Global) -> Result<Vec<u8>, AllocError>
     ensures same { IfOk result (λ bytes. bytes.items ≡ zeros) }
     ensures long { IfOk result (λ bytes. length bytes.items ≡ 4096) }
@@ -94,7 +94,7 @@ fn zeros(alloc: Global) -> Result<Vec<u8>, AllocError>
     Ok(bytes)
 }
 
-/// Tells the traitors' activations what their generals are told. It takes no memory.
+/// Writes the generals' contexts into the traitors' activations. It allocates no memory.
 pub(crate) fn brief(
     parts: &mut Vec<Progress>,
     told: &Received,
@@ -113,7 +113,7 @@ pub(crate) fn brief(
     }
 }
 
-/// Tells a traitor's activation what its general is told.
+/// Writes a general's context into his activation if he is a traitor. It allocates no memory.
 fn brief_one(
     parts: &mut Vec<Progress>,
     told: &Received,

@@ -1,4 +1,4 @@
-//! What a campaign has come to.
+//! The outcome of a campaign: the lieutenants' decisions and the chronicle of a world.
 ghost use Rattle.std.specs.Prelude.{◌≡◌, ◌↔◌, IfSome, IsSome};
 ghost use Rattle.round.specs.Letters.{messages};
 ghost use Rattle.world.specs.Agreement.{IsFinished};
@@ -11,9 +11,11 @@ use arrayvec::ArrayVec;
 use resolve::resolve;
 
 impl World {
-    /// What the lieutenants decide, ascending by number, of the messages so far: by the scenario's rule, the decision
-    /// of OM(m), m the bound (TOPLAS 1982). Where all rounds are closed, every loyal general has posted in each and the
-    /// bound holds, the loyal ones decide alike, and the order of a loyal commander. Takes no memory.
+    /// Returns what the lieutenants decide from the messages so far, ascending by number: the decision of OM(m) by the
+    /// scenario's rule, where m is the bound (TOPLAS 1982). It allocates no memory.
+    ///
+    /// If all rounds are closed, every loyal general has posted in each, and the bound holds, the loyal lieutenants
+    /// decide alike, and on the order of a loyal commander.
     pub fn decisions(&self) -> ArrayVec<u32, 12>
         ensures values { result.items ≡ decisions self.now.scenario (messages self.now.closed) }
         ensures agree { IsFinished self.now → AgreeUnderBound self.now.scenario result.items }
@@ -27,7 +29,8 @@ impl World {
         decisions
     }
 
-    /// Its chronicle; none where a round is open, or a loyal general had not posted in a closed one. Takes no memory.
+    /// Returns the chronicle of the world. Returns `None` if a round is open, or if a loyal general had not posted in a
+    /// closed round. It allocates no memory.
     pub fn chronicle(self) -> Option<Chronicle>
         ensures finished { IsSome result ↔ IsFinished self }
         ensures told { IfSome result (λ chronicle. chronicle ≡ chronicle_of self) }

@@ -1,21 +1,22 @@
+//! The part of a general in the open round.
 ghost use Rattle.std.specs.Prelude.{◌≡◌};
 ghost use Rattle.world.specs.Part.{owes_no_letter};
 
 use round::Running;
 
-/// Where a general stands in the open round.
+/// The part of a general in the open round: a traitor's activation, or whether a loyal general has posted his letter.
 #[derive(Drop)]
 pub enum Progress {
     /// A traitor in his activation.
     Acting(Running),
-    /// A loyal general before his letter.
+    /// A loyal general who has not posted his letter.
     Silent,
-    /// A loyal general behind it.
+    /// A loyal general who has posted his letter.
     Posted,
 }
 
 impl Progress {
-    /// Whether no letter is awaited of him.
+    /// Checks whether no letter of the general is missing before the round is closed.
     pub fn owes_no_letter(&self) -> bool
         ensures { result ≡ owes_no_letter self.now }
     {

@@ -1,4 +1,4 @@
-//! What one event leaves of the parts and the board.
+//! Applies one event to the generals' parts and the board, and reads the parts.
 ghost use Rattle.std.specs.Prelude.{◌≡◌, ◌↔◌, IsTrue, OnOk, OnErr, slice_get, is_some};
 ghost use Rattle.world.specs.World.{unfit, named_by};
 ghost use Rattle.world.specs.Held.{ticked_of, posted_of, AheadTo, steps_of};
@@ -9,7 +9,8 @@ use crate::part::Progress;
 use board::Board;
 use std::alloc::AllocError;
 
-/// Whether there is no such general, or he is not of the event's kind.
+/// Checks whether the event's general does not exist or is not of the event's kind: a traitor for a tick, a loyal
+/// general for a post.
 pub fn is_unfit(parts: &[Progress], event: Event) -> bool
     ensures { result ≡ is_some (unfit event (slice_get parts.now (named_by event))) }
 {
@@ -23,11 +24,11 @@ pub fn is_unfit(parts: &[Progress], event: Event) -> bool
     }
 }
 
-/// One turn of a traitor's activation; nothing where nobody acts.
+/// Takes one turn of a traitor's activation. For any other general it does nothing.
 ///
 /// # Errors
 ///
-/// `AllocError` where memory is refused; nothing has changed then.
+/// Fails with `AllocError` if there is no memory for an access. Then nothing has changed.
 pub fn turn(
     parts: &mut Vec<Progress>,
     board: &mut Board,
@@ -50,7 +51,8 @@ pub fn turn(
     }
 }
 
-/// A traitor's turns up to so many steps in all, his next access or his end: how many there were.
+/// Takes turns of a traitor's activation until it makes a request next, has ended, or has taken `limit` steps in all.
+/// Returns how many turns it took, which is 0 for any other general.
 pub fn ahead(parts: &mut Vec<Progress>, general: u32, limit: u32) -> u32
     ensures { AheadTo limit result parts.old.items general (slice_get parts.old.items general) parts.new.items }
 {
@@ -69,7 +71,7 @@ pub fn ahead(parts: &mut Vec<Progress>, general: u32, limit: u32) -> u32
     }
 }
 
-/// Marks a loyal general as one who has posted; a second time changes nothing.
+/// Marks a loyal general as having posted. A second post changes nothing.
 pub fn mark_posted(parts: &mut Vec<Progress>, general: u32)
     ensures { parts.new.items ≡ posted_of general parts.old.items (slice_get parts.old.items general) }
 {
@@ -79,7 +81,7 @@ pub fn mark_posted(parts: &mut Vec<Progress>, general: u32)
     }
 }
 
-/// Whether nobody acts there, or his activation has ended.
+/// Checks whether the general is not acting, or his activation has ended.
 pub fn is_still(parts: &[Progress], general: u32) -> bool
     ensures { IsTrue result ↔ IsStill (slice_get parts.now general) }
 {
@@ -91,7 +93,7 @@ pub fn is_still(parts: &[Progress], general: u32) -> bool
     }
 }
 
-/// How many steps a traitor's activation has taken.
+/// Returns how many steps a traitor's activation has taken, which is 0 for any other general.
 pub fn steps(parts: &[Progress], general: u32) -> u32
     ensures { result ≡ steps_of (slice_get parts.now general) }
 {
@@ -103,7 +105,7 @@ pub fn steps(parts: &[Progress], general: u32) -> u32
     }
 }
 
-/// How many instructions the program of an acting general has; none where nobody acts.
+/// Returns how many instructions the program of an acting general has, or `None` if he is not acting.
 pub fn instructions(parts: &[Progress], general: u32) -> Option<u32>
     ensures { result ≡ program_length (slice_get parts.now general) }
 {

@@ -1,4 +1,4 @@
-//! What playing asks of a world, of whichever kind of campaign.
+//! The trait of worlds that can be played, whatever the kind of campaign.
 ghost use Rattle.std.specs.Prelude.{◌≡◌, ◌≤◌, length, OnErr, OnOk, replicate, slice_get};
 ghost use Rattle.world.specs.declared.event.Event.TheVariants.{Tick, Post, Close};
 ghost use Rattle.world.specs.Campaigns.{AreCampaigns};
@@ -11,50 +11,51 @@ use crate::world::World;
 use round::Scenario;
 use std::alloc::AllocError;
 
-/// A world that can be played on, turn by turn, post by post and close by close.
+/// A world that can be played turn by turn, post by post and close by close.
 pub trait PlayableWorld {
     ghost kind: { Kind };
 
     ghost seen: { Self → WorldSeen };
 
-    /// The campaign.
+    /// Returns a reference to the scenario of the campaign.
     fn campaign(&self) -> &Scenario
         ensures value { result.now ≡ (seen self.now).scenario }
         ensures reached { IsReached kind (seen self.now) }
         ensures campaigns { AreCampaigns kind };
 
-    /// By general the parts of the open round.
+    /// Returns the generals' parts in the open round, by general.
     fn open_parts(&self) -> &[Progress]
         ensures { result.now ≡ (seen self.now).parts };
 
-    /// How many rounds are closed.
+    /// Returns how many rounds are closed.
     fn rounds(&self) -> usize
         ensures { result ≡ length (seen self.now).closed };
 
-    /// One turn of a traitor's activation; nothing where nobody acts.
+    /// Takes one turn of a traitor's activation. For any other general it does nothing.
     ///
     /// # Errors
     ///
-    /// `AllocError` where memory is refused; the world is then as it was.
+    /// Fails with `AllocError` if there is no memory for an access. The world is then as it was.
     fn tick(&mut self, general: u32) -> Result<(), AllocError>
         ensures done { OnOk result (seen self.new ≡ happen kind (seen self.old) (Tick general)) }
         ensures undone { OnErr result (seen self.new ≡ seen self.old) };
 
-    /// A traitor's turns up to so many steps in all, his next access or his end: how many there were.
+    /// Takes turns of a traitor's activation until it makes a request next, has ended, or has taken `limit` steps in
+    /// all. Returns how many turns it took, which is 0 for any other general.
     fn run_on(&mut self, general: u32, limit: u32) -> u32
         ensures same { seen self.new ≡ run kind (seen self.old) (replicate result (Tick general)) }
         ensures far { AheadTo limit result (seen self.old).parts general (slice_get (seen self.old).parts general)
             (seen self.new).parts };
 
-    /// A loyal general has posted; nothing where no letter of his is awaited.
+    /// Marks a loyal general as having posted. If no letter of his is missing, it does nothing.
     fn give_post(&mut self, general: u32)
         ensures { seen self.new ≡ happen kind (seen self.old) (Post general) };
 
-    /// The end of the open round.
+    /// Closes the open round.
     ///
     /// # Errors
     ///
-    /// `AllocError` where memory is refused; the world is then as it was.
+    /// Fails with `AllocError` if there is no memory for the letters or the next round. The world is then as it was.
     fn close_round(&mut self) -> Result<(), AllocError>
         requires { length (seen self.old).closed ≤ (seen self.old).scenario.bound }
         ensures done { OnOk result (seen self.new ≡ happen kind (seen self.old) Close) }

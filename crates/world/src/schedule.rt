@@ -1,16 +1,16 @@
-//! Schedules: in which order the generals act in each round.
+//! Schedules: the order in which the generals act in each round.
 use std::marker::Model;
 
-/// ScheduleLine of one general, one behind the other.
+/// Consecutive entries of one general in a schedule's line.
 #[derive(Clone, Copy)]
 pub struct Repeat {
     /// The general's number.
     pub general: u8,
-    /// How many entries.
+    /// How many entries he has.
     pub times: u16,
 }
 
-/// The entries for one round, in their order.
+/// The entries of a schedule for one round, in their order.
 #[derive(Drop)]
 pub struct ScheduleLine {
     pub repeats: Vec<Repeat>,
@@ -25,7 +25,7 @@ impl Model for ScheduleLine {
     ghost view = { λ e. e.repeats.items };
 }
 
-/// A line of entries for each round from the first on; rounds without a line have no entries.
+/// A schedule: a line of entries for each round, from the first on. Rounds without a line have no entries.
 #[derive(Drop)]
 pub struct Schedule {
     pub lines: Vec<ScheduleLine>,

@@ -1,10 +1,11 @@
-/// Whether the loyal lieutenants of a campaign agree (TOPLAS 1982, IC1 and IC2), and whether they had to.
+//! The verdict on a campaign: whether IC1, IC2 and the bound hold.
+/// Whether the loyal lieutenants of a campaign agree (TOPLAS 1982, IC1 and IC2), and whether the theorem requires it.
 #[derive(Clone, Copy, PartialEq, Eq)]
 pub struct Verdict {
-    /// All loyal lieutenants decide alike.
+    /// Whether all loyal lieutenants decide alike.
     pub alike: bool,
-    /// Each loyal lieutenant decides the commander's order; none where the commander is a traitor.
+    /// Whether each loyal lieutenant decides on the commander's order. It is `None` if the commander is a traitor.
     pub obeyed: Option<bool>,
-    /// There are more than three times as many generals as traitors are provided for, and no more traitors than these.
+    /// Whether there are more generals than three times the bound, and at most as many traitors as the bound.
     pub bound: bool,
 }

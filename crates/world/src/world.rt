@@ -1,4 +1,4 @@
-//! A campaign as it stands, how it begins, and what an event does to it.
+//! The world of a campaign with oral orders: its state, how it opens, and what an event does to it.
 ghost use Rattle.std.specs.Prelude.{◌≡◌, ◌≤◌, suc, length, IfOk, OnOk, OnErr, IfErr, None, slice_get, replicate};
 ghost use Rattle.world.specs.declared.event.Event.TheVariants.{Tick, Post, Close};
 ghost use Rattle.world.specs.World.{opening, happen, refusal, run};
@@ -14,23 +14,23 @@ use round::{Received, Round, Scenario};
 use std::alloc::{AllocError, Global};
 use std::marker::Model;
 
-/// A scenario's campaign as events have left it.
+/// The state of a scenario's campaign after some events.
 #[derive(Drop)]
 pub struct World {
-    /// Where its lists are kept.
+    /// The allocator of the world's lists.
     pub(crate) alloc: Global,
     pub(crate) scenario: Scenario,
     /// The letters of the closed rounds.
     pub(crate) closed: Vec<Round>,
-    /// The board's words and ledger.
+    /// The board with its words and its ledger.
     pub(crate) board: Board,
-    /// Where the open round's entries begin in the ledger.
+    /// The index at which the open round's accesses begin in the ledger.
     pub(crate) opened: usize,
-    /// By general the parts of the open round.
+    /// The generals' parts in the open round, by general.
     pub(crate) parts: Vec<Progress>,
-    /// Whether in each closed round all loyal generals had posted.
+    /// Whether all loyal generals had posted in each closed round.
     pub(crate) full: bool,
-    /// What the letters of the closed rounds have told.
+    /// What the lieutenants have received from the letters of the closed rounds.
     pub(crate) told: Received,
 }
 
@@ -49,11 +49,11 @@ impl Model for World {
 }
 
 impl World {
-    /// The scenario's world before any event.
+    /// Returns the scenario's world before any event.
     ///
     /// # Errors
     ///
-    /// `AllocError` where memory is refused.
+    /// Fails with `AllocError` if there is no memory for the world.
     pub fn open(alloc: Global, scenario: Scenario) -> Result<World, AllocError>
         ensures { IfOk result (λ world. world ≡ opening scenario) }
     {
@@ -73,13 +73,13 @@ impl World {
         })
     }
 
-    /// Does what the event says, where nothing stands against it.
+    /// Applies an event to the world, unless the event is rejected.
     ///
     /// # Errors
     ///
-    /// After an error the world is as it was. `NotOpen` where all rounds are closed; `NoGeneral` where there is no such
-    /// general, or he is not of the event's kind; `Memory` where neither is so and memory is refused
-    /// to a tick or a close: a post takes none.
+    /// After an error the world is as it was. The call fails with `NotOpen` if all rounds are closed. It fails with
+    /// `NoGeneral` if the general does not exist or is not of the event's kind. Otherwise it fails with `Memory` if
+    /// there is no memory for a tick or a close. A post needs no memory.
     pub fn apply(&mut self, event: Event) -> Result<(), EventError>
         ensures done { OnOk result (self.new ≡ happen self.old event) }
         ensures undone { OnErr result (self.new ≡ self.old) }
@@ -102,7 +102,7 @@ impl World {
         }
     }
 
-    /// The number of the open round.
+    /// Returns the number of the open round, counted from 1.
     fn round(&self) -> u32
         ensures { result ≡ suc (length self.now.closed) }
     {
@@ -110,14 +110,18 @@ impl World {
         self.closed.len() as u32 + 1
     }
 
-    /// Whether in each closed round every loyal general had posted.
+    /// Checks whether every loyal general had posted in each closed round.
     pub fn full(&self) -> bool
         ensures { result ≡ self.now.full }
     {
         self.full
     }
 
-    /// One turn of a traitor's activation; nothing where nobody acts.
+    /// Takes one turn of a traitor's activation. For any other general it does nothing.
+    ///
+    /// # Errors
+    ///
+    /// Fails with `AllocError` if there is no memory for an access. The world is then as it was.
     pub(crate) fn turn(&mut self, general: u32) -> Result<(), AllocError>
         ensures done { OnOk result (self.new ≡ happen self.old (Tick general)) }
         ensures undone { OnErr result (self.new ≡ self.old) }
@@ -126,7 +130,8 @@ impl World {
         parts::turn(&mut self.parts, &mut self.board, general, round)
     }
 
-    /// A traitor's turns up to so many steps in all, his next access or his end: how many there were.
+    /// Takes turns of a traitor's activation until it makes a request next, has ended, or has taken `limit` steps in
+    /// all. Returns how many turns it took, which is 0 for any other general.
     pub(crate) fn ahead(&mut self, general: u32, limit: u32) -> u32
         ensures same { self.new ≡ run self.old (replicate result (Tick general)) }
         ensures far { AheadTo limit result self.old.parts general (slice_get self.old.parts general) self.new.parts }
@@ -134,17 +139,23 @@ impl World {
         parts::ahead(&mut self.parts, general, limit)
     }
 
-    /// A loyal general has posted, which is a mark until the round is closed; nothing where no letter of his is
-    /// awaited.
+    /// Marks a loyal general as having posted, until the round is closed. If no letter of his is missing, it does
+    /// nothing.
     pub(crate) fn post(&mut self, general: u32)
         ensures { self.new ≡ happen self.old (Post general) }
     {
         parts::mark_posted(&mut self.parts, general);
     }
 
-    /// The end of the round. All memory that it takes is taken before anything changes: room for the list among the
-    /// closed rounds and for the letters in it, the drafts of the letters, and the next round's parts. Then the letters
-    /// are moved from the parts into the list and told, and the next parts are told their contexts, which cannot fail.
+    /// Closes the open round.
+    ///
+    /// All memory is allocated before anything changes: capacity for the letters and for their list among the closed
+    /// rounds, the drafts of the letters, and the parts of the next round. Then the letters are moved from the parts
+    /// into the list and delivered, and the next contexts are written, which cannot fail.
+    ///
+    /// # Errors
+    ///
+    /// Fails with `AllocError` if there is no memory for the letters or the next round. The world is then as it was.
     pub(crate) fn close(&mut self) -> Result<(), AllocError>
         requires { length self.old.closed ≤ self.old.scenario.bound }
         ensures done { OnOk result (self.new ≡ happen self.old Close) }

@@ -1,18 +1,18 @@
-//! What of a world may be looked at while it goes on.
+//! Reads the board and the closed rounds of a world while it is played.
 ghost use Rattle.std.specs.Prelude.{◌≡◌};
 
 use crate::world::World;
 use round::Round;
 
 impl World {
-    /// The board's words.
+    /// Returns the board's words.
     pub fn words(&self) -> &[u64; 64]
         ensures { result.now ≡ self.now.words }
     {
         self.board.words()
     }
 
-    /// The letters of the closed rounds, by round from the first, and in a round by general.
+    /// Returns the letters of the closed rounds by round, the first round first, and within a round by general.
     pub fn closed_rounds(&self) -> &[Round]
         ensures { result.now ≡ self.now.closed }
     {
