@@ -107,8 +107,8 @@ impl Ending {
     }
 }
 
-/// A request that was served, and whose schedule is not yet written. Only `Served::of` makes this value. The files and
-/// the target are kept for the proofs only: a snapshot takes no bytes at run time.
+/// A request that was served. Its schedule, if it asks for one, is not yet written. Only `Served::of` makes this value.
+/// The files and the target are kept for the proofs only: a snapshot takes no bytes at run time.
 #[derive(Drop)]
 pub struct Served<'a, R, W: Write + Drop> {
     request: &'a TaskRequest,

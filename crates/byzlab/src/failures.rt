@@ -66,7 +66,7 @@ impl Display for Unwritten {
     }
 }
 
-/// Returns what is reported of a file of this name if opening or reading it failed with this error.
+/// Returns what is reported about a file of this name if opening or reading it failed with this error.
 ///
 /// # Errors
 ///

@@ -203,7 +203,8 @@ fn answered<'a, T: Threads + Wait + Sync>(
 }
 
 /// Explores the campaign of this scenario, writes the scenario and a schedule for each outcome to the folder, and then
-/// prints the outcomes. Returns `None` if the scenario is rejected.
+/// prints the outcomes. If a file cannot be written, reports this instead of printing. Returns `None` if the scenario
+/// is rejected.
 ///
 /// # Errors
 ///

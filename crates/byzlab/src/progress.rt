@@ -18,7 +18,7 @@ pub struct ProgressLine<'a> {
 }
 
 impl<'a> ProgressLine<'a> {
-    /// Returns the progress of a call with `all` files. Nothing is shown for a single file.
+    /// Returns the progress of a call with `all` files. Nothing is shown if there is at most one.
     pub fn of(rt: &'a HostRuntime, all: usize) -> ProgressLine<'a>
         ensures all { result.all ≡ all }
         ensures alone { all ≤ 1 → result.start ≡ None }

@@ -32,7 +32,7 @@ impl<O: Output, K: Keeper> SurveyEnding<O, K> {
     ///
     /// # Errors
     ///
-    /// The failure that kept the request from being finished.
+    /// The request cannot be finished, help cannot be printed, or memory runs out.
     pub fn of<T: Threads + Sync>(
         rt: &HostRuntime,
         threads: &T,
@@ -68,7 +68,7 @@ impl<O: Output, K: Keeper> SurveyEnding<O, K> {
 ///
 /// # Errors
 ///
-/// The failure that kept the request from being finished.
+/// The request cannot be finished, help cannot be printed, or memory runs out.
 fn done<T: Threads + Sync, O: Output, K: Keeper>(
     rt: &HostRuntime,
     threads: &T,

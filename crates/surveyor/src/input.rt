@@ -22,11 +22,8 @@ pub fn bytes_of(rt: &HostRuntime, name: &str) -> Result<Vec<u8>, SurveyFailure>
     }
 }
 
-/// Reads all bytes of the file of this name, or of standard input if the name is a hyphen.
-///
-/// # Errors
-///
-/// Opening or reading the file failed.
+/// Reads all bytes of the file of this name, or of standard input if the name is a hyphen. Returns the error of the
+/// operating system if that fails.
 fn taken(rt: &HostRuntime, name: &str) -> io::Result<Vec<u8>> {
     if name != "-" {
         return read(rt, name);

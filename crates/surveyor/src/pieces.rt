@@ -1,5 +1,4 @@
-//! Divides a survey into pieces, each of which is played at once, and names the seeds of a piece with a rejected
-//! campaign.
+//! The size of the pieces in which a survey is played, and the failure for a piece with a rejected campaign.
 ghost use Rattle.std.specs.Prelude.{◌≡◌, ◌≢◌, ◌<◌, ◌≤◌, ◌-◌};
 
 use crate::fault::SurveyFailure;
