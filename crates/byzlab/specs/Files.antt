@@ -66,20 +66,21 @@ remaining_of of_file of_standard (input.Text text) = cursor_remaining (λ bytes.
 remaining_of of_file of_standard input.Nothing = Some []
 
 -- States which target a name means. No name and a hyphen mean standard output, and any other name means a file of
--- exactly this name that does not exist yet.
+-- exactly this name that has not been created yet.
 abbrev pub IsTargetOf : {S M : Type 0} → Option (List ℕ) → Destination S Named M → Type 0
 IsTargetOf None (place.Standard stdout) = Unit {0}
 IsTargetOf (Some name) (place.Standard stdout) = name ≡ codes "-"
 IsTargetOf (Some name) (place.Unmade file) = (name ≢ codes "-") × (file.name.now ≡ name)
 IsTargetOf _ _ = ⊥
 
--- States that a file which did not exist yet is created, and that any other destination is unchanged.
+-- States that a file which had not been created yet is created, and that any other destination is unchanged.
 abbrev pub IsMadeOf : {S U M : Type 0} → Destination S U M → Destination S U M → Type 0
 IsMadeOf (place.Unmade unmade) (place.File file) = Unit {0}
 IsMadeOf (place.Unmade unmade) _ = ⊥
 IsMadeOf old new = new ≡ old
 
--- States that the destination is now open: standard output is kept, and any other destination is a file that exists.
+-- States that the destination is now open: standard output is kept, and any other destination is a file that has been
+-- created.
 abbrev pub IsPlaceOf : {S U M : Type 0} → Destination S U M → Destination S U M → Type 0
 IsPlaceOf (place.Standard old) (place.Standard new) = Unit {0}
 IsPlaceOf (place.Unmade unmade) (place.File new) = Unit {0}

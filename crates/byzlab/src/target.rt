@@ -7,7 +7,7 @@ ghost use Rattle.byzlab.specs.Files.{IsMadeOf, IsPlaceOf, IsTargetOf, contents_o
 use std::fs::File;
 use std::io::{self, Stdout, Write};
 
-/// A file that does not exist yet, and can be created.
+/// A file that has not been created yet.
 pub trait Unmade: Drop {
     ghost use Rattle.std.specs.Prelude.{◌≡◌, ℕ, List, None, Option, IfOk};
 
@@ -26,7 +26,7 @@ pub trait Unmade: Drop {
         ensures made { IfOk result (λ made. Self.Made.contents made ≡ contents self.now) };
 }
 
-/// A file of this name on disk.
+/// The file of this name. If there is one already, it is overwritten when this file is created.
 #[derive(Drop)]
 pub struct Named<'a> {
     pub rt: &'a HostRuntime,
@@ -66,7 +66,7 @@ pub fn target_of<'a>(rt: &'a HostRuntime, name: Option<&'a str>) -> Target<'a>
 }
 
 impl<S: Write + Drop, U: Unmade> Destination<S, U> {
-    /// Creates the file, if the destination is a file that does not exist yet.
+    /// Creates the file, if the destination is a file that has not been created yet.
     ///
     /// # Errors
     ///

@@ -33,7 +33,7 @@ pub enum ReportKind {
     Lines,
     /// A table of the sums for each number of generals, bound and number of traitors.
     Table,
-    /// An SVG picture of the sums for each number of generals, bound and number of traitors.
+    /// An SVG picture of the share of broken campaigns, for each number of generals, bound and number of traitors.
     Picture,
     /// The least broken campaign, from which no traitor and no statement can be removed.
     Least,
