@@ -1,4 +1,5 @@
--- What is said where no task is served, and where a file or the output fails.
+-- Defines the lines and exit statuses for words that ask for no task, for files that cannot be read or written, and for
+-- outputs that fail.
 use Rattle.std.specs.Prelude.{ℕ, ◌≡◌, ◌≢◌, ◌⊎◌, ◌++◌, List, Option, None, Some, Bool, false, true, codes}
 use Rattle.clap.specs.Words.{kind_of}
 use Rattle.clap.specs.declared.error.Error.{Error as Refusal}
@@ -21,69 +22,72 @@ use Rattle.byzlab.specs.declared.told_line.ReportOutcome.{ReportOutcome}
 use Rattle.std.specs.declared.io.ErrorKind.{ErrorKind as IoKind}
 use Rattle.std.specs.declared.io.ErrorKind.TheVariants.{OutOfMemory, InvalidData}
 
--- the line, and the exit status: the words could not be had, help not be written, or memory to open a file not be had
+-- Returns the line and the exit status for an error outside of a task: the words cannot be read, help cannot be
+-- printed, or memory runs out.
 abbrev pub failure_of : IoKind → List ℕ × ℕ
 failure_of OutOfMemory = (codes "out of memory", 3)
 failure_of InvalidData = (codes "error: the words are not UTF-8", 2)
 failure_of _ = (codes "fault write", 1)
 
--- the words are refused, and do not ask for help or the version
+-- States that `clap` rejects the words, and that they ask neither for help nor for the version.
 abbrev pub IsMistake : ErrorKind → Type 0
 IsMistake kind = (kind ≢ DisplayHelp) × (kind ≢ DisplayVersion)
 
--- the exit status of words that are refused, or ask for help or the version: 0 where they ask for it, else 2
+-- States the exit status of words that `clap` rejects: 0 if they ask for help or for the version, otherwise 2.
 abbrev pub IsUnaskedBy : Refusal → ℕ → Type 0
 IsUnaskedBy refusal status =
     (IsMistake (kind_of refusal) × (status ≡ 2)) ⊎ (¬ IsMistake (kind_of refusal) × (status ≡ 0))
 
--- the exit status where the words name no task
+-- States the exit status of words that name no task.
 abbrev pub IsUnasked : TaskError → ℕ → Type 0
 IsUnasked (task.Words refusal) status = IsUnaskedBy refusal status
 IsUnasked (task.Misuse misuse) status = status ≡ 2
 IsUnasked task.Memory status = ⊥
 
--- why the words name no task, as it was told
+-- Returns the error that was reported for words that name no task.
 abbrev pub error_of : Why → TaskError
 error_of (why.Printed refusal) = task.Words refusal
 error_of (why.Noted told) = told.line
 
--- these words of a request ask for nothing
+-- States that these words of a request ask for no task.
 abbrev pub AsksNothing : List (Bor (List ℕ)) → Type 0
 AsksNothing words = asked (words_of words) ≡ None
 
--- how a request ends: done, refused or a fault of a file, want of memory
+-- States that this is the exit status of a request: 0 if it is done, 1 for a rejection or a fault of a file, or 3 if
+-- memory runs out.
 abbrev pub IsStatus : ℕ → Type 0
 IsStatus status = (status ≡ 0) ⊎ ((status ≡ 1) ⊎ (status ≡ 3))
 
--- the exit status behind a line that says that a task is not done, or behind what is told where memory was refused for
--- the line's form
+-- Returns the exit status after a line was reported: 1, or 3 if memory ran out for the line's form.
 abbrev pub status_said : Bool → ℕ
 status_said false = 1
 status_said true = 3
 
--- unless JSON or one line is asked for, no memory is wanted for the line, and nothing is written to the output; nor
--- where memory is wanted
+-- States that unless the request asks for JSON or for one line, no memory is needed for the line, and the output does
+-- not fail. If memory runs out, the output does not fail either.
 abbrev pub IsSaidOf : TaskRequest → ReportOutcome → Type 0
 IsSaidOf request said = (is_shaped request ≡ false → (said.is_lacking ≡ false) × (said.is_unwritten ≡ false))
     × (said.is_lacking ≡ true → said.is_unwritten ≡ false)
 
--- a request ends behind such a line
+-- States that the request ended after such a line was reported: with status 1 or 3, and with 1 and a working output if
+-- the request asks for neither JSON nor one line.
 abbrev pub IsTurnedDown : TaskRequest → Ending → Type 0
 IsTurnedDown request ending = ((ending.status ≡ 1) ⊎ (ending.status ≡ 3))
     × (is_shaped request ≡ false → (ending.status ≡ 1) × (ending.is_unwritten ≡ false))
 
--- lines, and behind them the sentence for an error of this kind, if one is to be told
+-- Returns the lines, followed by the sentence for an error of this kind, if there is a kind.
 abbrev pub explained_text : Option (List ℕ) → Option IoKind → Option (List ℕ)
 explained_text lines None = lines
 explained_text lines (Some kind) = lines ++? Some (codes "\nerror: " ++ reason_text kind)
 
--- the sentence that is told of an output that failed: where the status is 1, and the task explains what it refuses
+-- States which sentence is reported for a failed output: that for its kind of error, if the exit status is 1 and the
+-- task explains what it rejects, otherwise none.
 abbrev pub IsWhy : ℕ → Bool → Option IoKind → Option (List ℕ) → Type 0
 IsWhy status true (Some kind) why =
     ((status ≡ 1) × (why ≡ Some (reason_text kind))) ⊎ ((status ≢ 1) × (why ≡ None))
 IsWhy status _ _ why = why ≡ None
 
--- it is told that the file of this name is not read
+-- States that this is the report that the file of this name is not read.
 abbrev pub IsUnreadable : Option (List ℕ) → TaskFailure → Type 0
 IsUnreadable (Some name) (Read own) = own.now ≡ name
 IsUnreadable _ _ = ⊥

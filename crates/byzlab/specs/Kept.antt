@@ -1,4 +1,5 @@
--- What is written of a file, its name, and which file or folder is told that it was not written (own).
+-- Defines which files are written in addition to an answer, their names and contents, and which name is reported if one
+-- is not written (own).
 use Rattle.std.specs.Prelude.{ℕ, suc, ◌≡◌, ◌≢◌, ◌≤◌, ◌⊎◌, ◌++◌, List, [], ◌∷◌, Option, Result, Some, Vec, IfOk, codes, decimal, map, string_bytes, ⊤}
 use Rattle.std.specs.declared.io.ErrorKind.{ErrorKind}
 use Rattle.std.specs.declared.io.ErrorKind.TheVariants.{OutOfMemory}
@@ -17,65 +18,66 @@ use Rattle.cli_tasks.specs.declared.refusal.InputRefusal.TheVariants as refusal
 use Rattle.byzlab.specs.declared.kept_files.Unkept.{Unkept}
 use Rattle.byzlab.specs.declared.kept_files.Unkept.TheVariants.{Memory, Unwritten}
 
--- the schedule of the task's seed was written, for the file that the task names
+-- States that the schedule of the task's seed was written, for the file that the task names.
 abbrev pub IsScheduleKept : {O : Type 0} → Task → Filled O → Type 0
 IsScheduleKept task filled = (seed : ℕ) × (name : List ℕ) × (seed_of task ≡ Some seed)
     × (schedule_target_of task ≡ Some name) × IsFilledBy name (schedule_text (seeded seed)) filled
 
--- this name and this kind of error are told, which is no want of memory; or memory is wanting
+-- States that the error names this file and this kind, which is not that memory ran out, or else that memory ran out.
 abbrev pub IsUnwritten : List ℕ → ErrorKind → Unkept → Type 0
 IsUnwritten name kind (Unwritten told own) = (string_bytes told ≡ name) × (own ≡ kind) × (kind ≢ OutOfMemory)
 IsUnwritten name kind Memory = ⊤
 
--- a name is told of which the fact holds, and no want of memory; or memory is wanting
+-- States that the error names a file for which the property holds, with a kind other than that memory ran out, or else
+-- that memory ran out.
 abbrev pub Tells : (List ℕ → Type 0) → Unkept → Type 0
 Tells P (Unwritten told kind) = P (string_bytes told) × (kind ≢ OutOfMemory)
 Tells P Memory = ⊤
 
--- a file is written beside its name, which it takes once it is whole
+-- Returns the name under which a file is written first. The file is renamed once it is whole.
 abbrev pub name_beside : List ℕ → List ℕ
 name_beside name = name ++ codes ".new"
 
--- the file in a folder that has the schedule of the outcome of this number
+-- Returns the name of the file in a folder that contains the schedule of the outcome of this number.
 abbrev pub schedule_name : List ℕ → ℕ → List ℕ
 schedule_name folder number = folder ++ (codes "/outcome-" ++ (decimal number ++ codes ".schedule"))
 
--- the file in a folder that has the scenario
+-- Returns the name of the file in a folder that contains the scenario.
 abbrev pub scenario_name : List ℕ → List ℕ
 scenario_name folder = folder ++ codes "/scenario.toml"
 
--- the files with the schedules of outcomes from this number on
+-- Returns the files with these schedules, whose outcomes are numbered from this number on.
 abbrev pub schedule_files : List ℕ → ℕ → List (List ℕ) → List (List ℕ × List ℕ)
 schedule_files folder number [] = []
 schedule_files folder number (schedule ∷ schedules) =
     (schedule_name folder number, schedule) ∷ schedule_files folder (suc number) schedules
 
--- all files of an exploration that is kept
+-- Returns all files of an exploration that is kept.
 abbrev pub kept_files : List ℕ → List ℕ → List (List ℕ) → List (List ℕ × List ℕ)
 kept_files folder scenario schedules = (scenario_name folder, scenario) ∷ schedule_files folder 1 schedules
 
--- the schedule of one of so many outcomes, which are numbered from 1
+-- States that this is the name of the schedule of one of `count` outcomes, which are numbered from 1.
 abbrev pub IsScheduleIn : List ℕ → ℕ → List ℕ → Type 0
 IsScheduleIn folder count name =
     (number : ℕ) × (1 ≤ number) × (number ≤ count) × (name ≡ schedule_name folder number)
 
--- the folder itself, the scenario in it, or the schedule of an outcome
+-- States that this is the name of the folder itself, of the scenario in it, or of the schedule of an outcome.
 abbrev pub IsKeptIn : List ℕ → ℕ → List ℕ → Type 0
 IsKeptIn folder count name =
     (name ≡ folder) ⊎ ((name ≡ scenario_name folder) ⊎ IsScheduleIn folder count name)
 
--- the task is an exploration of so many orders at most, which is kept in this folder
+-- States that the task is an exploration of at most this number of orders, which is kept in this folder.
 abbrev pub KeepsIn : Task → Option ℕ → List ℕ → Type 0
 KeepsIn (Explore scenario own (Some folder)) most name = (own ≡ most) × (string_bytes folder ≡ name)
 KeepsIn _ most name = ⊥
 
--- the text tells of the task's orders on this scenario, and it, with the schedule of each outcome that is told, was
--- written to the task's folder, or a file was not
+-- States that the text describes the task's exploration of this scenario. Either the scenario and the schedule of each
+-- outcome were written to the task's folder, or a file was not written.
 abbrev pub IsExplorationKept : {O : Type 0} → Task → List ℕ → List ℕ → Result (Vec (Filled O) Global) Unkept → Type 0
 IsExplorationKept task scenario text kept = (most : Option ℕ) × (folder : List ℕ) × (schedules : List (List ℕ))
     × KeepsIn task most folder × KeepsOrders most scenario text schedules
     × IfOk kept (λ files. map file_of files.items ≡ kept_files folder scenario schedules)
 
--- the scenario is refused, and not for want of memory
+-- States that the scenario is rejected for a reason other than that memory ran out.
 abbrev pub IsUnexplored : List ℕ → Type 0
 IsUnexplored scenario = (why : InputRefusal) × (why ≢ refusal.Memory) × RefusesText RefusesScenario scenario why

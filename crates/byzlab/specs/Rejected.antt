@@ -1,4 +1,4 @@
--- What is told of a file that is not written, and of a scenario that is not taken (own).
+-- Defines the reports about a file that is not written and a scenario that is rejected (own).
 use Rattle.std.specs.Prelude.{ℕ, ◌≡◌, ◌≢◌, List, Option, None, Some, IfSome, IsUtf8, String, if◌then◌else◌, string_bytes, ⊤}
 use Rattle.std.specs.Global.{Global}
 use Rattle.cli_words.specs.declared.tasks.Task.{Task}
@@ -16,31 +16,33 @@ use Rattle.byzlab.specs.declared.rejection.Rejected.{Rejected}
 use Rattle.byzlab.specs.declared.rejection.Rejected.TheVariants as rejected
 use Rattle.byzlab.specs.declared.told_line.ReportOutcome.{ReportOutcome}
 
--- it is told that the file of this name was not written and, where the task explains what it refuses, why
+-- States that this is the report that the file was not written, with the reason if the task explains what it rejects.
 abbrev pub TellsUnkept : Task → Unkept → Explained Line → Type 0
 TellsUnkept task (unkept.Unwritten name kind) line =
     (line.lines.name ≡ name) × (line.kind ≡ (if is_explained task then Some kind else None))
 TellsUnkept task unkept.Memory line = ⊥
 
--- the lines of a file that is not taken are told and, where the task explains what it refuses, why a read of it failed
+-- States that this report contains the lines about a rejected file and, if the task explains what it rejects, why
+-- reading the file failed.
 abbrev pub TellsUntaken : Task → FileProblem → Explained (String Global) → Type 0
 TellsUntaken task (untaken.Told lines kind) line =
     (line.lines ≡ lines) × (line.kind ≡ (if is_explained task then kind else None))
 TellsUntaken task untaken.Memory line = ⊥
 
--- how the line was told
+-- Returns how the line was reported.
 abbrev pub said_of : Rejected → ReportOutcome
 said_of (rejected.Unread told) = told.said
 said_of (rejected.Untaken told) = told.said
 said_of (rejected.Refused told) = told.said
 
--- the scenario of these bytes is refused with the files that it names, and that is told at its own lines and theirs
+-- States that the scenario of these bytes is rejected together with the files that it names, and that the report names
+-- its own lines and theirs.
 abbrev pub TellsRefused : (List ℕ → Option (List ℕ)) → Task → List ℕ → String Global → Type 0
 TellsRefused beside task own lines = (made : List ℕ) × Sees beside own made × (own ≢ made)
     × (IsUtf8 own → IsUtf8 made → IsTold task own made (Some (string_bytes lines)))
 
--- the scenario of this name is not read; or a file that it names is not taken, of which nothing is said here; or it is
--- refused, of its own bytes, where they are known, with the files beside it, as they are known
+-- States why the scenario of this name is rejected: it cannot be read; a file that it names is rejected, about which
+-- nothing is said here; or its own bytes, with the files that it names, are rejected.
 abbrev pub IsRejected : Option (List ℕ) → (List ℕ → Option (List ℕ)) → Task → List ℕ → Rejected → Type 0
 IsRejected known beside task name (rejected.Unread told) = IsUnreadable (Some name) told.line.lines
 IsRejected known beside task name (rejected.Untaken told) = ⊤

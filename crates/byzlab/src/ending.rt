@@ -1,5 +1,5 @@
-//! How requests come out. Only what is here makes an `Ending`: of a request that was served, of an exploration that was
-//! kept and printed, of a line that was told.
+//! How one request ended: its exit status, and whether its output failed. Only functions of this file make an `Ending`,
+//! from a request that was served, an exploration that was kept and printed, or a line that was reported.
 ghost use Rattle.std.specs.Prelude.{◌≡◌, ◌≢◌, ◌⊎◌, ℕ, List, IfErr, IfOk, IsOk, IsSomeAnd, None, Ok, OnErr, OnOk, codes, false, is_some, true};
 ghost use Rattle.std.specs.Io.KnownBytes.{Appends};
 ghost use Rattle.cli_words.specs.Tasks.{folder_of, schedule_target_of, seed_of, target_of};
@@ -29,10 +29,10 @@ use std::sync::Wait;
 use std::thread::Threads;
 use streams::{Filled, Output, Source};
 
-/// That it was told of an output that it failed.
+/// The report that the output failed.
 type NotPrinted = TurnedDown<TaskFailure<'static>>;
 
-/// How a request came out.
+/// How a request ended.
 #[derive(Drop)]
 pub struct Ending {
     /// The exit status.
@@ -45,7 +45,7 @@ impl Ending {
     ghost use Rattle.std.specs.Prelude.{◌≡◌, IfErr, OnErr, OnOk, false, true};
     ghost use Rattle.byzlab.specs.Failures.{IsStatus, status_said};
 
-    /// With this status, and an output that did not fail.
+    /// Returns an ending with this exit status, and with an output that did not fail.
     fn with(status: u8) -> Ending
         ensures status { result.status ≡ status }
         ensures written { result.is_unwritten ≡ false }
@@ -56,7 +56,7 @@ impl Ending {
         }
     }
 
-    /// Of a request of which it was said that it is not done.
+    /// Returns the ending of a request after it was reported that it is not done.
     pub fn refused(said: ReportOutcome) -> Ending
         ensures status { result.status ≡ status_said said.is_lacking }
         ensures either { IsStatus result.status }
@@ -68,7 +68,7 @@ impl Ending {
         }
     }
 
-    /// Of a request behind which nothing more is done, where it was said why.
+    /// Returns the ending of a request that was given up, after the reason was reported.
     pub fn stopped(stopped: Stopped) -> Ending
         ensures status { result.status ≡ stopped.status }
         ensures written { result.is_unwritten ≡ false }
@@ -76,7 +76,7 @@ impl Ending {
         Ending::with(stopped.status())
     }
 
-    /// Of a text that was printed, or of which it was told that the output failed on it.
+    /// Returns the ending of a request whose text was printed, or for which it was reported that the output failed.
     fn printed(printed: Result<(), NotPrinted>) -> Ending
         ensures status { IsStatus result.status }
         ensures done { OnOk printed.entry ((result.status ≡ 0) × (result.is_unwritten ≡ false)) }
@@ -92,14 +92,14 @@ impl Ending {
         }
     }
 
-    /// The exit status.
+    /// Returns the exit status.
     pub fn status(&self) -> u8
         ensures { result ≡ self.now.status }
     {
         self.status
     }
 
-    /// Whether the output failed.
+    /// Returns whether the output failed.
     pub fn is_unwritten(&self) -> bool
         ensures { result ≡ self.now.is_unwritten }
     {
@@ -107,8 +107,8 @@ impl Ending {
     }
 }
 
-/// A request that was served, with no schedule written behind it yet: `Served::of` alone makes one. With what it was
-/// served, proofs see: it takes no bytes.
+/// A request that was served. Its schedule, if it asks for one, is not yet written. Only `Served::of` makes this value.
+/// The files and the target are kept for the proofs only: a snapshot takes no bytes at run time.
 #[derive(Drop)]
 pub struct Served<'a, R, W: Write + Drop> {
     request: &'a TaskRequest,
@@ -119,8 +119,8 @@ pub struct Served<'a, R, W: Write + Drop> {
 }
 
 impl<'a, R: Source, W: Write + Drop> Served<'a, R, W> {
-    /// Does what is asked for on these files, as `cli_answers::serve` does: prints the answer, or what is at fault. The output
-    /// shows nothing of a write that failed.
+    /// Serves the request on these files, as `cli_answers::serve` does: prints the answer, or reports what is wrong. In
+    /// this contract a write to the output may always fail.
     pub fn of<T, F>(
         threads: &T,
         alloc: Global,
@@ -143,13 +143,13 @@ impl<'a, R: Source, W: Write + Drop> Served<'a, R, W> {
             IsShown request.entry.now (files R.bytes first second) (W.contents out.old.stream)
             (W.contents out.new.stream) }
         ensures quiet { result.ending.status ≡ 0 → fault.new ≡ fault.old }
-        // Neither JSON nor one line is asked for.
+        // The request asks for neither JSON nor one line.
         ensures at_fault { is_shaped request.entry.now ≡ false → result.ending.status ≡ 1 →
             IsFault (R.fails first) (IsSomeAnd second R.fails) (Unit {0})
             (AppendsFront (W.contents out.old.stream) (W.contents out.new.stream)) request.entry.now.task
             (files R.bytes first second) (out.new ≡ out.old)
             (Tells (F.fails fault.old) (F.contents fault.old) (F.contents fault.new)) }
-        // One of them is.
+        // The request asks for JSON or for one line.
         ensures refused { is_shaped request.entry.now ≡ true → result.ending.status ≡ 1 →
             IsAnswerUnwritten (Unit {0})
             (Tells (F.fails fault.old) (F.contents fault.old) (F.contents fault.new)) request.entry.now
@@ -178,7 +178,7 @@ impl<'a, R: Source, W: Write + Drop> Served<'a, R, W> {
         }
     }
 
-    /// The exit status so far.
+    /// Returns the exit status so far.
     pub fn status(&self) -> u8
         ensures { result ≡ self.now.ending.status }
     {
@@ -187,7 +187,7 @@ impl<'a, R: Source, W: Write + Drop> Served<'a, R, W> {
 }
 
 impl<'a> Served<'a, Input<'a>, Target<'a>> {
-    /// How it came out, where no schedule is to be written, and no exploration to be kept.
+    /// Returns how the request ended, if there is no schedule to write and no exploration to keep.
     pub fn alone(self) -> Ending
         requires unkept { folder_of self.request.now.task ≡ None }
         requires its_own { IsServedFor self.request.now.task self.first.value self.second.value self.target.value.stream }
@@ -199,7 +199,7 @@ impl<'a> Served<'a, Input<'a>, Target<'a>> {
         ending
     }
 
-    /// How it came out, where no exploration is kept since its scenario is refused.
+    /// Returns how the request ended, if its exploration is not kept because the scenario is rejected.
     pub fn unexplored(self) -> Ending
         requires refused { (scenario : List ℕ) × IsTextOf scenario self.first.value × IsUnexplored scenario }
         requires its_own { IsServedFor self.request.now.task self.first.value self.second.value self.target.value.stream }
@@ -209,7 +209,12 @@ impl<'a> Served<'a, Input<'a>, Target<'a>> {
         ending
     }
 
-    /// How it came out, where the schedule of its seed was to be written behind it.
+    /// Returns how the request ended, after the schedule of its seed was written or could not be written. In the second
+    /// case reports the file.
+    ///
+    /// # Errors
+    ///
+    /// `AllocError` if the schedule was not written because memory ran out.
     pub fn with_schedule(
         self,
         rt: &HostRuntime,
@@ -236,8 +241,8 @@ impl<'a> Served<'a, Input<'a>, Target<'a>> {
     }
 }
 
-/// An exploration that was kept and printed, or of which it was said that it was not: `Printed::of` alone makes one.
-/// With where it was printed, proofs see: that takes no bytes.
+/// An exploration that was kept and printed, or that was reported not to be. Only `Printed::of` makes this value. The
+/// target is kept for the proofs only: a snapshot takes no bytes at run time.
 #[derive(Drop)]
 pub struct Printed<'a, O> {
     request: &'a TaskRequest,
@@ -246,7 +251,11 @@ pub struct Printed<'a, O> {
 }
 
 impl<'a, O: Output> Printed<'a, O> {
-    /// Prints this text of the exploration of this scenario where its files are kept, and else says that they are not.
+    /// Prints this text of the scenario's exploration if its files were written. Otherwise reports that they were not.
+    ///
+    /// # Errors
+    ///
+    /// `AllocError` if a file was not written because memory ran out.
     pub fn of(
         rt: &HostRuntime,
         request: &'a TaskRequest,
@@ -284,7 +293,7 @@ impl<'a, O: Output> Printed<'a, O> {
 }
 
 impl<'a> Printed<'a, Target<'a>> {
-    /// How it came out.
+    /// Returns how the request ended.
     pub fn ending(self) -> Ending
         requires its_own { IsTargetOf (target_of self.request.now.task) self.target.value }
         ensures { result ≡ self.entry.ending }
@@ -298,7 +307,7 @@ impl<'a> Printed<'a, Target<'a>> {
 ///
 /// # Errors
 ///
-/// The output failed, and that was told.
+/// The output failed, and this was reported.
 fn put_text<O: Output>(
     rt: &HostRuntime,
     request: &TaskRequest,

@@ -1,26 +1,27 @@
-//! How requests come out that are done one behind another.
+//! How all requests of a call ended: their count, the worst exit status, and why a call stopped early.
 ghost use Rattle.std.specs.Prelude.{◌≡◌, ◌+◌, ◌<◌, ◌^◌, None, Some, is_some, max};
 ghost use Rattle.byzlab.specs.Turns.{first_unwritten};
 
 use crate::ending::Ending;
 use crate::no_request::Unasked;
 
-/// How requests came out that were done one behind another. Only what is here makes it: of none, of one more ending, of
-/// words behind them that ask for nothing.
+/// How the requests of a call ended that were served in order. Only functions of this file make this value: with no
+/// request, with one more ending, or with words that ask for no task.
 #[derive(Drop)]
 pub struct Endings {
-    /// How many requests they are.
+    /// How many requests were served.
     count: usize,
-    /// The worst exit status, 0 of none.
+    /// The worst exit status, or 0 if no request was served.
     worst: u8,
-    /// The place of the first, from 0, whose output failed, so that no further answer can be written; where one's did.
+    /// The index, from 0, of the first request whose output failed, or `None`. No further answer can be written after
+    /// it.
     unwritten: Option<usize>,
-    /// The words behind them that ask for nothing, where such ended them.
+    /// The words that ask for no task, if such words ended the call.
     unasked: Option<Unasked>,
 }
 
 impl Endings {
-    /// Of no request.
+    /// Returns the value for a call that has served no request yet.
     pub fn none() -> Endings
         ensures count { result.count ≡ 0 }
         ensures worst { result.worst ≡ 0 }
@@ -35,7 +36,7 @@ impl Endings {
         }
     }
 
-    /// Enters how the next request came out.
+    /// Adds how the next request ended.
     pub fn enter(&mut self, ending: Ending)
         requires { self.old.count + 1 < 2 ^ 64 }
         ensures count { self.new.count ≡ self.old.count + 1 }
@@ -49,7 +50,7 @@ impl Endings {
         self.worst = worse(self.worst, ending.status());
     }
 
-    /// These, and words behind them that ask for nothing.
+    /// Adds words that ask for no task, at which the call ends.
     pub fn with_unasked(self, unasked: Unasked) -> Endings
         ensures count { result.count ≡ self.count }
         ensures worst { result.worst ≡ max self.worst unasked.status }
@@ -64,21 +65,21 @@ impl Endings {
         }
     }
 
-    /// How many requests they are.
+    /// Returns how many requests were served.
     pub fn count(&self) -> usize
         ensures { result ≡ self.now.count }
     {
         self.count
     }
 
-    /// The worst exit status, 0 of none.
+    /// Returns the worst exit status, or 0 if no request was served.
     pub fn worst(&self) -> u8
         ensures { result ≡ self.now.worst }
     {
         self.worst
     }
 
-    /// Whether the output of one failed.
+    /// Returns whether the output of a request failed.
     pub fn is_unwritten(&self) -> bool
         ensures { result ≡ is_some self.now.unwritten }
     {
@@ -86,14 +87,15 @@ impl Endings {
     }
 }
 
-/// The worse of two exit statuses.
+/// Returns the worse of two exit statuses, which is the greater one.
 fn worse(first: u8, second: u8) -> u8
     ensures { result ≡ max first second }
 {
     if first < second { second } else { first }
 }
 
-/// The place of the first whose output failed, once the one at this place came out so.
+/// Returns the index of the first request whose output failed, after the request at `place` has ended. `before` is that
+/// index without this request.
 fn first_unwritten(before: Option<usize>, place: usize, is_unwritten: bool) -> Option<usize>
     ensures { result ≡ first_unwritten before place is_unwritten }
 {

@@ -1,4 +1,5 @@
-//! What is said behind the line of a file that is not read, and of an output that failed.
+//! What is said about files that cannot be read or written and outputs that failed: the line, and the sentence with the
+//! reason.
 
 ghost use Rattle.std.specs.Prelude.{◌≡◌, ◌↔◌, IfOk, IsErr, None, Some, if◌then◌else◌, option_map};
 ghost use Rattle.std.specs.IoError.{error_kind};
@@ -12,7 +13,7 @@ use std::alloc::AllocError;
 use std::fmt::{self, Display};
 use std::io::{self, ErrorKind};
 
-/// Lines, and behind them the sentence for an error of this kind, if one is to be told.
+/// Lines to report, followed by the sentence for an error of this kind, if there is a kind.
 #[derive(Drop)]
 pub struct Explained<D: Display + Drop> {
     pub lines: D,
@@ -37,7 +38,7 @@ impl<D: Display + Drop> Explained<D> {
     ghost use Rattle.std.specs.Prelude.{◌≡◌, None, if◌then◌else◌};
     ghost use Rattle.cli_tasks.specs.Whys.{is_explained};
 
-    /// The lines and, where the task explains what it refuses, the sentence for an error of this kind, if there is one.
+    /// Returns the lines with the kind of error, or without it if the task does not explain what it rejects.
     pub fn by(task: &Task, lines: D, kind: Option<ErrorKind>) -> Explained<D>
         ensures lines { result.lines ≡ lines }
         ensures kind { result.kind ≡ (if is_explained task.now then kind else None) }
@@ -47,7 +48,7 @@ impl<D: Display + Drop> Explained<D> {
     }
 }
 
-/// That a file of this name was not written.
+/// The line that a file of this name was not written.
 #[derive(Drop)]
 pub struct Unwritten {
     pub name: String,
@@ -65,11 +66,11 @@ impl Display for Unwritten {
     }
 }
 
-/// What is told of a file of this name whose opening or reading failed so.
+/// Returns what is reported about a file of this name if opening or reading it failed with this error.
 ///
 /// # Errors
 ///
-/// `AllocError` where it is want of memory.
+/// `AllocError` if the error is that memory ran out.
 pub fn unread<'a>(
     task: &Task,
     name: &'a str,
@@ -86,7 +87,8 @@ pub fn unread<'a>(
     Ok(Explained::by(task, TaskFailure::Read(name), Some(kind)))
 }
 
-/// Why the output of a task failed that ended with this status, where that is to be told.
+/// Returns the sentence for a failed output, given the exit status of its task. Returns `None` if the status is not 1,
+/// the task does not explain what it rejects, or the output did not fail.
 pub fn why_unwritten(status: u8, task: &Task, fault: Option<ErrorKind>) -> Option<&'static str>
     ensures { IsWhy status (is_explained task.now) fault (option_map (λ why. why.now) result) }
 {

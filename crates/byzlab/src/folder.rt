@@ -1,4 +1,4 @@
-//! The folder of a scenario.
+//! Reads the files that a scenario names, relative to the scenario's folder.
 ghost use Rattle.std.specs.Prelude.{IfOk, option_map, string_bytes};
 ghost use Rattle.byzlab.specs.Beside.{IsFolderOf, IsPathOf};
 
@@ -7,7 +7,8 @@ use std::alloc::{AllocError, Global};
 use std::fs::File;
 use std::io::{self, Read};
 
-/// The folder of the scenario of this name, an empty one of standard input.
+/// The folder of the scenario of this name. If the name contains no slash, as for standard input, it is the working
+/// directory.
 #[derive(Clone, Copy)]
 pub struct FolderOf<'a> {
     pub rt: &'a HostRuntime,
@@ -23,7 +24,7 @@ impl Folder for FolderOf<'_> {
     }
 }
 
-/// The folder in the name of a scenario, where it has one.
+/// Returns the folder in the name of a scenario, or `None` if the name contains no slash.
 fn folder_of(scenario: &str) -> Option<&str>
     ensures { IsFolderOf scenario.now (option_map (λ folder. folder.now) result) }
 {
@@ -33,7 +34,8 @@ fn folder_of(scenario: &str) -> Option<&str>
     }
 }
 
-/// The path of a file that a scenario names: from the scenario's folder, unless it begins with a slash.
+/// Returns the path of a file that a scenario names. A name that begins with a slash is a path itself, and any other
+/// name is relative to the scenario's folder.
 fn path_of(alloc: Global, scenario: &str, name: &str) -> Result<String, AllocError>
     ensures { IfOk result (λ path. IsPathOf scenario.now name.now (string_bytes path)) }
 {

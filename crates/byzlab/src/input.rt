@@ -1,30 +1,31 @@
+//! Opens the files that a task reads: a named file, standard input for a hyphen, or a text in memory.
 ghost use Rattle.std.specs.Prelude.{◌≢◌, IfOk, IfErr, Some, codes};
 ghost use Rattle.byzlab.specs.Files.{IsInputOf};
 
 use std::fs::File;
 use std::io::{self, Cursor, ErrorKind, Read, Stdin};
 
-/// A file of the task.
+/// A file that a task of this program reads.
 pub type Input<'a> = Opened<'a, File, Stdin>;
 
-/// A file of the task, where one that is opened by its name is an `F`, and standard input an `S`.
+/// A file that a task reads. `F` is the type of a file opened by its name, and `S` that of standard input.
 #[derive(Drop)]
 pub enum Opened<'a, F: Read + Drop, S: Read + Drop> {
-    /// It was opened by this name.
+    /// A file that was opened by this name.
     File(F, &'a str),
-    /// A hyphen names standard input.
+    /// Standard input, named by a hyphen.
     Standard(S),
-    /// A scenario that was read, with the files that it names.
+    /// A text in memory: a scenario with the files that it names, or the random schedule of a seed.
     Text(Cursor<Vec<u8>>),
-    /// The task reads no file.
+    /// No file: the task does not read one.
     Nothing,
 }
 
-/// The file of this name.
+/// Opens the file of this name, or standard input if the name is a hyphen.
 ///
 /// # Errors
 ///
-/// It does not open, or is a folder; a hyphen always opens.
+/// The file cannot be opened, or it is a folder. Standard input always opens.
 pub fn open<'a>(rt: &HostRuntime, name: &'a str) -> io::Result<Input<'a>>
     ensures input { IfOk result (λ input. IsInputOf name.entry.now (Some input)) }
     ensures closed { IfErr result (λ _. name.entry.now ≢ codes "-") }

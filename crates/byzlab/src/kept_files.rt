@@ -1,4 +1,5 @@
-//! Files that are written besides an answer.
+//! Writes files in addition to an answer: a scenario and its schedules to a folder, or a single file. A regular file is
+//! written whole or not at all.
 ghost use Rattle.std.specs.Prelude.{◌≡◌, ◌++◌, ◌∷◌, [], IfErr, IfOk, OnOk, length, map, string_bytes};
 ghost use Rattle.streams.specs.Filling.{IsFilledBy, file_of};
 ghost use Rattle.byzlab.specs.Kept.{IsKeptIn, IsUnwritten, Tells, kept_files, name_beside, schedule_name};
@@ -11,9 +12,9 @@ use streams::{Filled, fill};
 /// Why a file was not written.
 #[derive(Drop)]
 pub enum Unkept {
-    /// The file or the folder of this name cannot be written.
+    /// The file or the folder of this name cannot be written, with this kind of error.
     Unwritten(String, ErrorKind),
-    /// Want of memory.
+    /// Memory ran out.
     Memory,
 }
 
@@ -28,13 +29,12 @@ impl From<AllocError> for Unkept {
     }
 }
 
-/// Writes a file of this name. A plain file is written whole or not at all: beside it first, under a name that nobody
-/// has, which it then gives up for its own. What is no plain file (a device, a pipe, a link) stays what it is, and is
-/// written to.
+/// Writes a file of this name. A regular file is written whole or not at all: the bytes go to a new file `NAME.new`,
+/// which is then renamed. Anything else (a device, a pipe, a link) is kept as it is, and the bytes are written to it.
 ///
 /// # Errors
 ///
-/// It cannot be written, or the name beside it is taken, or want of memory.
+/// The file cannot be written, `NAME.new` exists already, or memory runs out.
 pub fn write_whole<'a>(
     rt: &HostRuntime,
     name: &str,
@@ -49,7 +49,11 @@ pub fn write_whole<'a>(
     }
 }
 
-/// Writes to what has this name.
+/// Opens the file of this name, and writes the bytes to it directly.
+///
+/// # Errors
+///
+/// The file cannot be written, or memory runs out.
 fn write_through<'a>(
     rt: &HostRuntime,
     name: &str,
@@ -68,7 +72,11 @@ fn write_through<'a>(
     }
 }
 
-/// Writes a new file beside this name, and gives it the name.
+/// Writes the bytes to a new file `NAME.new`, and renames it to this name. The new file is removed if that fails.
+///
+/// # Errors
+///
+/// The file cannot be written, `NAME.new` exists already, or memory runs out.
 fn write_beside<'a>(
     rt: &HostRuntime,
     name: &str,
@@ -91,7 +99,11 @@ fn write_beside<'a>(
     }
 }
 
-/// Writes the file beside, and gives it its name.
+/// Writes the bytes to the open file `beside`, and renames it to `name`.
+///
+/// # Errors
+///
+/// A write or the renaming failed, or memory ran out.
 fn named<'a>(
     rt: &HostRuntime,
     mut file: File,
@@ -106,14 +118,14 @@ fn named<'a>(
     Ok(written)
 }
 
-/// The name beside this one.
+/// Returns the name under which a file is written first: `NAME.new`.
 fn name_beside(alloc: Global, name: &str) -> Result<String, AllocError>
     ensures { IfOk result (λ beside. string_bytes beside ≡ name_beside name.now) }
 {
     format!(in alloc; "{name}.new")
 }
 
-/// That the file or the folder of this name cannot be written.
+/// Returns the error that the file or the folder of this name cannot be written, or `Memory` if memory ran out.
 fn unwritten(rt: &HostRuntime, name: &str, kind: ErrorKind) -> Unkept
     ensures { IsUnwritten name.now kind result }
 {
@@ -126,11 +138,11 @@ fn unwritten(rt: &HostRuntime, name: &str, kind: ErrorKind) -> Unkept
     }
 }
 
-/// Makes the folder of this name, where there is none.
+/// Makes the folder of this name, unless it exists.
 ///
 /// # Errors
 ///
-/// It is no folder and cannot be made, or want of memory.
+/// Something other than a folder has this name, the folder cannot be made, or memory runs out.
 fn make_folder(rt: &HostRuntime, name: &str) -> Result<(), Unkept>
     ensures { IfErr result (Tells (λ told. told ≡ name.now)) }
 {
@@ -144,14 +156,18 @@ fn make_folder(rt: &HostRuntime, name: &str) -> Result<(), Unkept>
     }
 }
 
-/// The name of the schedule of an outcome's number.
+/// Returns the name of the file with the schedule of the outcome of this number.
 fn schedule_name(alloc: Global, folder: &str, number: u64) -> Result<String, AllocError>
     ensures { IfOk result (λ name. string_bytes name ≡ schedule_name folder.now number) }
 {
     format!(in alloc; "{folder}/outcome-{number}.schedule")
 }
 
-/// Writes a file, and enters it behind those that are written.
+/// Writes a file, and appends it to the list of written files.
+///
+/// # Errors
+///
+/// The file cannot be written, or memory runs out.
 fn keep_file<'a>(
     rt: &HostRuntime,
     files: &mut Vec<Filled<'a, File>>,
@@ -169,12 +185,12 @@ fn keep_file<'a>(
     }
 }
 
-/// Writes a scenario to FOLDER/scenario.toml, and each schedule to FOLDER/outcome-N.schedule, from 1. The folder is
-/// made, where there is none. The result tells each file that was written.
+/// Writes a scenario to FOLDER/scenario.toml, and the schedules to FOLDER/outcome-N.schedule, with N from 1. The folder
+/// is made if it does not exist. Returns the files that were written.
 ///
 /// # Errors
 ///
-/// A file or the folder cannot be written, or want of memory.
+/// A file or the folder cannot be written, or memory runs out.
 pub fn keep<'a>(
     rt: &HostRuntime,
     folder: &str,

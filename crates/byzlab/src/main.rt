@@ -1,5 +1,5 @@
-//! `byzlab`, a laboratory for the Byzantine generals problem: reads the words, opens the files, and
-//! leaves the task to the library `lab`.
+//! The program `byzlab`, a laboratory for the Byzantine generals problem: reads the command line, opens the files, and
+//! leaves each task to `cli_answers` and the crates below it.
 #![tactic(auto)]
 
 mod ending;
@@ -64,7 +64,12 @@ fn main(rt: HostRuntime) -> ExitCode {
     ExitCode::from(status)
 }
 
-/// Reads the words, and does each request of theirs, up to the first that is none or whose output fails.
+/// Reads the command line, and serves its requests in order. Stops after a request whose output fails, and at words
+/// that ask for no task.
+///
+/// # Errors
+///
+/// The words cannot be read, help cannot be printed, or memory runs out.
 fn called<T: Threads + Wait + Sync>(rt: &HostRuntime, threads: &T) -> io::Result<Endings>
     ensures status { IfOk result (λ endings. endings.worst ≤ 3) }
     ensures done { IfOk result (λ endings. (words : List Text) × AreDone words endings) }
@@ -78,7 +83,12 @@ fn called<T: Threads + Wait + Sync>(rt: &HostRuntime, threads: &T) -> io::Result
     done_each(rt, threads, texts.as_slice())
 }
 
-/// Does each request that the words make, up to the first that is none or whose output fails.
+/// Serves the requests that the words make, in order. Stops after a request whose output fails, and at words that ask
+/// for no task.
+///
+/// # Errors
+///
+/// Help cannot be printed, or memory runs out.
 fn done_each<T: Threads + Wait + Sync>(
     rt: &HostRuntime,
     threads: &T,
@@ -91,7 +101,11 @@ fn done_each<T: Threads + Wait + Sync>(
     in_turn(rt, threads, requests.as_slice())
 }
 
-/// Does each request, up to the first that is none or whose output fails.
+/// Serves these requests in order. Stops after a request whose output fails, and at words that ask for no task.
+///
+/// # Errors
+///
+/// Help cannot be printed, or memory runs out.
 fn in_turn<T: Threads + Wait + Sync>(
     rt: &HostRuntime,
     threads: &T,
@@ -121,7 +135,8 @@ fn in_turn<T: Threads + Wait + Sync>(
     Ok(endings)
 }
 
-/// Does what is asked for, and says it where there was no memory to open a file.
+/// Serves one request, and returns how it ended. If memory runs out while files are opened or written, says so on
+/// standard error.
 fn ended<'a, T: Threads + Wait + Sync>(
     rt: &'a HostRuntime,
     threads: &T,
@@ -132,7 +147,7 @@ fn ended<'a, T: Threads + Wait + Sync>(
     settled(rt, answered(rt, threads, request))
 }
 
-/// How a request came out; where there was no memory to open a file, this is said first.
+/// Returns how a request ended. If memory ran out instead, says so on standard error first.
 fn settled(rt: &HostRuntime, outcome: Result<Ending, AllocError>) -> Ending
     ensures done { IfOk outcome (λ ending. result ≡ ending) }
     ensures lacking { IfErr outcome (λ _. result.status ≡ (failure_of ErrorKind.OutOfMemory).1) }
@@ -143,7 +158,12 @@ fn settled(rt: &HostRuntime, outcome: Result<Ending, AllocError>) -> Ending
     }
 }
 
-/// Does what is asked for.
+/// Serves one request: opens its files, does the task, and writes the schedule or the files of an exploration that it
+/// asks for.
+///
+/// # Errors
+///
+/// `AllocError` if memory runs out and this has not been reported yet.
 fn answered<'a, T: Threads + Wait + Sync>(
     rt: &'a HostRuntime,
     threads: &T,
@@ -182,8 +202,13 @@ fn answered<'a, T: Threads + Wait + Sync>(
     }
 }
 
-/// Explores the campaign of this scenario, whose outcomes are written to the folder, and then prints what it comes to;
-/// none where the scenario is refused.
+/// Explores the campaign of this scenario, writes the scenario and a schedule for each outcome to the folder, and then
+/// prints the outcomes. If a file cannot be written, reports this instead of printing. Returns `None` if the scenario
+/// is rejected.
+///
+/// # Errors
+///
+/// `AllocError` if memory runs out.
 fn explored(
     rt: &HostRuntime,
     request: &TaskRequest,
@@ -206,7 +231,11 @@ fn explored(
     }
 }
 
-/// None where a scenario is refused, unless that is want of memory.
+/// Returns `None` for a scenario that is rejected.
+///
+/// # Errors
+///
+/// `AllocError` if the reason is that memory ran out.
 fn unexplored(refusal: InputRefusal) -> Result<Option<Ending>, AllocError>
     ensures none { IfOk result (λ ending. ending ≡ None) }
     ensures memory { IsErr result ↔ (refusal ≡ InputRefusal.Memory) }
@@ -218,8 +247,8 @@ fn unexplored(refusal: InputRefusal) -> Result<Option<Ending>, AllocError>
     }
 }
 
-/// Does what is asked for on these files, and tells behind a fault of its output why, where it explains what it
-/// refuses.
+/// Serves the request on these files. If its output fails and the task explains what it rejects, also says on standard
+/// error why the output failed.
 fn served<'a, T: Threads + Wait + Sync>(
     rt: &'a HostRuntime,
     threads: &T,
@@ -250,7 +279,12 @@ fn served<'a, T: Threads + Wait + Sync>(
     done
 }
 
-/// Writes the schedule of the seed behind a campaign that was played by it, where it is to be written.
+/// Writes the schedule of the seed, if a campaign was played by it with exit status 0 and the request names a file for
+/// the schedule.
+///
+/// # Errors
+///
+/// `AllocError` if memory runs out.
 fn schedule_written<'a>(
     rt: &HostRuntime,
     request: &TaskRequest,
@@ -274,7 +308,11 @@ fn schedule_written<'a>(
     done.with_schedule(rt, written)
 }
 
-/// The task's files; or, where one of them does not open, the line that was told of it.
+/// Opens the task's files. If one of them cannot be opened, returns the line that was reported about it.
+///
+/// # Errors
+///
+/// `AllocError` if memory runs out.
 fn files<'a>(
     rt: &HostRuntime,
     request: &'a TaskRequest,
@@ -300,7 +338,11 @@ fn files<'a>(
     Ok(Ok((first, second)))
 }
 
-/// The random schedule of the task's seed, as a second file, where it has one.
+/// Returns the random schedule of the task's seed as a second file, or `None` if the task has no seed.
+///
+/// # Errors
+///
+/// `AllocError` if memory runs out.
 fn random<'a>(rt: &HostRuntime, task: &Task) -> Result<Option<Input<'a>>, AllocError>
     ensures seeded { IfOk result (IsSeededIf (seed_of task.now)) }
 {
@@ -311,8 +353,13 @@ fn random<'a>(rt: &HostRuntime, task: &Task) -> Result<Option<Input<'a>>, AllocE
     Ok(Some(Opened::Text(Cursor::new(schedule.into_bytes()))))
 }
 
-/// The first file, in which a scenario has the files that it names; or that a line was told, where it or one of them is
-/// not taken.
+/// Returns the first file of the task. If it is a scenario, its text is read, and the files that it names are put in.
+/// If the scenario or one of those files is rejected, returns the line that was reported about it. A file of another
+/// kind is returned unchanged.
+///
+/// # Errors
+///
+/// `AllocError` if memory runs out.
 fn completed<'a>(
     rt: &HostRuntime,
     request: &'a TaskRequest,
@@ -333,8 +380,12 @@ fn completed<'a>(
     }
 }
 
-/// A scenario that is read from this file, with the files of the folder that it names; or that a line was told, where
-/// it or one of them is not taken.
+/// Reads a scenario from this file, and puts in the files of the folder that it names. If the scenario or one of those
+/// files is rejected, returns the line that was reported about it.
+///
+/// # Errors
+///
+/// `AllocError` if memory runs out.
 fn seen<'a, R: Read + Drop, D: Folder>(
     rt: &HostRuntime,
     request: &TaskRequest,
@@ -364,8 +415,14 @@ fn seen<'a, R: Read + Drop, D: Folder>(
     }
 }
 
-/// The bytes of a scenario in which the files stand that it names, for a page behind its story; or, where it names
-/// some, and is refused, and an explanation is asked for, that this was told at its own lines and those of the files.
+/// Returns the text to be served for a scenario, from its own bytes `own` and from `bytes`, which contain the files
+/// that it names. For a page, the text begins with the scenario's story. If the scenario names files and is rejected,
+/// and the task explains what it rejects, reports this at the lines of the scenario and of its files, and returns that
+/// report.
+///
+/// # Errors
+///
+/// `AllocError` if memory runs out.
 fn made<'a>(
     rt: &HostRuntime,
     request: &TaskRequest,
@@ -390,7 +447,11 @@ fn made<'a>(
     Ok(Ok(Opened::Text(Cursor::new(text))))
 }
 
-/// All bytes of the file of this name; or, where it cannot be read, the line that was told of it.
+/// Reads all bytes of `file`. If it cannot be read, reports this under `name`, and returns the line.
+///
+/// # Errors
+///
+/// `AllocError` if memory runs out.
 fn read<'a, R: Read + Drop>(
     rt: &HostRuntime,
     request: &TaskRequest,
@@ -409,8 +470,12 @@ fn read<'a, R: Read + Drop>(
     }
 }
 
-/// The file of this name, or nothing to read where the task has none; or, where it does not open, the line that was
-/// told of it.
+/// Opens the file of this name. Without a name, returns an input that has no bytes. If the file cannot be opened,
+/// returns the line that was reported about it.
+///
+/// # Errors
+///
+/// `AllocError` if memory runs out.
 fn opened<'a>(
     rt: &HostRuntime,
     request: &TaskRequest,

@@ -1,3 +1,4 @@
+//! What is printed if the words of the command line ask for no task: help, or what is wrong with them.
 ghost use Rattle.std.specs.Prelude.{◌≡◌, IfOk};
 ghost use Rattle.byzlab.specs.Failures.{IsUnasked, IsUnaskedBy, error_of};
 
@@ -7,31 +8,31 @@ use clap::Error;
 use cli_words::TaskError;
 use std::io::{self, ErrorKind, Stderr};
 
-/// Words that ask for nothing, of which it was said why, or behind which help was printed: `Unasked::told` alone makes
-/// it.
+/// Words that ask for no task, after the reason was reported or help was printed. Only `Unasked::told` makes this
+/// value.
 #[derive(Drop)]
 pub struct Unasked {
-    /// Why they name no task.
+    /// Why the words name no task.
     why: Why,
-    /// The exit status.
+    /// The exit status: 2, or 0 if the words ask for help or for the version.
     status: u8,
 }
 
-/// Why words name no task, as it is told.
+/// Why words name no task, after this was reported.
 #[derive(Drop)]
 pub enum Why {
-    /// They are refused, or they ask for help: this is printed.
+    /// `clap` rejects the words, or they ask for help. This error was printed.
     Printed(Error),
-    /// They are taken, and name no task all the same: this was told.
+    /// `clap` accepts the words, but they name no task. This line was reported.
     Noted(Noted<TaskError, Stderr>),
 }
 
 impl Unasked {
-    /// Says why the words name no task, or prints help.
+    /// Reports why the words name no task, or prints help.
     ///
     /// # Errors
     ///
-    /// Want of memory, or help that was not printed.
+    /// Memory ran out, or help cannot be printed.
     pub fn told(rt: &HostRuntime, error: TaskError) -> io::Result<Unasked>
         ensures error { IfOk result (λ unasked. error_of unasked.why ≡ error) }
         ensures status { IfOk result (λ unasked. IsUnasked error unasked.status) }
@@ -50,7 +51,7 @@ impl Unasked {
         }
     }
 
-    /// The exit status.
+    /// Returns the exit status.
     pub fn status(&self) -> u8
         ensures { result ≡ self.now.status }
     {
@@ -58,7 +59,12 @@ impl Unasked {
     }
 }
 
-/// Prints why the words are refused, or help. The result is the exit status.
+/// Prints why `clap` rejects the words, or help or the version. Returns the exit status: 2, or 0 for help or the
+/// version.
+///
+/// # Errors
+///
+/// Help or the version cannot be printed.
 fn print(rt: &HostRuntime, refusal: &Error) -> io::Result<u8>
     ensures { IfOk result (IsUnaskedBy refusal.now) }
 {

@@ -1,4 +1,4 @@
-//! Lines that are told on standard error alone.
+//! Reports a line on standard error only.
 ghost use Rattle.std.specs.Prelude.{◌≡◌, IfSome};
 ghost use Rattle.cli_tasks.specs.Serving.{Tells};
 
@@ -6,14 +6,15 @@ use std::fmt::Display;
 use std::marker::PhantomData;
 use streams::Output;
 
-/// That such a line was told on an `F`, unless that failed: `noted_on` alone tells it.
+/// A record that a line was reported on a stream of type `F`, unless the write failed. Only `noted_on` makes this
+/// value.
 #[derive(Drop)]
 pub struct Noted<D: Display + Drop, F> {
     line: D,
     fault: PhantomData<F>,
 }
 
-/// Tells this line.
+/// Writes this line to `fault`. A failed write is ignored.
 pub fn noted_on<D: Display + Drop, F: Output>(line: D, fault: &mut F) -> Noted<D, F>
     ensures line { result.line ≡ line }
     ensures told { IfSome (D.output line)

@@ -1,24 +1,24 @@
-//! How far a call with several files is.
+//! The progress line of a call with several files, which shows on a terminal how many are done.
 ghost use Rattle.std.specs.Prelude.{◌≡◌, ◌≤◌, IsOk, None};
 
 use std::io::{self, IsTerminal, Write};
 use std::time::Instant;
 
-/// As wide as what is told at most.
+/// Blanks that are as wide as the longest progress line.
 const BLANK: &str = "                                                  ";
 
-/// How far a call with several files is, told on standard error where that is a terminal, from the first second on: on
-/// a line over which the next one is written.
+/// The progress of a call with several files. It is shown on standard error if that is a terminal, from the first
+/// second on, on one line that is overwritten.
 #[derive(Drop)]
 pub struct ProgressLine<'a> {
     rt: &'a HostRuntime,
-    /// When the call began; none where nothing is to be told.
+    /// When the call began, or `None` if no progress is to be shown.
     start: Option<Instant>,
     all: usize,
 }
 
 impl<'a> ProgressLine<'a> {
-    /// Of so many files.
+    /// Returns the progress of a call with `all` files. Nothing is shown if there is at most one.
     pub fn of(rt: &'a HostRuntime, all: usize) -> ProgressLine<'a>
         ensures all { result.all ≡ all }
         ensures alone { all ≤ 1 → result.start ≡ None }
@@ -32,11 +32,11 @@ impl<'a> ProgressLine<'a> {
         ProgressLine { rt, start, all }
     }
 
-    /// Takes what was told away, so that a shorter line may stand in its place.
+    /// Clears the progress line, so that a shorter line can be written there.
     ///
     /// # Errors
     ///
-    /// The clock cannot be read, or standard error not be written.
+    /// The clock cannot be read, or standard error cannot be written.
     pub fn clear(&self) -> io::Result<()>
         ensures { self.now.start ≡ None → IsOk result }
     {
@@ -51,11 +51,11 @@ impl<'a> ProgressLine<'a> {
         stderr.flush()
     }
 
-    /// Tells that so many are done.
+    /// Shows that `done` files are done.
     ///
     /// # Errors
     ///
-    /// The clock cannot be read, or standard error not be written.
+    /// The clock cannot be read, or standard error cannot be written.
     pub fn tell(&self, done: usize) -> io::Result<()>
         ensures { self.now.start ≡ None → IsOk result }
     {

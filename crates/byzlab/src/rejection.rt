@@ -1,4 +1,5 @@
-//! The line that says why a task is not done.
+//! Reports that a task is not done, because a file cannot be read or written or a scenario is rejected, in the form
+//! that the request asks for.
 ghost use Rattle.std.specs.Prelude.{◌≡◌, ◌↔◌, IfErr, IfOk, IsErr, None, Ok, Some, if◌then◌else◌};
 ghost use Rattle.std.specs.IoError.{error_kind};
 ghost use Rattle.cli_tasks.specs.Whys.{is_explained};
@@ -17,28 +18,28 @@ use std::alloc::AllocError;
 use std::fmt::Display;
 use std::io::{self, ErrorKind, Stderr, Stdout};
 
-/// That such a line was told.
+/// A record that a line was reported on the standard streams which says that a task is not done.
 pub type TurnedDown<D> = ReportedLine<D, Stdout, Stderr>;
 
-/// That it was told of a file that it is not read.
+/// A record that a file was reported as not read.
 pub type Unread<'a> = TurnedDown<Explained<TaskFailure<'a>>>;
 
-/// That it was told of a file that it was not written.
+/// A record that a file was reported as not written.
 pub type NotKept = TurnedDown<Explained<Unwritten>>;
 
-/// That it was told of a scenario that it is not taken.
+/// A record that a scenario was reported as rejected.
 #[derive(Drop)]
 pub enum Rejected<'a> {
-    /// It is not read.
+    /// The scenario cannot be read.
     Unread(Unread<'a>),
-    /// A file that it names is not taken.
+    /// A file that the scenario names is rejected.
     Untaken(TurnedDown<Explained<String>>),
-    /// It is refused, at its own lines and those of the files that it names.
+    /// The scenario is rejected. The report names its own lines and those of the files that it names.
     Refused(TurnedDown<String>),
 }
 
 impl Rejected<'_> {
-    /// How the line was told.
+    /// Returns how the line was reported.
     pub fn said(self) -> ReportOutcome
         ensures { result ≡ said_of self.entry }
     {
@@ -50,14 +51,14 @@ impl Rejected<'_> {
     }
 }
 
-/// Tells this line on standard error.
+/// Writes this line to standard error. A failed write is ignored.
 pub fn note<D: Display + Drop>(rt: &HostRuntime, line: D) -> Noted<D, Stderr>
     ensures { result.line ≡ line }
 {
     noted_on(line, &mut rt.stderr())
 }
 
-/// Says that the task is not done, by this line.
+/// Reports by this line that the task is not done.
 pub fn turn_down<D: Display + Drop>(
     rt: &HostRuntime,
     request: &TaskRequest,
@@ -70,11 +71,11 @@ pub fn turn_down<D: Display + Drop>(
     told_on(rt.alloc(), request, line, &mut out, &mut rt.stderr())
 }
 
-/// Says that the file of this name is not read, since opening or reading it failed so.
+/// Reports that the file of this name is not read, because opening or reading it failed with this error.
 ///
 /// # Errors
 ///
-/// `AllocError` where that is want of memory.
+/// `AllocError` if the error is that memory ran out.
 pub fn tell_unread<'a>(
     rt: &HostRuntime,
     request: &TaskRequest,
@@ -91,11 +92,12 @@ pub fn tell_unread<'a>(
     Ok(turn_down(rt, request, line))
 }
 
-/// What opening or reading the file of this name gave; or, where it failed, that this was told.
+/// Returns the value that opening or reading the file of this name gave. If it failed, reports this, and returns the
+/// line that was reported.
 ///
 /// # Errors
 ///
-/// `AllocError` where it failed for want of memory.
+/// `AllocError` if it failed because memory ran out.
 pub fn given_or_told<'a, T>(
     rt: &HostRuntime,
     request: &TaskRequest,
@@ -116,7 +118,8 @@ pub fn given_or_told<'a, T>(
     }
 }
 
-/// Tells these lines of a file and, where there is a kind of error and the task explains what it refuses, this kind.
+/// Reports these lines about a file. If there is a kind of error and the task explains what it rejects, adds the
+/// sentence for that kind.
 pub fn tell_explained<D: Display + Drop>(
     rt: &HostRuntime,
     request: &TaskRequest,
@@ -130,11 +133,11 @@ pub fn tell_explained<D: Display + Drop>(
     turn_down(rt, request, Explained::by(&request.task, lines, kind))
 }
 
-/// Says that a file that a scenario names is not taken.
+/// Reports that a file named by a scenario is rejected.
 ///
 /// # Errors
 ///
-/// `AllocError` where that is want of memory.
+/// `AllocError` if the reason is that memory ran out.
 pub fn tell_neighbour(
     rt: &HostRuntime,
     request: &TaskRequest,
@@ -150,11 +153,11 @@ pub fn tell_neighbour(
     }
 }
 
-/// Says that a file was not written.
+/// Reports that a file was not written.
 ///
 /// # Errors
 ///
-/// `AllocError` where that is want of memory.
+/// `AllocError` if the reason is that memory ran out.
 pub fn tell_unkept(
     rt: &HostRuntime,
     request: &TaskRequest,

@@ -1,4 +1,5 @@
-//! Why nothing more is done: the words cannot be had, help cannot be printed, or memory to open a file is wanting.
+//! Reports why the program or a request cannot go on: the words cannot be read, help cannot be printed, or memory runs
+//! out.
 ghost use Rattle.std.specs.Prelude.{◌≡◌};
 ghost use Rattle.byzlab.specs.Failures.{failure_of};
 
@@ -6,17 +7,17 @@ use crate::noted_line::Noted;
 use crate::rejection::note;
 use std::io::{ErrorKind, Stderr};
 
-/// That it was said why nothing more is done: `lacking` alone says it.
+/// A record that the reason for stopping was reported. Only `lacking` makes this value.
 #[derive(Drop)]
 pub struct Stopped {
-    /// The line that was told.
+    /// The line that was reported.
     told: Noted<&'static str, Stderr>,
-    /// The exit status.
+    /// The exit status: 1, 2 or 3.
     status: u8,
 }
 
 impl Stopped {
-    /// The exit status.
+    /// Returns the exit status.
     pub fn status(&self) -> u8
         ensures { result ≡ self.now.status }
     {
@@ -24,7 +25,7 @@ impl Stopped {
     }
 }
 
-/// Says why nothing more is done.
+/// Reports on standard error why the program or a request cannot go on, given the kind of the error.
 pub fn lacking(rt: &HostRuntime, kind: ErrorKind) -> Stopped
     ensures { (result.told.line.now, result.status) ≡ failure_of kind }
 {
@@ -35,8 +36,8 @@ pub fn lacking(rt: &HostRuntime, kind: ErrorKind) -> Stopped
     }
 }
 
-/// The line and the exit status where the words could not be had, help not be written, or memory to open a file not be
-/// had.
+/// Returns the line and the exit status for an error of this kind: memory ran out, the words are not UTF-8, or help
+/// cannot be printed.
 fn failure(kind: ErrorKind) -> (&'static str, u8)
     ensures { ((result.0).now, result.1) ≡ failure_of kind }
 {

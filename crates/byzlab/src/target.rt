@@ -1,3 +1,4 @@
+//! Where a task's answer is written: standard output, or a file that is created by the first write.
 ghost use Rattle.std.specs.Prelude.{◌≡◌, ◌⊎◌, IfErr, IfOk, option_map};
 ghost use Rattle.std.specs.Io.{WritesAtMost};
 ghost use Rattle.std.specs.Io.KnownBytes.{Keeps, WriteAppends};
@@ -6,26 +7,26 @@ ghost use Rattle.byzlab.specs.Files.{IsMadeOf, IsPlaceOf, IsTargetOf, contents_o
 use std::fs::File;
 use std::io::{self, Stdout, Write};
 
-/// A file that is not made yet.
+/// A file that has not been created yet.
 pub trait Unmade: Drop {
     ghost use Rattle.std.specs.Prelude.{◌≡◌, ℕ, List, None, Option, IfOk};
 
-    /// The file, once it is made.
+    /// The type of the file after it is created.
     type Made: Write + Drop;
 
-    // What it holds once it is made, where that is known.
+    // What the file holds after it is created, where this is known.
     ghost contents: { Self → Option (List ℕ) } = { λ _. None };
 
-    /// Makes it.
+    /// Creates the file.
     ///
     /// # Errors
     ///
-    /// It cannot be made.
+    /// The file cannot be created.
     fn make(&self) -> io::Result<Self::Made>
         ensures made { IfOk result (λ made. Self.Made.contents made ≡ contents self.now) };
 }
 
-/// A file of this name.
+/// The file of this name. If there is one already, it is overwritten when this file is created.
 #[derive(Drop)]
 pub struct Named<'a> {
     pub rt: &'a HostRuntime,
@@ -40,21 +41,21 @@ impl Unmade for Named<'_> {
     }
 }
 
-/// Where a task's answer goes, where standard output is an `S`.
+/// Where a task's answer is written. `S` is the type of standard output.
 #[derive(Drop)]
 pub enum Destination<S: Write + Drop, U: Unmade> {
     /// Standard output.
     Standard(S),
-    /// A file that is made by the first write or flush: where there is no answer, none is.
+    /// A file that is created by the first write or flush. Without an answer, no file is created.
     Unmade(U),
-    /// The file, once it is made.
+    /// The file after it is created.
     File(U::Made),
 }
 
-/// Where a task's answer goes.
+/// Where the answer of a task of this program is written.
 pub type Target<'a> = Destination<Stdout, Named<'a>>;
 
-/// The file of this name; where there is none, or a hyphen, standard output.
+/// Returns the file of this name as a destination, or standard output if there is no name or the name is a hyphen.
 pub fn target_of<'a>(rt: &'a HostRuntime, name: Option<&'a str>) -> Target<'a>
     ensures { IsTargetOf (option_map (λ n. n.now) name.entry) result }
 {
@@ -65,11 +66,11 @@ pub fn target_of<'a>(rt: &'a HostRuntime, name: Option<&'a str>) -> Target<'a>
 }
 
 impl<S: Write + Drop, U: Unmade> Destination<S, U> {
-    /// Makes the file, if it is one that is not made yet.
+    /// Creates the file, if the destination is a file that has not been created yet.
     ///
     /// # Errors
     ///
-    /// It cannot be made.
+    /// The file cannot be created.
     fn make(&mut self) -> io::Result<()>
         ensures made { IfOk result (λ _. IsMadeOf self.old self.new) }
         ensures unmade { IfErr result (λ _. self.new ≡ self.old) }

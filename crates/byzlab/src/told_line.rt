@@ -1,3 +1,4 @@
+//! Reports on standard error, or as JSON or as one line on standard output, that a task is not done.
 ghost use Rattle.std.specs.Prelude.{◌≡◌, ◌⊎◌, IfSome, codes, false, is_some, true};
 ghost use Rattle.cli_tasks.specs.Serving.{Tells};
 ghost use Rattle.cli_answers.specs.Printing.{is_shaped};
@@ -13,8 +14,8 @@ use std::io::Write;
 use std::marker::PhantomData;
 use streams::Output;
 
-/// That such a line was told, which says that a task is not done, where standard output is a `W` and standard error an
-/// `F`: `told_on` alone tells it.
+/// A record that a line was reported which says that a task is not done. `W` is the type of standard output, and `F`
+/// that of standard error. Only `told_on` makes this value.
 #[derive(Drop)]
 pub struct ReportedLine<D: Display + Drop, W, F> {
     line: D,
@@ -23,17 +24,17 @@ pub struct ReportedLine<D: Display + Drop, W, F> {
     fault: PhantomData<F>,
 }
 
-/// How a line was told, whichever it is.
+/// How a line was reported, without the line itself.
 #[derive(Drop)]
 pub struct ReportOutcome {
-    /// Memory was refused for its form: that was told in its place.
+    /// Whether memory ran out for the line's form. In that case `out of memory` was reported instead.
     is_lacking: bool,
-    /// The output failed on it, so that no further answer can be written.
+    /// Whether the output failed on the line, so that no further answer can be written.
     is_unwritten: bool,
 }
 
-/// Says that the task is not done, by this line, as `cli_answers::turned_down` does. The output shows nothing of a write that
-/// failed.
+/// Reports by this line that the task is not done, as `cli_answers::turned_down` does. In this contract a write to the
+/// output may always fail.
 pub fn told_on<D, W, F>(
     alloc: Global,
     request: &TaskRequest,
@@ -46,10 +47,10 @@ where
     W: Write + Drop,
     F: Output,
     ensures line { result.line ≡ line }
-    // Neither JSON nor one line is asked for.
+    // The request asks for neither JSON nor one line.
     ensures plain { is_shaped request.now ≡ false → (result.said.is_lacking ≡ false) × (out.new ≡ out.old)
         × IfSome (D.output line) (Tells (F.fails fault.old) (F.contents fault.old) (F.contents fault.new)) }
-    // One of them is.
+    // The request asks for JSON or for one line.
     ensures shown { is_shaped request.now ≡ true → result.said.is_lacking ≡ false →
         IfSome (D.output line)
         (IsRefusalShown (fault.new ≡ fault.old) (Unit {0})
@@ -73,7 +74,7 @@ where
 }
 
 impl<D: Display + Drop, W, F> ReportedLine<D, W, F> {
-    /// How the line was told.
+    /// Returns how the line was reported.
     pub fn said(self) -> ReportOutcome
         ensures { result ≡ self.said }
     {
@@ -82,7 +83,7 @@ impl<D: Display + Drop, W, F> ReportedLine<D, W, F> {
 }
 
 impl ReportOutcome {
-    /// The exit status: 1, or 3 where memory was refused for the line.
+    /// Returns the exit status: 1, or 3 if memory ran out for the line.
     pub fn status(&self) -> u8
         ensures status { result ≡ status_said self.now.is_lacking }
         ensures either { (result ≡ 1) ⊎ (result ≡ 3) }
@@ -90,7 +91,7 @@ impl ReportOutcome {
         if self.is_lacking { 3 } else { 1 }
     }
 
-    /// Whether the output failed.
+    /// Returns whether the output failed.
     pub fn is_unwritten(&self) -> bool
         ensures { result ≡ self.now.is_unwritten }
     {

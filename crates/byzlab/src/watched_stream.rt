@@ -1,3 +1,4 @@
+//! A writer that remembers why the last failed write or flush failed.
 ghost use Rattle.std.specs.Prelude.{◌≡◌, IfErr, IfOk, None, Some};
 ghost use Rattle.std.specs.Io.{WritesAtMost};
 ghost use Rattle.std.specs.Io.KnownBytes.{Keeps, WriteAppends};
@@ -5,7 +6,7 @@ ghost use Rattle.std.specs.IoError.{error_kind};
 
 use std::io::{self, ErrorKind, Write};
 
-/// A stream, and how the last write to it failed, if one did.
+/// A stream, and the kind of error of the last write or flush that failed, if one did.
 #[derive(Drop)]
 pub struct Watched<W: Write + Drop> {
     stream: W,
@@ -13,7 +14,7 @@ pub struct Watched<W: Write + Drop> {
 }
 
 impl<W: Write + Drop> Watched<W> {
-    /// The stream, to which nothing was written yet.
+    /// Wraps a stream to which nothing has been written yet.
     pub fn new(stream: W) -> Watched<W>
         ensures stream { result.stream ≡ stream }
         ensures fault { result.fault ≡ None }
@@ -24,14 +25,14 @@ impl<W: Write + Drop> Watched<W> {
         }
     }
 
-    /// How the last write that failed did.
+    /// Returns the kind of error of the last write or flush that failed, or `None` if none failed.
     pub fn fault(&self) -> Option<ErrorKind>
         ensures { result ≡ self.now.fault }
     {
         self.fault
     }
 
-    /// The same result, of which a fault is kept.
+    /// Returns the result unchanged, and stores the kind of its error if it is one.
     fn kept<T>(&mut self, answer: io::Result<T>) -> io::Result<T>
         ensures answer { result ≡ answer }
         ensures stream { self.new.stream ≡ self.old.stream }

@@ -1,8 +1,8 @@
--- What was written whole to a file of a name.
+-- Defines what was written whole to a file, and under which name.
 use Rattle.std.specs.Prelude.{ℕ, ◌≡◌, List, string_bytes}
 use Rattle.streams.specs.declared.filled_file.Filled.{Filled}
 
--- the name, and the bytes
+-- Returns the name of the file and the bytes written to it.
 abbrev pub file_of : {O : Type 0} → Filled O → List ℕ × List ℕ
 file_of filled = (string_bytes filled.name, filled.bytes.now)
 

@@ -1,4 +1,4 @@
-//! Bytes that are written whole.
+//! Writes a file whole, and keeps a record that it was written.
 ghost use Rattle.std.specs.Prelude.{IfOk, OnErr, OnOk};
 ghost use Rattle.std.specs.Io.KnownBytes.{Appends};
 ghost use Rattle.streams.specs.Filling.{IsFilledBy};
@@ -9,7 +9,8 @@ use std::alloc::Global;
 use std::io;
 use std::marker::PhantomData;
 
-/// That bytes were written whole to an `O`, for the file of this name: `fill` alone tells it.
+/// A record that bytes were written whole to a stream of type `O`, for the file of this name. Only `fill` makes this
+/// value.
 #[derive(Drop)]
 pub struct Filled<'a, O> {
     name: String,
@@ -17,11 +18,11 @@ pub struct Filled<'a, O> {
     stream: PhantomData<O>,
 }
 
-/// Writes all of the file of this name.
+/// Writes `bytes` whole to `file`, and returns the record for the file of this name.
 ///
 /// # Errors
 ///
-/// A write that failed, or want of memory.
+/// A write failed, or memory ran out.
 pub fn fill<'a, O: Output>(
     alloc: Global,
     file: &mut O,

@@ -1,10 +1,10 @@
-//! Which calls are tried again.
+//! Recognizes reads and writes that were interrupted and should be tried again.
 ghost use Rattle.std.specs.Prelude.{◌≡◌, ◌↔◌, IsTrue};
 ghost use Rattle.std.specs.IoError.{error_kind};
 
 use std::io::{self, ErrorKind};
 
-/// Whether a call failed since it was interrupted: it is to be tried again.
+/// Returns whether a call failed because it was interrupted. Such a call should be tried again.
 pub(crate) fn is_interrupted(error: &io::Error) -> bool
     ensures { IsTrue result ↔ (error_kind error.now ≡ ErrorKind.Interrupted) }
 {

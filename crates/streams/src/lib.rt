@@ -1,4 +1,4 @@
-//! The files that a program reads and the streams that it writes, with what is said where a call fails.
+//! Reads files with or without a limit, writes whole texts to streams, and shows file names on one line.
 #![tactic(auto)]
 
 mod bounded_read;

@@ -1,10 +1,11 @@
+//! Shows a file's name on one line, also if it contains control characters.
 ghost use Rattle.std.specs.Prelude.{◌≡◌};
 ghost use Rattle.streams.specs.Names.{has_control};
 
 use std::fmt;
 
-/// A file's name as it is told, on one line: as it stands or, where a character of it is a control character (a line
-/// feed, an escape), in quotation marks, with such characters written as in a text of Rust.
+/// A file's name as it is displayed, on one line. A name that contains a control character (a line feed, an escape) is
+/// quoted, with such characters escaped as in a Rust string. Any other name is displayed unchanged.
 #[derive(Clone, Copy)]
 pub struct FileName<'a>(pub &'a str);
 
@@ -23,7 +24,7 @@ impl fmt::Display for FileName<'_> {
     }
 }
 
-/// Whether a character of the name is a control character.
+/// Returns whether the name contains a control character.
 fn has_control(name: &str) -> bool
     ensures { result ≡ has_control name.now }
 {

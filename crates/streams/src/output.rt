@@ -1,38 +1,38 @@
-//! Where a task's texts go: every writer is an `Output`. Its contracts can say that a call failed,
-//! which those of `Write` cannot.
+//! The trait `Output`, a stream for a task's texts. Every writer is an `Output`. Its contracts can state that a call
+//! failed, and those of `Write` cannot.
 
 use crate::writer::write_whole;
 use std::fmt::Display;
 use std::io::{self, Write};
 
-/// A stream to write to.
+/// A stream to which a task writes texts and lines.
 pub trait Output {
     ghost use Rattle.std.specs.Prelude.{◌≡◌, ℕ, List, Option, IfSome, OnOk, OnErr};
     ghost use Rattle.std.specs.Fmt.{with_newline};
     ghost use Rattle.std.specs.Io.KnownBytes.{Appends};
     ghost use Rattle.streams.specs.Writing.{AppendsFront};
 
-    // What it holds, where that is known.
+    // The bytes that the stream contains, if they are known.
     ghost contents: { Self → Option (List ℕ) };
 
-    // What a write that failed shows.
+    // What a failed write proves about the stream.
     ghost fails: { Self → Type 0 };
 
-    /// Writes the whole text, and flushes. Where that fails, at most a beginning of the text was written.
+    /// Writes the whole text, and flushes the stream. If that fails, at most a beginning of the text has been written.
     ///
     /// # Errors
     ///
-    /// A write that failed.
+    /// A write or the flush failed.
     fn put(&mut self, text: &[u8]) -> io::Result<()>
         ensures put { OnOk result (Appends (contents self.old) (contents self.new) text.now) }
         ensures begun { OnErr result (AppendsFront (contents self.old) (contents self.new) text.now) }
         ensures failed { OnErr result (fails self.old) };
 
-    /// Writes a line. How much of it is written where that fails is not known.
+    /// Writes a line. If that fails, it is not known how much of the line has been written.
     ///
     /// # Errors
     ///
-    /// A write that failed.
+    /// A write failed.
     fn tell<D: Display + Drop>(&mut self, line: D) -> io::Result<()>
         ensures told { OnOk result (IfSome (with_newline (D.output line))
             (Appends (contents self.old) (contents self.new))) }

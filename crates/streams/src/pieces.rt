@@ -1,4 +1,4 @@
-//! Reading in pieces, no further than is asked for.
+//! Reads a stream in pieces of 8,192 bytes, up to its end or beyond a limit.
 ghost use Rattle.std.specs.Prelude.{◌≡◌, ◌≢◌, ◌≤◌, ◌+◌, IfOk, IfErr, take, vec_len};
 ghost use Rattle.std.specs.Io.KnownBytes.{Consumes, IsAtEnd};
 ghost use Rattle.std.specs.IoError.{error_kind};
@@ -7,10 +7,15 @@ use crate::interruption::is_interrupted;
 use std::alloc::Global;
 use std::io::{self, ErrorKind, Read};
 
-/// How many bytes are read at a time.
+/// The greatest number of bytes that is read at a time.
 const PIECE: usize = 8192;
 
-/// One read, begun again where it was interrupted: how many bytes it gave, 0 at the end alone.
+/// Reads once into `piece`, and tries again after an interruption. Returns how many bytes were read, which is 0 only at
+/// the end.
+///
+/// # Errors
+///
+/// The read failed for a reason other than an interruption.
 #[tactic(auto, using(crate::proofs::ReadLemmas::begun_again))]
 fn read_piece<R: Read>(reader: &mut R, piece: &mut [u8; PIECE]) -> io::Result<usize>
     ensures inside { IfOk result (λ n. n ≤ 8192) }
@@ -28,12 +33,12 @@ fn read_piece<R: Read>(reader: &mut R, piece: &mut [u8; PIECE]) -> io::Result<us
     Err(io::Error::from(ErrorKind::Other))
 }
 
-/// Reads to the end, or until there are more than so many bytes: then nothing is read on, and there are one piece more
-/// at most.
+/// Reads to the end, or until more than `most` bytes have been read. In the second case nothing more is read, and the
+/// result has at most `most` + 8,192 bytes.
 ///
 /// # Errors
 ///
-/// A read that failed, or want of memory.
+/// A read failed, or memory ran out.
 #[tactic(auto, using(crate::proofs::ReadLemmas::consumes_none, crate::proofs::ReadLemmas::consumes_more))]
 pub(crate) fn read_front<R: Read>(reader: &mut R, alloc: Global, most: usize) -> io::Result<Vec<u8>>
     ensures bytes { IfOk result (λ front. Consumes (R.remaining reader.old) (R.remaining reader.new) front.items) }

@@ -1,48 +1,48 @@
-//! Where a task's files come from: every reader is a `Source`. Its contracts can say that a call
-//! failed, which those of `Read` cannot.
+//! The trait `Source`, a file from which a task reads. Every reader is a `Source`. Its contracts can state that a call
+//! failed, and those of `Read` cannot.
 
 use crate::bounded_read::Within;
 use crate::pieces::read_front;
 use std::alloc::Global;
 use std::io::{self, ErrorKind, Read};
 
-/// A file to read.
+/// A file from which a task reads.
 pub trait Source: Drop {
     ghost use Rattle.std.specs.Prelude.{◌≡◌, ◌≤◌, ◌+◌, ℕ, List, Option, IfOk, IfSome, OnErr, length};
     ghost use Rattle.streams.specs.Reading.{HasAtMost, IsFront, IsWithin};
 
-    // The bytes, where they are known.
+    // The bytes of the file, if they are known.
     ghost bytes: { Self → Option (List ℕ) };
 
-    // What a read that failed shows.
+    // What a failed read proves about the file.
     ghost fails: { Self → Type 0 };
 
-    /// All bytes.
+    /// Reads all bytes.
     ///
     /// # Errors
     ///
-    /// A read that failed, or want of memory.
+    /// A read failed, or memory ran out.
     fn read_all(self, alloc: Global) -> io::Result<Vec<u8>>
         ensures whole { IfOk result (λ all. IfSome (bytes self) (λ known. all.items ≡ known)) }
         ensures failed { OnErr result (fails self) };
 
-    /// All bytes where there are at most so many. Where there are more, they are counted to their end, and the first
-    /// alone are kept: those, and 8,192 more at most.
+    /// Reads the whole file if it has at most `most` bytes. For a longer file, counts the bytes to the end, and keeps
+    /// only a beginning of at most `most` + 8,192 bytes.
     ///
     /// # Errors
     ///
-    /// A read that failed, or want of memory.
+    /// A read failed, or memory ran out.
     fn read_within(self, alloc: Global, most: usize) -> io::Result<Within>
         ensures within { IfOk result (IsWithin most (bytes self)) }
         ensures few { IfOk result (HasAtMost (most + 8192)) }
         ensures failed { OnErr result (fails self) };
 
-    /// All bytes where there are at most so many. Where there are more, a beginning that is longer than that, by 8,192
-    /// bytes at most.
+    /// Reads the whole file if it has at most `most` bytes. For a longer file, returns a beginning with more than
+    /// `most` bytes and at most `most` + 8,192.
     ///
     /// # Errors
     ///
-    /// A read that failed, or want of memory.
+    /// A read failed, or memory ran out.
     fn read_front(self, alloc: Global, most: usize) -> io::Result<Vec<u8>>
         ensures front { IfOk result (λ front. IsFront most (bytes self) front.items) }
         ensures few { IfOk result (λ front. length front.items ≤ most + 8192) }

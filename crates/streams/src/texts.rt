@@ -1,9 +1,9 @@
-//! Where a text may be cut.
+//! Checks whether bytes can be the beginning of a UTF-8 text.
 ghost use Rattle.std.specs.Prelude.{◌↔◌, ◌++◌, ℕ, List, IsTrue, IsFalse};
 ghost use Rattle.std.specs.Str.{IsUtf8};
 ghost use Rattle.streams.specs.Reading.{MayBeginText};
 
-/// Whether a text begins so: the bytes are one, or end within a character.
+/// Returns whether a UTF-8 text can begin with these bytes: they are valid UTF-8, or they end inside a character.
 pub fn may_begin_text(front: &[u8]) -> bool
     ensures begins { IsTrue result ↔ MayBeginText front.now }
     ensures no_text { IsFalse result → (rest : List ℕ) → IsUtf8 (front.now ++ rest) → ⊥ }

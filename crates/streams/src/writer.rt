@@ -1,4 +1,4 @@
-//! Writing whole texts.
+//! Writes a whole text to a writer, also if it takes several writes or is interrupted.
 ghost use Rattle.std.specs.Prelude.{◌≢◌, IfErr, OnErr, OnOk};
 ghost use Rattle.std.specs.Io.KnownBytes.{Appends};
 ghost use Rattle.std.specs.IoError.{error_kind};
@@ -8,11 +8,12 @@ use crate::interruption::is_interrupted;
 use crate::pending_flush::Unflushed;
 use std::io::{self, ErrorKind, Write};
 
-/// Writes the whole text, which is then to be flushed. Where that fails, a beginning of it was written.
+/// Writes the whole text, and returns a token that the writer must be flushed. If that fails, at most a beginning of
+/// the text has been written.
 ///
 /// # Errors
 ///
-/// A write that failed, or that took nothing.
+/// A write failed, or took no bytes.
 #[tactic(auto, using(crate::proofs::WriteLemmas::writes))]
 pub(crate) fn write_whole<W: Write>(writer: &mut W, text: &[u8]) -> io::Result<Unflushed<W>>
     ensures whole { OnOk result (Appends (W.contents writer.old) (W.contents writer.new) text.now) }

@@ -1,10 +1,11 @@
--- What may be asked of a survey (own).
+-- Defines which requests of a survey are valid (own).
 use Rattle.std.specs.Prelude.{◌≤◌, ◌<◌, ◌-◌, ◌^◌, ⊤, IfSome}
 use Rattle.surveyor.specs.declared.task.Asked.{Asked}
 use Rattle.surveyor.specs.declared.task.Asked.TheVariants.{Survey as Surveys, Break, Merge}
 use Rattle.surveyor.specs.declared.task.Survey.{Survey}
 
--- spans with numbers in them, of 2 to 13 generals; a patience of 1 to 4,096 steps; seeds with one behind the last
+-- States that a survey is valid: its spans are not empty, it has 2 to 13 generals, its patience is 1 to 4,096 steps,
+-- and its last seed is below 2^64 - 1.
 pub record IsSurvey (s : Survey) : Type 0 where
   pub some : s.generals.low ≤ s.generals.high
   pub least : 2 ≤ s.generals.low
@@ -15,6 +16,7 @@ pub record IsSurvey (s : Survey) : Type 0 where
   pub ordered : s.first ≤ s.last
   pub inside : s.last < 2 ^ 64 - 1
 
+-- States that a request is valid. A request to sum files always is.
 abbrev pub IsAsked : Asked → Type 0
 IsAsked (Surveys s) = IsSurvey s
 IsAsked (Break s is_table) = IsSurvey s

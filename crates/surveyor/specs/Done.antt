@@ -1,4 +1,4 @@
--- What is done of what words ask for.
+-- Defines what is done for the words of the command line, and why it cannot be finished.
 use Rattle.std.specs.Prelude.{ℕ, ◌≡◌, List, [], Option, Result, Ok, Err, IfErr, IfOk}
 use Rattle.clap.specs.Words.{Text, fault_of, matches_of}
 use Rattle.surveyor.specs.Broken.{IsBreakAnswered}
@@ -16,13 +16,14 @@ use Rattle.surveyor.specs.declared.task.Asked.TheVariants.{Survey, Break, Merge}
 use Rattle.surveyor.specs.declared.task.AskedError.{AskedError}
 use Rattle.surveyor.specs.declared.fault.SurveyFailure.{SurveyFailure}
 
--- the words ask for this, or for nothing, since they are at fault so
+-- States that the words ask for this, or that they ask for nothing, for this reason.
 pub record IsAskedBy (words : List Text) (asked : Result Asked AskedError) : Type 0 where
   pub found : IfOk asked (Asks (matches_of survey_app words))
   pub taken : IfOk asked (λ _. fault_of survey_app words ≡ [])
   pub refused : IfErr asked (IsUnmet words)
 
--- it is done on an output and where files are kept, with this status; where nothing is asked for, nothing is
+-- States what is done: the change of the output and of the kept files, and the exit status. If nothing is asked for,
+-- neither the output nor the files change.
 abbrev pub IsDone : Result Asked AskedError → Option (List ℕ) → Option (List ℕ) → Option (List File) → Option (List File) → ℕ → Type 0
 IsDone (Ok (Survey s)) old new before after status = IsSurveyed s old new before after × (status ≡ 0)
 IsDone (Ok (Break s is_table)) old new before after status =
@@ -30,7 +31,7 @@ IsDone (Ok (Break s is_table)) old new before after status =
 IsDone (Ok (Merge m)) old new before after status = IsSummed m old new status × (after ≡ before)
 IsDone (Err error) old new before after status = IsUnasked error status × (new ≡ old) × (after ≡ before)
 
--- this keeps it from its end
+-- States that this failure can keep the request from being finished.
 abbrev pub IsUndone : Result Asked AskedError → SurveyFailure → Type 0
 IsUndone (Ok (Survey s)) fault = IsUnsurveyed s fault
 IsUndone (Ok (Break s is_table)) fault = IsUnended s (IsSearchRefused s) fault

@@ -1,4 +1,4 @@
--- Why a survey comes to no end (docs/FORMATS.md, "Surveys").
+-- Defines why a survey cannot be finished (docs/FORMATS.md, "Surveys").
 use Rattle.std.specs.Prelude.{⊤, ℕ, ◌≡◌, ◌+◌, ◌≤◌, List, is_some, true, None, Some, string_bytes}
 use Rattle.scenario.specs.declared.fault.ScenarioError.{ScenarioError}
 use Rattle.survey_draw.specs.Family.{Family}
@@ -15,14 +15,15 @@ use Rattle.surveyor.specs.declared.task.Survey.{Survey}
 use Rattle.surveyor.specs.declared.fault.SurveyFailure.{SurveyFailure}
 use Rattle.surveyor.specs.declared.fault.SurveyFailure.TheVariants.{Unread, NotText, Unwritten, Refused, Campaign, Words, Memory}
 
--- one of its campaigns is refused, as it is told below
+-- States that a campaign among those of these seeds is rejected with this error, and that the seeds are the survey's.
 pub record IsCampaign (s : Survey) (Refuses : ℕ → ℕ → ScenarioError → Type 0) (first last : ℕ) (e : ScenarioError)
     : Type 0 where
   pub from : s.first ≤ first
   pub up_to : last ≤ s.last
   pub refused : Refuses first (last + 1) e
 
--- or standard output cannot be written, or, where campaigns are kept, a file
+-- States that this failure can stop a survey whose family is known: a campaign is rejected, standard output or, if
+-- campaigns are kept, a file cannot be written, or memory ran out.
 abbrev pub IsStopped : Survey → (ℕ → ℕ → ScenarioError → Type 0) → SurveyFailure → Type 0
 IsStopped s Refuses (Campaign first last e) = IsCampaign s Refuses first last e
 IsStopped s Refuses (Unwritten None) = ⊤
@@ -32,7 +33,8 @@ IsStopped s Refuses _ = ⊥
 
 -- ---- a whole survey
 
--- the file of the word for the traitors is at fault; or, with the family that is asked for, what stops it
+-- States that this failure can keep a survey from being finished: the file with the traitors' program is rejected, or
+-- the survey is stopped with the family that it asks for.
 abbrev pub IsUnended : Survey → (Family → ℕ → ℕ → ScenarioError → Type 0) → SurveyFailure → Type 0
 IsUnended s Refuses (Unread name) =
     IsFile (string_bytes s.adversary) × (string_bytes name ≡ string_bytes s.adversary)
@@ -47,15 +49,16 @@ IsUnended s Refuses (Unwritten (Some name)) = is_some s.keep ≡ true
 IsUnended s Refuses Memory = ⊤
 IsUnended s Refuses Words = ⊥
 
--- a campaign as it is drawn, one that is lessened, one of so many generals and traitors
+-- States that a campaign is rejected: a reduced one if the survey asks for the least, otherwise one as it is drawn.
 abbrev pub IsDrawnRefused : ReportKind → Family → ℕ → ℕ → ScenarioError → Type 0
 IsDrawnRefused Least f = Lessened.IsRefusedIn (plot_of f)
 IsDrawnRefused _ f = IsRefusedIn f
 
+-- States that this failure can keep a survey without `--break` from being finished.
 abbrev pub IsUnsurveyed : Survey → SurveyFailure → Type 0
 IsUnsurveyed s = IsUnended s (IsDrawnRefused s.shape)
 
--- of generals of some numbers and as many traitors as are asked for
+-- States that a campaign of the search of `--break` is rejected, for some number of generals and some bound.
 pub record IsSearchRefused (s : Survey) (f : Family) (first end : ℕ) (e : ScenarioError) : Type 0 where
   pub generals : ℕ
   pub bound : ℕ

@@ -1,4 +1,4 @@
--- Which fault is told of what (docs/FORMATS.md, "Surveys").
+-- Defines which failure is returned for which cause (docs/FORMATS.md, "Surveys").
 use Rattle.std.specs.Prelude.{⊤, ℕ, ◌≡◌, ◌≢◌, ◌⊎◌, ◌++◌, Bool, true, List, codes, decimal, Option, None, Some, Err, IfSome, IsSomeAnd, string_bytes}
 use Rattle.std.specs.List.{Any}
 use Rattle.std.specs.Fmt.{◌++?◌}
@@ -18,13 +18,13 @@ use Rattle.surveyor.specs.declared.fault.SurveyFailure.{SurveyFailure}
 use Rattle.surveyor.specs.declared.fault.SurveyFailure.TheVariants.{Unread, NotText, Unwritten, Refused, Campaign, Words, Memory}
 use Rattle.surveyor.specs.Words.{IsProgramOf}
 
--- a file of this name cannot be read
+-- States the failure for a file of this name that cannot be read: it names the file, unless memory ran out.
 abbrev pub IsUnread : List ℕ → SurveyFailure → Type 0
 IsUnread name (Unread own) = string_bytes own ≡ name
 IsUnread name Memory = ⊤
 IsUnread name _ = ⊥
 
--- standard output cannot be written
+-- States the failure for a standard output that cannot be written: it names no file, or memory ran out.
 abbrev pub IsUnprinted : SurveyFailure → Type 0
 IsUnprinted (Unwritten None) = ⊤
 IsUnprinted Memory = ⊤
@@ -32,53 +32,58 @@ IsUnprinted _ = ⊥
 
 -- ---- a file of assembly
 
--- a text is no program that the verifier accepts
+-- States that a text is not a program that the verifier accepts.
 abbrev pub IsNoProgram : List ℕ → Type 0
 IsNoProgram text = (hex : List ℕ) → IsProgramOf text hex → ⊥
 
--- the line tells an assembler's, or a verifier's error
+-- Returns the line for an error of the assembler.
 abbrev pub asm_line : AsmError → List ℕ
 asm_line error = codes "refused " ++ asm_text.told error
 
+-- Returns the line for an error of the verifier.
 abbrev pub verifier_line : VerifyError → List ℕ
 verifier_line error = codes "refused " ++ verifier_text.told error
 
--- the assembler finds this fault in a text, which is no want of memory; or the verifier finds one in its program
+-- States that this is the line for the assembler's error in a text, other than that memory ran out.
 abbrev pub IsAsmLine : List ℕ → List ℕ → Type 0
 IsAsmLine text line = (error : AsmError) × (error ≢ asm.Memory) × (said text ≡ Err error) × (line ≡ asm_line error)
 
+-- States that this is the line for the verifier's error in the program of a text, other than that memory ran out.
 abbrev pub IsVerifierLine : List ℕ → List ℕ → Type 0
 IsVerifierLine text line = (error : VerifyError) × (error ≢ verifier.Memory)
     × IsSomeAnd (program_of text) (λ program. judged program ≡ Some error) × (line ≡ verifier_line error)
 
--- a text is refused by this line
+-- States that a text is not an accepted program, and that this line contains the error of the assembler or the
+-- verifier.
 abbrev pub IsRefusedBy : List ℕ → List ℕ → Type 0
 IsRefusedBy text line = IsNoProgram text × (IsAsmLine text line ⊎ IsVerifierLine text line)
 
--- a text is refused so, but for want of memory
+-- States the failure for a text that is not an accepted program: such a line, unless memory ran out.
 abbrev pub IsRefusedText : List ℕ → SurveyFailure → Type 0
 IsRefusedText text (Refused line) = IsRefusedBy text (string_bytes line)
 IsRefusedText text Memory = ⊤
 IsRefusedText text _ = ⊥
 
--- what is told of an assembler's, and of a verifier's error: want of memory is no fault of a text
+-- States the failure for an error of the assembler. Memory that ran out is not reported as a fault of the text.
 abbrev pub IsUnsaid : AsmError → SurveyFailure → Type 0
 IsUnsaid error (Refused line) = (error ≢ asm.Memory) × (string_bytes line ≡ asm_line error)
 IsUnsaid error Memory = ⊤
 IsUnsaid error _ = ⊥
 
+-- States the failure for an error of the verifier. Memory that ran out is not reported as a fault of the text.
 abbrev pub IsUnsound : VerifyError → SurveyFailure → Type 0
 IsUnsound error (Refused line) = (error ≢ verifier.Memory) × (string_bytes line ≡ verifier_line error)
 IsUnsound error Memory = ⊤
 IsUnsound error _ = ⊥
 
--- the word names a file
+-- States that the word names a file: it is not a word for what traitors do.
 pub record IsFile (word : List ℕ) : Type 0 where
   pub lies : word ≢ codes "lies"
   pub silent : word ≢ codes "silent"
   pub collude : word ≢ codes "collude"
 
--- it is not read, is no text, or what it says is refused
+-- States the failure for a file of assembly of this name: it cannot be read, is not UTF-8, or contains no program that
+-- the verifier accepts, unless memory ran out.
 abbrev pub IsUntaken : List ℕ → SurveyFailure → Type 0
 IsUntaken name (Unread own) = string_bytes own ≡ name
 IsUntaken name (NotText own) = string_bytes own ≡ name
@@ -88,23 +93,24 @@ IsUntaken name _ = ⊥
 
 -- ---- a folder
 
--- the file by which it is tried whether a folder takes files
+-- Returns the name of the file that is created to check whether a folder takes files.
 abbrev pub tried_name : List ℕ → ℕ → List ℕ
 tried_name folder number = folder ++ (codes "/." ++ (decimal number ++ codes ".survey.new"))
 
--- a file of one of these names cannot be written
+-- States the failure for a file that cannot be written: it has one of these names, unless memory ran out.
 abbrev pub IsUnkept : List ℕ → List ℕ → SurveyFailure → Type 0
 IsUnkept name beside (Unwritten (Some own)) = (string_bytes own ≡ name) ⊎ (string_bytes own ≡ beside)
 IsUnkept name beside Memory = ⊤
 IsUnkept name beside _ = ⊥
 
--- a file of a campaign cannot be written
+-- States the failure for a file of a campaign that cannot be written, whatever its name: it names a file, unless memory
+-- ran out.
 abbrev pub IsUnkeptIn : SurveyFailure → Type 0
 IsUnkeptIn (Unwritten (Some name)) = ⊤
 IsUnkeptIn Memory = ⊤
 IsUnkeptIn _ = ⊥
 
--- only where campaigns are kept a file cannot be written
+-- States the failure for kept campaigns: it names a file only if campaigns are kept, unless memory ran out.
 abbrev pub IsKeptIn : Bool → SurveyFailure → Type 0
 IsKeptIn is_kept (Unwritten (Some name)) = is_kept ≡ true
 IsKeptIn is_kept Memory = ⊤
@@ -112,7 +118,7 @@ IsKeptIn is_kept _ = ⊥
 
 -- ---- files that are summed
 
--- the line that tells why the file of a name is no part of the survey that the file of another begins
+-- Returns the line that says why the file `name` is not a part of the survey that the file `first` begins.
 abbrev pub part_line : List ℕ → List ℕ → PartError → Option (List ℕ)
 part_line name first (part.Line n) =
     Some (codes "refused ") ++? shown name ++? Some (codes " line ") ++? Some (decimal n)
@@ -122,22 +128,24 @@ part_line name first (part.Seed n seed) = Some (codes "refused ") ++? shown name
     ++? Some (decimal n) ++? Some (codes ": seed ") ++? Some (decimal seed) ++? Some (codes " is none of --seeds")
 part_line name first part.Memory = None
 
--- the line is this one, where the names are such that it is known
+-- States that this line says why the file `name` is not a part of the survey that the file `first` begins. Nothing is
+-- stated if it is not known how the names are displayed.
 abbrev pub IsPartLine : List ℕ → List ℕ → PartError → List ℕ → Type 0
 IsPartLine name first error line =
     (error ≢ part.Memory) × IfSome (part_line name first error) (λ told. line ≡ told)
 
--- a file's lines are refused so
+-- States the failure for a file whose lines are rejected: the line for this error, unless memory ran out.
 abbrev pub IsNoPart : List ℕ → List ℕ → PartError → SurveyFailure → Type 0
 IsNoPart name first error (Refused line) = IsPartLine name first error (string_bytes line)
 IsNoPart name first error Memory = ⊤
 IsNoPart name first error _ = ⊥
 
--- a file has this name
+-- States that one of the files to be summed has this name.
 abbrev pub IsNameIn : Merge → List ℕ → Type 0
 IsNameIn m name = Any (λ own. string_bytes own ≡ name) m.names.items
 
--- one of the files cannot be read, or its lines are refused
+-- States that this failure can occur when the files are read: one of them cannot be read, its lines are rejected, or
+-- memory ran out.
 abbrev pub IsUntold : Merge → SurveyFailure → Type 0
 IsUntold m (Unread name) = IsNameIn m (string_bytes name)
 IsUntold m (Refused line) = (name first : List ℕ) × (error : PartError)
@@ -145,7 +153,8 @@ IsUntold m (Refused line) = (name first : List ℕ) × (error : PartError)
 IsUntold m Memory = ⊤
 IsUntold m _ = ⊥
 
--- or standard output cannot be written
+-- States that this failure can keep a sum from being finished: one that occurs when the files are read, or a standard
+-- output that cannot be written.
 abbrev pub IsUnsummed : Merge → SurveyFailure → Type 0
 IsUnsummed m (Unwritten None) = ⊤
 IsUnsummed m (Unwritten (Some name)) = ⊥

@@ -1,4 +1,4 @@
--- What may be asked for, as `clap` is told of it, and what words give to a name (docs/SURVEYS.md).
+-- Defines the options and switches as rules of `clap`, and which values the words give to a name (docs/SURVEYS.md).
 use Rattle.std.specs.Prelude.{Bool, true, false, List, [], ◌∷◌, ◌++◌, Option, None, Some, codes, find, if◌then◌else◌, is_some, map, slice_get}
 use Rattle.std.specs.Borrow.{Bor}
 use Rattle.std.specs.Option.{option_map_or}
@@ -11,59 +11,68 @@ use Rattle.clap.specs.declared.parser.matches.ValueSource.{ValueSource}
 use Rattle.clap.specs.declared.parser.matches.ValueSource.TheVariants.{CommandLine, DefaultValue}
 use Rattle.surveyor.specs.declared.flags.Flag.{Flag}
 
--- `--NAME`, and `--NAME VALUE`
+-- Returns the rule of a switch `--NAME`.
 abbrev pub switch : Text → Rule
 switch name = record (new_rule name) { long = Some name; action = Some SetTrue }
 
+-- Returns the rule of an option `--NAME VALUE`.
 abbrev pub option : Text → Rule
 option name = record (new_rule name) { long = Some name; value_names = 1 }
 
--- `--NAME FILE ..`
+-- Returns the rule of an option `--NAME FILE ..`, which takes one or more files.
 abbrev pub files : Text → Rule
 files name = record (option name) {
   action = Some Append;
   range = Some (record { start_inclusive = 1; end_inclusive = usize_max });
 }
 
+-- Returns the rule of an option or a switch.
 unfoldable pub rule_for : Flag → Rule
 rule_for flag = if is_some flag.value then option flag.name.now else switch flag.name.now
 
--- the command that takes no words, and one that takes these more
+-- The command without options and switches.
 abbrev pub bare_app : App
 bare_app = record { top = record (new_shape (codes "survey")) { no_binary_name = true }; subs = [] }
 
+-- Returns a command to which these rules are added.
 abbrev pub with_rules : App → List Rule → App
 with_rules app more = record app { top = record app.top { rules = app.top.rules ++ more } }
 
+-- The rules of all options and switches of `./byzlab survey`.
 abbrev pub rules : List Rule
 rules = option (codes "generals") ∷ option (codes "bound") ∷ option (codes "traitors") ∷ option (codes "seeds")
     ∷ option (codes "rule") ∷ option (codes "patience") ∷ switch (codes "signed") ∷ option (codes "adversary")
     ∷ switch (codes "lines") ∷ switch (codes "table") ∷ switch (codes "svg") ∷ switch (codes "shrink")
     ∷ switch (codes "break") ∷ option (codes "keep") ∷ files (codes "sum") ∷ []
 
+-- The command with all its options and switches.
 abbrev pub survey_app : App
 survey_app = with_rules bare_app rules
 
--- the texts behind the references
+-- Returns the texts to which these references refer.
 abbrev pub words_of : List (Bor Text) → List Text
 words_of = map (λ word. word.now)
 
 -- ---- what the words give, and not a default
 
+-- Returns whether a value is given on the command line, and is not a default.
 abbrev pub is_given : Option ValueSource → Bool
 is_given (Some CommandLine) = true
 is_given (Some DefaultValue) = false
 is_given None = false
 
+-- Returns the first value of a row, if it is given on the command line.
 abbrev pub given_value : Row → Option Text
 given_value row = if is_given row.source then slice_get row.values 0 else None
 
+-- Returns the row of this name, if there is one.
 abbrev pub row_of : Text → List Row → Option Row
 row_of name rows = find (λ row. bytes_eq row.id name) rows
 
--- the value of an option, `true` of a switch
+-- Returns the value of an option, or `true` for a switch, if it is given on the command line.
 abbrev pub given : Text → List Row → Option Text
 given name rows = option_map_or given_value (row_of name rows) None
 
+-- Returns whether an option or a switch is given on the command line.
 abbrev pub has : Text → List Row → Bool
 has name rows = is_some (given name rows)

@@ -1,4 +1,4 @@
--- What words ask for, by what `clap` has found in them: of each name its row (docs/SURVEYS.md).
+-- Defines what words ask for, in terms of the rows that `clap` has found, one for each name (docs/SURVEYS.md).
 use Rattle.std.specs.Prelude.{ℕ, ◌≡◌, ◌≤◌, ◌<◌, ◌-◌, ◌^◌, Bool, true, false, List, [], ◌∷◌, Option, None, Some, codes, count_by, if◌then◌else◌, map, option_map, string_bytes, unwrap_or}
 use Rattle.std.specs.List.{list_any}
 use Rattle.std.specs.Str.{bytes_eq}
@@ -15,11 +15,11 @@ use Rattle.surveyor.specs.declared.task.ReportKind.{ReportKind}
 use Rattle.surveyor.specs.declared.task.ReportKind.TheVariants.{Sums, Lines, Table, Picture, Least}
 use Rattle.surveyor.specs.declared.task.Survey.{Survey}
 
--- the value of an option, or what stands for it
+-- Returns the value of an option, or `without` if the option is not given.
 abbrev pub value : Text → Text → List Row → Text
 value name without rows = unwrap_or (given name rows) without
 
--- what is printed: at most one of its words stands there
+-- Returns what is printed, given which of its four switches are given: at most one may be.
 abbrev pub shape_by : Bool → Bool → Bool → Bool → Option ReportKind
 shape_by false false false false = Some Sums
 shape_by true false false false = Some Lines
@@ -28,35 +28,36 @@ shape_by false false true false = Some Picture
 shape_by false false false true = Some Least
 shape_by _ _ _ _ = None
 
+-- Returns what is printed, from the rows of the words.
 abbrev pub shape_in : List Row → Option ReportKind
 shape_in rows = shape_by (has (codes "lines") rows) (has (codes "table") rows) (has (codes "svg") rows)
     (has (codes "shrink") rows)
 
--- the steps for which a traitor is waited for, if they are said
+-- States that this is the number of steps for which a traitor is waited for, if the option is given.
 abbrev pub IsPatience : Option Text → Option ℕ → Type 0
 IsPatience None patience = patience ≡ None
 IsPatience (Some word) None = ⊥
 IsPatience (Some word) (Some steps) = (decimal_of word ≡ Some steps) × (1 ≤ steps) × (steps ≤ 4096)
 
--- the word tells numbers from one to another, none below the least or above the most
+-- States that the word denotes this span, which is not empty and lies between the least and the most.
 pub record IsWithin (least most : ℕ) (word : Text) (span : CountRange) : Type 0 where
   pub told : IsTold word span.low span.high
   pub ordered : span.low ≤ span.high
   pub from : least ≤ span.low
   pub up_to : span.high ≤ most
 
--- the word tells the first and the last of at most ten millions of seeds
+-- States that the word denotes the first and the last of at most 10,000,000 seeds.
 pub record AreSeeds (word : Text) (seeds : ℕ × ℕ) : Type 0 where
   pub told : IsTold word seeds.0 seeds.1
   pub ordered : seeds.0 ≤ seeds.1
   pub inside : seeds.1 < 2 ^ 64 - 1
   pub few : seeds.1 - seeds.0 < 10000000
 
--- how many traitors stand for none that are said
+-- Returns the default of `--traitors`.
 abbrev pub some_traitors : List Row → Text
 some_traitors rows = if has (codes "break") rows then codes "1..13" else codes "1"
 
--- each number by its option, or by what stands for it
+-- States that this is the survey that the words ask for. Each value is that of its option, or the default.
 pub record IsSurveying (rows : List Row) (s : Survey) : Type 0 where
   pub generals : IsWithin 2 13 (value (codes "generals") (codes "4") rows) s.generals
   pub bound : IsWithin 0 4 (value (codes "bound") (codes "1") rows) s.bound
@@ -68,33 +69,35 @@ pub record IsSurveying (rows : List Row) (s : Survey) : Type 0 where
   pub shape : shape_in rows ≡ Some s.shape
   pub keep : option_map string_bytes s.keep ≡ given (codes "keep") rows
 
--- `--break` prints campaigns, or a table alone, and keeps nothing
+-- Returns the form in which `--break` prints: only a table, or campaigns.
 abbrev pub break_shape : Bool → ReportKind
 break_shape true = Table
 break_shape false = Sums
 
+-- States that the words ask for this survey with `--break`, which keeps no campaigns.
 pub record IsBreaking (rows : List Row) (s : Survey) (is_table : Bool) : Type 0 where
   pub survey : IsSurveying rows s
   pub shape : s.shape ≡ break_shape is_table
   pub keep : s.keep ≡ None
 
--- the names behind `--sum`, if it stands there
+-- Returns the names after `--sum`, if it is given.
 abbrev pub names_in : List Row → Option (List Text)
 names_in rows = option_map (λ row. row.values) (row_of (codes "sum") rows)
 
--- a word stands there that does not stand beside `--sum`: all but `--seeds`, `--table` and `--svg`
+-- Returns whether an option or switch is given that cannot be combined with `--sum`: any except `--seeds`, `--table`
+-- and `--svg`.
 abbrev pub bars_sum : List Row → Bool
 bars_sum rows = list_any (λ name. has name rows)
     (codes "generals" ∷ codes "bound" ∷ codes "traitors" ∷ codes "rule" ∷ codes "patience" ∷ codes "signed"
     ∷ codes "adversary" ∷ codes "lines" ∷ codes "shrink" ∷ codes "break" ∷ codes "keep" ∷ [])
 
--- the seeds that are said, if they are
+-- States that these are the first and the last seed of `--seeds`, if it is given.
 abbrev pub AreSaid : Option Text → Option (ℕ × ℕ) → Type 0
 AreSaid None seeds = seeds ≡ None
 AreSaid (Some word) None = ⊥
 AreSaid (Some word) (Some seeds) = AreSeeds word seeds
 
--- `--sum`: nothing is played, and standard input is named once at most
+-- States that the words ask for this sum: nothing is played, and standard input is named at most once.
 pub record IsMerging (names : List Text) (rows : List Row) (m : Merge) : Type 0 where
   pub named : map string_bytes m.names.items ≡ names
   pub once : count_by (λ name. bytes_eq name (codes "-")) names ≤ 1
@@ -102,7 +105,7 @@ pub record IsMerging (names : List Text) (rows : List Row) (m : Merge) : Type 0 
   pub shape : shape_in rows ≡ Some m.shape
   pub alone : bars_sum rows ≡ false
 
--- what is asked for
+-- States that the words ask for this request.
 abbrev pub Asks : List Row → Asked → Type 0
 Asks rows (Surveys s) = (names_in rows ≡ None) × (has (codes "break") rows ≡ false) × IsSurveying rows s
 Asks rows (Break s is_table) =

@@ -1,4 +1,5 @@
--- The exit status where a survey comes to no end, or the words ask for none (docs/FORMATS.md, "Surveys").
+-- Defines the exit status and the reported line if a survey cannot be finished or the words ask for nothing
+-- (docs/FORMATS.md, "Surveys").
 use Rattle.std.specs.Prelude.{ℕ, ◌≡◌, ◌≢◌, ◌⊎◌, ◌++◌, List, Option, None, Some, codes, decimal, string_bytes}
 use Rattle.std.specs.Fmt.{◌++?◌}
 use Rattle.clap.specs.Words.{kind_of}
@@ -11,7 +12,8 @@ use Rattle.surveyor.specs.declared.task.AskedError.TheVariants as asked
 use Rattle.surveyor.specs.declared.fault.SurveyFailure.{SurveyFailure}
 use Rattle.surveyor.specs.declared.fault.SurveyFailure.TheVariants.{Unread, NotText, Unwritten, Refused, Campaign, Words, Memory}
 
--- a file, the output or what they tell is at fault; the words are no text; memory is wanting
+-- Returns the exit status for a failure: 1 for a file, the output or a campaign, 2 if the words are not UTF-8, and 3 if
+-- memory ran out.
 abbrev pub status_of : SurveyFailure → ℕ
 status_of (Unread name) = 1
 status_of (NotText name) = 1
@@ -21,7 +23,8 @@ status_of (Campaign first last error) = 1
 status_of Words = 2
 status_of Memory = 3
 
--- what is told then; the name of a file as docs/FORMATS.md, "Faults of files", says
+-- Returns the line that is reported for a failure. docs/FORMATS.md, "Faults of files", says how the name of a file is
+-- displayed.
 abbrev pub fault_text : SurveyFailure → Option (List ℕ)
 fault_text (Unread name) = Some (codes "fault read ") ++? shown (string_bytes name)
 fault_text (NotText name) = Some (codes "fault text ") ++? shown (string_bytes name)
@@ -33,11 +36,11 @@ fault_text (Campaign first last error) = Some (codes "refused " ++ (told error
 fault_text Words = Some (codes "error: the words are not UTF-8")
 fault_text Memory = Some (codes "out of memory")
 
--- the words are refused, and do not ask for help
+-- States that `clap` rejects the words, and that they ask neither for help nor for the version.
 abbrev pub IsMistake : ErrorKind → Type 0
 IsMistake kind = (kind ≢ DisplayHelp) × (kind ≢ DisplayVersion)
 
--- 0 where the words ask for help, else 2
+-- States the exit status of words that ask for nothing: 0 if they ask for help or for the version, and otherwise 2.
 abbrev pub IsUnasked : AskedError → ℕ → Type 0
 IsUnasked (asked.Words refusal) status =
     (IsMistake (kind_of refusal) × (status ≡ 2)) ⊎ (¬ IsMistake (kind_of refusal) × (status ≡ 0))
@@ -45,7 +48,7 @@ IsUnasked (asked.Value why) status = status ≡ 2
 IsUnasked asked.Rule status = status ≡ 2
 IsUnasked asked.Memory status = ⊥
 
--- help cannot be printed, or memory is wanting
+-- States this failure after words that ask for nothing: help or the version cannot be printed, or memory ran out.
 abbrev pub IsUnhelped : AskedError → SurveyFailure → Type 0
 IsUnhelped (asked.Words refusal) fault = ¬ IsMistake (kind_of refusal)
 IsUnhelped asked.Memory fault = fault ≡ Memory

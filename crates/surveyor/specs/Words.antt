@@ -1,4 +1,5 @@
--- What words name (docs/FORMATS.md, "Surveys").
+-- Defines what the words of options mean: the manner of messages, the traitors' program and the family
+-- (docs/FORMATS.md, "Surveys").
 use Rattle.std.specs.Prelude.{ℕ, ◌≡◌, ◌≢◌, IsSomeAnd, Bool, true, false, List, codes, Option, None, Some, option_map, string_bytes}
 use Rattle.hex.specs.Hex.{encode_lower}
 use Rattle.asm.specs.Program.{program_of}
@@ -12,34 +13,35 @@ use Rattle.survey_draw.specs.declared.manner.Manner.TheVariants.{Oral, Signed}
 use Rattle.survey_draw.specs.Family.{Family}
 use Rattle.surveyor.specs.declared.task.Survey.{Survey}
 
+-- Returns how messages are sent if no rule is named.
 abbrev pub plain_manner : Bool → Manner
 plain_manner true = Signed
 plain_manner false = Oral default_rule
 
--- how messages are sent, by a rule, if one is named, and by whether they are signed
+-- Returns how messages are sent, given the name of a rule, if there is one, and whether messages are signed.
 abbrev pub manner_named : Option (List ℕ) → Bool → Option Manner
 manner_named None signed = Some (plain_manner signed)
 manner_named (Some rule) true = None
 manner_named (Some rule) false = option_map Oral (rule_named rule)
 
--- the text is an assembly program that the verifier accepts, and this is its bytecode in hex
+-- States that the text is an assembly program that the verifier accepts, and that this is its bytecode in hexadecimal.
 abbrev pub IsProgramOf : List ℕ → List ℕ → Type 0
 IsProgramOf text hex =
     IsSomeAnd (program_of text) (λ program. (judged program ≡ None) × (hex ≡ encode_lower (program_bytes program)))
 
--- each traitor has the program of some text
+-- States that each traitor has the program of some text.
 abbrev pub IsGiven : Adversary → Type 0
 IsGiven (Given hex) = (text : List ℕ) × IsProgramOf text (string_bytes hex)
 IsGiven _ = ⊥
 
--- what traitors do whom a word names
+-- States what the traitors do if this word names it.
 pub record IsNamed (word : List ℕ) (a : Adversary) : Type 0 where
   pub lies : word ≡ codes "lies" → a ≡ Lies
   pub silent : word ≡ codes "silent" → a ≡ Silent
   pub collude : word ≡ codes "collude" → a ≡ Collude
   pub given : word ≢ codes "lies" → word ≢ codes "silent" → word ≢ codes "collude" → IsGiven a
 
--- the family that is asked for
+-- States that this is the family that a survey asks for.
 pub record IsFamilyOf (s : Survey) (f : Family) : Type 0 where
   pub generals : f.generals ≡ s.generals
   pub bound : f.bound ≡ s.bound

@@ -1,4 +1,4 @@
--- Why words ask for nothing, and what is told then, by what `clap` has found in them.
+-- Defines why words ask for nothing and what is reported then, in terms of what `clap` has found in them.
 use Rattle.std.specs.Prelude.{⊤, ℕ, ◌≡◌, ◌≢◌, ◌<◌, ◌⊎◌, Bool, true, false, List, Option, None, Some, IsSomeAnd, codes, count_by, is_some}
 use Rattle.std.specs.Str.{bytes_eq}
 use Rattle.clap.specs.Words.{IsAmong, Row, Text, fault_of, kind_of, matches_of}
@@ -13,24 +13,27 @@ use Rattle.surveyor.specs.declared.task.AskedError.{AskedError}
 use Rattle.surveyor.specs.declared.task.AskedError.TheVariants.{Words, Value, Rule, Memory}
 use Rattle.surveyor.specs.declared.task.ReportKind.{ReportKind}
 
+-- States that the word is not a span of numbers from the least to the most.
 abbrev pub IsOutside : ℕ → ℕ → Text → Type 0
 IsOutside least most word = (span : CountRange) → IsWithin least most word span → ⊥
 
+-- States that the word is not a span of seeds.
 abbrev pub AreNoSeeds : Text → Type 0
 AreNoSeeds word = (seeds : ℕ × ℕ) → AreSeeds word seeds → ⊥
 
+-- States that the word is not a number of steps for which a traitor is waited for.
 abbrev pub IsNoPatience : Option Text → Type 0
 IsNoPatience word = (steps : Option ℕ) → IsPatience word steps → ⊥
 
--- what breaks agreement is not printed so
+-- States that `--break` cannot print in this form.
 abbrev pub IsNoBreak : ReportKind → Type 0
 IsNoBreak shape = (is_table : Bool) → shape ≢ break_shape is_table
 
--- more than one of these names is standard input
+-- States that more than one of these names means standard input.
 abbrev pub AreTwice : List Text → Type 0
 AreTwice names = 1 < count_by (λ name. bytes_eq name (codes "-")) names
 
--- what is wrong with the words where this text is told
+-- States that this message is true of the words: it says what is wrong with them.
 pub data IsWrong (rows : List Row) (why : Text) : Type 0 where
   generals : why ≡ codes "--generals takes 2 to 13, as 4 or 4..7" →
       IsOutside 2 13 (value (codes "generals") (codes "4") rows) → IsWrong rows why
@@ -55,40 +58,44 @@ pub data IsWrong (rows : List Row) (why : Text) : Type 0 where
   twice : why ≡ codes "standard input is read once" →
       (names : List Text) → names_in rows ≡ Some names → AreTwice names → IsWrong rows why
 
--- a rule is named, and there is none of this name
+-- States that a rule is named for oral messages, and that there is no rule of this name.
 abbrev pub IsNoRule : List Row → Type 0
 IsNoRule rows = (has (codes "signed") rows ≡ false)
     × IsSomeAnd (given (codes "rule") rows) (λ word. rule_named word ≡ None)
 
--- just this text is told, and this holds
+-- States that exactly this message is the error, and that the property holds.
 abbrev pub IsSaid : Text → Type 0 → AskedError → Type 0
 IsSaid text P (Value why) = (why.now ≡ text) × P
 IsSaid text P _ = ⊥
 
--- no manner is told
+-- States the error for words that do not say how messages are sent: a rule is given for signed messages, or there is no
+-- rule of the given name.
 abbrev pub IsNoManner : List Row → AskedError → Type 0
 IsNoManner rows (Value why) = (why.now ≡ codes "signed messages have no rule")
     × (has (codes "signed") rows ≡ true) × (has (codes "rule") rows ≡ true)
 IsNoManner rows Rule = IsNoRule rows
 IsNoManner rows _ = ⊥
 
--- what is told is so, and this holds, unless memory is refused; `clap` has taken the words
+-- States that the error is true of the words and that the property holds, unless memory ran out. `clap` has accepted
+-- the words.
 abbrev pub IsRefused : List Row → Type 0 → AskedError → Type 0
 IsRefused rows P (Value why) = IsWrong rows why.now × P
 IsRefused rows P Rule = IsNoRule rows × P
 IsRefused rows P (Words refusal) = ⊥
 IsRefused rows P Memory = ⊤
 
+-- States that the words ask for nothing.
 abbrev pub AsksNothing : List Row → Type 0
 AsksNothing rows = (asked : Asked) → Asks rows asked → ⊥
 
--- what is told of an error of `clap`'s
+-- States which error is returned for an error of `clap`.
 abbrev pub IsByClap : Error → AskedError → Type 0
 IsByClap error (Words own) = (own ≡ error) × (kind_of error ≢ OutOfMemory)
 IsByClap error Memory = kind_of error ≡ OutOfMemory
 IsByClap error _ = ⊥
 
--- `clap` refuses the words so, or they ask for nothing, and what is told is so
+-- States why words ask for nothing: `clap` rejects them with such an error, or `clap` accepts them and the returned
+-- error is true of them.
 abbrev pub IsUnmet : List Text → AskedError → Type 0
 IsUnmet words (Words refusal) = IsAmong (kind_of refusal) (fault_of survey_app words)
 IsUnmet words error = IsRefused (matches_of survey_app words) (AsksNothing (matches_of survey_app words)) error

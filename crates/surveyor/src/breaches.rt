@@ -1,4 +1,4 @@
-//! What breaks agreement, for each number of generals and each bound.
+//! `--break`: searches, for each number of generals and each bound, the fewest traitors that break agreement.
 ghost use Rattle.std.specs.Prelude.{◌≡◌, ◌≤◌, ◌+◌, ◌-◌, min, Option, IfErr, IfOk, OnOk};
 ghost use Rattle.std.specs.Io.KnownBytes.{Appends};
 ghost use Rattle.survey_search.specs.declared.breach.Breaking.{Breaking as Found};
@@ -17,12 +17,13 @@ use streams::Output;
 use survey_draw::{CountRange, Family};
 use survey_search::{Breaking, breaking, breaking_text};
 
-/// Prints for each number of generals and each bound that they can have the fewest traitors by whom agreement is broken
-/// in a seed's campaign, and the least of what is left of these.
+/// Prints, for each number of generals and each bound that they can have, the fewest traitors that break agreement in
+/// the campaign of a seed. Also prints the least of these campaigns after reduction or, if `is_table` is true, its
+/// numbers as a row of a table.
 ///
 /// # Errors
 ///
-/// What keeps it from its end.
+/// The family's file or a campaign is rejected, the output cannot be written, or memory runs out.
 #[tactic(auto, using(crate::proofs::FaultLemmas::unended, crate::proofs::FaultLemmas::untaken))]
 pub fn broken<T: Threads + Sync, O: Output>(
     rt: &HostRuntime,
@@ -39,7 +40,11 @@ pub fn broken<T: Threads + Sync, O: Output>(
     put_entries(rt, threads, out, asked, &family, is_table)
 }
 
-/// Prints it of the family's campaigns.
+/// Prints the header, and an entry for each number of generals and each bound of the family.
+///
+/// # Errors
+///
+/// A campaign is rejected, the output cannot be written, or memory runs out.
 #[tactic(auto, using(crate::proofs::FaultLemmas::stopped_printing))]
 fn put_entries<T: Threads + Sync, O: Output>(
     rt: &HostRuntime,
@@ -67,14 +72,14 @@ fn put_entries<T: Threads + Sync, O: Output>(
     Ok(())
 }
 
-/// One more than the greatest bound of the span that so many generals can have.
+/// Returns one more than the greatest bound of the span that `generals` generals can have.
 fn bounds_end(generals: u8, bound: CountRange) -> u8
     ensures { result ≡ min bound.high (min 4 (generals - 2)) + 1 }
 {
     bound.high.min(generals.saturating_sub(2).min(4)) + 1
 }
 
-/// The head of a table.
+/// Returns the header of the table, or an empty text if campaigns are printed.
 fn break_header(is_table: bool) -> &'static str
     ensures { result.now ≡ break_header is_table }
 {
@@ -85,14 +90,18 @@ fn break_header(is_table: bool) -> &'static str
     }
 }
 
-/// What stands before an entry: an empty line before each campaign but the first.
+/// Returns the text before an entry: an empty line before each campaign except the first, and otherwise nothing.
 fn gap(is_table: bool, is_first: bool) -> &'static str
     ensures { result.now ≡ gap is_table is_first }
 {
     if is_table || is_first { "" } else { "\n" }
 }
 
-/// Prints it for these numbers.
+/// Searches and prints the entry for one number of generals and one bound.
+///
+/// # Errors
+///
+/// A campaign is rejected, the output cannot be written, or memory runs out.
 #[tactic(auto, using(crate::proofs::FaultLemmas::stopped_printing, crate::proofs::FaultLemmas::stopped_by_memory))]
 fn put_entry<T: Threads + Sync, O: Output>(
     rt: &HostRuntime,
@@ -116,7 +125,12 @@ fn put_entry<T: Threads + Sync, O: Output>(
     print(out, text.as_str())
 }
 
-/// What breaks agreement of generals of these numbers, if something does.
+/// Searches the campaigns with this number of generals and this bound for the fewest traitors that break agreement.
+/// Returns `None` if agreement is broken in none of them.
+///
+/// # Errors
+///
+/// A campaign is rejected, or memory runs out.
 #[tactic(auto, using(crate::proofs::FaultLemmas::stopped_campaign))]
 fn searched<T: Threads + Sync>(
     rt: &HostRuntime,
@@ -149,7 +163,7 @@ fn searched<T: Threads + Sync>(
     }
 }
 
-/// The traitors of a span, cut to all generals where they are more.
+/// Returns a span of traitors with both ends limited to the number of generals.
 fn cut_to(generals: u8, span: CountRange) -> CountRange
     ensures { result ≡ cut_to generals span }
 {

@@ -1,4 +1,5 @@
-//! How a call comes out. Only what is here makes an `SurveyEnding`: of what was done, or of words that ask for nothing.
+//! How a call ended: what was asked for, and the exit status. Only functions of this file make a `SurveyEnding`, from
+//! what was done or from words that ask for nothing.
 ghost use Rattle.std.specs.Prelude.{◌≡◌, IfErr, IfOk};
 ghost use Rattle.surveyor.specs.Asked.{IsAsked};
 ghost use Rattle.surveyor.specs.Done.{IsDone, IsUndone};
@@ -15,7 +16,7 @@ use std::marker::PhantomData;
 use std::thread::Threads;
 use streams::Output;
 
-/// How a call comes out whose output is an `O`, and whose campaigns are kept by a `K`.
+/// How a call ended. `O` is the type of its output, and `K` is the type of the keeper of its campaigns.
 #[derive(Drop)]
 pub struct SurveyEnding<O, K> {
     /// What the words ask for, or why they ask for nothing.
@@ -27,11 +28,11 @@ pub struct SurveyEnding<O, K> {
 }
 
 impl<O: Output, K: Keeper> SurveyEnding<O, K> {
-    /// Does what is asked for, or says why nothing is.
+    /// Does what is asked for, or reports why nothing is asked for.
     ///
     /// # Errors
     ///
-    /// What keeps it from its end.
+    /// The request cannot be finished, help cannot be printed, or memory runs out.
     pub fn of<T: Threads + Sync>(
         rt: &HostRuntime,
         threads: &T,
@@ -55,7 +56,7 @@ impl<O: Output, K: Keeper> SurveyEnding<O, K> {
         })
     }
 
-    /// The exit status.
+    /// Returns the exit status.
     pub fn status(&self) -> u8
         ensures { result ≡ self.now.status }
     {
@@ -63,7 +64,11 @@ impl<O: Output, K: Keeper> SurveyEnding<O, K> {
     }
 }
 
-/// Does what is asked for, or says why nothing is. The result is the exit status.
+/// Does what is asked for, or reports why nothing is asked for. Returns the exit status.
+///
+/// # Errors
+///
+/// The request cannot be finished, help cannot be printed, or memory runs out.
 fn done<T: Threads + Sync, O: Output, K: Keeper>(
     rt: &HostRuntime,
     threads: &T,
@@ -90,7 +95,11 @@ fn done<T: Threads + Sync, O: Output, K: Keeper>(
     }
 }
 
-/// Says why the words ask for nothing, or prints help. The result is the exit status.
+/// Reports why the words ask for nothing, or prints help. Returns the exit status: 2, or 0 for help.
+///
+/// # Errors
+///
+/// Help cannot be printed, or memory ran out.
 fn unasked(rt: &HostRuntime, error: &AskedError) -> Result<u8, SurveyFailure>
     ensures status { IfOk result (IsUnasked error.now) }
     ensures unhelped { IfErr result (IsUnhelped error.now) }

@@ -1,4 +1,5 @@
-//! The family that is asked for.
+//! The family of campaigns that a survey asks for. If its traitors' program is in a file of assembly, the file is read,
+//! assembled and verified.
 ghost use Rattle.std.specs.Prelude.{◌≡◌, ℕ, IfErr, IfOk, List, string_bytes};
 ghost use Rattle.surveyor.specs.Asked.{IsSurvey};
 ghost use Rattle.surveyor.specs.Faults.{IsFile, IsRefusedText, IsUnsaid, IsUnsound, IsUntaken};
@@ -13,15 +14,15 @@ use std::alloc::Global;
 use survey_draw::{Adversary, Family};
 use verify::{VerifyError, verify};
 
-/// The family of a survey. A file of assembly is read for it.
+/// Returns the family of a survey. If the survey names a file of assembly, reads that file.
 ///
 /// # Errors
 ///
-/// The file is not read, is no text, or is refused.
+/// The file cannot be read, is not UTF-8, or contains no program that the verifier accepts, or memory runs out.
 pub fn family_of(rt: &HostRuntime, survey: &Survey) -> Result<Family, SurveyFailure>
     requires { IsSurvey survey.now }
     ensures family { IfOk result (IsFamilyOf survey.now) }
-    // Only where a file is named does it fail.
+    // The call fails only if a file is named.
     ensures file { IfErr result (λ _. IsFile (string_bytes survey.now.adversary)) }
     ensures refused { IfErr result (IsUntaken (string_bytes survey.now.adversary)) }
 {
@@ -36,7 +37,11 @@ pub fn family_of(rt: &HostRuntime, survey: &Survey) -> Result<Family, SurveyFail
     ))
 }
 
-/// What the traitors do whom a word names.
+/// Returns what the traitors do, given the word that names it.
+///
+/// # Errors
+///
+/// The word names a file whose program cannot be read or is rejected, or memory runs out.
 fn adversary_of(rt: &HostRuntime, word: &str) -> Result<Adversary, SurveyFailure>
     ensures named { IfOk result (IsNamed word.now) }
     ensures file { IfErr result (λ _. IsFile word.now) }
@@ -50,7 +55,11 @@ fn adversary_of(rt: &HostRuntime, word: &str) -> Result<Adversary, SurveyFailure
     }
 }
 
-/// The bytecode of a file of assembly, or of standard input, in hex.
+/// Reads a file of assembly, or standard input if the name is a hyphen. Returns its bytecode in hexadecimal.
+///
+/// # Errors
+///
+/// The file cannot be read, is not UTF-8, or contains no program that the verifier accepts, or memory runs out.
 fn hex_of(rt: &HostRuntime, name: &str) -> Result<String, SurveyFailure>
     ensures program { IfOk result (λ hex. (text : List ℕ) × IsProgramOf text (string_bytes hex)) }
     ensures refused { IfErr result (IsUntaken name.now) }
@@ -63,7 +72,11 @@ fn hex_of(rt: &HostRuntime, name: &str) -> Result<String, SurveyFailure>
     }
 }
 
-/// The bytecode of a text of assembly, in hex. The verifier must accept it.
+/// Assembles a text, and returns its bytecode in hexadecimal if the verifier accepts it.
+///
+/// # Errors
+///
+/// The assembler or the verifier rejects the text, or memory runs out.
 fn program_hex(alloc: Global, text: &str) -> Result<String, SurveyFailure>
     ensures program { IfOk result (λ hex. IsProgramOf text.now (string_bytes hex)) }
     ensures refused { IfErr result (IsRefusedText text.now) }
@@ -79,7 +92,7 @@ fn program_hex(alloc: Global, text: &str) -> Result<String, SurveyFailure>
     }
 }
 
-/// That a text says no program.
+/// Returns the failure for a text that the assembler rejects.
 fn unsaid(alloc: Global, error: AsmError) -> SurveyFailure
     ensures { IsUnsaid error result }
 {
@@ -92,7 +105,7 @@ fn unsaid(alloc: Global, error: AsmError) -> SurveyFailure
     }
 }
 
-/// That a program is refused.
+/// Returns the failure for a program that the verifier rejects.
 fn unsound(alloc: Global, fault: VerifyError) -> SurveyFailure
     ensures { IsUnsound fault result }
 {

@@ -1,4 +1,4 @@
-//! What is told where a survey comes to no end.
+//! Why a survey cannot be finished, the line that is reported then, and the exit status.
 ghost use Rattle.std.specs.Prelude.{◌≡◌, ◌⊎◌, IfSome};
 ghost use Rattle.std.specs.Fmt.{with_newline};
 ghost use Rattle.std.specs.Io.KnownBytes.{Appends};
@@ -10,22 +10,22 @@ use std::fmt;
 use std::io::{self, ErrorKind};
 use streams::{FileName, Output};
 
-/// Why a survey comes to no end.
+/// Why a survey cannot be finished.
 #[derive(Drop)]
 pub enum SurveyFailure {
-    /// A file of this name cannot be read.
+    /// The file of this name cannot be read.
     Unread(String),
-    /// A file of this name is no text in UTF-8.
+    /// The file of this name is not UTF-8.
     NotText(String),
-    /// A file of this name, or standard output, cannot be written.
+    /// The file of this name cannot be written. Without a name, standard output cannot be written.
     Unwritten(Option<String>),
-    /// The text of a program or a line is refused, as this line says.
+    /// A program, or a line of a file to be summed, is rejected. This line says why.
     Refused(String),
-    /// The campaign of one of the seeds from the first to the last is refused.
+    /// The campaign of one of the seeds from the first number to the second is rejected.
     Campaign(u64, u64, ScenarioError),
     /// The words are not UTF-8.
     Words,
-    /// Want of memory.
+    /// Memory ran out.
     Memory,
 }
 
@@ -92,7 +92,7 @@ impl From<io::Error> for SurveyFailure {
     }
 }
 
-/// The exit status of a call that comes to this end.
+/// Returns the exit status for a failure: 2 if the words are not UTF-8, 3 if memory ran out, and otherwise 1.
 fn status_of(fault: &SurveyFailure) -> u8
     ensures { result ≡ status_of fault.now }
 {
@@ -107,7 +107,7 @@ fn status_of(fault: &SurveyFailure) -> u8
     }
 }
 
-/// Says why on standard error. The result is the exit status.
+/// Reports the failure on `error`, which is standard error. Returns the exit status.
 pub fn tell<F: Output>(fault: &SurveyFailure, error: &mut F) -> u8
     ensures status { result ≡ status_of fault.now }
     ensures told { F.fails error.old ⊎ IfSome (with_newline (fault_text fault.now))

@@ -1,4 +1,4 @@
-//! What files tell.
+//! `--sum`: sums the lines of several files, and reports the seeds that are missing or occur more than once.
 ghost use Rattle.std.specs.Prelude.{◌≡◌, ◌≢◌, IfErr, IfOk, length};
 ghost use Rattle.survey_draw.specs.Parts.{AreOf};
 ghost use Rattle.surveyor.specs.Faults.{IsNoPart, IsUnsummed, IsUntold};
@@ -13,12 +13,12 @@ use streams::{FileName, Output};
 use survey_draw::{Finding, PartError, Parts, read_part};
 use survey_search::{Stretch, doubles, holes};
 
-/// Prints what the lines of files come to, and says on standard error which seeds lack, and which stand there more than
-/// once. The result is the exit status: 1 where there are such seeds.
+/// Sums the lines of files, and prints the summary. Reports on standard error which seeds are missing, and which occur
+/// more than once. Returns the exit status: 1 if there are such seeds, and otherwise 0.
 ///
 /// # Errors
 ///
-/// What keeps it from its end.
+/// A file cannot be read, a line is rejected, the output cannot be written, or memory runs out.
 #[tactic(auto, using(crate::proofs::FaultLemmas::untold_summed, crate::proofs::FaultLemmas::unprinted_summed, crate::proofs::FaultLemmas::unsummed_by_memory))]
 pub fn summed<O: Output>(rt: &HostRuntime, out: &mut O, asked: &Merge) -> Result<u8, SurveyFailure>
     ensures summed { IfOk result (IsSummed asked.now (O.contents out.old) (O.contents out.new)) }
@@ -31,7 +31,11 @@ pub fn summed<O: Output>(rt: &HostRuntime, out: &mut O, asked: &Merge) -> Result
     covered(rt, asked.seeds, findings)
 }
 
-/// What the lines of the files tell.
+/// Reads the lines of all files.
+///
+/// # Errors
+///
+/// A file cannot be read, a line is rejected, or memory runs out.
 #[tactic(auto, using(crate::proofs::FaultLemmas::unread_one, crate::proofs::FaultLemmas::no_part_told))]
 fn told(rt: &HostRuntime, asked: &Merge) -> Result<Parts, SurveyFailure>
     ensures told { IfOk result (λ parts. IsTold asked.now parts.head.items parts.findings.items) }
@@ -59,7 +63,7 @@ fn told(rt: &HostRuntime, asked: &Merge) -> Result<Parts, SurveyFailure>
     Ok(parts)
 }
 
-/// The first and the last seed that may be told: all, where none are said.
+/// Returns the first and the last seed that may occur: those of `--seeds`, or 0 and 2^64 - 1 if it is not given.
 fn span_of(seeds: Option<(u64, u64)>) -> (u64, u64)
     ensures { result ≡ span_of seeds }
 {
@@ -69,7 +73,7 @@ fn span_of(seeds: Option<(u64, u64)>) -> (u64, u64)
     }
 }
 
-/// Why a file is no part of the survey that the first one with lines begins.
+/// Returns the failure for the file `name`, which is not a part of the survey that the file `first` begins.
 fn refused(alloc: Global, name: &str, first: &str, error: PartError) -> SurveyFailure
     ensures { IsNoPart name.now first.now error result }
 {
@@ -79,7 +83,12 @@ fn refused(alloc: Global, name: &str, first: &str, error: PartError) -> SurveyFa
     }
 }
 
-/// The line that says why.
+/// Returns the failure with the line that says why the file `name` is not a part of the survey that the file `first`
+/// begins.
+///
+/// # Errors
+///
+/// `AllocError` if memory runs out for the line.
 fn refusal(
     alloc: Global,
     name: &str,
@@ -111,7 +120,7 @@ fn refusal(
     }
 }
 
-/// These ends, or further ones, so that a seed lies within.
+/// Returns the least span that contains both ends and the seed.
 fn with_seed(ends: Option<(u64, u64)>, seed: u64) -> Option<(u64, u64)>
     ensures { result ≡ with_seed ends seed }
 {
@@ -121,7 +130,7 @@ fn with_seed(ends: Option<(u64, u64)>, seed: u64) -> Option<(u64, u64)>
     }
 }
 
-/// The least and the greatest seed of these campaigns.
+/// Returns the least and the greatest seed of these campaigns, or `None` if there are no campaigns.
 fn ends(all: &[Finding]) -> Option<(u64, u64)>
     ensures { AreEnds all.now result }
 {
@@ -132,8 +141,8 @@ fn ends(all: &[Finding]) -> Option<(u64, u64)>
     ends
 }
 
-/// The seeds that are asked for: those that are said or, where none are, those from the least to the greatest that is
-/// told.
+/// Returns the first and the last seed that should occur: those of `--seeds` or, if it is not given, the least and the
+/// greatest seed of these campaigns.
 fn asked_for(seeds: Option<(u64, u64)>, all: &[Finding]) -> Option<(u64, u64)>
     ensures { IsAskedFor seeds all.now result }
 {
@@ -143,7 +152,7 @@ fn asked_for(seeds: Option<(u64, u64)>, all: &[Finding]) -> Option<(u64, u64)>
     }
 }
 
-/// The exit status where these seeds lack, and these are double.
+/// Returns the exit status: 1 if there are missing seeds (`holes`) or repeated seeds (`doubles`), and otherwise 0.
 fn status_of(holes: &[Stretch], doubles: &[Stretch]) -> u8
     ensures well { result ≡ 0 → (length holes.now ≡ 0) × (length doubles.now ≡ 0) }
     ensures none { length holes.now ≡ 0 → length doubles.now ≡ 0 → result ≡ 0 }
@@ -158,7 +167,12 @@ fn status_of(holes: &[Stretch], doubles: &[Stretch]) -> u8
     0
 }
 
-/// Says which seeds lack, and which stand there more than once. The result is the exit status.
+/// Reports on standard error which seeds are missing, and which occur more than once. Returns the exit status: 1 if
+/// there are such seeds, and otherwise 0.
+///
+/// # Errors
+///
+/// Memory ran out.
 fn covered(
     rt: &HostRuntime,
     seeds: Option<(u64, u64)>,
@@ -181,7 +195,7 @@ fn covered(
     Ok(status)
 }
 
-/// Says these stretches, as `--seeds` takes them.
+/// Reports these stretches of seeds on standard error, in the form that `--seeds` takes. Each line begins with `name`.
 fn tell_stretches(rt: &HostRuntime, name: &str, stretches: &[Stretch]) {
     for stretch in stretches {
         let (first, last) = (stretch.first, stretch.last);

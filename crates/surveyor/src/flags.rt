@@ -1,4 +1,4 @@
-//! What may be asked for, as `clap` is told of it.
+//! The options and switches of `./byzlab survey` with their help texts, as `clap` receives them.
 ghost use Rattle.std.specs.Prelude.{◌≡◌, IfOk, codes, false, map};
 ghost use Rattle.clap.specs.Words.{app_of, rule_of};
 ghost use Rattle.surveyor.specs.Flags.{bare_app, files, rule_for, survey_app, with_rules};
@@ -7,16 +7,16 @@ use clap::{Arg, ArgAction, Command};
 use combine::Rule;
 use std::alloc::{AllocError, Global};
 
-/// A word that may stand once, and what help says of it.
+/// An option or a switch, with its help text.
 #[derive(Clone, Copy)]
 struct Flag<'a> {
     name: &'a str,
-    /// What help calls its value, where it has one.
+    /// The name of its value in the help text. A switch has none.
     value: Option<&'a str>,
     help: &'a str,
 }
 
-/// Which campaigns there are.
+/// The options that say which campaigns are played.
 const FAMILY: &[Flag<'static>] = &[
     Flag {
         name: "generals",
@@ -40,7 +40,7 @@ const FAMILY: &[Flag<'static>] = &[
     },
 ];
 
-/// How they are played, beside the rule.
+/// The options that say how campaigns are played, except `--rule`.
 const MANNER: &[Flag<'static>] = &[
     Flag {
         name: "patience",
@@ -59,7 +59,7 @@ const MANNER: &[Flag<'static>] = &[
     },
 ];
 
-/// What is printed of them.
+/// The options that say what is printed and kept.
 const SHAPES: &[Flag<'static>] = &[
     Flag {
         name: "lines",
@@ -94,7 +94,7 @@ const SHAPES: &[Flag<'static>] = &[
     },
 ];
 
-/// What `--sum` does, which takes several files.
+/// The option `--sum`, which takes one or more files.
 const SUM: Flag<'static> = Flag {
     name: "sum",
     value: Some("FILE"),
@@ -102,7 +102,7 @@ const SUM: Flag<'static> = Flag {
 };
 
 impl<'a> Flag<'a> {
-    /// The flag as `clap` is told of it.
+    /// Returns the option or switch as an argument of `clap`.
     #[tactic(auto, unfolding(crate::specs::Flags::rule_for))]
     fn argument(&self, alloc: Global) -> Arg<'a>
         ensures rule { rule_of result ≡ rule_for self.now }
@@ -116,7 +116,7 @@ impl<'a> Flag<'a> {
     }
 }
 
-/// A command to which these flags are added.
+/// Adds these options and switches to a command.
 fn with_flags<'a>(
     alloc: Global,
     mut command: Command<'a>,
@@ -130,14 +130,14 @@ fn with_flags<'a>(
     Ok(command)
 }
 
-/// What is said of `--rule`.
+/// Returns the help text of `--rule`, which names all rules.
 pub(crate) fn rules(alloc: Global) -> Result<String, AllocError> {
     let names = Rule::names();
     let default = Rule::DEFAULT.name();
     format!(in alloc; "How orders are combined: {names} [default: {default}]")
 }
 
-/// The command before it is told what may be asked for.
+/// Returns the command without options and switches.
 fn bare<'a>(alloc: Global) -> Result<Command<'a>, AllocError>
     ensures { IfOk result (λ c. app_of c ≡ bare_app) }
 {
@@ -147,7 +147,7 @@ fn bare<'a>(alloc: Global) -> Result<Command<'a>, AllocError>
         .bin_name("byzlab survey")
 }
 
-/// `--sum` as `clap` is told of it.
+/// Returns `--sum` as an argument of `clap`.
 #[tactic(auto, unfolding(crate::specs::Flags::rule_for))]
 fn sum_argument<'a>(alloc: Global) -> Arg<'a>
     ensures rule { rule_of result ≡ files (codes "sum") }
@@ -156,7 +156,7 @@ fn sum_argument<'a>(alloc: Global) -> Arg<'a>
     SUM.argument(alloc).num_args(1..).action(ArgAction::Append)
 }
 
-/// What may be asked for, where this is said of `--rule`.
+/// Returns the command with all options and switches. `rules` is the help text of `--rule`.
 pub(crate) fn command<'a>(alloc: Global, rules: &'a str) -> Result<Command<'a>, AllocError>
     ensures { IfOk result (λ c. app_of c ≡ survey_app) }
 {

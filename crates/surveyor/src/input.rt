@@ -1,4 +1,4 @@
-//! Files that are read.
+//! Reads whole files, or standard input.
 ghost use Rattle.std.specs.Prelude.{IfErr};
 ghost use Rattle.surveyor.specs.Faults.{IsUnread};
 
@@ -6,12 +6,12 @@ use crate::fault::SurveyFailure;
 use std::fs::read;
 use std::io::{self, ErrorKind, Read};
 
-/// All bytes of the file of this name, or of standard input where that is a hyphen. Which bytes these are no contract
-/// can say.
+/// Reads all bytes of the file of this name, or of standard input if the name is a hyphen. No contract can say which
+/// bytes these are.
 ///
 /// # Errors
 ///
-/// It cannot be read.
+/// The file cannot be read, or memory runs out.
 pub fn bytes_of(rt: &HostRuntime, name: &str) -> Result<Vec<u8>, SurveyFailure>
     ensures { IfErr result (IsUnread name.now) }
 {
@@ -22,7 +22,8 @@ pub fn bytes_of(rt: &HostRuntime, name: &str) -> Result<Vec<u8>, SurveyFailure>
     }
 }
 
-/// The bytes, or why they are not read.
+/// Reads all bytes of the file of this name, or of standard input if the name is a hyphen. Returns the error of the
+/// operating system if that fails.
 fn taken(rt: &HostRuntime, name: &str) -> io::Result<Vec<u8>> {
     if name != "-" {
         return read(rt, name);

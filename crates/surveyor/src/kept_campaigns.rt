@@ -1,4 +1,4 @@
-//! Campaigns that are kept in a folder. Whether the files are still there no contract can say.
+//! Writes campaigns to the folder of `--keep`. No contract can say whether the files are still there later.
 ghost use Rattle.std.specs.Prelude.{IfErr, IfOk, string_bytes};
 ghost use Rattle.streams.specs.Filling.{IsFilledBy};
 ghost use Rattle.surveyor.specs.Faults.{IsUnkept, tried_name};
@@ -9,12 +9,12 @@ use std::fs::{File, OpenOptions, create_dir, metadata, remove_file, rename};
 use std::io::{self, ErrorKind};
 use streams::{Filled, fill};
 
-/// Writes the campaign of a seed to FOLDER/SEED.toml: beside it first, so that no half of it ever stands there;
-/// where that fails, nothing is left.
+/// Writes the campaign of a seed to FOLDER/SEED.toml. The text is written to FOLDER/.SEED.toml.new first, which is then
+/// renamed, so FOLDER/SEED.toml is never incomplete. If that fails, the new file is removed.
 ///
 /// # Errors
 ///
-/// The file cannot be written, or one stands where it is to be written first, which is told then.
+/// The file cannot be written, or memory runs out. If FOLDER/.SEED.toml.new exists already, the error names it.
 pub fn keep<'t>(
     rt: &HostRuntime,
     folder: &str,
@@ -37,12 +37,12 @@ pub fn keep<'t>(
     }
 }
 
-/// Makes the folder of this name, where there is none, and tries whether it takes files. The number tells the file that
-/// is tried from those of other calls.
+/// Makes the folder of this name unless it exists, and checks that a file can be written to it. `number` is part of the
+/// name of that file, so that calls with other numbers do not use the same one.
 ///
 /// # Errors
 ///
-/// It is no folder and cannot be made, or it takes no file.
+/// The folder cannot be made, no file can be written to it, or memory runs out.
 pub fn open_folder(rt: &HostRuntime, folder: &str, number: u64) -> Result<(), SurveyFailure>
     ensures { IfErr result (IsUnkept folder.now (tried_name folder.now number)) }
 {
@@ -55,7 +55,8 @@ pub fn open_folder(rt: &HostRuntime, folder: &str, number: u64) -> Result<(), Su
     }
 }
 
-/// That a file is not written: the one beside it is told where it stood there already.
+/// Returns the failure for a file that cannot be written. It names `beside` if that file exists already, and `name`
+/// otherwise. If memory ran out, it names no file.
 fn unwritten(kind: ErrorKind, name: String, beside: String) -> SurveyFailure
     ensures { IsUnkept (string_bytes name) (string_bytes beside) result }
 {
@@ -66,7 +67,11 @@ fn unwritten(kind: ErrorKind, name: String, beside: String) -> SurveyFailure
     }
 }
 
-/// Makes the folder, where there is none, writes a file of this name, and takes it away again.
+/// Makes the folder unless it exists, creates the file of this name, and removes it again.
+///
+/// # Errors
+///
+/// The folder cannot be made, the file cannot be created, or it cannot be removed.
 fn opened(rt: &HostRuntime, folder: &str, name: &str) -> io::Result<()> {
     if metadata(rt, folder).is_err() {
         made(rt, folder)?;
@@ -76,7 +81,11 @@ fn opened(rt: &HostRuntime, folder: &str, name: &str) -> io::Result<()> {
     remove_file(rt, name)
 }
 
-/// Makes the folder, unless another has just made it.
+/// Makes the folder. It is no error if another process has just made it.
+///
+/// # Errors
+///
+/// The folder cannot be made.
 fn made(rt: &HostRuntime, folder: &str) -> io::Result<()> {
     match create_dir(rt, folder) {
         Err(error) if error.kind() != ErrorKind::AlreadyExists => Err(error),
@@ -84,7 +93,11 @@ fn made(rt: &HostRuntime, folder: &str) -> io::Result<()> {
     }
 }
 
-/// A file of this name that was not there.
+/// Creates the file of this name.
+///
+/// # Errors
+///
+/// The file exists already, or cannot be created.
 fn new_file(rt: &HostRuntime, name: &str) -> io::Result<File> {
     OpenOptions::new()
         .write(true)
@@ -92,7 +105,11 @@ fn new_file(rt: &HostRuntime, name: &str) -> io::Result<File> {
         .open(rt, name)
 }
 
-/// Writes a file beside its name, and gives it that name; where that fails, it is taken away.
+/// Writes `text` to the new file `beside`, and renames it to `name`. If that fails, removes the new file.
+///
+/// # Errors
+///
+/// A write or the renaming failed, or memory ran out.
 fn moved<'t>(
     rt: &HostRuntime,
     file: File,
@@ -109,7 +126,11 @@ fn moved<'t>(
     written
 }
 
-/// Writes the file, and gives it its name.
+/// Writes `text` to the new file `beside`, and renames it to `name`.
+///
+/// # Errors
+///
+/// A write or the renaming failed, or memory ran out.
 fn named<'t>(
     rt: &HostRuntime,
     mut file: File,

@@ -1,5 +1,5 @@
-//! `surveyor`, the program behind `byzlab survey`: plays the campaigns that the seeds of a family give, and counts how
-//! they come out.
+//! The program `surveyor`, which runs `./byzlab survey`: plays the campaigns that the seeds of a family give, and
+//! counts their outcomes.
 #![tactic(auto)]
 
 mod breaches;
@@ -47,7 +47,12 @@ fn main(rt: HostRuntime) -> ExitCode {
     ExitCode::from(status)
 }
 
-/// Reads the words, and does what they ask for, as the result shows: `SurveyEnding::of` alone makes it.
+/// Reads the command line, and does what it asks for. The result records what was done: only `SurveyEnding::of` makes
+/// it.
+///
+/// # Errors
+///
+/// The words are not UTF-8, what they ask for cannot be finished, or memory runs out.
 fn called<'a, T: Threads + Sync>(
     rt: &'a HostRuntime,
     threads: &T,
@@ -65,7 +70,11 @@ fn called<'a, T: Threads + Sync>(
     answered(rt, threads, texts.as_slice())
 }
 
-/// Does what these words ask for, or says why they ask for nothing.
+/// Does what these words ask for, or reports why they ask for nothing.
+///
+/// # Errors
+///
+/// What the words ask for cannot be finished.
 fn answered<'a, T: Threads + Sync>(
     rt: &'a HostRuntime,
     threads: &T,

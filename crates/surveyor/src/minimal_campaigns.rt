@@ -1,4 +1,4 @@
-//! The least of all campaigns in which agreement is broken.
+//! `--shrink`: reduces the broken campaigns of a survey, and prints the least of them.
 ghost use Rattle.std.specs.Prelude.{◌≡◌, List, ℕ, IfErr, IfOk, OnOk, count_by, flat_map, is_some, length, option_map, string_bytes};
 ghost use Rattle.std.specs.Io.KnownBytes.{Appends};
 ghost use Rattle.survey_search.specs.Breaches.{IsRefusedIn};
@@ -21,12 +21,12 @@ use streams::Output;
 use survey_draw::{Family, Plot, plot_text};
 use survey_search::{Breach, better, breaches, least, statements};
 
-/// Prints the least of what is left of the seeds' campaigns when traitors and statements are taken out while agreement
-/// stays broken.
+/// Reduces each broken campaign of the seeds, by removing traitors and statements while it stays broken. Prints the
+/// least of the reduced campaigns.
 ///
 /// # Errors
 ///
-/// What keeps it from its end.
+/// A campaign is rejected, the output or a kept file cannot be written, or memory runs out.
 #[tactic(auto, using(crate::proofs::FaultLemmas::stopped_printing, crate::proofs::FaultLemmas::stopped_by_memory))]
 pub fn shrunken<T: Threads + Sync, O: Output, K: Keeper>(
     rt: &HostRuntime,
@@ -46,7 +46,12 @@ pub fn shrunken<T: Threads + Sync, O: Output, K: Keeper>(
     print(out, least_text(rt.alloc(), least.as_ref())?.as_str())
 }
 
-/// The least of what is left of the seeds' campaigns, which is kept of each; none where none is broken.
+/// Reduces each broken campaign of the seeds, writes the reduced campaigns to the folder if one is named, and returns
+/// the least of them. Returns `None` if no campaign is broken.
+///
+/// # Errors
+///
+/// A campaign is rejected, a kept file cannot be written, or memory runs out.
 #[tactic(auto, using(crate::proofs::FaultLemmas::stopped_keeping, crate::proofs::FaultLemmas::stopped_by_memory, crate::proofs::FaultLemmas::stopped_campaign))]
 fn least_left<T: Threads + Sync, K: Keeper>(
     rt: &HostRuntime,
@@ -82,14 +87,18 @@ fn least_left<T: Threads + Sync, K: Keeper>(
     Ok(so_far)
 }
 
-/// How many of the campaigns are broken.
+/// Returns how many of the campaigns are broken.
 fn count_broken(found: &[Option<Breach>]) -> u64
     ensures { result ≡ count_by is_some found.now }
 {
     found.iter().filter(|breach| breach.is_some()).count() as u64
 }
 
-/// Keeps what is left of campaigns, where a folder is named.
+/// Writes the reduced campaigns to the folder, if one is named.
+///
+/// # Errors
+///
+/// A file cannot be written, or memory runs out.
 #[tactic(auto, using(crate::proofs::FaultLemmas::kept_where, crate::proofs::KeptLemmas::none_gained))]
 fn keep_all<K: Keeper>(
     rt: &HostRuntime,
@@ -107,7 +116,11 @@ fn keep_all<K: Keeper>(
     }
 }
 
-/// Keeps what is left of campaigns in this folder.
+/// Writes the reduced campaigns to this folder.
+///
+/// # Errors
+///
+/// A file cannot be written, or memory runs out.
 fn keep_in<K: Keeper>(
     rt: &HostRuntime,
     keeper: &mut K,
@@ -124,7 +137,11 @@ fn keep_in<K: Keeper>(
     Ok(())
 }
 
-/// Keeps what is left of a campaign in this folder, where it is broken.
+/// Writes a reduced campaign to this folder. Does nothing if the campaign was not broken.
+///
+/// # Errors
+///
+/// The file cannot be written, or memory runs out.
 #[tactic(auto, using(crate::proofs::FaultLemmas::unkept_one, crate::proofs::FaultLemmas::unkept_by_memory, crate::proofs::KeptLemmas::none_gained))]
 fn keep_one<K: Keeper>(
     rt: &HostRuntime,
@@ -144,14 +161,14 @@ fn keep_one<K: Keeper>(
     Ok(())
 }
 
-/// How many traitors a campaign has.
+/// Returns how many traitors a campaign has.
 fn traitors_in(plot: &Plot) -> usize
     ensures { result ≡ length plot.now.traitors }
 {
     plot.traitors.len()
 }
 
-/// The comment before what is left of a campaign.
+/// Returns the comment line before a reduced campaign: its seed, its number of traitors and its number of statements.
 fn least_head(
     alloc: Global,
     seed: u64,
@@ -163,7 +180,8 @@ fn least_head(
     format!(in alloc; "# seed {seed}: {traitors} traitors, {statements} statements\n")
 }
 
-/// What is left of a campaign, as a scenario, behind a comment that says of which.
+/// Returns the least reduced campaign as a scenario, after a comment line with its numbers. If no campaign is broken,
+/// returns only a comment that says so.
 fn least_text(alloc: Global, least: Option<&Breach>) -> Result<String, AllocError>
     ensures { IfOk result (λ text. string_bytes text ≡ least_text (option_map (λ breach. breach.now) least.entry)) }
 {

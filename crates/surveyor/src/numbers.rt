@@ -1,4 +1,4 @@
-//! Numbers and spans of them, as words say them.
+//! Parses the numbers and spans that options take, such as `4` and `4..7`.
 ghost use Rattle.std.specs.Prelude.{ℕ, ◌≡◌, ◌≤◌, ◌<◌, ◌-◌, ◌^◌, IfNone, IfSome, Some};
 ghost use Rattle.surveyor.specs.Numbers.{AreTold, IsNoSpan, IsTold};
 ghost use Rattle.text.specs.Number.{decimal_of};
@@ -6,10 +6,10 @@ ghost use Rattle.text.specs.Number.{decimal_of};
 use survey_draw::CountRange;
 use text::decimal;
 
-/// How many seeds a survey has at most.
+/// The greatest number of seeds in a survey.
 const MOST_SEEDS: u64 = 10_000_000;
 
-/// A number below the limit.
+/// Parses a number below `limit`. Returns `None` for any other word.
 fn below(limit: u128, word: &str) -> Option<u64>
     requires { limit ≤ 2 ^ 64 }
     ensures inside { IfSome result (λ number. number < limit) }
@@ -24,7 +24,7 @@ fn below(limit: u128, word: &str) -> Option<u64>
     }
 }
 
-/// Two numbers below the limit, of which the first is not the greater.
+/// Parses two numbers below `limit`, of which the first is at most the second. Returns `None` for any other words.
 fn both(limit: u128, low: &str, high: &str) -> Option<(u64, u64)>
     requires { limit ≤ 2 ^ 64 }
     ensures ordered { IfSome result (λ r. r.0 ≤ r.1) }
@@ -37,7 +37,8 @@ fn both(limit: u128, low: &str, high: &str) -> Option<(u64, u64)>
     if low <= high { Some((low, high)) } else { None }
 }
 
-/// The first and the last number of `A..B`, or of `A` alone, both of them below the limit.
+/// Parses the first and the last number of `A..B`, or of `A`, which is both. The first must be at most the last, and
+/// both must be below `limit`. Returns `None` for any other word.
 fn ends(limit: u128, word: &str) -> Option<(u64, u64)>
     requires { limit ≤ 2 ^ 64 }
     ensures ordered { IfSome result (λ r. r.0 ≤ r.1) }
@@ -51,7 +52,7 @@ fn ends(limit: u128, word: &str) -> Option<(u64, u64)>
     }
 }
 
-/// A span of numbers up to 13.
+/// Parses a span of numbers from 0 to 13. Returns `None` for any other word.
 pub fn span(word: &str) -> Option<CountRange>
     ensures ordered { IfSome result (λ s. s.low ≤ s.high) }
     ensures inside { IfSome result (λ s. s.high < 14) }
@@ -65,7 +66,7 @@ pub fn span(word: &str) -> Option<CountRange>
     })
 }
 
-/// A span of seeds, each below 2^64 - 1, and ten millions of them at most.
+/// Parses a span of at most 10,000,000 seeds, each below 2^64 - 1. Returns `None` for any other word.
 pub fn seeds(word: &str) -> Option<(u64, u64)>
     ensures ordered { IfSome result (λ r. r.0 ≤ r.1) }
     ensures inside { IfSome result (λ r. r.1 < 2 ^ 64 - 1) }
@@ -82,7 +83,7 @@ pub fn seeds(word: &str) -> Option<(u64, u64)>
     }
 }
 
-/// For how many steps a traitor is waited for: 1 to 4,096.
+/// Parses how many steps a traitor is waited for, 1 to 4,096. Returns `None` for any other word.
 pub fn patience(word: &str) -> Option<u32>
     ensures least { IfSome result (λ steps. 1 ≤ steps) }
     ensures most { IfSome result (λ steps. steps ≤ 4096) }

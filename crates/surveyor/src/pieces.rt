@@ -1,10 +1,10 @@
-//! The pieces in which a survey goes on.
+//! The size of the pieces in which a survey is played, and the failure for a piece with a rejected campaign.
 ghost use Rattle.std.specs.Prelude.{◌≡◌, ◌≢◌, ◌<◌, ◌≤◌, ◌-◌};
 
 use crate::fault::SurveyFailure;
 use scenario::ScenarioError;
 
-/// How many campaigns of so many generals at most are played between two looks at what they come to.
+/// Returns how many campaigns with at most `generals` generals are played before their outcomes are processed.
 pub fn at_once(generals: u8) -> u64
     ensures least { 1024 ≤ result }
     ensures few { generals < 8 → result ≡ 16384 }
@@ -13,7 +13,7 @@ pub fn at_once(generals: u8) -> u64
     if generals < 8 { 16_384 } else { 1_024 }
 }
 
-/// That one of the campaigns of the seeds from `first` up to `end`, without that, is refused.
+/// Returns the failure for a rejected campaign among those of the seeds from `first` up to `end`, which is excluded.
 pub fn refused(first: u64, end: u64, error: ScenarioError) -> SurveyFailure
     ensures memory { error ≡ ScenarioError.Memory → result ≡ SurveyFailure.Memory }
     ensures campaign { error ≢ ScenarioError.Memory → result ≡ SurveyFailure.Campaign first (end - 1) error }

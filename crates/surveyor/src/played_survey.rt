@@ -1,4 +1,4 @@
-//! The campaigns of a survey.
+//! Plays the campaigns of a survey, prints their lines or their summary, and keeps the broken ones.
 ghost use Rattle.std.specs.Prelude.{◌≡◌, ◌≢◌, ◌++◌, IfErr, IfOk, OnOk, Some, is_some, map, true};
 ghost use Rattle.std.specs.Io.KnownBytes.{Appends};
 ghost use Rattle.surveyor.specs.Asked.{IsSurvey};
@@ -27,7 +27,7 @@ use survey_search::lines_text;
 ///
 /// # Errors
 ///
-/// What keeps it from its end.
+/// The family's file or a campaign is rejected, the output or a kept file cannot be written, or memory runs out.
 #[tactic(auto, using(crate::proofs::FaultLemmas::untaken, crate::proofs::FaultLemmas::unopened, crate::proofs::FaultLemmas::unended_least, crate::proofs::FaultLemmas::unended_drawn))]
 pub fn surveyed<T: Threads + Sync, O: Output, K: Keeper>(
     rt: &HostRuntime,
@@ -51,7 +51,11 @@ pub fn surveyed<T: Threads + Sync, O: Output, K: Keeper>(
     played(rt, threads, out, keeper, asked, &family)
 }
 
-/// Plays the campaigns, keeps those that are broken, and prints their lines or what they come to.
+/// Plays the campaigns of a family, keeps those that are broken, and prints their lines or their summary.
+///
+/// # Errors
+///
+/// A campaign is rejected, the output or a kept file cannot be written, or memory runs out.
 #[tactic(auto, using(crate::proofs::FaultLemmas::stopped_printing, crate::proofs::FaultLemmas::stopped_keeping, crate::proofs::FaultLemmas::stopped_by_memory, crate::proofs::FaultLemmas::stopped_campaign))]
 fn played<T: Threads + Sync, O: Output, K: Keeper>(
     rt: &HostRuntime,
@@ -94,7 +98,11 @@ fn played<T: Threads + Sync, O: Output, K: Keeper>(
     put_summary(alloc, out, asked.shape, told)
 }
 
-/// The seeds of those of the campaigns in which agreement is broken, or the order disobeyed.
+/// Returns the seeds of the broken campaigns: those in which agreement is broken or a loyal commander is disobeyed.
+///
+/// # Errors
+///
+/// `AllocError` if memory runs out.
 fn broken_seeds(alloc: Global, found: &[Finding]) -> Result<Vec<u64>, AllocError>
     ensures { IfOk result (λ seeds. seeds.items ≡ broken_seeds found.now) }
 {
@@ -107,7 +115,11 @@ fn broken_seeds(alloc: Global, found: &[Finding]) -> Result<Vec<u64>, AllocError
     Ok(seeds)
 }
 
-/// Adds campaigns to those that are summed, unless lines are printed alone.
+/// Appends campaigns to those that are summed at the end, unless only lines are printed.
+///
+/// # Errors
+///
+/// Memory ran out.
 fn add(shape: ReportKind, all: &mut Vec<Finding>, found: &[Finding]) -> Result<(), SurveyFailure>
     ensures added { OnOk result (all.new.items ≡ all.old.items ++ added shape found.now) }
     ensures memory { IfErr result (λ fault. fault ≡ SurveyFailure.Memory) }
@@ -119,7 +131,11 @@ fn add(shape: ReportKind, all: &mut Vec<Finding>, found: &[Finding]) -> Result<(
     Ok(())
 }
 
-/// Prints the head of lines, where lines are asked for.
+/// Prints the head of the lines, if lines are asked for.
+///
+/// # Errors
+///
+/// The output cannot be written, or memory runs out.
 fn put_head<O: Output>(
     rt: &HostRuntime,
     out: &mut O,
@@ -135,7 +151,11 @@ fn put_head<O: Output>(
     print(out, head(rt.alloc(), family)?.as_str())
 }
 
-/// Prints the lines of these campaigns, where lines are asked for.
+/// Prints the lines of these campaigns, if lines are asked for.
+///
+/// # Errors
+///
+/// The output cannot be written, or memory runs out.
 fn put_lines<O: Output>(
     rt: &HostRuntime,
     out: &mut O,
@@ -151,7 +171,11 @@ fn put_lines<O: Output>(
     print(out, lines_text(rt.alloc(), found)?.as_str())
 }
 
-/// Keeps the campaigns of these seeds, where a folder is named.
+/// Writes the campaigns of these seeds to the folder, if one is named.
+///
+/// # Errors
+///
+/// A file cannot be written, or memory runs out.
 #[tactic(auto, using(crate::proofs::FaultLemmas::kept_where, crate::proofs::KeptLemmas::none_gained))]
 fn keep_all<K: Keeper>(
     rt: &HostRuntime,
@@ -170,7 +194,11 @@ fn keep_all<K: Keeper>(
     }
 }
 
-/// Keeps the campaigns of these seeds in this folder.
+/// Writes the campaigns of these seeds to this folder.
+///
+/// # Errors
+///
+/// A file cannot be written, or memory runs out.
 #[tactic(auto, using(crate::proofs::FaultLemmas::unkept_one, crate::proofs::FaultLemmas::unkept_by_memory))]
 fn keep_in<K: Keeper>(
     rt: &HostRuntime,

@@ -1,4 +1,4 @@
-//! What is printed.
+//! Prints texts, and the summary of a survey: sums, a table or a picture.
 ghost use Rattle.std.specs.Prelude.{◌≡◌, IfErr, IfOk, OnErr, OnOk, string_bytes};
 ghost use Rattle.std.specs.Io.KnownBytes.{Appends};
 ghost use Rattle.streams.specs.Writing.{AppendsFront};
@@ -17,7 +17,7 @@ use survey_search::{picture, sums_text, table};
 ///
 /// # Errors
 ///
-/// The output takes no more.
+/// The output cannot be written, or memory ran out.
 pub fn print<O: Output>(out: &mut O, text: &str) -> Result<(), SurveyFailure>
     ensures written { OnOk result (Appends (O.contents out.old) (O.contents out.new) text.now) }
     ensures begun { OnErr result (AppendsFront (O.contents out.old) (O.contents out.new) text.now) }
@@ -30,7 +30,7 @@ pub fn print<O: Output>(out: &mut O, text: &str) -> Result<(), SurveyFailure>
     }
 }
 
-/// That standard output takes no more.
+/// Returns the failure for a standard output that cannot be written, or `Memory` if memory ran out.
 fn unprinted(kind: ErrorKind) -> SurveyFailure
     ensures { IsUnprinted result }
 {
@@ -40,11 +40,11 @@ fn unprinted(kind: ErrorKind) -> SurveyFailure
     }
 }
 
-/// What is told of campaigns in this shape, where it is told at the end.
+/// Returns the summary of campaigns in this form. It is empty for `Lines` and `Least`, which print no summary.
 ///
 /// # Errors
 ///
-/// `AllocError` where memory is refused.
+/// `AllocError` if memory runs out.
 fn summary(alloc: Global, shape: ReportKind, findings: &[Finding]) -> Result<String, AllocError>
     ensures { IfOk result (λ text. string_bytes text ≡ summary_text shape findings.now) }
 {
@@ -56,11 +56,11 @@ fn summary(alloc: Global, shape: ReportKind, findings: &[Finding]) -> Result<Str
     }
 }
 
-/// Prints what is told of campaigns in this shape, where it is told at the end.
+/// Prints the summary of campaigns in this form. Nothing is printed for `Lines` and `Least`.
 ///
 /// # Errors
 ///
-/// The output takes no more, or want of memory.
+/// The output cannot be written, or memory runs out.
 pub fn put_summary<O: Output>(
     alloc: Global,
     out: &mut O,

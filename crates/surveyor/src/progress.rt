@@ -1,29 +1,30 @@
-//! How far a survey has come. What is told on standard error, and when, no contract can say.
+//! The progress of a survey, shown on standard error: a bar on a terminal, and otherwise a line each minute. No
+//! contract can say what is shown there, and when.
 ghost use Rattle.std.specs.Prelude.{◌≡◌};
 
 use std::alloc::{AllocError, Global};
 use std::io::{IsTerminal, Write};
 use std::time::Instant;
 
-/// How many signs a bar has.
+/// The width of the bar, in characters.
 const SIGNS: u64 = 20;
 
-/// How far a survey of the seeds from the first to the last has come, told on standard error: on a terminal in place of
-/// what was told before, and elsewhere once a minute, on a line of its own. The next seed is that from which `--seeds`
-/// goes on, should the survey be interrupted.
+/// The progress of a survey of the seeds from `first` to `last`, shown on standard error. On a terminal it is one line
+/// that is overwritten, and elsewhere a new line once a minute. An interrupted survey can go on with `--seeds` from the
+/// seed after the last one shown.
 #[derive(Drop)]
 pub struct SurveyProgress<'a> {
     rt: &'a HostRuntime,
     first: u64,
     last: u64,
-    /// When it began, if the clock can be read.
+    /// When the survey began, or `None` if the clock cannot be read.
     start: Option<Instant>,
-    /// How many minutes had gone when it was told last.
+    /// How many minutes had passed since the start when the clock was last read.
     minutes: u64,
 }
 
 impl<'a> SurveyProgress<'a> {
-    /// Of these seeds.
+    /// Returns the progress of a survey of these seeds that begins now.
     pub fn of(rt: &'a HostRuntime, first: u64, last: u64) -> SurveyProgress<'a>
         ensures first { result.first ≡ first }
         ensures last { result.last ≡ last }
@@ -38,11 +39,11 @@ impl<'a> SurveyProgress<'a> {
         }
     }
 
-    /// Tells that the campaigns up to this seed's are done, and how many of them are broken.
+    /// Shows that the campaigns up to that of the seed `done` have been played, and that `broken` of them are broken.
     ///
     /// # Errors
     ///
-    /// `AllocError` where memory is refused.
+    /// `AllocError` if memory runs out.
     pub fn tell(&mut self, done: u64, broken: u64) -> Result<(), AllocError>
         ensures first { self.new.first ≡ self.old.first }
         ensures last { self.new.last ≡ self.old.last }
@@ -72,7 +73,8 @@ impl<'a> SurveyProgress<'a> {
         Ok(())
     }
 
-    /// Whether a minute has gone since it was told last.
+    /// Returns whether another minute since the start has passed since the clock was last read, and stores the new
+    /// time.
     fn is_time(&mut self) -> bool
         ensures first { self.new.first ≡ self.old.first }
         ensures last { self.new.last ≡ self.old.last }
@@ -90,7 +92,11 @@ impl<'a> SurveyProgress<'a> {
     }
 }
 
-/// A bar that is full as far as something is done.
+/// Returns a bar that is filled in proportion to how much of `whole` is done.
+///
+/// # Errors
+///
+/// `AllocError` if memory runs out.
 fn bar(alloc: Global, done: u64, whole: u64) -> Result<String, AllocError> {
     let mut out = String::new(alloc);
     let full = u128::from(done) * u128::from(SIGNS) / u128::from(whole.max(1));

@@ -1,4 +1,4 @@
-//! What the words ask for.
+//! What the command line of a survey asks for: the request to play, to search or to sum, and why there is no request.
 ghost use Rattle.std.specs.Prelude.{◌≡◌, IfErr, IfOk, []};
 ghost use Rattle.clap.specs.Words.{fault_of, matches_of};
 ghost use Rattle.surveyor.specs.Asked.{IsAsked};
@@ -12,42 +12,43 @@ use clap::error::ErrorKind;
 use std::alloc::{AllocError, Global};
 use survey_draw::{CountRange, Manner};
 
-/// What is asked for.
+/// A request of the command line.
 #[derive(Drop)]
 pub enum Asked {
-    /// The campaigns that the seeds of a survey give.
+    /// Plays the campaigns that the seeds of a survey give.
     Survey(Survey),
-    /// What breaks agreement, for each number of generals and each bound; as a table alone, or with the campaigns.
+    /// Searches what breaks agreement, for each number of generals and each bound. The flag says whether only a table
+    /// is printed, without the campaigns.
     Break(Survey, bool),
-    /// What files tell.
+    /// Sums the lines of files.
     Merge(Merge),
 }
 
-/// What is printed of campaigns.
+/// The form in which the outcomes of campaigns are printed.
 #[derive(Clone, Copy, PartialEq, Eq)]
 pub enum ReportKind {
-    /// Their sums.
+    /// The sums over all campaigns.
     Sums,
     /// A line for each campaign.
     Lines,
-    /// Their sums by their numbers.
+    /// A table of the sums for each number of generals, bound and number of traitors.
     Table,
-    /// The same as a picture.
+    /// An SVG picture of the share of broken campaigns, for each number of generals, bound and number of traitors.
     Picture,
-    /// The least in which agreement is broken, of which nothing more can be taken out.
+    /// The least broken campaign, from which no traitor and no statement can be removed.
     Least,
 }
 
-/// Files with lines of campaigns, and what is told of them.
+/// A request to sum the lines of files.
 #[derive(Drop)]
 pub struct Merge {
     pub names: Vec<String>,
-    /// The first and the last seed, if they are said.
+    /// The first and the last seed, if `--seeds` is given.
     pub seeds: Option<(u64, u64)>,
     pub shape: ReportKind,
 }
 
-/// Which campaigns, and what is told of them.
+/// A request to play campaigns: which ones, and what is printed about them.
 #[derive(Drop)]
 pub struct Survey {
     pub generals: CountRange,
@@ -60,20 +61,20 @@ pub struct Survey {
     pub first: u64,
     pub last: u64,
     pub shape: ReportKind,
-    /// The folder for campaigns in which agreement is broken.
+    /// The folder to which broken campaigns are written, if `--keep` is given.
     pub keep: Option<String>,
 }
 
 /// Why the words ask for nothing.
 #[derive(Drop)]
 pub enum AskedError {
-    /// What `clap` says of them.
+    /// `clap` rejects the words with this error, or the words ask for help.
     Words(clap::Error),
-    /// What is wrong with the value of an option.
+    /// The value of an option is wrong, or options exclude each other. This is the message.
     Value(&'static str),
-    /// That its rule is none.
+    /// The value of `--rule` does not name a rule.
     Rule,
-    /// Want of memory.
+    /// Memory ran out.
     Memory,
 }
 
@@ -88,7 +89,7 @@ impl From<AllocError> for AskedError {
     }
 }
 
-/// That `clap` does not take the words, unless it wants memory.
+/// Returns the error for words that `clap` rejects, or `Memory` if `clap` ran out of memory.
 fn untaken(error: clap::Error) -> AskedError
     ensures { IsByClap error result }
 {
@@ -99,11 +100,11 @@ fn untaken(error: clap::Error) -> AskedError
     }
 }
 
-/// What the words behind the program's name ask for.
+/// Parses the words after the program's name, and returns what they ask for.
 ///
 /// # Errors
 ///
-/// Why they ask for nothing.
+/// The words ask for nothing, or memory runs out.
 pub fn request(alloc: Global, words: &[&str]) -> Result<Asked, AskedError>
     ensures asked { IfOk result IsAsked }
     ensures found { IfOk result (Asks (matches_of survey_app (words_of words.now))) }

@@ -1,4 +1,5 @@
-//! What the words ask for that `clap` has found.
+//! Turns the words that `clap` has parsed into the request: to play campaigns, to search with `--break`, or to sum with
+//! `--sum`.
 ghost use Rattle.std.specs.Prelude.{IfErr, IfOk};
 ghost use Rattle.clap.specs.Words.{found_of, rows_of};
 ghost use Rattle.surveyor.specs.Asked.{IsAsked};
@@ -20,11 +21,11 @@ use plays::survey_of;
 use std::alloc::Global;
 use sums::merge_of;
 
-/// What the words ask for that `clap` has found.
+/// Returns what the words ask for that `clap` has parsed.
 ///
 /// # Errors
 ///
-/// Why they ask for nothing.
+/// The words ask for nothing, or memory runs out.
 #[tactic(auto, using(crate::proofs::MeantLemmas::no_merge_asked, crate::proofs::MeantLemmas::no_survey_asked))]
 pub fn meant(alloc: Global, found: &ArgMatches) -> Result<Asked, AskedError>
     ensures asked { IfOk result IsAsked }

@@ -1,4 +1,4 @@
-//! What the words give to a name, as `clap` has found it.
+//! Looks up the values of options and switches among the words that `clap` has parsed.
 ghost use Rattle.std.specs.Prelude.{◌≡◌, if◌then◌else◌, None, map, option_map, unwrap_or};
 ghost use Rattle.clap.specs.Words.{found_of, rows_of};
 ghost use Rattle.surveyor.specs.Flags.{given, has, is_given};
@@ -7,14 +7,14 @@ ghost use Rattle.surveyor.specs.Meant.{names_in, value};
 use clap::ArgMatches;
 use clap::parser::ValueSource;
 
-/// The value of an option, `true` of a switch, where it stands among the words.
+/// Returns the value of an option, or `true` for a switch, if it is given on the command line.
 pub fn given<'a>(found: &ArgMatches<'a>, name: &str) -> Option<&'a str>
     ensures { option_map (λ t. t.now) result ≡ given name.now (rows_of (found_of found.now)) }
 {
     by_words(found.value_source(name), found.get_str(name))
 }
 
-/// The text of what the words gave, and not a default.
+/// Returns the text if it was given on the command line, and `None` if it is a default.
 fn by_words<'a>(source: Option<ValueSource>, text: Option<&'a str>) -> Option<&'a str>
     ensures { option_map (λ t. t.now) result ≡ (if is_given source then option_map (λ t. t.now) text.entry else None) }
 {
@@ -24,14 +24,14 @@ fn by_words<'a>(source: Option<ValueSource>, text: Option<&'a str>) -> Option<&'
     }
 }
 
-/// Whether an option or a switch stands there.
+/// Returns whether an option or a switch is given on the command line.
 pub fn has(found: &ArgMatches, name: &str) -> bool
     ensures { result ≡ has name.now (rows_of (found_of found.now)) }
 {
     given(found, name).is_some()
 }
 
-/// The value of an option, or what stands for it.
+/// Returns the value of an option, or `without` if the option is not given.
 pub fn value<'a>(found: &ArgMatches<'a>, name: &str, without: &'a str) -> &'a str
     ensures { result.now ≡ value name.now without.entry.now (rows_of (found_of found.now)) }
 {
@@ -41,7 +41,7 @@ pub fn value<'a>(found: &ArgMatches<'a>, name: &str, without: &'a str) -> &'a st
     }
 }
 
-/// The names of the files that `--sum` takes, where it stands there.
+/// Returns the names of the files given to `--sum`, or `None` if `--sum` is not given.
 pub fn names<'m, 'a>(found: &'m ArgMatches<'a>) -> Option<&'m [&'a str]>
     ensures { option_map (λ names. map (λ name. name.now) names.now) result ≡ names_in (rows_of (found_of found.now)) }
 {

@@ -1,4 +1,4 @@
-//! What the words ask for beside `--break`.
+//! The request of `--break`, made from the words that `clap` has parsed.
 ghost use Rattle.std.specs.Prelude.{◌≡◌, ◌≢◌, ◌⊎◌, Bool, true, IfErr, IfOk, MatchOption, codes, is_some};
 ghost use Rattle.clap.specs.Words.{found_of, rows_of};
 ghost use Rattle.surveyor.specs.Asked.{IsSurvey};
@@ -17,7 +17,7 @@ const BREAK: &str = "--break is printed, or with --table as a table alone";
 
 const KEEP: &str = "--break keeps nothing: what it prints can be sent to a file";
 
-/// Whether what breaks agreement is printed as a table alone, if it can be printed in this shape.
+/// Returns whether `--break` prints only a table, or `None` if it cannot print in this form.
 fn is_table(shape: ReportKind) -> Option<bool>
     ensures { MatchOption result ((is_table : Bool) → shape ≢ break_shape is_table) (λ is_table. shape ≡ break_shape is_table) }
 {
@@ -28,7 +28,11 @@ fn is_table(shape: ReportKind) -> Option<bool>
     }
 }
 
-/// Whether what breaks agreement is printed as a table alone; nothing is kept of it.
+/// Returns whether `--break` prints only a table in this survey.
+///
+/// # Errors
+///
+/// `--break` cannot print in the survey's form, or the survey has a folder for campaigns.
 fn break_shape(survey: &Survey) -> Result<bool, AskedError>
     ensures told { IfOk result (λ is_table. (survey.now.shape ≡ break_shape is_table) × (survey.now.keep ≡ None)) }
     ensures refused { IfErr result (λ e.
@@ -45,7 +49,11 @@ fn break_shape(survey: &Survey) -> Result<bool, AskedError>
     Ok(is_table)
 }
 
-/// The survey of what breaks agreement that is asked for.
+/// Returns the survey of `--break`, and whether only a table is printed.
+///
+/// # Errors
+///
+/// The words do not describe such a survey, or memory runs out.
 pub(super) fn break_of(alloc: Global, found: &ArgMatches) -> Result<(Survey, bool), AskedError>
     requires { has (codes "break") (rows_of (found_of found.now)) ≡ true }
     ensures survey { IfOk result (λ r. IsSurvey r.0) }

@@ -1,4 +1,5 @@
-//! What the words say of the campaigns that are played.
+//! The request to play campaigns, made from the words that `clap` has parsed: generals, bound, traitors, seeds, manner
+//! and what is printed.
 ghost use Rattle.std.specs.Prelude.{◌≡◌, ◌≤◌, IfErr, IfOk, MatchResult, codes, option_map, string_bytes};
 ghost use Rattle.clap.specs.Words.{found_of, rows_of};
 ghost use Rattle.surveyor.specs.Asked.{IsSurvey};
@@ -31,7 +32,11 @@ const SIGNED: &str = "signed messages have no rule";
 
 const SHAPE: &str = "one of --lines, --table, --svg, --shrink and --break is printed";
 
-/// The span of numbers that a word tells, none below the least or above the most; else this is said.
+/// Parses a span of numbers from `least` to `most`.
+///
+/// # Errors
+///
+/// The word is not such a span. The error contains `why`.
 fn within(word: &str, least: u8, most: u8, why: &'static str) -> Result<CountRange, AskedError>
     requires { most ≤ 13 }
     ensures told { IfOk result (IsWithin least most word.now) }
@@ -43,7 +48,11 @@ fn within(word: &str, least: u8, most: u8, why: &'static str) -> Result<CountRan
     }
 }
 
-/// The seeds that a word tells.
+/// Parses the first and the last seed of a survey.
+///
+/// # Errors
+///
+/// The word is not a span of at most 10,000,000 seeds below 2^64 - 1.
 pub(super) fn told_seeds(word: &str) -> Result<(u64, u64), AskedError>
     ensures told { IfOk result (AreSeeds word.now) }
     ensures refused { IfErr result (IsSaid
@@ -56,7 +65,8 @@ pub(super) fn told_seeds(word: &str) -> Result<(u64, u64), AskedError>
     }
 }
 
-/// How messages are sent, by the words of `--rule` and `--signed`.
+/// Returns how messages are sent, given the value of `--rule` and whether `--signed` is given. Returns `None` if both
+/// are given, or if there is no rule of this name.
 fn manner_named(rule: Option<&str>, is_signed: bool) -> Option<Manner>
     ensures { result ≡ manner_named (option_map (λ word. word.now) rule.entry) is_signed }
 {
@@ -72,7 +82,7 @@ fn manner_named(rule: Option<&str>, is_signed: bool) -> Option<Manner>
     }
 }
 
-/// How messages are sent where no rule is named.
+/// Returns how messages are sent if no rule is named: signed, or orally with the default rule.
 fn plain_manner(is_signed: bool) -> Manner
     ensures { result ≡ plain_manner is_signed }
 {
@@ -83,7 +93,11 @@ fn plain_manner(is_signed: bool) -> Manner
     }
 }
 
-/// How messages are sent.
+/// Returns how messages are sent, from the words of the command line.
+///
+/// # Errors
+///
+/// There is no rule of the given name, or a rule is given for signed messages.
 fn manner(found: &ArgMatches) -> Result<Manner, AskedError>
     ensures told { let rows = rows_of (found_of found.now) in
         IfOk result (λ manner. manner_named (given (codes "rule") rows) (has (codes "signed") rows) ≡ Some manner) }
@@ -97,7 +111,7 @@ fn manner(found: &ArgMatches) -> Result<Manner, AskedError>
     }
 }
 
-/// What is to be printed, by the words of it that stand there: one at most.
+/// Returns what is printed, given which of its four switches are given. Returns `None` if more than one is given.
 fn shape_by(lines: bool, table: bool, svg: bool, shrink: bool) -> Option<ReportKind>
     ensures { result ≡ shape_by lines table svg shrink }
 {
@@ -111,7 +125,11 @@ fn shape_by(lines: bool, table: bool, svg: bool, shrink: bool) -> Option<ReportK
     }
 }
 
-/// What is to be printed of campaigns.
+/// Returns what is printed about campaigns, from the words of the command line.
+///
+/// # Errors
+///
+/// More than one form is asked for.
 pub(super) fn printed(found: &ArgMatches) -> Result<ReportKind, AskedError>
     ensures { let shape = shape_in (rows_of (found_of found.now)) in
         MatchResult result (λ s. shape ≡ Some s)
@@ -129,7 +147,11 @@ pub(super) fn printed(found: &ArgMatches) -> Result<ReportKind, AskedError>
     }
 }
 
-/// For how many steps a traitor is waited for, if it is said.
+/// Returns how many steps a traitor is waited for, or `None` if `--patience` is not given.
+///
+/// # Errors
+///
+/// The value of `--patience` is not a number from 1 to 4,096.
 fn patience_of(found: &ArgMatches) -> Result<Option<u32>, AskedError>
     ensures told { IfOk result (IsPatience (given (codes "patience") (rows_of (found_of found.now)))) }
     ensures refused { IfErr result (IsSaid (codes "--patience takes 1 to 4096")
@@ -144,7 +166,11 @@ fn patience_of(found: &ArgMatches) -> Result<Option<u32>, AskedError>
     }
 }
 
-/// A text of its own of the value of an option, if it is there.
+/// Returns a copy of the value of an option, or `None` if the option is not given.
+///
+/// # Errors
+///
+/// `AllocError` if memory runs out.
 fn owned(alloc: Global, found: &ArgMatches, name: &str) -> Result<Option<String>, AllocError>
     ensures { IfOk result (λ own. option_map string_bytes own ≡ given name.now (rows_of (found_of found.now))) }
 {
@@ -154,14 +180,18 @@ fn owned(alloc: Global, found: &ArgMatches, name: &str) -> Result<Option<String>
     }
 }
 
-/// How many traitors stand for none that are said.
+/// Returns the default of `--traitors`: `1..13` with `--break`, and otherwise `1`.
 fn some_traitors(found: &ArgMatches) -> &'static str
     ensures { result.now ≡ some_traitors (rows_of (found_of found.now)) }
 {
     if has(found, "break") { "1..13" } else { "1" }
 }
 
-/// The survey that is asked for.
+/// Returns the survey that the words ask for.
+///
+/// # Errors
+///
+/// A value is wrong, options exclude each other, or memory runs out.
 #[tactic(auto, using(crate::proofs::MeantLemmas::no_generals, crate::proofs::MeantLemmas::no_traitors, crate::proofs::MeantLemmas::no_seeds, crate::proofs::MeantLemmas::no_manner, crate::proofs::MeantLemmas::no_patience, crate::proofs::MeantLemmas::no_shape))]
 pub(super) fn survey_of(alloc: Global, found: &ArgMatches) -> Result<Survey, AskedError>
     ensures survey { IfOk result IsSurvey }

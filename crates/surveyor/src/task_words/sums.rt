@@ -1,4 +1,4 @@
-//! What the words ask for beside `--sum`.
+//! The request of `--sum`, made from the words that `clap` has parsed.
 ghost use Rattle.std.specs.Prelude.{◌≡◌, ◌↔◌, ◌⊎◌, false, true, IfErr, IfOk, IsSomeAnd, IsTrue, codes, map, string_bytes};
 ghost use Rattle.std.specs.List.{list_any};
 ghost use Rattle.clap.specs.Words.{found_of, rows_of};
@@ -17,14 +17,14 @@ const MERGE: &str = "--sum plays nothing: beside it stand --seeds, --table and -
 
 const ONCE: &str = "standard input is read once";
 
-/// Whether one of these options and switches stands there.
+/// Returns whether at least one of these options and switches is given.
 fn has_any(found: &ArgMatches, names: &[&str]) -> bool
     ensures { result ≡ list_any (λ name. has name.now (rows_of (found_of found.now))) names.now }
 {
     names.iter().any(|name| has(found, name))
 }
 
-/// Whether a word stands there that does not stand beside `--sum`.
+/// Returns whether an option or switch is given that cannot be combined with `--sum`.
 fn bars_sum(found: &ArgMatches) -> bool
     ensures { result ≡ bars_sum (rows_of (found_of found.now)) }
 {
@@ -46,7 +46,11 @@ fn bars_sum(found: &ArgMatches) -> bool
     )
 }
 
-/// The names of files.
+/// Returns copies of the names of files.
+///
+/// # Errors
+///
+/// `AllocError` if memory runs out.
 fn files(alloc: Global, names: &[&str]) -> Result<Vec<String>, AllocError>
     ensures { IfOk result (λ files. map string_bytes files.items ≡ map (λ name. name.now) names.now) }
 {
@@ -57,14 +61,18 @@ fn files(alloc: Global, names: &[&str]) -> Result<Vec<String>, AllocError>
     Ok(files)
 }
 
-/// Whether standard input is named more than once.
+/// Returns whether standard input is named more than once.
 fn is_read_twice(names: &[&str]) -> bool
     ensures { IsTrue result ↔ AreTwice (map (λ name. name.now) names.now) }
 {
     names.iter().filter(|name| **name == "-").count() > 1
 }
 
-/// The seeds that are said, if they are.
+/// Returns the first and the last seed, or `None` if `--seeds` is not given.
+///
+/// # Errors
+///
+/// The value of `--seeds` is not a span of at most 10,000,000 seeds below 2^64 - 1.
 fn said_seeds(found: &ArgMatches) -> Result<Option<(u64, u64)>, AskedError>
     ensures told { IfOk result (AreSaid (given (codes "seeds") (rows_of (found_of found.now)))) }
     ensures refused { let word = given (codes "seeds") (rows_of (found_of found.now)) in IfErr result (IsSaid
@@ -80,7 +88,11 @@ fn said_seeds(found: &ArgMatches) -> Result<Option<(u64, u64)>, AskedError>
     }
 }
 
-/// That these files can be summed.
+/// Checks that these files can be summed.
+///
+/// # Errors
+///
+/// An option or switch is given that cannot be combined with `--sum`, or standard input is named more than once.
 fn summable(found: &ArgMatches, names: &[&str]) -> Result<(), AskedError>
     ensures told { IfOk result (λ _. (bars_sum (rows_of (found_of found.now)) ≡ false)
         × (AreTwice (map (λ name. name.now) names.now) → ⊥)) }
@@ -98,7 +110,11 @@ fn summable(found: &ArgMatches, names: &[&str]) -> Result<(), AskedError>
     Ok(())
 }
 
-/// What is to be told of these files.
+/// Returns the request to sum these files.
+///
+/// # Errors
+///
+/// The files cannot be summed, a value is wrong, or memory runs out.
 #[tactic(auto, using(crate::proofs::MeantLemmas::no_merge_shape, crate::proofs::MeantLemmas::no_merge_seeds, crate::proofs::MeantLemmas::no_merge_sum, crate::proofs::MeantLemmas::once_named))]
 pub(super) fn merge_of(
     alloc: Global,
