@@ -9,12 +9,12 @@ is_blank c = c == 32 || (c == 9 || (c == 13 || c == 10))
 
 -- Returns the rest of the story at the head of these bytes, which begin within a comment or outside one. A comment goes
 -- from a number sign to the end of its line.
--- Returns the story at the head of a scenario.
 abbrev pub story_on : Bool → List ℕ → List ℕ
 story_on within [] = []
 story_on within (c ∷ cs) =
     if within || (is_blank c || c == 35) then c ∷ story_on (not (c == 10) && (within || c == 35)) cs else []
 
+-- Returns the story at the head of a scenario.
 abbrev pub story : List ℕ → List ℕ
 story bytes = story_on false bytes
 

@@ -38,8 +38,6 @@ RefusesNaming named text refusal = RefusesTable text refusal
 -- States why a task that draws a tree rejects a text. The text is not a message table or, if the flag says that it is
 -- TOML, not an oral campaign. Or the refusal names `general`, if he is not a lieutenant, or else the first of
 -- `traitors` who is not one of the generals.
--- States that the task rejects the text, or the generals named for the tree. Whether the text is TOML decides whether
--- it must be a campaign or a message table.
 abbrev pub RefusesTreeIn : Bool → ℕ → List ℕ → List ℕ → InputRefusal → Type 0
 RefusesTreeIn toml general traitors text (Stranger own generals) =
     (commander : ℕ) × HasNumbers toml text generals commander
@@ -47,5 +45,7 @@ RefusesTreeIn toml general traitors text (Stranger own generals) =
 RefusesTreeIn false general traitors text refusal = RefusesTable text refusal
 RefusesTreeIn true general traitors text refusal = RefusesScenario text refusal
 
+-- States that the task rejects the text, or the generals named for the tree. Whether the text is TOML decides whether
+-- it must be a campaign or a message table.
 abbrev pub RefusesTree : ℕ → List ℕ → List ℕ → InputRefusal → Type 0
 RefusesTree general traitors text refusal = RefusesTreeIn (is_toml text) general traitors text refusal

@@ -51,9 +51,9 @@ IsHintBy true refusal task bytes own hint =
     TellsWhyOf refusal role.Nothing (unwrap_or (file_of task) []) own (hint_behind hint)
 
 -- States that this is the hint for the refusal of the task's first file, where the fault is located in `own`.
--- States that this is the hint for the refusal of the task's first file, which has these bytes.
 abbrev pub IsHintOf : InputRefusal → Task → List ℕ → List ℕ → Option Hint → Type 0
 IsHintOf refusal task bytes own hint = IsHintBy (is_reported task refusal) refusal task bytes own hint
 
+-- States that this is the hint for the refusal of the task's first file, which has these bytes.
 abbrev pub IsHint : InputRefusal → Task → List ℕ → Option Hint → Type 0
 IsHint refusal task bytes hint = IsHintOf refusal task bytes (bytecode_in task bytes) hint
