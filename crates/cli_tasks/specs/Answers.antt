@@ -1,4 +1,4 @@
--- What is printed of a program.
+-- Defines what `check`, `asm` and `dis` print of a program.
 use Rattle.std.specs.Prelude.{ℕ, ◌≡◌, ◌++◌, Bool, true, false, List, [], Option, None, Some, String, codes, length, map, string_bytes, unwrap_or}
 use Rattle.std.specs.declared.alloc.Global.{Global}
 use Rattle.insn.specs.declared.insn.Insn.{Insn}
@@ -20,8 +20,8 @@ use Rattle.cli_tasks.specs.Programs.{ArePlaces, HasProgram, IsBehind, if_asked}
 use Rattle.cli_tasks.specs.Lines.{checked_lines, hex_line}
 use Rattle.cli_tasks.specs.declared.program_check.Checked.{Checked}
 
--- the verifier accepts the program, which is sound, and its trial on the bench, with a board that begins with zeros,
--- ended so
+-- States that the verifier accepts the program, that the program is sound, and that its trial in the bench setting
+-- ended with these numbers. The trial's board opens with zeros.
 pub record IsRun (program : List Insn) (checked : Checked) : Type 0 where
   pub accepted : judged program ≡ None
   pub sound : IsSound program
@@ -32,13 +32,13 @@ pub record IsRun (program : List Insn) (checked : Checked) : Type 0 where
   pub r0 : checked.r0 ≡ ending.r0
   pub steps : checked.steps ≡ ending.state.steps
 
--- behind the lines of a run in this setting: nothing, or an empty line and its steps
+-- Returns what follows the lines of a run in this setting: nothing, or an empty line and the steps of the run.
 abbrev pub steps_behind : Bool → List Insn → Setting → List ℕ
 steps_behind false program s = []
 steps_behind true program s = codes "\n" ++ trace_on s.board program (context_in s) (oral s.shape)
 
--- the file has a program in its notation, and these are the lines of its run, and behind them its steps and its
--- explanation, where they are asked for
+-- States that the file contains a program in its notation, and that the text has the lines of its run in the bench
+-- setting. The steps and the explanation follow, if they are asked for.
 abbrev pub IsChecked : Notation → Bool → Bool → List ℕ → List ℕ → Type 0
 IsChecked notation explained traced bytes text =
     (program : List Insn) × HasProgram notation bytes program
@@ -46,56 +46,57 @@ IsChecked notation explained traced bytes text =
     × IsBehind (if_asked explained notation) bytes program
     (checked_lines checked ++ steps_behind traced program bench) text)
 
--- behind what is told of the program that a file has and which is run in this setting, where an explanation is asked
--- for: a note for each of its calls that puts nothing, with the place of its unit
+-- States that the text begins with `told`, what is printed of a program that a file contains and that is tried in this
+-- setting. If an explanation is asked for, a note follows for each call that puts no order, with the place of its unit.
 abbrev pub AreSlipsBehind : Option Notation → List ℕ → List Insn → Setting → List ℕ → List ℕ → Type 0
 AreSlipsBehind None bytes program s told text = text ≡ told
 AreSlipsBehind (Some notation) bytes program s told text =
     (places : List (String Global)) × ArePlaces notation bytes (map string_bytes places)
     × (text ≡ told ++ slips_on places s.board program (context_in s) (oral s.shape))
 
--- the text has the lines of the program's trial in this setting; behind them its steps, where they are asked for; and
--- where it is, the explanation of the program that a file of these bytes has, and a note for each call that puts
--- nothing
+-- States that the text has the lines of the program's trial in this setting, and then its steps, if they are asked for.
+-- If an explanation is asked for, the explanation of the program in the file follows, and a note for each call that
+-- puts no order.
 abbrev pub IsTriedIn : Setting → Bool → Option Notation → List ℕ → List Insn → List ℕ → Type 0
 IsTriedIn s traced asked bytes program text =
     (lines : List ℕ) × IsTried program s lines
     × ((told : List ℕ) × IsBehind asked bytes program (lines ++ steps_behind traced program s) told
     × AreSlipsBehind asked bytes program s told text)
 
--- it is of the setting that a second file tells, in which this is whose relay it was
+-- States that the text is that of a trial in the setting that the second file describes, and that this is the relay of
+-- the trial.
 abbrev pub IsTriedAt : Shape → Bool → Option Notation → List ℕ → List ℕ → List Insn → List ℕ → Type 0
 IsTriedAt shape traced asked first second program text =
     (s : Setting) × TellsSetting second s × (shape ≡ s.shape) × IsTriedIn s traced asked first program text
 
--- it is of the setting that a second file tells
+-- States that the text is that of a trial in the setting that the second file describes.
 abbrev pub IsTriedBy : Bool → Option Notation → List ℕ → List ℕ → List Insn → List ℕ → Type 0
 IsTriedBy traced asked first second program text =
     (s : Setting) × TellsSetting second s × IsTriedIn s traced asked first program text
 
--- the first file has a program that the verifier accepts, and which is sound, and this is what is told of its trial in
--- the setting that the second file tells; a second file that is missing counts as an empty one
+-- States that the first file contains a program which is sound and which the verifier accepts, and that the text is
+-- that of its trial in the setting that the second file describes. A missing second file counts as an empty one.
 abbrev pub Tries : Notation → Bool → Bool → List ℕ → Option (List ℕ) → List ℕ → Type 0
 Tries notation explained traced first second text =
     (program : List Insn) × HasProgram notation first program × (judged program ≡ None) × IsSound program
     × IsTriedBy traced (if_asked explained notation) first (unwrap_or second []) program text
 
--- the text says a program, and these are its bytes
+-- States that the text assembles to a program, and that this is its bytecode.
 abbrev pub AssemblesRaw : List ℕ → List ℕ → Type 0
 AssemblesRaw text bytes =
     (program : List Insn) × (program_of text ≡ Some program) × (bytes ≡ program_bytes program)
 
--- the text says a program, and this is its line
+-- States that the text assembles to a program, and that this line is its bytecode in hex.
 abbrev pub Assembles : List ℕ → List ℕ → Type 0
 Assembles text line =
     (program : List Insn) × (program_of text ≡ Some program) × (line ≡ hex_line program)
 
--- the program as text, with the units or without them
+-- Returns the program as text. If the flag is set, the number of its unit precedes each instruction.
 abbrev pub listing : Bool → List Insn → List ℕ
 listing false program = text_of program
 listing true program = unit_lines 0 program
 
--- the file has a program in its notation, and this is its text
+-- States that the file contains a program in its notation, and that this is its text.
 abbrev pub Disassembles : Notation → Bool → List ℕ → List ℕ → Type 0
 Disassembles notation units bytes text =
     (program : List Insn) × HasProgram notation bytes program × (text ≡ listing units program)

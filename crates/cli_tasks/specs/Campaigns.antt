@@ -1,4 +1,4 @@
--- What is printed of a campaign.
+-- Defines what `play`, `muster` and `audit` print of a campaign.
 use Rattle.std.specs.Prelude.{ℕ, suc, ◌≡◌, List, [], ◌∷◌, ◌++◌, Option, None, Some, unwrap_or}
 use Rattle.board.specs.Board.{IsLegal}
 use Rattle.cli_words.specs.declared.tasks.Account.{Account}
@@ -29,28 +29,30 @@ use Rattle.trace.specs.Text.{chronicle_text}
 use Rattle.cli_tasks.specs.AuditLines.{sound_lines}
 use Rattle.cli_tasks.specs.Schedules.{played, signed_played, is_chronicle, TellsCampaign, IsSchedule}
 
--- the text gives this account of an oral campaign: its chronicle, or the message table that its letters tell, which
--- decides what the chronicle says
+-- States that the text gives this account of an oral campaign: its chronicle, or the message table of its letters,
+-- whose decisions are those of the chronicle.
 abbrev pub IsAccount : Account → Chronicle → List ℕ → Type 0
 IsAccount accounts.Chronicle c text = text ≡ chronicle_text c
 IsAccount accounts.Table c text = IsRetold c text
 
--- the general who is asked for, or none where all are
+-- Returns the general whose decision is asked for, or `None` if the decisions of all are asked for.
 abbrev pub asked : Lieutenants → Option ℕ
 asked lieutenants.All = None
 asked (lieutenants.One g) = Some g
 
--- behind it stands, where it is asked for, an empty line, and how the decisions come about
+-- States what follows the text of an oral campaign: nothing or, if it is asked for, an empty line and the explanation
+-- of the decisions.
 abbrev pub IsBehind : Option Lieutenants → Chronicle → List ℕ → Type 0
 IsBehind None c behind = behind ≡ []
 IsBehind (Some who) c behind = (lines : List ℕ) × (behind ≡ 10 ∷ lines) × Explains c (asked who) lines
 
--- the text is a front, and behind it the explanation that is asked for
+-- States that the text is `front`, followed by the explanation of the decisions in an oral campaign, if it is asked
+-- for.
 abbrev pub IsFollowed : Option Lieutenants → Chronicle → List ℕ → List ℕ → Type 0
 IsFollowed explained c front text = (behind : List ℕ) × (text ≡ front ++ behind) × IsBehind explained c behind
 
--- the text gives this account of the oral campaign, and behind it the explanation; its decisions agree under the bound,
--- and its verdict means what it says
+-- States that the text gives this account of the oral campaign played by the schedule, followed by the explanation, if
+-- it is asked for. The decisions agree under the bound, and the verdict describes them correctly.
 pub record IsOralPlayed (s : Scenario) (schedule : List (List Repeat)) (account : Account)
     (explained : Option Lieutenants) (text : List ℕ) : Type 0 where
   pub front : List ℕ
@@ -60,14 +62,16 @@ pub record IsOralPlayed (s : Scenario) (schedule : List (List Repeat)) (account 
   pub verdict : IsVerdictOn s (played s schedule).decisions (played s schedule).verdict
   pub well : IsWellUnderBound (played s schedule).verdict
 
--- behind a signed campaign's text stands, where it is asked for, an empty line, and how the decisions come about
+-- Returns what follows the text of a signed campaign: nothing or, if it is asked for, an empty line and the explanation
+-- of the decisions.
 abbrev pub signed_behind : Option Lieutenants → Chronicle → List ℕ
 signed_behind None c = []
 signed_behind (Some who) c = 10 ∷ signed_explained c (asked who)
 
--- the text is that of the signed campaign's chronicle, and behind it the explanation, and so of a complete run, in
--- which no activation traps or takes more steps than its program has instructions, and whose letters are whole; its
--- decisions agree for at most m traitors among n at least m + 2 generals, and its verdict means what it says
+-- States that the text is the chronicle of the signed campaign played by the schedule, followed by the explanation, if
+-- it is asked for. The run is complete, no activation in it traps or takes more steps than its program has
+-- instructions, and its letters are whole. The decisions agree if there are at most m traitors among n generals, with n
+-- at least m + 2, and the verdict describes them correctly.
 pub record IsSignedPlayed (s : Scenario) (schedule : List (List Repeat)) (explained : Option Lieutenants)
     (text : List ℕ) : Type 0 where
   pub told : text ≡ signed_text (signed_played s schedule) ++ signed_behind explained (signed_played s schedule)
@@ -78,19 +82,22 @@ pub record IsSignedPlayed (s : Scenario) (schedule : List (List Repeat)) (explai
   pub verdict : IsSignedVerdictOn s (signed_played s schedule).decisions (signed_played s schedule).verdict
   pub well : IsWellUnderBound (signed_played s schedule).verdict
 
--- the text is that of the campaign by a schedule
+-- States that the text is that of the campaign played by the schedule, as an account of an oral campaign or as the
+-- chronicle of a signed one.
 abbrev pub IsPlayed : Campaign → List (List Repeat) → Account → Option Lieutenants → List ℕ → Type 0
 IsPlayed (Oral s) schedule account explained text = IsOralPlayed s schedule account explained text
 IsPlayed (Signed s) schedule account explained text = IsSignedPlayed s schedule explained text
 
--- the first file's bytes tell a campaign, the second's a schedule, and this is the text of the campaign
+-- States that the first file describes a campaign and the second a schedule, and that this is the text of the campaign
+-- played by it. If there is no second file, the schedule is empty.
 abbrev pub Plays : Account → Option Lieutenants → List ℕ → Option (List ℕ) → List ℕ → Type 0
 Plays account explained first second text =
     (c : Campaign) × TellsCampaign (is_chronicle account) first c
     × ((schedule : List (List Repeat)) × IsSchedule second schedule × IsPlayed c schedule account explained text)
 
--- the text is that of the chronicle of a complete run, which is the replay of its own accesses, a legal history of the
--- board, and behind it the explanation; its decisions agree under the bound, and its verdict says of them what is so
+-- States that the text is the chronicle of a complete run, followed by the explanation, if it is asked for. The run is
+-- the replay of its own accesses, which are a legal history of the board. The decisions agree under the bound, and the
+-- verdict describes them correctly.
 pub record IsMustered (s : Scenario) (explained : Option Lieutenants) (text : List ℕ) : Type 0 where
   pub chronicle : Chronicle
   pub told : IsFollowed explained chronicle (chronicle_text chronicle) text
@@ -101,30 +108,31 @@ pub record IsMustered (s : Scenario) (explained : Option Lieutenants) (text : Li
   pub verdict : IsVerdictOn s chronicle.decisions chronicle.verdict
   pub well : IsWellUnderBound chronicle.verdict
 
--- the file's bytes tell an oral campaign, and this is its text by threads
+-- States that the file describes an oral campaign, and that this is the text of a run of it with threads.
 abbrev pub Musters : Option Lieutenants → List ℕ → List ℕ → Type 0
 Musters explained first text = (s : Scenario) × oral.Tells first s × IsMustered s explained text
 
--- the bytes are the text of a chronicle of the oral campaign, and the lines say so and give the verdict of its replay,
--- and behind them the explanation
+-- States that the bytes are the text of a chronicle of the oral campaign. The lines say so, give the verdict of its
+-- replay, and then the explanation, if it is asked for.
 pub record IsOralAudited (s : Scenario) (explained : Option Lieutenants) (bytes text : List ℕ) : Type 0 where
   pub sound : IsSoundText s bytes
   pub told : IsFollowed explained (chronicle_told s bytes) (sound_lines (chronicle_told s bytes).verdict) text
 
--- those of the signed one
+-- States that the bytes are the text of a chronicle of the signed campaign. The lines say so, give the verdict of its
+-- replay, and then the explanation, if it is asked for.
 pub record IsSignedAudited (s : Scenario) (explained : Option Lieutenants) (bytes text : List ℕ) : Type 0 where
   pub sound : IsSoundSignedText s bytes
   pub told : text ≡ sound_lines (signed_chronicle_told s bytes).verdict
       ++ signed_behind explained (signed_chronicle_told s bytes)
 
--- the bytes are the text of a chronicle of the campaign, and the lines say so and give the verdict of its replay, and
--- behind them the explanation
+-- States that the bytes are the text of a chronicle of the campaign. The lines say so, give the verdict of its replay,
+-- and then the explanation, if it is asked for.
 abbrev pub IsAudited : Campaign → Option Lieutenants → List ℕ → List ℕ → Type 0
 IsAudited (Oral s) explained bytes text = IsOralAudited s explained bytes text
 IsAudited (Signed s) explained bytes text = IsSignedAudited s explained bytes text
 
--- the first file's bytes tell a campaign, and these are the lines of the audit of the second's; where there is no
--- second file its bytes are none
+-- States that the first file describes a campaign, and that these are the lines of the audit of the second file. If
+-- there is no second file, empty bytes are audited.
 abbrev pub Audits : Option Lieutenants → List ℕ → Option (List ℕ) → List ℕ → Type 0
 Audits explained first second text =
     (c : Campaign) × TellsAny first c × IsAudited c explained (unwrap_or second []) text

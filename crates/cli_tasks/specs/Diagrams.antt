@@ -1,4 +1,4 @@
--- What is drawn of a campaign.
+-- Defines what `draw` prints of a campaign: a space-time diagram.
 use Rattle.std.specs.Prelude.{ℕ, ◌≡◌, false, List, [], Option, Ok, unwrap_or}
 use Rattle.std.specs.List.{All}
 use Rattle.book.specs.Grammar.{table_told}
@@ -22,29 +22,32 @@ use Rattle.world.specs.Chronicle.{Chronicle}
 use Rattle.cli_tasks.specs.Schedules.{IsSchedule, played, signed_played}
 use Rattle.cli_tasks.specs.Promises.{KeepsPromises, KeepsSignedPromises}
 
--- the picture is that of the chronicle and of the message table that its own letters tell, and every stroke of a loyal
--- general is drawn as an honest relay's
+-- States that the picture shows the chronicle of an oral campaign and the message table that its letters give. It draws
+-- every stroke of a loyal general as that of an honest relay.
 abbrev pub IsDiagram : Chronicle → List ℕ → Type 0
 IsDiagram c picture =
     (table : MessageTable) × (table_told (table_of c) ≡ Ok table) × BlamesTraitors c.scenario table
     × (picture ≡ svg_text table c)
 
--- so is every stroke of a loyal general of a signed campaign
+-- States that every stroke of a loyal general of a signed campaign is drawn as that of an honest relay.
 pub record BlamesSignedTraitors (c : Chronicle) : Type 0 where
   pub honest :
       All (λ drawn. is_traitor c.scenario drawn.stroke.teller ≡ false → IsDrawnHonest drawn.stroke) (strokes_of c)
 
--- the picture is that of a signed campaign's chronicle, and its loyal generals' strokes are drawn so
+-- States that the picture shows the chronicle of a signed campaign, and that it draws every stroke of a loyal general
+-- as that of an honest relay.
 abbrev pub IsSignedDiagram : Chronicle → List ℕ → Type 0
 IsSignedDiagram c picture = BlamesSignedTraitors c × (picture ≡ signed_svg c)
 
--- the picture is that of the campaign's chronicle by a schedule, which keeps what is promised
+-- States that the picture shows the chronicle of the campaign played by the schedule, and that this chronicle keeps
+-- what is promised.
 abbrev pub IsCampaignDrawn : Campaign → List (List Repeat) → List ℕ → Type 0
 IsCampaignDrawn (Oral s) schedule picture = IsDiagram (played s schedule) picture × KeepsPromises s (played s schedule)
 IsCampaignDrawn (Signed s) schedule picture =
     IsSignedDiagram (signed_played s schedule) picture × KeepsSignedPromises s (signed_played s schedule)
 
--- the bytes are the text of a chronicle of the campaign, which keeps what is promised, and this is its picture
+-- States that the bytes are the text of a chronicle of the campaign which keeps what is promised, and that the picture
+-- shows this chronicle.
 abbrev pub IsRecordDrawn : Campaign → List ℕ → List ℕ → Type 0
 IsRecordDrawn (Oral s) bytes picture =
     IsSoundText s bytes × IsDiagram (chronicle_told s bytes) picture × KeepsPromises s (chronicle_told s bytes)
@@ -52,9 +55,9 @@ IsRecordDrawn (Signed s) bytes picture =
     IsSoundSignedText s bytes × IsSignedDiagram (signed_chronicle_told s bytes) picture
     × KeepsSignedPromises s (signed_chronicle_told s bytes)
 
--- the first file's bytes tell a campaign, and the picture is that of its chronicle by the schedule that the second's
--- tell, or of the chronicle whose text they are; there is no schedule but the empty one, and no byte of a chronicle,
--- where there is no second file
+-- States that the first file describes a campaign, and that the picture shows its chronicle. By the course, this is the
+-- chronicle of the campaign played by the schedule in the second file, or the chronicle in the second file. If there is
+-- no second file, the schedule or the chronicle's text is empty.
 abbrev pub Draws : Course → List ℕ → Option (List ℕ) → List ℕ → Type 0
 Draws (Scheduled file) first second picture =
     (c : Campaign) × TellsAny first c

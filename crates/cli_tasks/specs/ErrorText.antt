@@ -1,4 +1,4 @@
--- What is said of a refusal: its code and its place.
+-- Defines the text of a refusal: the code and the place of its fault.
 use Rattle.std.specs.Prelude.{ℕ, List, ◌++◌, codes, decimal}
 use Rattle.asm.specs.ErrorText as asm
 use Rattle.book.specs.ErrorText as book
@@ -13,6 +13,7 @@ use Rattle.verify.specs.ErrorText as verify
 use Rattle.cli_tasks.specs.declared.refusal.InputRefusal.{InputRefusal}
 use Rattle.cli_tasks.specs.declared.refusal.InputRefusal.TheVariants.{Codec, Object, Verifier, Assembly, Table, Scenario, Setting, Trace, Threads, Accesses, Stranger, NotText, Memory}
 
+-- Returns the text of a refusal.
 abbrev pub refusal_text : InputRefusal → List ℕ
 refusal_text (Codec error) = codec.told error
 refusal_text (Object fault) = elf.told fault

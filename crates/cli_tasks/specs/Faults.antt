@@ -1,4 +1,4 @@
--- The fault of a refusal, its line and its exit status.
+-- Defines the failure of a task for each refusal, with its text and its exit status.
 use Rattle.std.specs.Prelude.{ℕ, ◌≡◌, ◌≢◌, ◌++◌, Bool, true, false, List, Option, None, Some, String, codes}
 use Rattle.std.specs.declared.alloc.Global.{Global}
 use Rattle.std.specs.Borrow.{Bor}
@@ -17,25 +17,27 @@ use Rattle.cli_tasks.specs.ErrorText.{refusal_text}
 use Rattle.cli_tasks.specs.Whys.{TellsWhyOf}
 use Rattle.cli_tasks.specs.Whys as role
 
--- the fault of a file with this name
+-- Returns the failure for a rejected file of this name, without a hint.
 abbrev pub fault_of : InputRefusal → Bor (List ℕ) → TaskFailure
 fault_of refusal.Memory file = Memory
 fault_of refusal.NotText file = Text file
 fault_of other file = Refused other None
 
--- the fault of a file with this name and these bytes, which seem to be something else where they spell no program
+-- Returns the failure for a rejected file with this name and these bytes. The hint says what bytes that are not
+-- bytecode seem to be, or explains an object's fault.
 abbrev pub fault_of_bytes : InputRefusal → Bor (List ℕ) → List ℕ → TaskFailure
 fault_of_bytes refusal.Memory file bytes = Memory
 fault_of_bytes refusal.NotText file bytes = Text file
 fault_of_bytes other file bytes = Refused other (seems_behind other bytes)
 
--- the fault of a file with this name, with this text behind its line
+-- Returns the failure for a rejected file of this name, with this text as its hint.
 abbrev pub text_fault : InputRefusal → Bor (List ℕ) → String Global → TaskFailure
 text_fault refusal.Memory file text = Memory
 text_fault refusal.NotText file text = Text file
 text_fault other file text = Refused other (Some (Explained text))
 
--- the fault of a file with this name that is refused so, with a text behind its line of which this holds
+-- States that this is the failure for a file of this name that is rejected because of `cause`, and that `tells` holds
+-- of the text of its hint. The failure may also be that memory ran out.
 abbrev pub IsTold : InputRefusal → Bor (List ℕ) → (List ℕ → Type 0) → TaskFailure → Type 0
 IsTold cause file tells Memory = Unit {0}
 IsTold cause file tells (Text own) = (cause ≡ refusal.NotText) × (own ≡ file)
@@ -43,28 +45,32 @@ IsTold cause file tells (Refused own hint) =
     (own ≡ cause) × (cause ≢ refusal.NotText) × (cause ≢ refusal.Memory) × tells (hint_behind hint)
 IsTold cause file tells fault = ⊥
 
--- with such a text, where an explanation is asked for
+-- States that this is the failure for a file of this name that is rejected because of `cause`. If the flag is set,
+-- `tells` holds of the text of its hint, and otherwise there is no hint.
 abbrev pub IsToldIf : Bool → InputRefusal → Bor (List ℕ) → (List ℕ → Type 0) → TaskFailure → Type 0
 IsToldIf false cause file tells fault = fault ≡ fault_of cause file
 IsToldIf true cause file tells fault = IsTold cause file tells fault
 
--- the fault of a first file with this name that is refused so, as it is told where it is not the verifier that refuses
--- it: with the report of these bytes, where there is to be one
+-- States that this is the failure for a first file of this name that is rejected because of `cause`, without the
+-- explanation of a program. If the flag is set, its hint is the report on the bytes `own`, and otherwise that of
+-- `fault_of_bytes`.
 abbrev pub IsUnjudged : Bool → InputRefusal → Bor (List ℕ) → List ℕ → TaskFailure → Type 0
 IsUnjudged false cause file own fault = fault ≡ fault_of_bytes cause file own
 IsUnjudged true cause file own fault = IsTold cause file (TellsWhyOf cause role.Nothing file.now own) fault
 
--- the fault of a file with this name whose reading failed with an error of this kind
+-- Returns the failure for a file of this name that could not be read because of an error of this kind.
 abbrev pub unread_by : ErrorKind → Bor (List ℕ) → TaskFailure
 unread_by OutOfMemory file = Memory
 unread_by _ file = Read file
 
--- 3 for want of memory, else 1
+-- Returns the exit status: 3 if memory ran out, and 1 for any other failure.
 abbrev pub status_of : TaskFailure → ℕ
 status_of Memory = 3
 status_of _ = 1
 
--- what is said of a fault: of a refusal its code and place, and on further lines what its bytes seem to be, or why
+-- Returns the text of a failure, if it is known. For a rejected input this is the code and the place of the fault, and
+-- on further lines the hint. The text is not known if it contains a file's name that has a control character and
+-- characters beyond ASCII.
 abbrev pub fault_text : TaskFailure → Option (List ℕ)
 fault_text (Read file) = Some (codes "fault read ") ++? shown file.now
 fault_text (Text file) = Some (codes "fault text ") ++? shown file.now
@@ -72,8 +78,8 @@ fault_text (Refused refusal hint) = Some (codes "refused " ++ refusal_text refus
 fault_text Write = Some (codes "fault write")
 fault_text Memory = Some (codes "out of memory")
 
--- why the file with this name stops a task: its reader failed, it is refused, with more that is said of it, or want of
--- memory
+-- States why the file with this name stops a task: it could not be read, it is rejected, or memory ran out. In the
+-- first case `unread` holds. In the second case `refused` holds of the refusal and its hint.
 abbrev pub Stops : Type 0 → (InputRefusal → Option Hint → Type 0) → List ℕ → TaskFailure → Type 0
 Stops unread refused name (Read file) = unread × (file.now ≡ name)
 Stops unread refused name (Text file) = refused refusal.NotText None × (file.now ≡ name)

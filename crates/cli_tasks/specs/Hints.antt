@@ -1,5 +1,5 @@
--- What is said behind the line of a refusal: of bytes that spell no program what they seem to be, of an object without
--- one the sentence of its fault, or an explanation.
+-- Defines hints, which are printed after the error line of a rejected input: what bytes that are not bytecode seem to
+-- be, the sentence of an object's fault, or an explanation.
 use Rattle.std.specs.Prelude.{ℕ, Bool, false, List, [], ◌++◌, Option, None, Some, codes, option_map, string_bytes}
 use Rattle.object.specs.Sentences.{sentence_of}
 use Rattle.cli_words.specs.declared.tasks.Task.{Task}
@@ -10,22 +10,25 @@ use Rattle.cli_tasks.specs.declared.hint.Hint.TheVariants.{Seems, Fault, Explain
 use Rattle.cli_tasks.specs.declared.refusal.InputRefusal.{InputRefusal}
 use Rattle.cli_tasks.specs.declared.refusal.InputRefusal.TheVariants.{Object as NoEntry}
 
--- behind the line of a refusal: nothing, or further lines
+-- Returns the text of a hint.
 abbrev pub hint_text : Hint → List ℕ
 hint_text (Seems likeness) = codes "\n" ++ seems_text likeness
 hint_text (Fault fault) = codes "\n" ++ sentence_of fault
 hint_text (Explained text) = string_bytes text
 
+-- Returns the text of a hint, or no text if there is no hint.
 abbrev pub hint_behind : Option Hint → List ℕ
 hint_behind None = []
 hint_behind (Some hint) = hint_text hint
 
--- behind a refusal: of an object the sentence of its fault, and what bytes seem to be that are refused so
+-- Returns the hint that is printed if no explanation is asked for: the sentence of an object's fault, or what bytes
+-- that are not bytecode seem to be.
 abbrev pub seems_behind : InputRefusal → List ℕ → Option Hint
 seems_behind (NoEntry fault) bytes = Some (Fault fault)
 seems_behind refusal bytes = option_map Seems (likeness_of refusal bytes)
 
--- whether more is said of a refusal than what is said of it always: of an object's fault there is no more
+-- Checks whether the task reports more about a refusal than the hint that is always printed. It does so if an
+-- explanation is asked for, but never for an object's fault.
 abbrev pub is_reported : Task → InputRefusal → Bool
 is_reported task (NoEntry fault) = false
 is_reported task _ = is_explained task

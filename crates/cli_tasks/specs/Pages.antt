@@ -1,4 +1,4 @@
--- What a campaign's page is.
+-- Defines what `page` prints of a campaign: an HTML page.
 use Rattle.std.specs.Prelude.{ℕ, ◌≡◌, ◌≤◌, List, [], length, Option, None, Some, Ok, unwrap_or}
 use Rattle.book.specs.Grammar.{table_told}
 use Rattle.book.specs.Table.{MessageTable}
@@ -21,20 +21,23 @@ use Rattle.cli_tasks.specs.Schedules.{IsSchedule, played, signed_played}
 use Rattle.cli_tasks.specs.Diagrams.{BlamesSignedTraitors}
 use Rattle.cli_tasks.specs.Promises.{KeepsPromises, KeepsSignedPromises}
 
--- the page is that of the chronicle, of the message table that its own letters tell, of the scenario's text, and of the
--- schedule, if it was played by one; it is no longer than a page may be, and in its picture every stroke of a loyal
--- general is drawn as an honest relay's
+-- States that the page shows the chronicle of an oral campaign, the message table that its letters give, the scenario's
+-- text, and the schedule, if there is one. The page is not longer than a page may be. In its picture every stroke of a
+-- loyal general is drawn as that of an honest relay.
 abbrev pub IsPage : List ℕ → Option (List (List Repeat)) → Chronicle → List ℕ → Type 0
 IsPage text schedule c page =
     (table : MessageTable) × (table_told (table_of c) ≡ Ok table) × BlamesTraitors c.scenario table
     × (page ≡ page_text text schedule table c) × (length page ≤ longest_page)
 
--- so is that of a signed campaign, and as short, and its loyal generals' strokes are drawn so
+-- States that the page shows the chronicle of a signed campaign, the scenario's text, and the schedule, if there is
+-- one. The page is not longer than a page may be. In its picture every stroke of a loyal general is drawn as that of an
+-- honest relay.
 abbrev pub IsSignedPage : List ℕ → Option (List (List Repeat)) → Chronicle → List ℕ → Type 0
 IsSignedPage text schedule c page =
     BlamesSignedTraitors c × (page ≡ signed_page_text text schedule c) × (length page ≤ longest_page)
 
--- the page is that of the campaign's chronicle by a schedule, which keeps what is promised, and of the scenario's text
+-- States that the page shows the scenario's text and the chronicle of the campaign played by the schedule, and that
+-- this chronicle keeps what is promised.
 abbrev pub IsCampaignPaged : Campaign → List ℕ → List (List Repeat) → List ℕ → Type 0
 IsCampaignPaged (Oral s) text schedule page =
     IsPage text (Some schedule) (played s schedule) page × KeepsPromises s (played s schedule)
@@ -42,7 +45,8 @@ IsCampaignPaged (Signed s) text schedule page =
     IsSignedPage text (Some schedule) (signed_played s schedule) page
     × KeepsSignedPromises s (signed_played s schedule)
 
--- the bytes are the text of a chronicle of the campaign, which keeps what is promised, and this is its page
+-- States that the bytes are the text of a chronicle of the campaign which keeps what is promised, and that the page
+-- shows this chronicle and the scenario's text.
 abbrev pub IsRecordTold : Campaign → List ℕ → List ℕ → List ℕ → Type 0
 IsRecordTold (Oral s) text bytes page =
     IsSoundText s bytes × IsPage text None (chronicle_told s bytes) page × KeepsPromises s (chronicle_told s bytes)
@@ -50,9 +54,9 @@ IsRecordTold (Signed s) text bytes page =
     IsSoundSignedText s bytes × IsSignedPage text None (signed_chronicle_told s bytes) page
     × KeepsSignedPromises s (signed_chronicle_told s bytes)
 
--- the first file's bytes tell a campaign, and the page has them, and is that of its chronicle by the schedule that the
--- second's tell, or of the chronicle whose text they are; there is no schedule but the empty one, and no byte of a
--- chronicle, where there is no second file
+-- States that the first file describes a campaign, and that the page shows this file and a chronicle of the campaign.
+-- By the course, this is the chronicle of the campaign played by the schedule in the second file, or the chronicle in
+-- the second file. If there is no second file, the schedule or the chronicle's text is empty.
 abbrev pub TellsPage : Course → List ℕ → Option (List ℕ) → List ℕ → Type 0
 TellsPage (Scheduled file) first second page =
     (c : Campaign) × TellsAny first c

@@ -1,4 +1,4 @@
--- What `dis --partial` and `asm --partial` print.
+-- Defines what `asm --partial` and `dis --partial` print.
 use Rattle.std.specs.Prelude.{ℕ, ◌≡◌, ◌++◌, List, Ok, codes, option_map, string_bytes}
 use Rattle.hex.specs.Hex.{encode_lower}
 use Rattle.object.specs.Entry.{entry_of}
@@ -7,21 +7,22 @@ use Rattle.cli_words.specs.declared.tasks.Notation.TheVariants.{Bytecode, Assemb
 use Rattle.asm.specs.PieceText.{IsTextOf}
 use Rattle.asm.specs.Reading.{bytes_said}
 
--- the text says these bytes, line by line
+-- States that the text assembles line by line to these bytes.
 abbrev pub AssemblesPartlyRaw : List ℕ → List ℕ → Type 0
 AssemblesPartlyRaw text bytes = bytes_said text ≡ Ok bytes
 
--- and this is their line
+-- States that the text assembles line by line to bytes, and that this line has them in lower-case hex.
 abbrev pub AssemblesPartly : List ℕ → List ℕ → Type 0
 AssemblesPartly text line = (bytes : List ℕ) × (bytes_said text ≡ Ok bytes) × (line ≡ encode_lower bytes ++ codes "\n")
 
--- the file has these bytes of a program in its notation, be they instructions or not
+-- States that the file contains this code in its notation, whether or not it can be decoded.
 abbrev pub HasCode : Notation → List ℕ → List ℕ → Type 0
 HasCode Bytecode bytes code = code ≡ bytes
 HasCode Texts text code = bytes_said text ≡ Ok code
 HasCode (Objects entry) object code = entry_of object (option_map string_bytes entry) ≡ Ok code
 
--- this is their text, which says them and no others
+-- States that this is the text of the code that the file contains in its notation, and that it assembles to the same
+-- code.
 abbrev pub DisassemblesPartly : Notation → List ℕ → List ℕ → Type 0
 DisassemblesPartly notation bytes text =
     (code : List ℕ) × HasCode notation bytes code × IsTextOf code text × (bytes_said text ≡ Ok code)

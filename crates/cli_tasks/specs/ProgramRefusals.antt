@@ -1,4 +1,4 @@
--- Why a file has no program, or one that is not accepted.
+-- Defines why a file contains no program, or a program that the verifier rejects.
 use Rattle.std.specs.Prelude.{ℕ, ◌≡◌, ◌≢◌, ◌⊎◌, ◌/◌, ◌%◌, List, Option, Some, Ok, Err, length, option_map, string_bytes}
 use Rattle.insn.specs.declared.insn.Insn.{Insn}
 use Rattle.codec.specs.Program.{IsFirstFault, SpellsProgram}
@@ -19,18 +19,19 @@ use Rattle.cli_tasks.specs.declared.refusal.InputRefusal.{InputRefusal}
 use Rattle.cli_tasks.specs.declared.refusal.InputRefusal.TheVariants.{Codec, Object, Verifier, Assembly, Setting, Memory}
 use Rattle.cli_tasks.specs.Refusals.{RefusesText}
 
--- the bytes spell no program, by this first fault
+-- States that the bytes are not the bytecode of a program, by this first fault.
 abbrev pub RefusesBytes : List ℕ → CodecError → Type 0
 RefusesBytes bytes (codec.At fault unit) = IsFirstFault bytes fault unit
 RefusesBytes bytes codec.Memory = ⊥
 
--- the verifier refuses the program, by this first fault
+-- States that the verifier rejects the program with this first fault, or that memory ran out.
 abbrev pub RefusesProgram : List Insn → InputRefusal → Type 0
 RefusesProgram program (Verifier fault) = judged program ≡ Some fault
 RefusesProgram program Memory = Unit {0}
 RefusesProgram program _ = ⊥
 
--- the bytes spell no program, or the verifier refuses the program that they spell
+-- States that the bytes are not the bytecode of a program, that the verifier rejects the program, or that memory ran
+-- out.
 abbrev pub RefusesCheck : List ℕ → InputRefusal → Type 0
 RefusesCheck bytes (Codec error) = RefusesBytes bytes error
 RefusesCheck bytes (Verifier fault) =
@@ -38,18 +39,19 @@ RefusesCheck bytes (Verifier fault) =
 RefusesCheck bytes Memory = Unit {0}
 RefusesCheck bytes _ = ⊥
 
+-- States that the bytes are not the bytecode of a program, or that memory ran out.
 abbrev pub RefusesDisassembly : List ℕ → InputRefusal → Type 0
 RefusesDisassembly bytes (Codec error) = RefusesBytes bytes error
 RefusesDisassembly bytes Memory = Unit {0}
 RefusesDisassembly bytes _ = ⊥
 
--- the text says no program, by this first fault
+-- States that the text does not assemble to a program, by this first fault, or that memory ran out.
 abbrev pub RefusesAssembly : List ℕ → InputRefusal → Type 0
 RefusesAssembly text (Assembly error) = said text ≡ Err error
 RefusesAssembly text Memory = Unit {0}
 RefusesAssembly text _ = ⊥
 
--- the text says no program, or the verifier refuses the program that it says
+-- States that the text does not assemble to a program, that the verifier rejects the program, or that memory ran out.
 abbrev pub RefusesCheckAssembly : List ℕ → InputRefusal → Type 0
 RefusesCheckAssembly text (Assembly error) = said text ≡ Err error
 RefusesCheckAssembly text (Verifier fault) =
@@ -57,55 +59,57 @@ RefusesCheckAssembly text (Verifier fault) =
 RefusesCheckAssembly text Memory = Unit {0}
 RefusesCheckAssembly text _ = ⊥
 
--- the text tells no setting, by this first fault
+-- States that the text is not a setting, by this first fault, or that memory ran out.
 abbrev pub RefusesSetting : List ℕ → InputRefusal → Type 0
 RefusesSetting text (Setting error) = (error ≢ setting.Memory) × trial.Reads (parse_document text) (Err error)
 RefusesSetting text Memory = Unit {0}
 RefusesSetting text _ = ⊥
 
--- the object has no code for the entry, by this first fault, or its code is refused
+-- States that the object has no code for the entry, by this first fault, or that `refuses` holds of the code.
 abbrev pub RefusesObject : (List ℕ → InputRefusal → Type 0) → Option (List ℕ) → List ℕ → InputRefusal → Type 0
 RefusesObject refuses name object refusal =
     ((fault : ObjectFault) × (refusal ≡ Object fault) × (entry_of object name ≡ Err fault))
     ⊎ ((code : List ℕ) × (entry_of object name ≡ Ok code) × refuses code refusal)
 
--- the file has no program in its notation, or the verifier refuses the program
+-- States that the file contains no program in its notation, that the verifier rejects the program, or that memory ran
+-- out.
 abbrev pub RefusesCheckIn : Notation → List ℕ → InputRefusal → Type 0
 RefusesCheckIn notation.Bytecode bytes refusal = RefusesCheck bytes refusal
 RefusesCheckIn notation.Assembly bytes refusal = RefusesText RefusesCheckAssembly bytes refusal
 RefusesCheckIn (notation.Object entry) bytes refusal =
     RefusesObject RefusesCheck (option_map string_bytes entry) bytes refusal
 
--- the file has no program in its notation
+-- States that the file contains no program in its notation, or that memory ran out.
 abbrev pub RefusesNotation : Notation → List ℕ → InputRefusal → Type 0
 RefusesNotation notation.Bytecode bytes refusal = RefusesDisassembly bytes refusal
 RefusesNotation notation.Assembly bytes refusal = RefusesText RefusesAssembly bytes refusal
 RefusesNotation (notation.Object entry) bytes refusal =
     RefusesObject RefusesDisassembly (option_map string_bytes entry) bytes refusal
 
--- the text says no bytes, by this first fault
+-- States that the text does not assemble line by line, by this first fault, or that memory ran out.
 abbrev pub RefusesLines : List ℕ → InputRefusal → Type 0
 RefusesLines text (Assembly error) = bytes_said text ≡ Err error
 RefusesLines text Memory = Unit {0}
 RefusesLines text _ = ⊥
 
--- the bytes are no whole units
+-- States that the bytes are not whole units of 8 bytes, and that this error names the unit that is cut off.
 abbrev pub AreCut : List ℕ → CodecError → Type 0
 AreCut bytes error = (length bytes % 8 ≢ 0) × (error ≡ codec.At Length (length bytes / 8))
 
+-- States that the bytes are not whole units of 8 bytes, or that memory ran out.
 abbrev pub RefusesUnits : List ℕ → InputRefusal → Type 0
 RefusesUnits bytes (Codec error) = AreCut bytes error
 RefusesUnits bytes Memory = Unit {0}
 RefusesUnits bytes _ = ⊥
 
--- the text says no bytes, or none that are whole units
+-- States that the text does not assemble line by line, that its bytes are not whole units, or that memory ran out.
 abbrev pub RefusesSaid : List ℕ → InputRefusal → Type 0
 RefusesSaid text (Assembly error) = bytes_said text ≡ Err error
 RefusesSaid text (Codec error) = (bytes : List ℕ) × (bytes_said text ≡ Ok bytes) × AreCut bytes error
 RefusesSaid text Memory = Unit {0}
 RefusesSaid text _ = ⊥
 
--- the file has no whole units in its notation
+-- States that the file contains no code of whole units in its notation, or that memory ran out.
 abbrev pub RefusesParts : Notation → List ℕ → InputRefusal → Type 0
 RefusesParts notation.Bytecode bytes refusal = RefusesUnits bytes refusal
 RefusesParts notation.Assembly bytes refusal = RefusesText RefusesSaid bytes refusal

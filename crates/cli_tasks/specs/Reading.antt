@@ -1,4 +1,4 @@
--- Bytecode that is longer than any program.
+-- Defines why bytecode that is longer than any program is rejected.
 use Rattle.std.specs.Prelude.{ℕ, List, Option, IfSome}
 use Rattle.cli_words.specs.declared.tasks.Task.{Task}
 use Rattle.cli_tasks.specs.declared.refusal.InputRefusal.{InputRefusal}
@@ -8,7 +8,8 @@ use Rattle.cli_tasks.specs.TaskHints.{IsHintOf}
 use Rattle.cli_tasks.specs.declared.hint.Hint.{Hint}
 use Rattle.streams.specs.Reading.{AreBytes}
 
--- the bytes spell no program, by this first fault, and behind it stands what the task says of such bytecode
+-- States that the bytes are not the bytecode of a program, by this first fault, and that this is the hint of the task
+-- for such bytecode.
 abbrev pub IsTooLong : Task → Option (List ℕ) → InputRefusal → Option Hint → Type 0
 IsTooLong task known (Codec error) hint =
     ((bytes : List ℕ) × AreBytes known bytes × RefusesBytes bytes error)

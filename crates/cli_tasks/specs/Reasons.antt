@@ -1,8 +1,9 @@
--- Why a file is not read or written, by the kind of the system's error.
+-- Defines the sentence which says why a file could not be read or written, by the kind of the system's error.
 use Rattle.std.specs.Prelude.{ℕ, List, codes}
 use Rattle.std.specs.declared.io.ErrorKind.{ErrorKind}
 use Rattle.std.specs.declared.io.ErrorKind.TheVariants.{NotFound, PermissionDenied, IsADirectory, NotADirectory, InvalidFilename, FilesystemLoop, ReadOnlyFilesystem, StorageFull, BrokenPipe}
 
+-- Returns the sentence for an error of this kind.
 abbrev pub reason_text : ErrorKind → List ℕ
 reason_text NotFound = codes "there is no file of this name"
 reason_text PermissionDenied = codes "the system does not permit it"

@@ -1,4 +1,4 @@
--- Why a text tells no campaign, no schedule or no chronicle, and the refusal of each error.
+-- Defines the refusal for each error, and why a text is not a campaign, a schedule or a chronicle.
 use Rattle.std.specs.Prelude.{ℕ, ◌≡◌, ◌≢◌, Bool, true, false, List, Err}
 use Rattle.std.specs.Str.{IsUtf8}
 use Rattle.codec.specs.declared.fault.CodecError.{CodecError}
@@ -30,75 +30,83 @@ use Rattle.verify.specs.declared.error.VerifyError.TheVariants as verifier
 use Rattle.cli_tasks.specs.declared.refusal.InputRefusal.{InputRefusal}
 use Rattle.cli_tasks.specs.declared.refusal.InputRefusal.TheVariants.{Codec, Verifier, Assembly, Table, Scenario, Setting, Trace, Threads, Accesses, NotText, Memory}
 
--- the refusal of each error: want of memory is the same everywhere
+-- Returns the refusal for an error of the codec. Running out of memory gives the same refusal for all kinds of errors.
 abbrev pub codec_refusal : CodecError → InputRefusal
 codec_refusal codec.Memory = Memory
 codec_refusal error = Codec error
 
+-- Returns the refusal for an error of the verifier.
 abbrev pub verifier_refusal : VerifyError → InputRefusal
 verifier_refusal verifier.Memory = Memory
 verifier_refusal fault = Verifier fault
 
+-- Returns the refusal for an error of the assembler.
 abbrev pub assembly_refusal : AsmError → InputRefusal
 assembly_refusal asm.Memory = Memory
 assembly_refusal error = Assembly error
 
+-- Returns the refusal for an error of a message table.
 abbrev pub table_refusal : TableError → InputRefusal
 table_refusal table.Memory = Memory
 table_refusal error = Table error
 
+-- Returns the refusal for an error of a scenario.
 abbrev pub scenario_refusal : ScenarioError → InputRefusal
 scenario_refusal scenario.Memory = Memory
 scenario_refusal error = Scenario error
 
+-- Returns the refusal for an error of a setting.
 abbrev pub setting_refusal : SettingError → InputRefusal
 setting_refusal setting.Memory = Memory
 setting_refusal error = Setting error
 
+-- Returns the refusal for an error of a schedule or a chronicle.
 abbrev pub trace_refusal : TraceError → InputRefusal
 trace_refusal trace.Memory = Memory
 trace_refusal error = Trace error
 
+-- Returns the refusal for an error of a muster.
 abbrev pub muster_refusal : MusterError → InputRefusal
 muster_refusal muster.Memory = Memory
 muster_refusal error = Threads error
 
--- the text tells no oral campaign, by this first fault
+-- States that the text is not an oral campaign, by this first fault, or that memory ran out.
 abbrev pub RefusesScenario : List ℕ → InputRefusal → Type 0
 RefusesScenario text (Scenario error) = (error ≢ scenario.Memory) × Reads (parse_document text) (Err error)
 RefusesScenario text Memory = Unit {0}
 RefusesScenario text _ = ⊥
 
--- the text tells no campaign, oral or signed, by this first fault
+-- States that the text is not a campaign, oral or signed, by this first fault, or that memory ran out.
 abbrev pub RefusesCampaign : List ℕ → InputRefusal → Type 0
 RefusesCampaign text (Scenario error) = (error ≢ scenario.Memory) × ReadsAny (parse_document text) (Err error)
 RefusesCampaign text Memory = Unit {0}
 RefusesCampaign text _ = ⊥
 
--- the text tells no campaign, or no oral one where its message table is asked for
+-- States that the text is not a campaign of which the account can be given. If the flag is not set, a message table is
+-- asked for, which needs an oral campaign.
 abbrev pub RefusesAsked : Bool → List ℕ → InputRefusal → Type 0
 RefusesAsked true text refusal = RefusesCampaign text refusal
 RefusesAsked false text refusal = RefusesScenario text refusal
 
--- the text tells no schedule, by this first line
+-- States that the text is not a schedule, by this first line, or that memory ran out.
 abbrev pub RefusesSchedule : List ℕ → InputRefusal → Type 0
 RefusesSchedule text (Trace error) = schedule_told text ≡ Err error
 RefusesSchedule text Memory = Unit {0}
 RefusesSchedule text _ = ⊥
 
--- the text is no chronicle of the campaign, by this first line
+-- States that the text is not a chronicle of the campaign, with this line at fault, or that memory ran out.
 abbrev pub RefusesChronicle : Campaign → List ℕ → InputRefusal → Type 0
 RefusesChronicle (Oral s) text (Trace error) = (IsSoundText s text → ⊥) × IsFaultOf s text error
 RefusesChronicle (Signed s) text (Trace error) = (IsSoundSignedText s text → ⊥) × IsSignedFaultOf s text error
 RefusesChronicle c text Memory = Unit {0}
 RefusesChronicle c text _ = ⊥
 
--- the error of listed accesses
+-- Returns the refusal for an error of listed accesses.
 abbrev pub accesses_refusal : AccessesError → InputRefusal
 accesses_refusal accesses.Memory = Memory
 accesses_refusal (accesses.At fault) = Accesses fault
 
--- the bytes are no text, or the text is refused
+-- States that the bytes are not UTF-8, or that `refuses` holds of the text.
 abbrev pub RefusesText : (List ℕ → InputRefusal → Type 0) → List ℕ → InputRefusal → Type 0
 RefusesText refuses bytes NotText = IsUtf8 bytes → ⊥
 RefusesText refuses bytes refusal = refuses bytes refusal

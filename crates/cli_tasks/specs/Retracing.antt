@@ -1,4 +1,4 @@
--- What is printed of a chronicle as a schedule.
+-- Defines what `schedule` prints: a schedule for a chronicle, or for listed accesses.
 use Rattle.std.specs.Prelude.{ℕ, List, [], Option, unwrap_or}
 use Rattle.campaign_schedules.specs.Arranged.{IsArranged}
 use Rattle.campaign_schedules.specs.Retraced.{IsRetraced}
@@ -6,17 +6,17 @@ use Rattle.round.specs.Scenario.{Scenario}
 use Rattle.scenario.specs.Reading.{Tells}
 use Rattle.trace.specs.Laws.{IsSoundText}
 
--- the bytes are the text of a chronicle of the campaign, and these are the lines of a schedule by which it has that
--- chronicle
+-- States that the bytes are the text of a chronicle of the campaign, and that these are the lines of a schedule by
+-- which the campaign has this chronicle.
 abbrev pub IsScheduleFor : Scenario → List ℕ → List ℕ → Type 0
 IsScheduleFor s bytes lines = IsSoundText s bytes × IsRetraced s bytes lines
 
--- the first file's bytes tell an oral campaign, and these are the lines of a schedule by which it has the chronicle
--- that the second's tell
+-- States that the first file describes an oral campaign, and that these are the lines of a schedule by which it has the
+-- chronicle in the second file.
 abbrev pub Retraces : List ℕ → Option (List ℕ) → List ℕ → Type 0
 Retraces first second lines = (s : Scenario) × Tells first s × IsScheduleFor s (unwrap_or second []) lines
 
--- the first file's bytes tell an oral campaign, and these are the lines of a schedule by which it has the accesses that
--- this text lists
+-- States that the first file describes an oral campaign, and that these are the lines of a schedule by which it has the
+-- accesses in `list`.
 abbrev pub Arranges : List ℕ → List ℕ → List ℕ → Type 0
 Arranges list first lines = (s : Scenario) × Tells first s × IsArranged s list lines

@@ -1,4 +1,5 @@
--- The campaign and the schedule that two files tell, and the chronicle that these have.
+-- Defines the campaign and the schedule that two files describe, and the chronicle of the campaign played by the
+-- schedule.
 use Rattle.std.specs.Prelude.{ℕ, ◌≡◌, Bool, true, false, List, [], Option, None, Some, Ok}
 use Rattle.cli_words.specs.declared.tasks.Account.{Account}
 use Rattle.cli_words.specs.declared.tasks.Account.TheVariants as accounts
@@ -16,26 +17,28 @@ use Rattle.signed.specs.Kind as signed
 use Rattle.signed.specs.Chronicle.{signed_chronicle_of}
 use Rattle.trace.specs.Schedules.{schedule_told}
 
--- the chronicle of the scenario's oral campaign by a schedule
+-- Returns the chronicle of the scenario's oral campaign played by the schedule.
 abbrev pub played : Scenario → List (List Repeat) → Chronicle
 played s schedule = chronicle_of (run (opening s) (listed s (lines_by schedule)))
 
--- that of its signed campaign
+-- Returns the chronicle of the scenario's signed campaign played by the schedule.
 abbrev pub signed_played : Scenario → List (List Repeat) → Chronicle
 signed_played s schedule = signed_chronicle_of (signed.played s (listed s (lines_by schedule)))
 
--- the chronicle is asked for: a signed campaign has no message table
+-- Checks whether the chronicle of a campaign is asked for, and not its message table, which a signed campaign does not
+-- have.
 abbrev pub is_chronicle : Account → Bool
 is_chronicle accounts.Chronicle = true
 is_chronicle accounts.Table = false
 
--- the bytes tell this campaign, an oral one where its message table is asked for
+-- States that the bytes describe this campaign. If the flag is not set, a message table is asked for, and the campaign
+-- must be oral.
 abbrev pub TellsCampaign : Bool → List ℕ → Campaign → Type 0
 TellsCampaign true bytes c = TellsAny bytes c
 TellsCampaign false bytes (Oral s) = oral.Tells bytes s
 TellsCampaign false bytes (Signed s) = ⊥
 
--- the schedule that the second file's bytes tell, the empty one where there is no second file
+-- States that the second file describes this schedule. If there is no second file, the schedule is empty.
 abbrev pub IsSchedule : Option (List ℕ) → List (List Repeat) → Type 0
 IsSchedule None schedule = schedule ≡ []
 IsSchedule (Some bytes) schedule = schedule_told bytes ≡ Ok schedule

@@ -11,7 +11,7 @@ use Rattle.scenario.specs.Resolved.{Resolves}
 use Rattle.scenario.specs.Asking.{asked}
 use Rattle.cli_tasks.specs.Taken.{IsBeside}
 
--- the task's first file is a scenario, or may be one
+-- Checks whether the task's first file is a scenario, or may be one.
 abbrev pub reads_scenario : Task → Bool
 reads_scenario (Play scenario schedule account explained) = true
 reads_scenario (Muster scenario explained) = true
@@ -23,12 +23,14 @@ reads_scenario (Page scenario course target) = true
 reads_scenario (Retrace scenario chronicle) = true
 reads_scenario _ = false
 
--- the text in which the files stand that the document asks for, each in its turn, where that is another text
+-- States that this is the text of the document in which the files that it names, each of them read, replace their
+-- names. There is no text if nothing is to be replaced.
 abbrev pub SeesIn : (List ℕ → Option (List ℕ)) → Option Members → Option (List ℕ) → Type 0
 SeesIn known document text =
     (files : List File) × AllZip (IsBeside known) (asked document) files × Resolves files document text
 
--- the bytes are no text, and stay; or the new ones are those of such a text
+-- States that the new bytes are the old ones if these are not UTF-8, or if nothing is to be replaced. Otherwise they
+-- are the text in which the named files replace their names.
 abbrev pub Sees : (List ℕ → Option (List ℕ)) → List ℕ → List ℕ → Type 0
 Sees known bytes new =
     ((IsUtf8 bytes → ⊥) × (new ≡ bytes))

@@ -1,4 +1,4 @@
--- How a task on its files ends. What a file has and what a stream holds are given where they are known.
+-- Defines how a task on its files ends. The bytes of a file and the content of a stream may be unknown.
 use Rattle.std.specs.Prelude.{ℕ, ◌≡◌, ◌≢◌, ◌⊎◌, Bool, true, false, List, [], ◌∷◌, ◌++◌, Option, None, Some, IfSome, IsSomeAnd, codes, option_map, unwrap_or}
 use Rattle.std.specs.Io.KnownBytes.{Appends}
 use Rattle.cli_words.specs.Tasks.{file_of, second_of}
@@ -36,130 +36,139 @@ use Rattle.cli_tasks.specs.Refusals.{RefusesChronicle, RefusesSchedule, RefusesT
 use Rattle.cli_tasks.specs.CampaignRefusals.{RefusesMuster}
 use Rattle.cli_tasks.specs.ProgramRefusals.{RefusesSetting}
 
--- the only or first file's bytes, and the second's where there is one
+-- The bytes of the only or first file, if they are known, and those of the second file, if there is one.
 pub record Files : Type 0 where
   pub first : Option (List ℕ)
   pub second : Option (Option (List ℕ))
 
+-- Returns the bytes of a first file and an optional second file, where `bytes` gives the bytes of each.
 abbrev pub files : {R : Type 0} → (R → Option (List ℕ)) → R → Option R → Files
 files bytes first second = record { first = bytes first; second = option_map bytes second }
 
--- the names of the files, empty where the words name none
+-- Returns the name of the task's only or first file, which is empty if the words name none.
 abbrev pub first_name : Task → List ℕ
 first_name task = unwrap_or (file_of task) []
 
+-- Returns the name of the task's second file, which is empty if the words name none.
 abbrev pub second_name : Task → List ℕ
 second_name task = unwrap_or (second_of task) []
 
--- the bytes are the second file's, and there are none where there is no such file
+-- States that `second` has the bytes of the second file, and is `None` if there is no second file.
 abbrev pub AreSecond : Option (Option (List ℕ)) → Option (List ℕ) → Type 0
 AreSecond None second = second ≡ None
 AreSecond (Some known) second = IsSomeAnd second (AreBytes known)
 
--- the bytes are the second file's, and there are none where there is no such file
+-- States that these are the bytes of the second file, and that there are no bytes if there is no second file.
 abbrev pub AreSecondBytes : Option (Option (List ℕ)) → List ℕ → Type 0
 AreSecondBytes None bytes = bytes ≡ []
 AreSecondBytes (Some known) bytes = AreBytes known bytes
 
--- the task prints this text on the files
+-- States that the task prints this text on the files.
 abbrev pub IsAnswer : Task → Files → List ℕ → Type 0
 IsAnswer task files text =
     (first : List ℕ) × AreBytes files.first first
     × ((second : Option (List ℕ)) × AreSecond files.second second × Prints task first second text)
 
--- the schedule is that of the second file, the empty one where there is no such file
+-- States that this is the schedule in the second file. If there is no second file, the schedule is empty.
 abbrev pub IsScheduleOf : Option (Option (List ℕ)) → List (List Repeat) → Type 0
 IsScheduleOf known schedule = (second : Option (List ℕ)) × AreSecond known second × IsSchedule second schedule
 
--- the text is that of the campaign by the second file's schedule
+-- States that this is the text of the campaign played by the schedule in the second file.
 abbrev pub IsPlayedBy : Option (Option (List ℕ)) → Campaign → Account → Option Lieutenants → List ℕ → Type 0
 IsPlayedBy known c account explained text =
     (schedule : List (List Repeat)) × IsScheduleOf known schedule × IsPlayed c schedule account explained text
 
--- the lines are those of the audit of the second file
+-- States that these are the lines of the audit of the second file as a chronicle of the campaign.
 abbrev pub IsAuditOf : Option (Option (List ℕ)) → Campaign → Option Lieutenants → List ℕ → Type 0
 IsAuditOf known c explained text = (bytes : List ℕ) × AreSecondBytes known bytes × IsAudited c explained bytes text
 
--- the picture is that of the campaign by the second file's schedule
+-- States that the picture shows the campaign played by the schedule in the second file.
 abbrev pub IsDrawnBy : Option (Option (List ℕ)) → Campaign → List ℕ → Type 0
 IsDrawnBy known c picture =
     (schedule : List (List Repeat)) × IsScheduleOf known schedule × IsCampaignDrawn c schedule picture
 
--- that of the campaign as the second file tells it
+-- States that the picture shows the campaign as the chronicle in the second file records it.
 abbrev pub IsDrawnAs : Option (Option (List ℕ)) → Campaign → List ℕ → Type 0
 IsDrawnAs known c picture = (bytes : List ℕ) × AreSecondBytes known bytes × IsRecordDrawn c bytes picture
 
--- the page is that of the campaign, whose scenario this text tells, by the second file's schedule
+-- States that the page shows the campaign played by the schedule in the second file. `text` is the text of the
+-- campaign's scenario.
 abbrev pub IsPagedBy : Option (Option (List ℕ)) → Campaign → List ℕ → List ℕ → Type 0
 IsPagedBy known c text page =
     (schedule : List (List Repeat)) × IsScheduleOf known schedule × IsCampaignPaged c text schedule page
 
--- that of the campaign as the second file tells it
+-- States that the page shows the campaign as the chronicle in the second file records it. `text` is the text of the
+-- campaign's scenario.
 abbrev pub IsPagedAs : Option (Option (List ℕ)) → Campaign → List ℕ → List ℕ → Type 0
 IsPagedAs known c text page = (bytes : List ℕ) × AreSecondBytes known bytes × IsRecordTold c text bytes page
 
--- the lines are those of a schedule by which the campaign has the second file's chronicle
+-- States that these are the lines of a schedule by which the campaign has the chronicle in the second file.
 abbrev pub IsRetracedBy : Option (Option (List ℕ)) → Scenario → List ℕ → Type 0
 IsRetracedBy known s lines = (bytes : List ℕ) × AreSecondBytes known bytes × IsScheduleFor s bytes lines
 
--- the text is what is told of the program's trial in the second file's setting
+-- States that the text is that of the program's trial in the setting that the second file describes.
 abbrev pub IsTrialOf : Option (Option (List ℕ)) → Bool → Option Notation → List ℕ → List Insn → List ℕ → Type 0
 IsTrialOf known traced asked first program text =
     (bytes : List ℕ) × AreSecondBytes known bytes × IsTriedBy traced asked first bytes program text
 
--- the task prints this text on the files, and tries a program in this place, if it tries one
+-- States that the task prints this text on the files. If the task tries a program in the setting of its second file,
+-- `place` is the relay of the trial, and otherwise it is `None`.
 abbrev pub IsPlacedAnswer : Task → Files → List ℕ → Option Shape → Type 0
 IsPlacedAnswer task files text place =
     (first : List ℕ) × AreBytes files.first first
     × ((second : Option (List ℕ)) × AreSecond files.second second × Prints task first second text
     × IsPlace task second place)
 
--- the text is what is told of the program's trial in the second file's setting, and the place is whose relay it was
+-- States that the text is that of the program's trial in the setting that the second file describes, and that `place`
+-- is the relay of the trial.
 abbrev pub IsTrialAt : Option (Option (List ℕ)) → Bool → Option Notation → List ℕ → List Insn → List ℕ → Option Shape →
     Type 0
 IsTrialAt known traced asked first program text place =
     (bytes : List ℕ) × AreSecondBytes known bytes
     × ((shape : Shape) × IsTriedAt shape traced asked first bytes program text × (place ≡ Some shape))
 
--- the task has an answer on the files, with which it stands so
+-- States that the task has an answer on the files, and that `stands` holds of this answer.
 abbrev pub HasAnswer : (List ℕ → Type 0) → Task → Files → Type 0
 HasAnswer stands task files = (text : List ℕ) × IsAnswer task files text × stands text
 
--- the output has grown by the task's whole answer on the files, and by nothing else
+-- States that the output has grown by the task's whole answer on the files, and by nothing else.
 abbrev pub IsPrinted : Task → Files → Option (List ℕ) → Option (List ℕ) → Type 0
 IsPrinted task files old new = (text : List ℕ) × IsAnswer task files text × Appends old new text
 
--- the task refuses its only or first file so, and not for want of memory; and this is said behind it
+-- States that the task rejects its only or first file with this refusal, and that this is its hint. The refusal is not
+-- that memory ran out.
 abbrev pub IsRefused : Task → Option (List ℕ) → InputRefusal → Option Hint → Type 0
 IsRefused task known refusal hint =
     (refusal ≢ Memory) × ((bytes : List ℕ) × AreBytes known bytes × Refuses task bytes refusal)
     × IfSome known (λ all. IsHint refusal task all hint)
 
--- the task takes its first file, and goes on with this
+-- States that the task accepts its first file, and goes on with `more`.
 abbrev pub IsTaken : Task → Option (List ℕ) → FirstAnswer → Type 0
 IsTaken task known more = (bytes : List ℕ) × AreBytes known bytes × GoesOn task bytes more
 
--- the second file is refused so as a setting, and not for want of memory
+-- States that the second file is rejected as a setting with this refusal. The refusal is not that memory ran out.
 abbrev pub IsSettingRefused : Option (Option (List ℕ)) → InputRefusal → Type 0
 IsSettingRefused known refusal =
     (refusal ≢ Memory) × ((bytes : List ℕ) × AreSecondBytes known bytes × RefusesText RefusesSetting bytes refusal)
 
--- the second file is there and refused so as a schedule, and not for want of memory
+-- States that there is a second file, and that it is rejected as a schedule with this refusal. The refusal is not that
+-- memory ran out.
 abbrev pub IsScheduleRefused : Option (Option (List ℕ)) → InputRefusal → Type 0
 IsScheduleRefused known refusal =
     (refusal ≢ Memory) × ((bytes : List ℕ) × AreSecond known (Some bytes) × RefusesText RefusesSchedule bytes refusal)
 
--- the second file is refused so as a chronicle of the campaign, and not for want of memory
+-- States that the second file is rejected as a chronicle of the campaign with this refusal. The refusal is not that
+-- memory ran out.
 abbrev pub IsChronicleRefused : Campaign → Option (Option (List ℕ)) → InputRefusal → Type 0
 IsChronicleRefused c known refusal =
     (refusal ≢ Memory) × ((bytes : List ℕ) × AreSecondBytes known bytes
     × RefusesText (RefusesChronicle c) bytes refusal)
 
--- the threads gave no chronicle so, and not for want of memory
+-- States that the threads of a muster gave no chronicle, with this refusal. The refusal is not that memory ran out.
 abbrev pub IsUnmustered : InputRefusal → Type 0
 IsUnmustered refusal = (refusal ≢ Memory) × RefusesMuster refusal
 
--- behind a first file with which a task goes on so, it refuses so
+-- States that a task which goes on with this after its first file then fails with this refusal.
 abbrev pub IsRefusedLater : FirstAnswer → Option (Option (List ℕ)) → InputRefusal → Type 0
 IsRefusedLater (answer.Trial program told) known refusal = IsSettingRefused known refusal
 IsRefusedLater (answer.Play c account explained) known refusal = IsScheduleRefused known refusal
@@ -172,18 +181,18 @@ IsRefusedLater (answer.PageRecorded c text) known refusal = IsChronicleRefused c
 IsRefusedLater (answer.Retrace s) known refusal = IsChronicleRefused (Oral s) known refusal
 IsRefusedLater _ known refusal = ⊥
 
--- of a second file's bytes, none where there is no such file
+-- States that `P` holds of the second file's bytes, if they are known. If there is no second file, there are no bytes.
 abbrev pub IfKnown : Option (Option (List ℕ)) → (List ℕ → Type 0) → Type 0
 IfKnown None P = P []
 IfKnown (Some known) P = IfSome known P
 
--- what is said behind this refusal of a second file with this name: nothing or, where an explanation is asked for, the
--- report
+-- States that this is the hint for the refusal of a second file with this name. If an explanation is asked for, the
+-- hint is the report, and otherwise there is no hint.
 abbrev pub IsHintLater : Bool → List ℕ → Option (Option (List ℕ)) → Role → InputRefusal → Option Hint → Type 0
 IsHintLater false name known of refusal hint = hint ≡ None
 IsHintLater true name known of refusal hint = IfKnown known (λ all. TellsWhyOf refusal of name all (hint_behind hint))
 
--- what a second file is, behind a first one with which the task goes on so
+-- Returns the role of the second file for a task that goes on with this after its first file.
 abbrev pub role_behind : FirstAnswer → Role
 role_behind (answer.Play c account explained) = role.Schedule
 role_behind (answer.Audit c explained) = role.Chronicle c
@@ -191,43 +200,47 @@ role_behind (answer.Draw c) = role.Schedule
 role_behind (answer.Page c text) = role.Schedule
 role_behind _ = role.Nothing
 
--- behind such a first file it refuses so, and this is said behind it
+-- States that a task which goes on with `more` after its first file then fails with this refusal, and that this is the
+-- hint.
 abbrev pub IsToldLater : Bool → List ℕ → Option (Option (List ℕ)) → FirstAnswer → InputRefusal → Option Hint → Type 0
 IsToldLater explained name known more refusal hint =
     IsRefusedLater more known refusal × IsHintLater explained name known (role_behind more) refusal hint
 
--- the second file is refused so as a schedule, and this is said behind it
+-- States that the second file is rejected as a schedule with this refusal, and that this is the hint.
 abbrev pub IsScheduleTold : Bool → List ℕ → Option (Option (List ℕ)) → InputRefusal → Option Hint → Type 0
 IsScheduleTold explained name known refusal hint =
     IsScheduleRefused known refusal × IsHintLater explained name known role.Schedule refusal hint
 
--- the stream has grown by this line, or it failed
+-- States that the stream has grown by this line, or that it failed.
 abbrev pub Tells : Type 0 → Option (List ℕ) → Option (List ℕ) → List ℕ → Type 0
 Tells fails old new line = fails ⊎ Appends old new (line ++ 10 ∷ [])
 
--- the line of these words and the file's name, which stands on it as it is or, with a control character, as a text of
--- Rust; of such a name past ASCII nothing is said
+-- States that `tells` holds of the line with these words and the file's name. A name with a control character is
+-- written in quotation marks, as in Rust. If such a name has characters beyond ASCII, nothing is stated.
 abbrev pub TellsName : (List ℕ → Type 0) → List ℕ → List ℕ → Type 0
 TellsName tells words name = IfSome (shown name) (λ told. tells (words ++ told))
 
--- the lines that tell of a refusal of the file with this name: its code and its place, and behind them what the file
--- seems to be, or why it is refused
+-- States that `tells` holds of the lines about a rejected file with this name: the code and the place of the fault,
+-- followed by the hint.
 abbrev pub TellsRefusal : List ℕ → (List ℕ → Type 0) → InputRefusal → Option Hint → Type 0
 TellsRefusal name tells NotText hint = TellsName tells (codes "fault text ") name
 TellsRefusal name tells refusal hint = tells (codes "refused " ++ refusal_text refusal ++ hint_behind hint)
 
--- the file with this name was not read, since its reader failed, or a refusal has come; and a line says so
+-- States that the file with this name could not be read because its reader failed, or that there is a refusal, and that
+-- a line says so.
 abbrev pub IsTurnedDown : Type 0 → (InputRefusal → Option Hint → Type 0) → List ℕ → (List ℕ → Type 0) → Type 0
 IsTurnedDown unread refused name tells =
     (unread × TellsName tells (codes "fault read ") name)
     ⊎ ((refusal : InputRefusal) × ((hint : Option Hint) × refused refusal hint × TellsRefusal name tells refusal hint))
 
--- the output failed on the task's answer, of which so much was written, and a line says so
+-- States that the output failed on the task's answer, that `begun` holds of this answer, and that a line says so.
+-- `begun` says which part of the answer was written.
 abbrev pub IsUnwritten : Type 0 → (List ℕ → Type 0) → Task → Files → (List ℕ → Type 0) → Type 0
 IsUnwritten unwritten begun task files tells = unwritten × HasAnswer begun task files × tells (codes "fault write")
 
--- nothing is printed, since the first file is turned down, or what comes behind a first one that is taken; or the
--- output failed on the answer, of which so much was written
+-- States why a task failed. Either nothing is printed, since the first file is turned down, or since the first file is
+-- accepted and what follows it is turned down. Or the output failed on the answer, and `begun` says which part of it
+-- was written.
 abbrev pub IsFault : Type 0 → Type 0 → Type 0 → (List ℕ → Type 0) → Task → Files → Type 0 → (List ℕ → Type 0) → Type 0
 IsFault unread second_unread unwritten begun task files kept tells =
     (kept × (IsTurnedDown unread (IsRefused task files.first) (first_name task) tells

@@ -1,4 +1,4 @@
--- Generals whom the words name, and who may be none of a table's or a campaign's (own).
+-- Generals who are named on the command line, but may not belong to the message table or the campaign (own).
 use Rattle.std.specs.Prelude.{ℕ, ◌≡◌, ◌==◌, ◌||◌, Bool, true, false, if◌then◌else◌, nat_le, List, [], ◌∷◌, Option, None, Some, Ok, find}
 use Rattle.book.specs.Grammar.{table_told}
 use Rattle.book.specs.Table.{MessageTable}
@@ -8,56 +8,60 @@ use Rattle.book.specs.Numbers.{HasGenerals as AreNumbersOf}
 use Rattle.cli_tasks.specs.declared.refusal.InputRefusal.{InputRefusal}
 use Rattle.cli_tasks.specs.declared.refusal.InputRefusal.TheVariants.{Stranger}
 
--- the first of those who are named and are none of so many generals
+-- Returns the first named general who is not one of `generals` generals, or `None` if all are.
 abbrev pub stranger_among : ℕ → List ℕ → Option ℕ
 stranger_among generals named = find (λ g. nat_le generals g) named
 
--- the text tells a message table of so many generals
+-- States that the text is a message table with this number of generals.
 abbrev pub HasGenerals : List ℕ → ℕ → Type 0
 HasGenerals text generals = (table : MessageTable) × (table_told text ≡ Ok table) × (table.generals ≡ generals)
 
--- and all who are named are of them
+-- States that the text is a message table, and that all named generals are among its generals.
 abbrev pub KnowsAll : List ℕ → List ℕ → Type 0
 KnowsAll text named = (generals : ℕ) × HasGenerals text generals × (stranger_among generals named ≡ None)
 
--- he whose tree is asked for, where he is no lieutenant, and else the first of the traitors who is none of the generals
+-- Returns `general`, whose tree is asked for, if he is not a lieutenant, or else the first of `traitors` who is not one
+-- of the generals. Returns `None` if there is no such general.
 abbrev pub stranger_to_tree : ℕ → ℕ → ℕ → List ℕ → Option ℕ
 stranger_to_tree generals commander general traitors =
     if nat_le generals general || general == commander then Some general else stranger_among generals traitors
 
--- the text tells a message table of so many generals under this commander, or, where it is TOML, an oral campaign
+-- States that the text is a message table or, if the flag says that it is TOML, an oral campaign, with this number of
+-- generals and this commander.
 abbrev pub HasNumbers : Bool → List ℕ → ℕ → ℕ → Type 0
 HasNumbers false text generals commander =
     (table : MessageTable) × (table_told text ≡ Ok table) × (table.generals ≡ generals) × (table.commander ≡ commander)
 HasNumbers true text generals commander =
     (s : Scenario) × Tells text s × (s.generals ≡ generals) × (s.commander ≡ commander)
 
--- and of these it is a lieutenant whose tree is asked for, and generals who are named as traitors
+-- States that the text is a message table or an oral campaign, that `general`, whose tree is asked for, is one of its
+-- lieutenants, and that each of `traitors` is one of its generals.
 pub record KnowsTree (toml : Bool) (text : List ℕ) (general : ℕ) (traitors : List ℕ) : Type 0 where
   pub generals : ℕ
   pub commander : ℕ
   pub told : HasNumbers toml text generals commander
   pub known : stranger_to_tree generals commander general traitors ≡ None
 
--- the liar of a table that is filled in, if there is one
+-- Returns the list of liars in a table that is filled in: the liar, or nobody if there is none.
 abbrev pub liars : Option ℕ → List ℕ
 liars None = []
 liars (Some general) = general ∷ []
 
--- the words are numbers of a campaign, and the liar is of its generals
+-- States that the words are the numbers of a campaign, and that the liar, if there is one, is one of its generals.
 abbrev pub KnowsLiar : List ℕ → List ℕ → List ℕ → Option ℕ → Type 0
 KnowsLiar n m c liar = (generals : ℕ) × AreNumbersOf n m c generals × (stranger_among generals (liars liar) ≡ None)
 
--- the refusal tells this one, and of how many he is to be
+-- States that the refusal names the general `one`, and the number of generals among whom he should be.
 abbrev pub IsOf : ℕ → Option ℕ → InputRefusal → Type 0
 IsOf generals one (Stranger general all) = (all ≡ generals) × (one ≡ Some general)
 IsOf generals one _ = ⊥
 
--- the refusal tells the first who is named and is none of so many
+-- States that the refusal names the first general in `named` who is not one of `generals` generals.
 abbrev pub IsStranger : ℕ → List ℕ → InputRefusal → Type 0
 IsStranger generals named refusal = IsOf generals (stranger_among generals named) refusal
 
--- it tells who is no lieutenant whose tree is to be drawn, or no traitor who is marked in it
+-- States that the refusal names `general`, whose tree is asked for, if he is not a lieutenant, or else the first of
+-- `traitors` who is not one of the generals.
 abbrev pub IsStrangerToTree : ℕ → ℕ → ℕ → List ℕ → InputRefusal → Type 0
 IsStrangerToTree generals commander general traitors refusal =
     IsOf generals (stranger_to_tree generals commander general traitors) refusal

@@ -1,4 +1,4 @@
--- What a task prints on files of some bytes.
+-- Defines what a task prints on files with given bytes.
 use Rattle.std.specs.Prelude.{ℕ, ◌≡◌, Bool, List, [], Option, None, Some, string_bytes, unwrap_or}
 use Rattle.label.specs.declared.shape.Shape.{Shape}
 use Rattle.semantics.specs.Run.{IsSound}
@@ -27,7 +27,7 @@ use Rattle.cli_tasks.specs.declared.first_answer.FirstAnswer.{FirstAnswer}
 use Rattle.cli_tasks.specs.declared.first_answer.FirstAnswer.TheVariants as answer
 use Rattle.cli_tasks.specs.Answers.{IsChecked, Tries, AssemblesRaw, Assembles, Disassembles}
 
--- the task prints this text on files of these bytes
+-- States that the task prints this text on files with these bytes.
 abbrev pub Prints : Task → List ℕ → Option (List ℕ) → List ℕ → Type 0
 Prints (Check file notation None explained traced) first second text = IsChecked notation explained traced first text
 Prints (Check file notation (Some context) explained traced) first second text =
@@ -57,7 +57,8 @@ Prints (Page scenario course target) first second text = TellsPage course first 
 Prints (Retrace scenario (OfChronicle file)) first second text = Retraces first second text
 Prints (Retrace scenario (Listed list)) first second text = Arranges (string_bytes list) first text
 
--- the task goes on with this behind its first file: a program to try, with its steps or without them, or a campaign
+-- States that the task goes on with this after its first file: with a program to try and whether its steps are printed,
+-- or with a campaign.
 abbrev pub GoesOn : Task → List ℕ → FirstAnswer → Type 0
 GoesOn (Check file notation (Some context) explained traced) first (answer.Trial program told) =
     HasProgram notation first program × (judged program ≡ None) × IsSound program × (told ≡ traced)
@@ -75,18 +76,21 @@ GoesOn (Page scenario (Recorded file) target) first (answer.PageRecorded c text)
 GoesOn (Retrace scenario (OfChronicle file)) first (answer.Retrace s) = Tells first s
 GoesOn _ first _ = ⊥
 
--- what the task comes to on its first file: a text, whatever the second has, or that with which it goes on
+-- States that the task results in this on its first file: in a text or bytes to print, whatever the second file
+-- contains, or in something with which it goes on.
 abbrev pub ComesTo : Task → List ℕ → FirstAnswer → Type 0
 ComesTo task first (answer.Text text) = (second : Option (List ℕ)) → Prints task first second (string_bytes text)
 ComesTo task first (answer.Bytes bytes) = (second : Option (List ℕ)) → Prints task first second bytes.items
 ComesTo task first more = GoesOn task first more
 
--- the notation of the program that the task tries in the setting of its second file, and whether its steps are told
+-- Returns the notation of the program that the task tries in the setting of its second file, and whether the steps of
+-- the trial are printed. Returns `None` for any other task.
 abbrev pub trial_of : Task → Option (Notation × Bool)
 trial_of (Check file notation (Some context) explained traced) = Some (notation, traced)
 trial_of _ = None
 
--- whose relay it is in which the task tries a program: that of the setting which its second file tells
+-- States that `place` is the relay in the setting of the task's second file if the task tries a program in it, and
+-- `None` otherwise.
 abbrev pub IsPlace : Task → Option (List ℕ) → Option Shape → Type 0
 IsPlace (Check file notation (Some context) explained traced) second place =
     (s : Setting) × TellsSetting (unwrap_or second []) s × (place ≡ Some s.shape)

@@ -1,4 +1,4 @@
--- Why a task is not done.
+-- Defines why a task fails.
 use Rattle.std.specs.Prelude.{ℕ, ◌⊎◌, List, Option}
 use Rattle.cli_words.specs.declared.tasks.Task.{Task}
 use Rattle.cli_tasks.specs.declared.first_answer.FirstAnswer.{FirstAnswer}
@@ -9,12 +9,13 @@ use Rattle.cli_tasks.specs.Serving.{Files, HasAnswer, IsRefused, IsTaken, IsTold
 use Rattle.streams.specs.Reading.{AreBytes}
 use Rattle.cli_tasks.specs.Faults.{Stops}
 
--- why a first file with these bytes stops a task: not since its reader failed
+-- States why a first file with these bytes stops a task. The reason cannot be that its reader failed.
 abbrev pub StopsFirst : Task → List ℕ → TaskFailure → Type 0
 StopsFirst task bytes fault =
     (known : Option (List ℕ)) → AreBytes known bytes → Stops ⊥ (IsRefused task known) (first_name task) fault
 
--- why a task has no answer: its first file stops it, or what comes behind one that is taken
+-- States why a task has no answer: its first file stops it, or its first file is accepted and what follows it stops the
+-- task.
 abbrev pub Prevents : Type 0 → Type 0 → Task → Files → TaskFailure → Type 0
 Prevents unread second_unread task files fault =
     Stops unread (IsRefused task files.first) (first_name task) fault
@@ -22,8 +23,8 @@ Prevents unread second_unread task files fault =
     × Stops second_unread (IsToldLater (is_explained task) (second_name task) files.second more)
     (second_name task) fault)
 
--- why a task is not done: it has no answer, or the output failed on its answer, of which at most a beginning was
--- written
+-- States why a task fails: it has no answer, or the output failed on its answer. In the second case `begun` says which
+-- part of the answer was written.
 abbrev pub Undoes : Type 0 → Type 0 → Type 0 → (List ℕ → Type 0) → Task → Files → TaskFailure → Type 0
 Undoes unread second_unread unwritten begun task files Write = unwritten × HasAnswer begun task files
 Undoes unread second_unread unwritten begun task files fault = Prevents unread second_unread task files fault

@@ -1,5 +1,5 @@
--- What is said behind the refusal of a task's first file: the explanation of a program that the verifier refuses, the
--- report, or what the bytes seem to be.
+-- Defines the hint for the refusal of a task's first file: the explanation of a program that the verifier rejects, the
+-- report, the sentence of an object's fault, or what the bytes seem to be.
 use Rattle.std.specs.Prelude.{ℕ, ◌≡◌, Bool, true, false, List, [], Option, None, Some, string_bytes, unwrap_or}
 use Rattle.cli_words.specs.Tasks.{file_of}
 use Rattle.cli_words.specs.declared.tasks.Notation.{Notation}
@@ -15,41 +15,45 @@ use Rattle.cli_tasks.specs.declared.refusal.InputRefusal.TheVariants.{Verifier}
 use Rattle.cli_tasks.specs.Hints.{hint_behind, seems_behind, is_reported}
 use Rattle.cli_tasks.specs.Programs.{IsWhy}
 
--- the notation of the program that the task is to explain, where it is to explain one
+-- Returns the notation of the program that the task must explain, or `None` if it must explain none.
 abbrev pub explained_in : Task → Option Notation
 explained_in (Check file notation context true traced) = Some notation
 explained_in _ = None
 
--- the bytes of the task's first file that are to be bytecode themselves: none of those of an object
+-- Returns the bytes in which the faults of the task's first file are located: all bytes of the file, or no bytes if the
+-- task reads an object. Faults of an object's program are located in the code of its function instead.
 abbrev pub bytecode_in : Task → List ℕ → List ℕ
 bytecode_in (Check file (Object entry) context explained traced) bytes = []
 bytecode_in (Disassemble file (Object entry) units explained) bytes = []
 bytecode_in (DisassemblePartly file (Object entry) explained) bytes = []
 bytecode_in task bytes = bytes
 
--- the notation in which a refused program is read once more: that of the task, where the verifier refused it and an
--- explanation is asked for
+-- Returns the notation in which a rejected program is read once more. This is the notation of the task if the verifier
+-- rejected the program and an explanation is asked for, and `None` otherwise.
 abbrev pub asked_of : InputRefusal → Task → Option Notation
 asked_of (Verifier fault) task = explained_in task
 asked_of _ task = None
 
--- an explanation where one is asked for, and else this
+-- States that the hint explains the program that the file contains, if an explanation is asked for, and is `otherwise`
+-- if not.
 abbrev pub IsSaid : Option Notation → List ℕ → Option Hint → Option Hint → Type 0
 IsSaid None bytes otherwise hint = hint ≡ otherwise
 IsSaid (Some notation) bytes otherwise (Some (Explained text)) = IsWhy notation bytes (string_bytes text)
 IsSaid (Some notation) bytes otherwise _ = ⊥
 
--- what is said behind this refusal of the task's first file, of which these bytes are to be bytecode: where more is
--- asked for, the explanation of a program that the verifier refuses, or the report; else the sentence of an object's
--- fault, or what the bytes seem to be
+-- States that this is the hint for the refusal of the task's first file. If a report is asked for, the hint explains a
+-- program that the verifier rejects, or is the report on `own`. Otherwise the hint is the sentence of an object's
+-- fault, or says what `own` seem to be.
 abbrev pub IsHintBy : Bool → InputRefusal → Task → List ℕ → List ℕ → Option Hint → Type 0
 IsHintBy false refusal task bytes own hint = hint ≡ seems_behind refusal own
 IsHintBy true (Verifier fault) task bytes own hint = IsSaid (explained_in task) bytes None hint
 IsHintBy true refusal task bytes own hint =
     TellsWhyOf refusal role.Nothing (unwrap_or (file_of task) []) own (hint_behind hint)
 
+-- States that this is the hint for the refusal of the task's first file, where the fault is located in `own`.
 abbrev pub IsHintOf : InputRefusal → Task → List ℕ → List ℕ → Option Hint → Type 0
 IsHintOf refusal task bytes own hint = IsHintBy (is_reported task refusal) refusal task bytes own hint
 
+-- States that this is the hint for the refusal of the task's first file, which has these bytes.
 abbrev pub IsHint : InputRefusal → Task → List ℕ → Option Hint → Type 0
 IsHint refusal task bytes hint = IsHintOf refusal task bytes (bytecode_in task bytes) hint

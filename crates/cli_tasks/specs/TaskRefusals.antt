@@ -1,4 +1,4 @@
--- Why a task does not take a file of some bytes.
+-- Defines why a task rejects its only or first file.
 use Rattle.std.specs.Prelude.{ℕ, List, Some, None, string_bytes}
 use Rattle.cli_words.specs.declared.tasks.Accesses.TheVariants.{OfChronicle, Listed}
 use Rattle.cli_words.specs.declared.tasks.Task.{Task}
@@ -10,7 +10,7 @@ use Rattle.cli_tasks.specs.TableRefusals.{RefusesForm, RefusesFilled, RefusesTab
 use Rattle.cli_tasks.specs.Refusals.{RefusesScenario, RefusesCampaign, RefusesAsked, RefusesText}
 use Rattle.cli_tasks.specs.CampaignRefusals.{RefusesListed}
 
--- the task does not take an only or first file of these bytes
+-- States that the task rejects its only or first file, which has these bytes, with this refusal.
 abbrev pub Refuses : Task → List ℕ → InputRefusal → Type 0
 Refuses (Check file notation context explained traced) bytes refusal = RefusesCheckIn notation bytes refusal
 Refuses (Assemble file spelling target explained) bytes refusal = RefusesText RefusesAssembly bytes refusal

@@ -1,3 +1,4 @@
+//! Assembles text into bytecode, and disassembles programs into text (subcommands `asm` and `dis`).
 ghost use Rattle.std.specs.Prelude.{◌≡◌, IfOk, IfErr, string_bytes};
 ghost use Rattle.cli_tasks.specs.Answers.{Assembles, AssemblesRaw, Disassembles, listing};
 ghost use Rattle.cli_tasks.specs.ProgramRefusals.{RefusesAssembly, RefusesNotation};
@@ -10,11 +11,11 @@ use codec::encode;
 use insn::Program;
 use std::alloc::{AllocError, Global};
 
-/// The bytecode that the assembly says, in lower-case hex on one line.
+/// Assembles a program from text, and returns its bytecode in lower-case hex on one line.
 ///
 /// # Errors
 ///
-/// What the assembler refuses, or want of memory.
+/// Fails with `Assembly` for the first fault of the text, and with `Memory` if memory runs out.
 pub fn assembled(alloc: Global, text: &str) -> Result<String, InputRefusal>
     ensures assembled { IfOk result (λ line. Assembles text.now (string_bytes line)) }
     ensures refused { IfErr result (RefusesAssembly text.now) }
@@ -26,11 +27,11 @@ pub fn assembled(alloc: Global, text: &str) -> Result<String, InputRefusal>
     Ok(line)
 }
 
-/// The bytecode that the assembly says.
+/// Assembles a program from text, and returns its bytecode.
 ///
 /// # Errors
 ///
-/// What the assembler refuses, or want of memory.
+/// Fails with `Assembly` for the first fault of the text, and with `Memory` if memory runs out.
 pub fn assembled_raw(alloc: Global, text: &str) -> Result<Vec<u8>, InputRefusal>
     ensures assembled { IfOk result (λ bytes. AssemblesRaw text.now bytes.items) }
     ensures refused { IfErr result (RefusesAssembly text.now) }
@@ -39,11 +40,13 @@ pub fn assembled_raw(alloc: Global, text: &str) -> Result<Vec<u8>, InputRefusal>
     Ok(encode(alloc, &program)?)
 }
 
-/// The assembly of the program in this notation that a file has, with the unit before each instruction or without it.
+/// Disassembles the program that a file contains in this notation. If `units` is set, the number of its unit precedes
+/// each instruction.
 ///
 /// # Errors
 ///
-/// What the codec or the assembler refuses, what of an object is refused, or want of memory.
+/// Fails if the codec or the assembler rejects the program, if an object has no code for the entry, if a text is not
+/// UTF-8, or if memory runs out.
 pub fn disassembled(
     alloc: Global,
     notation: &Notation,
@@ -57,7 +60,7 @@ pub fn disassembled(
     Ok(listed(alloc, units, &program)?)
 }
 
-/// The program as text.
+/// Returns a program as text. If `units` is set, the number of its unit precedes each instruction.
 fn listed(alloc: Global, units: bool, program: &Program) -> Result<String, AllocError>
     ensures { IfOk result (λ text. string_bytes text ≡ listing units program.now) }
 {

@@ -1,3 +1,4 @@
+//! Audits chronicles: checks whether a file is the text of a campaign's chronicle (subcommand `audit`).
 ghost use Rattle.std.specs.Prelude.{◌≡◌, IfOk, IfErr};
 ghost use Rattle.scenario.specs.declared.messages.Campaign.TheVariants.{Oral, Signed};
 ghost use Rattle.cli_tasks.specs.Campaigns.{IsAudited, IsSignedAudited};
@@ -14,12 +15,13 @@ use std::alloc::{AllocError, Global};
 use trace::{Latch, write_verdict};
 use world::Verdict;
 
-/// The audit of the bytes: that they are the text of a chronicle of the campaign, and the verdict on it; behind them
-/// how these decisions come about.
+/// Audits the bytes as the text of a chronicle of the campaign. Returns a line which says that the text is sound, and
+/// the line of its verdict. The explanation of the decisions follows, if one is asked for.
 ///
 /// # Errors
 ///
-/// The first line that is not the chronicle's, or want of memory.
+/// Fails with `Trace` and the line at fault if the bytes are not a chronicle of the campaign, with `NotText` if they
+/// are not UTF-8, and with `Memory` if memory runs out.
 pub fn audited(
     alloc: Global,
     campaign: &Campaign,
@@ -35,7 +37,7 @@ pub fn audited(
     }
 }
 
-/// The audit of an oral campaign's.
+/// Audits the bytes as the text of a chronicle of an oral campaign.
 #[tactic(auto, using(crate::proofs::CampaignLemmas::is_audited, crate::proofs::CampaignLemmas::told_wholly))]
 fn oral_audited(
     alloc: Global,
@@ -52,7 +54,7 @@ fn oral_audited(
     Ok(with_decisions(alloc, lines, &chronicle, explained)?)
 }
 
-/// The audit of a signed one's.
+/// Audits the bytes as the text of a chronicle of a signed campaign.
 #[tactic(auto, using(crate::proofs::CampaignLemmas::is_signed_audited))]
 fn signed_audited(
     alloc: Global,
@@ -68,7 +70,7 @@ fn signed_audited(
     Ok(with_signed_decisions(alloc, front, &chronicle, explained)?)
 }
 
-/// A line that all is sound, and the verdict's.
+/// Returns the line `sound` and the line of the verdict.
 fn sound_text(alloc: Global, verdict: Verdict) -> Result<Vec<u8>, AllocError>
     ensures { IfOk result (λ lines. lines.items ≡ sound_lines verdict) }
 {

@@ -1,5 +1,5 @@
-//! What comes behind a first file with which `draw`, `page` and `schedule` go on: the campaign's course is in the
-//! second one.
+//! Continues the subcommands `draw`, `page` and `schedule` with the second file, which has the course of the campaign:
+//! a schedule or a chronicle.
 ghost use Rattle.std.specs.Prelude.{IfErr, IfOk, IsSomeAnd, option_map, string_bytes};
 ghost use Rattle.cli_tasks.specs.Faults.{Stops};
 ghost use Rattle.cli_tasks.specs.Serving.{IsDrawnAs, IsDrawnBy, IsPagedAs, IsPagedBy, IsRetracedBy, IsToldLater};
@@ -17,7 +17,7 @@ use scenario::Campaign;
 use std::alloc::Global;
 use streams::Source;
 
-/// The picture of the campaign by the schedule of the second file.
+/// Plays the campaign by the schedule in the second file, and returns its picture.
 pub(crate) fn draw_by<'a, R: Source>(
     alloc: Global,
     campaign: Campaign,
@@ -37,7 +37,7 @@ pub(crate) fn draw_by<'a, R: Source>(
     }
 }
 
-/// The picture of the campaign as the chronicle in the second file tells it.
+/// Returns the picture of the campaign as the chronicle in the second file records it.
 pub(crate) fn draw_record<'a, R: Source>(
     alloc: Global,
     campaign: &Campaign,
@@ -67,7 +67,8 @@ pub(crate) fn draw_record<'a, R: Source>(
     }
 }
 
-/// The page of the campaign, whose scenario this text tells, by the schedule of the second file.
+/// Plays the campaign by the schedule in the second file, and returns its page. `text` is the text of the campaign's
+/// scenario.
 pub(crate) fn page_by<'a, R: Source>(
     alloc: Global,
     campaign: Campaign,
@@ -88,7 +89,8 @@ pub(crate) fn page_by<'a, R: Source>(
     }
 }
 
-/// The page of the campaign, whose scenario this text tells, as the chronicle in the second file tells it.
+/// Returns the page of the campaign as the chronicle in the second file records it. `text` is the text of the
+/// campaign's scenario.
 pub(crate) fn page_record<'a, R: Source>(
     alloc: Global,
     campaign: Campaign,
@@ -119,7 +121,7 @@ pub(crate) fn page_record<'a, R: Source>(
     }
 }
 
-/// The schedule by which the campaign has the chronicle in the second file.
+/// Returns a schedule by which the campaign has the chronicle in the second file.
 pub(crate) fn retrace_of<'a, R: Source>(
     alloc: Global,
     scenario: &Scenario,

@@ -1,4 +1,4 @@
-//! The campaigns and schedules that files tell.
+//! Reads campaigns and schedules from the bytes of files.
 ghost use Rattle.std.specs.Prelude.{◌≡◌, ◌≢◌, ◌<◌, ◌≤◌, ℕ, List, length, IfOk, IfErr, Ok, Some, string_bytes};
 ghost use Rattle.std.specs.Str.{IsUtf8};
 ghost use Rattle.scenario.specs.Reading.{Tells, TellsAny};
@@ -20,11 +20,12 @@ use streams::may_begin_text;
 use trace::{MOST_SCHEDULE_BYTES, TraceError, TraceFault, read_schedule};
 use world::Schedule;
 
-/// The campaign that the bytes tell, be it oral or signed.
+/// Reads a campaign, with oral or with signed messages.
 ///
 /// # Errors
 ///
-/// The first fault of the scenario, or want of memory.
+/// Fails with `Scenario` for the first fault of the scenario, with `NotText` if the bytes are not UTF-8, and with
+/// `Memory` if memory runs out.
 pub fn any_campaign(alloc: Global, bytes: &[u8]) -> Result<Campaign, InputRefusal>
     ensures told { IfOk result (TellsAny bytes.now) }
     ensures refused { IfErr result (RefusesText RefusesCampaign bytes.now) }
@@ -33,11 +34,12 @@ pub fn any_campaign(alloc: Global, bytes: &[u8]) -> Result<Campaign, InputRefusa
     Ok(scenario::read_any(alloc, as_text(bytes)?)?)
 }
 
-/// The oral campaign that the bytes tell.
+/// Reads a campaign with oral messages.
 ///
 /// # Errors
 ///
-/// The first fault of the scenario, or want of memory.
+/// Fails with `Scenario` for the first fault of the scenario, with `NotText` if the bytes are not UTF-8, and with
+/// `Memory` if memory runs out.
 pub fn campaign(alloc: Global, bytes: &[u8]) -> Result<Scenario, InputRefusal>
     ensures told { IfOk result (Tells bytes.now) }
     ensures refused { IfErr result (RefusesText RefusesScenario bytes.now) }
@@ -46,12 +48,13 @@ pub fn campaign(alloc: Global, bytes: &[u8]) -> Result<Scenario, InputRefusal>
     Ok(scenario::read(alloc, as_text(bytes)?)?)
 }
 
-/// The campaign that the bytes tell, of which this account is to be given: an oral one where that is its message table,
-/// since a signed one has none.
+/// Reads a campaign of which this account is printed. A chronicle can be printed of any campaign. A message table needs
+/// an oral campaign, since a signed campaign has none.
 ///
 /// # Errors
 ///
-/// The first fault of the scenario, or want of memory.
+/// Fails with `Scenario` for the first fault of the scenario, with `NotText` if the bytes are not UTF-8, and with
+/// `Memory` if memory runs out.
 pub fn asked_campaign(
     alloc: Global,
     bytes: &[u8],
@@ -67,11 +70,12 @@ pub fn asked_campaign(
     }
 }
 
-/// The schedule that the bytes tell.
+/// Reads a schedule.
 ///
 /// # Errors
 ///
-/// The first line that is none, or want of memory.
+/// Fails with `Trace` and the first line that is not a line of a schedule, with `NotText` if the bytes are not UTF-8,
+/// and with `Memory` if memory runs out.
 pub fn schedule(alloc: Global, bytes: &[u8]) -> Result<Schedule, InputRefusal>
     ensures told { IfOk result (λ schedule. schedule_told bytes.now ≡ Ok schedule) }
     ensures refused { IfErr result (RefusesText RefusesSchedule bytes.now) }
@@ -80,12 +84,13 @@ pub fn schedule(alloc: Global, bytes: &[u8]) -> Result<Schedule, InputRefusal>
     Ok(read_schedule(alloc, as_text(bytes)?)?)
 }
 
-/// The schedule of a file that has these bytes or, where they are more than a schedule has, begins with these: then
-/// there is none, whatever follows.
+/// Reads the schedule of a file. `front` contains all bytes of the file or, if there are more than 1,048,576, a
+/// beginning of the file that is longer than this limit. A file that is longer is rejected, whatever bytes follow.
 ///
 /// # Errors
 ///
-/// The first line that is none, or want of memory.
+/// Fails with `Trace` and the first line that is not a line of a schedule, which is line 1 if the file is too long.
+/// Fails with `NotText` if the bytes are not UTF-8, and with `Memory` if memory runs out.
 pub fn schedule_of(alloc: Global, front: &[u8]) -> Result<Schedule, InputRefusal>
     ensures told { IfOk result (λ schedule. (all : List ℕ) → IsFront 1048576 (Some all) front.now →
         schedule_told all ≡ Ok schedule) }
@@ -104,7 +109,8 @@ pub fn schedule_of(alloc: Global, front: &[u8]) -> Result<Schedule, InputRefusal
     Err(too_long(front))
 }
 
-/// Why there is no schedule in a file that begins with these bytes, which are more than a schedule has.
+/// Returns why a file that begins with these bytes is rejected as a schedule. They are more than 1,048,576, the most
+/// that a schedule may have.
 fn too_long(front: &[u8]) -> InputRefusal
     requires { 1048576 < length front.now }
     ensures told { result ≢ Memory }
@@ -118,11 +124,12 @@ fn too_long(front: &[u8]) -> InputRefusal
     InputRefusal::Trace(TraceError::At(TraceFault::Line, 1))
 }
 
-/// The campaign that the bytes tell, be it oral or signed, and their text.
+/// Reads a campaign, with oral or with signed messages, and returns it with its text.
 ///
 /// # Errors
 ///
-/// The first fault of the scenario, or want of memory.
+/// Fails with `Scenario` for the first fault of the scenario, with `NotText` if the bytes are not UTF-8, and with
+/// `Memory` if memory runs out.
 pub fn campaign_with_text(alloc: Global, bytes: &[u8]) -> Result<(Campaign, String), InputRefusal>
     ensures told { IfOk result (λ both. TellsAny bytes.now both.0 × (string_bytes both.1 ≡ bytes.now)) }
     ensures refused { IfErr result (RefusesText RefusesCampaign bytes.now) }

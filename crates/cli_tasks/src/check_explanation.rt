@@ -1,4 +1,4 @@
-//! What `check --explain` says of a program behind what `check` says of it.
+//! Makes the failure of a task that rejects its first file, and explains a rejected program for `check --explain`.
 ghost use Rattle.std.specs.Prelude.{◌≡◌, ◌≢◌, false, option_map};
 ghost use Rattle.cli_tasks.specs.Hints.{is_reported};
 ghost use Rattle.cli_tasks.specs.TaskFaults.{StopsFirst};
@@ -13,7 +13,7 @@ use crate::whys::unjudged;
 use cli_words::{Notation, Task};
 use std::alloc::Global;
 
-/// The notation of the program that the task is to explain, where it is to explain one.
+/// Returns the notation of the program that the task must explain, or `None` if it must explain none.
 pub(crate) fn explained_in(task: &Task) -> Option<&Notation>
     ensures { option_map (λ notation. notation.now) result ≡ explained_in task.now }
 {
@@ -27,7 +27,8 @@ pub(crate) fn explained_in(task: &Task) -> Option<&Notation>
     }
 }
 
-/// The bytes of the task's first file that are to be bytecode themselves: none of those of an object.
+/// Returns the bytes in which the faults of the task's first file are located: all bytes of the file, or no bytes if
+/// the task reads an object. Faults of an object's program are located in the code of its function instead.
 fn bytecode_in<'a>(task: &Task, bytes: &'a [u8]) -> &'a [u8]
     ensures { result.now ≡ bytecode_in task.now bytes.now }
 {
@@ -48,8 +49,8 @@ fn bytecode_in<'a>(task: &Task, bytes: &'a [u8]) -> &'a [u8]
     }
 }
 
-/// The notation in which a refused program is read once more: that of the task, where the verifier refused it and an
-/// explanation is asked for.
+/// Returns the notation in which a rejected program is read once more. This is the notation of the task if the verifier
+/// rejected the program and an explanation is asked for, and `None` otherwise.
 fn asked_of<'a>(refusal: &InputRefusal, task: &'a Task) -> Option<&'a Notation>
     ensures { option_map (λ notation. notation.now) result ≡ asked_of refusal.now task.now }
 {
@@ -59,8 +60,8 @@ fn asked_of<'a>(refusal: &InputRefusal, task: &'a Task) -> Option<&'a Notation>
     }
 }
 
-/// The fault of a first file of these bytes that the task refuses so, with what is said behind it. Where nothing is
-/// reported behind it, it is not told as want of memory.
+/// Returns the failure of a task that rejects its first file, which has these bytes, with the hint that is printed
+/// after the error. If the task asks for no report and `refusal` is not `Memory`, the failure is not `Memory` either.
 pub(crate) fn refused<'a>(
     alloc: Global,
     task: &'a Task,
@@ -78,7 +79,7 @@ pub(crate) fn refused<'a>(
     };
     match explanation(alloc, notation, bytes) {
         Ok(text) => TaskFailure::Refused(refusal, Some(Hint::Explained(text))),
-        // It was read before, so this is want of memory.
+        // The program was read before, so only memory can have run out.
         Err(unread) => unjudged(alloc, task, unread, file, own),
     }
 }

@@ -1,4 +1,5 @@
-//! The text of a campaign by a schedule: its chronicle, or its table, and how its decisions come about.
+//! Plays a campaign by a schedule, and writes its chronicle or its message table and the explanation of its decisions
+//! (subcommand `play`).
 ghost use Rattle.std.specs.Prelude.{◌≡◌, ◌++◌, ◌∷◌, IfOk};
 ghost use Rattle.trace.specs.SignedText.{signed_text};
 ghost use Rattle.trace.specs.Text.{chronicle_text};
@@ -14,12 +15,13 @@ use std::alloc::{AllocError, Global};
 use trace::{Latch, write_chronicle, write_signed};
 use world::{Chronicle, Schedule, play};
 
-/// The text of the campaign by a schedule: this account of it, of a signed one its chronicle, and behind it how these
-/// decisions come about. All of it is in memory, some bytes for each word and access that it tells.
+/// Plays the campaign by the schedule. Returns the account that is asked for, which for a signed campaign is always its
+/// chronicle. The explanation of the decisions follows, if one is asked for. The whole text is in memory, and takes
+/// some bytes for each word and access in it.
 ///
 /// # Errors
 ///
-/// `AllocError` where memory is refused.
+/// Fails with `AllocError` if memory runs out.
 pub fn played(
     alloc: Global,
     campaign: Campaign,
@@ -35,7 +37,8 @@ pub fn played(
     }
 }
 
-/// That of an oral campaign.
+/// Plays an oral campaign by the schedule. Returns the account that is asked for, and after it the explanation of the
+/// decisions, if one is asked for.
 #[tactic(auto, using(crate::proofs::CampaignLemmas::played_wholly))]
 fn oral_played(
     alloc: Global,
@@ -52,7 +55,7 @@ fn oral_played(
     with_decisions(alloc, front, &chronicle, explained)
 }
 
-/// This account of an oral campaign.
+/// Returns this account of an oral campaign: the text of its chronicle, or its message table.
 fn account_text(
     alloc: Global,
     chronicle: &Chronicle,
@@ -67,7 +70,8 @@ fn account_text(
     }
 }
 
-/// That of a signed one.
+/// Plays a signed campaign by the schedule. Returns its chronicle, and after it the explanation of the decisions, if
+/// one is asked for.
 fn signed_played(
     alloc: Global,
     scenario: Scenario,
@@ -81,7 +85,7 @@ fn signed_played(
     with_signed_decisions(alloc, front, &chronicle, explained)
 }
 
-/// The text of an oral campaign's chronicle.
+/// Returns the text of an oral campaign's chronicle.
 pub(crate) fn chronicle_text(alloc: Global, chronicle: &Chronicle) -> Result<Vec<u8>, AllocError>
     ensures { IfOk result (λ text. text.items ≡ chronicle_text chronicle.now) }
 {
@@ -92,7 +96,7 @@ pub(crate) fn chronicle_text(alloc: Global, chronicle: &Chronicle) -> Result<Vec
     }
 }
 
-/// The text, and behind it an empty line and these.
+/// Appends a line feed and the lines to the text. If the text ends with a line feed, an empty line separates the two.
 #[tactic(auto, using(crate::proofs::CampaignLemmas::behind_lines))]
 fn with_lines(front: Vec<u8>, lines: &str) -> Result<Vec<u8>, AllocError>
     ensures { IfOk result (λ text. text.items ≡ front.items ++ 10 ∷ lines.now) }
@@ -103,7 +107,8 @@ fn with_lines(front: Vec<u8>, lines: &str) -> Result<Vec<u8>, AllocError>
     Ok(text)
 }
 
-/// The text, and behind it an empty line and how these decisions of the campaign come about, if it is asked for.
+/// Appends an empty line and the explanation of decisions in an oral campaign to the text. Returns the text unchanged
+/// if no explanation is asked for.
 #[tactic(auto, using(crate::proofs::CampaignLemmas::alone, crate::proofs::CampaignLemmas::followed))]
 pub(crate) fn with_decisions(
     alloc: Global,
@@ -121,7 +126,8 @@ pub(crate) fn with_decisions(
     with_lines(front, lines.as_str())
 }
 
-/// The same of a signed campaign.
+/// Appends an empty line and the explanation of decisions in a signed campaign to the text. Returns the text unchanged
+/// if no explanation is asked for.
 #[tactic(auto, using(crate::proofs::CampaignLemmas::signed_alone, crate::proofs::CampaignLemmas::signed_followed))]
 pub(crate) fn with_signed_decisions(
     alloc: Global,
@@ -138,7 +144,7 @@ pub(crate) fn with_signed_decisions(
     with_lines(front, lines.as_str())
 }
 
-/// The general who is asked for; none where all are.
+/// Returns the general whose decision is asked for, or `None` if the decisions of all are asked for.
 fn asked(who: Lieutenants) -> Option<u8>
     ensures { result ≡ asked who }
 {
@@ -148,7 +154,7 @@ fn asked(who: Lieutenants) -> Option<u8>
     }
 }
 
-/// The text of a signed one's.
+/// Returns the text of a signed campaign's chronicle.
 fn signed_chronicle_text(alloc: Global, chronicle: &SignedChronicle) -> Result<Vec<u8>, AllocError>
     ensures { IfOk result (λ text. text.items ≡ signed_text chronicle.now) }
 {

@@ -1,3 +1,4 @@
+//! Computes and explains what the lieutenants of a message table decide (subcommand `book`).
 ghost use Rattle.std.specs.Prelude.{◌≡◌, IfOk, IfErr, Ok, OnOk, string_bytes};
 ghost use Rattle.book.specs.Grammar.{table_told};
 ghost use Rattle.book.specs.Answers.{DecidesTable, ExplainsTable};
@@ -9,11 +10,11 @@ use crate::strangers::know_all;
 use book::{Table, explain, read_table};
 use std::alloc::Global;
 
-/// What the lieutenants of the message table decide.
+/// Computes what the lieutenants of a message table decide, and returns the decisions as text.
 ///
 /// # Errors
 ///
-/// What the table refuses, or want of memory.
+/// Fails with `Table` for the first fault of the table, and with `Memory` if memory runs out.
 pub fn decided(alloc: Global, text: &str) -> Result<String, InputRefusal>
     ensures decided { IfOk result (λ lines. DecidesTable text.now (string_bytes lines)) }
     ensures refused { IfErr result (RefusesTable text.now) }
@@ -21,11 +22,12 @@ pub fn decided(alloc: Global, text: &str) -> Result<String, InputRefusal>
     Ok(book::decided(alloc, text)?)
 }
 
-/// How the decisions of the message table come about, where these generals are named as traitors.
+/// Explains how the lieutenants of a message table reach their decisions if these generals are named as traitors.
 ///
 /// # Errors
 ///
-/// What the table refuses; the first who is named and is none of its generals; or want of memory.
+/// Fails with `Table` for the first fault of the table, with `Stranger` for the first named general who is not one of
+/// its generals, and with `Memory` if memory runs out.
 #[tactic(auto, using(crate::proofs::StrangerLemmas::table_explained))]
 pub fn explained(alloc: Global, text: &str, traitors: &[u8]) -> Result<String, InputRefusal>
     ensures known { OnOk result (KnowsAll text.now traitors.now) }
@@ -37,7 +39,7 @@ pub fn explained(alloc: Global, text: &str, traitors: &[u8]) -> Result<String, I
     Ok(explain(alloc, &table, traitors)?)
 }
 
-/// The message table that the text tells.
+/// Reads a message table from text.
 pub(crate) fn table_in(alloc: Global, text: &str) -> Result<Table, InputRefusal>
     ensures told { IfOk result (λ table. table_told text.now ≡ Ok table) }
     ensures refused { IfErr result (RefusesTable text.now) }

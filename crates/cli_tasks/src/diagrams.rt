@@ -1,4 +1,4 @@
-//! Campaigns as pictures.
+//! Draws campaigns as space-time diagrams in SVG (subcommand `draw`).
 ghost use Rattle.std.specs.Prelude.{◌≡◌, IfErr, IfOk};
 ghost use Rattle.cli_tasks.specs.Diagrams.{IsCampaignDrawn, IsDiagram, IsRecordDrawn};
 ghost use Rattle.cli_tasks.specs.Promises.{AreFaithful};
@@ -19,11 +19,11 @@ use signed::{SignedChronicle, play_signed};
 use std::alloc::{AllocError, Global};
 use world::{Chronicle, Schedule, play};
 
-/// The campaign by this schedule, as a space-time diagram in SVG.
+/// Plays the campaign by the schedule, and returns its space-time diagram in SVG.
 ///
 /// # Errors
 ///
-/// `AllocError` where memory is refused.
+/// Fails with `AllocError` if memory runs out.
 pub fn diagrammed(
     alloc: Global,
     campaign: Campaign,
@@ -37,7 +37,7 @@ pub fn diagrammed(
     }
 }
 
-/// An oral one.
+/// Plays an oral campaign by the schedule, and returns its diagram.
 #[tactic(auto, using(crate::proofs::DiagramLemmas::played_drawn))]
 fn oral_diagrammed(
     alloc: Global,
@@ -51,7 +51,7 @@ fn oral_diagrammed(
     Ok(diagram_of(alloc, &chronicle)?)
 }
 
-/// A signed one.
+/// Plays a signed campaign by the schedule, and returns its diagram.
 fn signed_diagrammed(
     alloc: Global,
     scenario: Scenario,
@@ -64,11 +64,12 @@ fn signed_diagrammed(
     Ok(signed_diagram_of(alloc, &chronicle)?)
 }
 
-/// The campaign whose chronicle these bytes are.
+/// Reads a chronicle of the campaign, and returns the diagram of the chronicle in SVG.
 ///
 /// # Errors
 ///
-/// The first line that is not the chronicle's, or want of memory.
+/// Fails with `Trace` and the line at fault if the bytes are not a chronicle of the campaign, with `NotText` if they
+/// are not UTF-8, and with `Memory` if memory runs out.
 pub fn record_diagrammed(
     alloc: Global,
     campaign: &Campaign,
@@ -83,7 +84,7 @@ pub fn record_diagrammed(
     }
 }
 
-/// An oral one.
+/// Reads a chronicle of an oral campaign, and returns its diagram.
 #[tactic(auto, using(crate::proofs::DiagramLemmas::told_drawn))]
 fn oral_record_diagrammed(
     alloc: Global,
@@ -98,7 +99,7 @@ fn oral_record_diagrammed(
     Ok(diagram_of(alloc, &chronicle)?)
 }
 
-/// A signed one.
+/// Reads a chronicle of a signed campaign, and returns its diagram.
 fn signed_record_diagrammed(
     alloc: Global,
     scenario: &Scenario,
@@ -112,7 +113,7 @@ fn signed_record_diagrammed(
     Ok(signed_diagram_of(alloc, &chronicle)?)
 }
 
-/// The picture of a chronicle, with the message table that its letters tell.
+/// Returns the diagram of an oral campaign's chronicle and of the message table that its letters give.
 fn diagram_of(alloc: Global, chronicle: &Chronicle) -> Result<Vec<u8>, AllocError>
     requires whole { IsWhole chronicle.now }
     requires faithful { AreFaithful chronicle.now }
@@ -125,7 +126,7 @@ fn diagram_of(alloc: Global, chronicle: &Chronicle) -> Result<Vec<u8>, AllocErro
     Ok(campaign_svg(alloc, &table, chronicle)?.into_bytes())
 }
 
-/// The picture of a signed campaign's.
+/// Returns the diagram of a signed campaign's chronicle.
 fn signed_diagram_of(alloc: Global, chronicle: &SignedChronicle) -> Result<Vec<u8>, AllocError>
     ensures { IfOk result (λ picture. picture.items ≡ signed_svg chronicle.now) }
 {

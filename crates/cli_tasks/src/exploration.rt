@@ -1,3 +1,4 @@
+//! Explores all orders of a campaign's accesses, and counts which decisions they lead to (subcommand `explore`).
 ghost use Rattle.std.specs.Prelude.{IfErr, IfOk, map, string_bytes};
 ghost use Rattle.cli_tasks.specs.Exploring.{IsExplored, KeepsOrders, limit};
 ghost use Rattle.cli_tasks.specs.Refusals.{RefusesScenario, RefusesText};
@@ -8,12 +9,13 @@ use campaign_orders::findings_agree;
 use round::Scenario;
 use std::alloc::{AllocError, Global};
 
-/// What an oral campaign comes to in all orders of its accesses or, where there are more, in the `most` least ones.
-/// Without a number all are counted, in time and memory that grow as the number of worlds that are not alike.
+/// Plays an oral campaign in each order of its accesses, and returns the outcomes as text. If there are more than
+/// `most` orders, only the `most` least ones are counted. If `most` is `None`, all orders are counted. Time and memory
+/// then grow with the number of worlds that do not go on alike.
 ///
 /// # Errors
 ///
-/// `AllocError` where memory is refused.
+/// Fails with `AllocError` if memory runs out.
 pub fn explored(alloc: Global, scenario: &Scenario, most: Option<u64>) -> Result<String, AllocError>
     ensures { IfOk result (λ text. IsExplored scenario.now (limit most) (string_bytes text)) }
 {
@@ -22,11 +24,13 @@ pub fn explored(alloc: Global, scenario: &Scenario, most: Option<u64>) -> Result
     campaign_orders::explored(alloc, scenario, most.unwrap_or(u64::MAX))
 }
 
-/// What `explore` prints on a file of these bytes, and the texts of a schedule for each outcome, in the same order.
+/// Returns what `explore` prints of a file with these bytes, and for each outcome the text of a schedule, in the same
+/// order.
 ///
 /// # Errors
 ///
-/// What is refused, or want of memory.
+/// Fails with `Scenario` for the first fault of the scenario, with `NotText` if the bytes are not UTF-8, and with
+/// `Memory` if memory runs out.
 #[tactic(auto, using(crate::proofs::ExploringLemmas::keeps_orders))]
 pub fn with_schedules(
     alloc: Global,

@@ -1,3 +1,4 @@
+//! Why a task failed: the text of its error, and its exit status.
 ghost use Rattle.std.specs.Prelude.{◌≡◌};
 ghost use Rattle.cli_tasks.specs.Faults.{fault_of, fault_of_bytes, status_of};
 
@@ -6,18 +7,18 @@ use crate::refusal::InputRefusal;
 use std::fmt;
 use streams::FileName;
 
-/// Why a task was not done.
+/// The error of a task that was not done.
 #[derive(Drop)]
 pub enum TaskFailure<'a> {
     /// The file of this name could not be read.
     Read(&'a str),
-    /// The file of this name is no text in UTF-8.
+    /// The file of this name is not UTF-8 text.
     Text(&'a str),
-    /// What a file has is refused, and more is said of it.
+    /// The input is rejected. The hint, if there is one, is printed after the line of the error.
     Refused(InputRefusal, Option<Hint>),
-    /// The output failed.
+    /// The output could not be written.
     Write,
-    /// Want of memory.
+    /// Memory ran out.
     Memory,
 }
 
@@ -39,7 +40,7 @@ impl fmt::Display for TaskFailure<'_> {
 }
 
 impl<'a> TaskFailure<'a> {
-    /// The fault of a file with this name.
+    /// Returns the failure for a rejected file of this name. It has no hint.
     pub(crate) fn of(refusal: InputRefusal, file: &'a str) -> TaskFailure<'a>
         ensures { result ≡ fault_of refusal file.entry }
     {
@@ -50,8 +51,9 @@ impl<'a> TaskFailure<'a> {
         }
     }
 
-    /// The fault of a file of these bytes: where they spell no program, with what they seem to be, and where they are
-    /// an object without one, with the sentence of its fault.
+    /// Returns the failure for a rejected file with this name and these bytes. If the bytes are not bytecode, the hint
+    /// says what they seem to be. If an object has no code for the entry, the hint says why. Otherwise there is no
+    /// hint.
     pub(crate) fn of_bytes(refusal: InputRefusal, file: &'a str, bytes: &[u8]) -> TaskFailure<'a>
         ensures { result ≡ fault_of_bytes refusal file.entry bytes.now }
     {
@@ -67,7 +69,7 @@ impl<'a> TaskFailure<'a> {
         }
     }
 
-    /// The exit status.
+    /// Returns the exit status: 3 if memory ran out, and 1 for any other failure.
     pub fn status(&self) -> u8
         ensures { result ≡ status_of self.now }
     {

@@ -1,32 +1,36 @@
+//! What a task results in on its first file: all that it prints, or a program or a campaign with which it goes on.
 use cli_words::{Account, Lieutenants};
 use round::Scenario;
 use scenario::Campaign;
 use verify::Verified;
 
-/// What a task comes to on its only or first file.
+/// The result of a task on its only or first file.
 #[derive(Drop)]
 pub enum FirstAnswer {
-    /// All that it prints.
+    /// The text that the task prints, which is its whole answer.
     Text(String),
-    /// The same, where it is no text.
+    /// The bytes that the task prints, which are its whole answer and not text.
     Bytes(Vec<u8>),
-    /// A program to try, in the setting of the second file, and whether its steps are told.
+    /// A verified program to try in the setting of the second file, and whether its steps are printed.
     Trial(Verified, bool),
-    /// A campaign to play, by the schedule of the second file, the account to give of it, and whose decisions to
-    /// explain.
+    /// A campaign to play by the schedule in the second file, the account to print of it, and the lieutenants whose
+    /// decisions are explained, if any.
     Play(Campaign, Account, Option<Lieutenants>),
-    /// An oral campaign to run with a thread for each general, and whose decisions to explain.
+    /// An oral campaign to run with a thread for each general, and the lieutenants whose decisions are explained, if
+    /// any.
     Muster(Scenario, Option<Lieutenants>),
-    /// A campaign whose chronicle the second file may be, and whose decisions to explain.
+    /// A campaign for which the second file is audited as its chronicle, and the lieutenants whose decisions are
+    /// explained, if any.
     Audit(Campaign, Option<Lieutenants>),
-    /// A campaign to draw, by the schedule of the second file.
+    /// A campaign to draw. The picture shows the campaign played by the schedule in the second file.
     Draw(Campaign),
-    /// A campaign to draw as the chronicle that the second file may be tells it.
+    /// A campaign to draw. The picture shows the chronicle in the second file.
     DrawRecorded(Campaign),
-    /// A campaign to tell as a page, by the schedule of the second file, and its scenario's text.
+    /// A campaign to write as a page, with the text of its scenario. The page shows the campaign played by the schedule
+    /// in the second file.
     Page(Campaign, String),
-    /// A campaign to tell as a page, as the chronicle that the second file may be tells it, and its scenario's text.
+    /// A campaign to write as a page, with the text of its scenario. The page shows the chronicle in the second file.
     PageRecorded(Campaign, String),
-    /// An oral campaign of whose chronicle, which the second file may be, a schedule is to be told.
+    /// An oral campaign. The task prints a schedule by which it has the chronicle in the second file.
     Retrace(Scenario),
 }

@@ -1,3 +1,4 @@
+//! Writes message tables for the numbers of a campaign, to be filled in or already filled in (subcommand `table`).
 ghost use Rattle.std.specs.Prelude.{◌≢◌, IfOk, IfErr, OnOk, string_bytes};
 ghost use Rattle.book.specs.Answers.{IsFilled, IsFormOf};
 ghost use Rattle.cli_tasks.specs.TableRefusals.{RefusesFilled, RefusesForm};
@@ -9,11 +10,12 @@ use crate::strangers::know_all;
 use cli_words::Filling;
 use std::alloc::Global;
 
-/// The message table to fill in, of a campaign with these numbers.
+/// Returns a message table to fill in, for a campaign with these numbers.
 ///
 /// # Errors
 ///
-/// What the first line of a table is refused for that has them, or want of memory.
+/// Fails with `Table` for the fault that the first line of a table with these numbers has, and with `Memory` if memory
+/// runs out.
 pub fn formed(
     alloc: Global,
     generals: &str,
@@ -26,11 +28,13 @@ pub fn formed(
     Ok(book::formed(alloc, generals, bound, commander)?)
 }
 
-/// The message table of a campaign with these numbers, filled in as loyal generals would.
+/// Returns the message table of a campaign with these numbers in which every general sends the same order. If a liar is
+/// named, the orders that he sends are left to be filled in.
 ///
 /// # Errors
 ///
-/// What the first line of a table is refused for that has them; a liar who is none of its generals; or want of memory.
+/// Fails with `Table` for the fault that the first line of a table with these numbers has, with `Stranger` if the liar
+/// is not one of the generals, and with `Memory` if memory runs out.
 #[tactic(auto, using(crate::proofs::StrangerLemmas::unfilled))]
 pub fn filled(
     alloc: Global,
@@ -49,7 +53,7 @@ pub fn filled(
     Ok(book::filled(alloc, generals, bound, commander, order, liar)?)
 }
 
-/// Makes sure that the words are numbers of a campaign, and the liar one of its generals.
+/// Checks that the words are the numbers of a campaign, and that the liar, if there is one, is one of its generals.
 #[tactic(auto, using(crate::proofs::StrangerLemmas::liar_known))]
 fn know_liar(
     generals: &str,

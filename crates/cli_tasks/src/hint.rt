@@ -1,14 +1,15 @@
+//! Hints: the text that is printed after the error line of a rejected input.
 use crate::likeness::{Likeness, seems};
 use std::fmt;
 
-/// What is said behind the line of a refusal.
+/// The text that is printed after the error line of a rejected input.
 #[derive(Drop)]
 pub enum Hint {
-    /// What the bytes seem to be.
+    /// Says what the bytes seem to be.
     Seems(Likeness),
-    /// Why an object has no code for the entry.
+    /// Says why an object has no code for the entry.
     Fault(object::ObjectFault),
-    /// Why the program is refused: its explanation.
+    /// Explains a rejected program, or reports on another rejected input.
     Explained(String),
 }
 
@@ -35,7 +36,8 @@ impl Hint {
     ghost use Rattle.cli_tasks.specs.Seeming.{seems_at_first};
     ghost use Rattle.cli_tasks.specs.declared.hint.Hint.TheVariants.{Seems};
 
-    /// What bytes seem to be that spell no program.
+    /// Returns a hint that says what bytes that are not bytecode seem to be, or `None` if they seem to be nothing
+    /// known.
     pub(crate) fn of_bytes(bytes: &[u8]) -> Option<Hint>
         ensures { result ≡ option_map Seems (seems_at_first bytes.now) }
     {

@@ -1,5 +1,5 @@
-//! The tasks of the command line: reads the files of a task, does the task, and prints the answer or why there is none.
-//! The tasks are those of programs, of message tables, of campaigns and of pictures.
+//! Does the tasks of the command line: reads the files of a subcommand, computes its answer, and prints the answer or
+//! why there is none. There are tasks for programs, message tables, campaigns and pictures.
 #![tactic(auto)]
 
 mod assembly;

@@ -1,3 +1,4 @@
+//! Guesses what a file is that is not bytecode: bytecode in hex, an ELF object, or text.
 ghost use Rattle.std.specs.Prelude.{◌≡◌};
 ghost use Rattle.std.specs.List.{list_all};
 ghost use Rattle.cli_tasks.specs.Seeming.{is_of_hex, is_of_text, seems_at_first, seems_of};
@@ -5,14 +6,14 @@ ghost use Rattle.cli_tasks.specs.Seeming.{is_of_hex, is_of_text, seems_at_first,
 use insn::Program;
 use std::fmt;
 
-/// What bytes that spell no program seem to be in its place.
+/// What a file that should be bytecode, and is not, seems to be.
 #[derive(Clone, Copy, PartialEq, Eq)]
 pub enum Likeness {
-    /// Digits of a program in hex, as `asm` prints them.
+    /// A program in hexadecimal digits, as `asm` prints it.
     Hex,
-    /// An object that a compiler or an assembler has made.
+    /// An ELF object, as a compiler or an assembler makes it.
     Object,
-    /// A text, as assembly is.
+    /// A text, for example assembly.
     Text,
 }
 
@@ -32,7 +33,8 @@ impl fmt::Display for Likeness {
     }
 }
 
-/// What the bytes seem to be or, where they are more than a program has, the first of them.
+/// Returns what the bytes seem to be, or `None` if they seem to be nothing known. If there are more bytes than a
+/// program may have, only the first of them are examined.
 #[tactic(auto, unfolding(crate::specs::Seeming::seems_at_first))]
 pub fn seems(bytes: &[u8]) -> Option<Likeness>
     ensures { result ≡ seems_at_first bytes.now }
@@ -40,7 +42,8 @@ pub fn seems(bytes: &[u8]) -> Option<Likeness>
     whole(&bytes[..bytes.len().min(8 * Program::MOST_UNITS)])
 }
 
-/// What all the bytes seem to be: an object by the first four, hex or text by all.
+/// Returns what these bytes seem to be. An object is recognized by its first four bytes, and hex and text are
+/// recognized by all bytes. Returns `None` if there are no bytes.
 fn whole(bytes: &[u8]) -> Option<Likeness>
     ensures { result ≡ seems_of bytes.now }
 {
@@ -57,14 +60,14 @@ fn whole(bytes: &[u8]) -> Option<Likeness>
     }
 }
 
-/// Whether all bytes are digits in hex, and white space.
+/// Checks whether all bytes are hexadecimal digits or white space.
 fn is_hex(bytes: &[u8]) -> bool
     ensures { result ≡ list_all is_of_hex bytes.now }
 {
     bytes.iter().all(|byte| byte.is_ascii_hexdigit() || byte.is_ascii_whitespace())
 }
 
-/// Whether all bytes are printed characters of ASCII, and white space.
+/// Checks whether all bytes are printable ASCII characters or white space.
 fn is_text(bytes: &[u8]) -> bool
     ensures { result ≡ list_all is_of_text bytes.now }
 {

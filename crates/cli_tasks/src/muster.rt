@@ -1,3 +1,4 @@
+//! Runs a campaign with a thread for each general, and writes its chronicle (subcommand `muster`).
 ghost use Rattle.std.specs.Prelude.{IfOk, IfErr};
 ghost use Rattle.cli_tasks.specs.Campaigns.{IsMustered};
 ghost use Rattle.cli_tasks.specs.CampaignRefusals.{RefusesMuster};
@@ -11,12 +12,12 @@ use std::sync::Wait;
 use std::thread::Threads;
 use threads::{Open, muster};
 
-/// The text of a chronicle of the campaign, in which each general acts in a thread of his own, and behind it how these
-/// decisions come about. It waits for the threads.
+/// Runs an oral campaign with a thread for each general, and waits for the threads. Returns the text of its chronicle,
+/// and after it the explanation of the decisions, if one is asked for.
 ///
 /// # Errors
 ///
-/// That the threads gave no chronicle, or want of memory.
+/// Fails with `Threads` if the threads give no chronicle, and with `Memory` if memory runs out.
 #[tactic(auto, using(crate::proofs::CampaignLemmas::is_mustered, crate::proofs::CampaignLemmas::mustered_wholly))]
 pub fn mustered<T: Threads + Wait + Sync>(
     rt: &T,

@@ -1,4 +1,4 @@
-//! Files that a scenario names.
+//! Reads the files that a scenario names, and reports a file that cannot be used.
 ghost use Rattle.std.specs.Prelude.{◌≡◌, Ok, Err, IfErr, IfOk, IfSome, MatchResult, string_bytes};
 ghost use Rattle.std.specs.IoError.{error_kind};
 ghost use Rattle.object.specs.Entry.{entry_of};
@@ -15,18 +15,18 @@ use std::alloc::{AllocError, Global};
 use std::io::{self, ErrorKind};
 use streams::FileName;
 
-/// Why a file that a scenario names is not taken.
+/// The reason why a file that a scenario names cannot be used.
 #[derive(Drop)]
 pub enum FileProblem {
-    /// It is not read, or has a fault.
+    /// The file could not be read, or it has a fault.
     Told {
-        /// What is told of it: the fault, of an object also what that means, and by which key the file is named, each a
-        /// line.
+        /// The lines of the report: the fault, for an object the sentence that explains the fault, and the key by which
+        /// the scenario names the file.
         lines: String,
-        /// How its reading failed, where it is not read.
+        /// The kind of the error if the file could not be read, and `None` if the file has a fault.
         kind: Option<ErrorKind>,
     },
-    /// Want of memory.
+    /// Memory ran out.
     Memory,
 }
 
@@ -38,7 +38,8 @@ impl From<AllocError> for FileProblem {
     }
 }
 
-/// The file that is named so.
+/// Reads a file that the scenario names from the folder. The key by which it is named says whether the file is
+/// assembly, bytecode or an object.
 pub(crate) fn beside<D: Folder>(
     alloc: Global,
     folder: &D,
@@ -62,7 +63,7 @@ pub(crate) fn beside<D: Folder>(
     }
 }
 
-/// A file of assembly, whose bytes are its text.
+/// Returns the file of assembly with these bytes, which must be UTF-8 text.
 fn assembly(alloc: Global, named: &Reference, bytes: Vec<u8>) -> Result<LoadedFile, FileProblem>
     requires { named.now.key ≡ Assembly }
     ensures file { IfOk result (IsFile named.now bytes.items) }
@@ -78,7 +79,8 @@ fn assembly(alloc: Global, named: &Reference, bytes: Vec<u8>) -> Result<LoadedFi
     }
 }
 
-/// The function of an object that is named.
+/// Returns the file of an object with these bytes, with the code of the function that the scenario names. If it names
+/// no function, the object must have only one.
 fn object(alloc: Global, named: &Reference, bytes: &[u8]) -> Result<LoadedFile, FileProblem>
     requires { named.now.key ≡ Object }
     ensures file { IfOk result (IsFile named.now bytes.now) }
@@ -95,7 +97,7 @@ fn object(alloc: Global, named: &Reference, bytes: &[u8]) -> Result<LoadedFile, 
     }
 }
 
-/// The code of an object's function.
+/// Returns the code of an object's function: of the one with the given name, or of the only one if no name is given.
 fn code_in<'a>(object: &'a [u8], function: Option<&str>) -> Result<&'a [u8], ObjectFault>
     ensures { MatchResult result (λ code. entry_of object.now (asked function.entry) ≡ Ok code.now)
         (λ fault. entry_of object.now (asked function.entry) ≡ Err fault) }
@@ -106,7 +108,7 @@ fn code_in<'a>(object: &'a [u8], function: Option<&str>) -> Result<&'a [u8], Obj
     }
 }
 
-/// Why a file is not taken whose reading failed so.
+/// Returns why a file that could not be read because of this error cannot be used.
 fn unread(alloc: Global, error: &io::Error, named: &Reference) -> Result<FileProblem, AllocError>
     ensures { IfOk result (IsUnread named.now (error_kind error.now)) }
 {
@@ -119,14 +121,14 @@ fn unread(alloc: Global, error: &io::Error, named: &Reference) -> Result<FilePro
     }
 }
 
-/// The name of a file as it is shown.
+/// Returns the name of a file as it is printed.
 fn shown(alloc: Global, name: &str) -> Result<String, AllocError>
     ensures { IfOk result (λ text. IfSome (shown name.now) (λ own. string_bytes text ≡ own)) }
 {
     format!(in alloc; "{}", FileName(name))
 }
 
-/// The lines of a fault of a file that is named so.
+/// Returns the lines that report a fault of a named file. `fault` is `read` or `text`.
 fn told(alloc: Global, fault: &str, named: &Reference) -> Result<String, AllocError>
     ensures { IfOk result (λ text. IsNamed named.now (fault_told named.now fault.now) (string_bytes text)) }
 {
@@ -134,7 +136,7 @@ fn told(alloc: Global, fault: &str, named: &Reference) -> Result<String, AllocEr
     fault_lines(alloc, fault, name.as_str(), named.index, named.key)
 }
 
-/// The lines of a fault of an object that is named so.
+/// Returns the lines that report a fault of a named object.
 fn refused(alloc: Global, fault: ObjectFault, named: &Reference) -> Result<String, AllocError>
     ensures { IfOk result (λ text. IsNamed named.now (refused_told named.now fault) (string_bytes text)) }
 {
@@ -142,7 +144,8 @@ fn refused(alloc: Global, fault: ObjectFault, named: &Reference) -> Result<Strin
     refused_lines(alloc, fault, name.as_str(), named.index, named.key)
 }
 
-/// That the file of this name cannot be read, or is no text.
+/// Returns the lines which report that a file could not be read or is not UTF-8 text. `name` is the file's name as it
+/// is printed. The list entry `traitor[index]` names the file by this key.
 fn fault_lines(
     alloc: Global,
     fault: &str,
@@ -156,7 +159,8 @@ fn fault_lines(
     format!(in alloc; "fault {fault} {name}\nit is named by traitor[{index}].{key}")
 }
 
-/// That the object of this name has this fault.
+/// Returns the lines that report a fault of an object. `name` is the file's name as it is printed. The list entry
+/// `traitor[index]` names the file by this key.
 fn refused_lines(
     alloc: Global,
     fault: ObjectFault,

@@ -1,4 +1,4 @@
-//! Campaigns as pages.
+//! Writes campaigns as HTML pages (subcommand `page`).
 ghost use Rattle.std.specs.Prelude.{◌≡◌, IfErr, IfOk, None, Some, option_map};
 ghost use Rattle.cli_tasks.specs.Pages.{IsCampaignPaged, IsPage, IsRecordTold};
 ghost use Rattle.cli_tasks.specs.Promises.{AreFaithful};
@@ -18,11 +18,11 @@ use signed::{SignedChronicle, play_signed};
 use std::alloc::{AllocError, Global};
 use world::{Chronicle, Schedule, play};
 
-/// The campaign by this schedule, whose scenario this text tells, as a page of HTML.
+/// Plays the campaign by the schedule, and returns its HTML page. `text` is the text of the campaign's scenario.
 ///
 /// # Errors
 ///
-/// `AllocError` where memory is refused.
+/// Fails with `AllocError` if memory runs out.
 pub fn paged(
     alloc: Global,
     text: &str,
@@ -37,7 +37,7 @@ pub fn paged(
     }
 }
 
-/// An oral one.
+/// Plays an oral campaign by the schedule, and returns its page.
 #[tactic(auto, using(crate::proofs::PageLemmas::played_paged))]
 fn oral_paged(
     alloc: Global,
@@ -52,7 +52,7 @@ fn oral_paged(
     Ok(page_of(alloc, text, Some(schedule), &chronicle)?)
 }
 
-/// A signed one.
+/// Plays a signed campaign by the schedule, and returns its page.
 fn signed_paged(
     alloc: Global,
     text: &str,
@@ -66,11 +66,13 @@ fn signed_paged(
     Ok(signed_page_of(alloc, text, Some(schedule), &chronicle)?)
 }
 
-/// The campaign whose chronicle these bytes are, and whose scenario this text tells.
+/// Reads a chronicle of the campaign, and returns the HTML page of the chronicle. `text` is the text of the campaign's
+/// scenario.
 ///
 /// # Errors
 ///
-/// The first line that is not the chronicle's, or want of memory.
+/// Fails with `Trace` and the line at fault if the bytes are not a chronicle of the campaign, with `NotText` if they
+/// are not UTF-8, and with `Memory` if memory runs out.
 pub fn record_paged(
     alloc: Global,
     text: &str,
@@ -86,7 +88,7 @@ pub fn record_paged(
     }
 }
 
-/// An oral one.
+/// Reads a chronicle of an oral campaign, and returns its page.
 #[tactic(auto, using(crate::proofs::PageLemmas::told_paged))]
 fn oral_record_paged(
     alloc: Global,
@@ -102,7 +104,7 @@ fn oral_record_paged(
     Ok(page_of(alloc, text, None, &chronicle)?)
 }
 
-/// A signed one.
+/// Reads a chronicle of a signed campaign, and returns its page.
 fn signed_record_paged(
     alloc: Global,
     text: &str,
@@ -117,7 +119,7 @@ fn signed_record_paged(
     Ok(signed_page_of(alloc, text, None, &chronicle)?)
 }
 
-/// The page of a chronicle, with the message table that its letters tell.
+/// Returns the page of an oral campaign's chronicle and of the message table that its letters give.
 fn page_of(
     alloc: Global,
     scenario_text: &str,
@@ -136,7 +138,7 @@ fn page_of(
     Ok(page_text(alloc, scenario_text, schedule, &table, chronicle)?.into_bytes())
 }
 
-/// The page of a signed campaign's.
+/// Returns the page of a signed campaign's chronicle.
 fn signed_page_of(
     alloc: Global,
     scenario_text: &str,

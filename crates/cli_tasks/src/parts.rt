@@ -1,4 +1,4 @@
-//! Bytecode of which not all can be decoded.
+//! Assembles and disassembles bytecode that cannot be decoded as a whole (`asm --partial`, `dis --partial`).
 ghost use Rattle.std.specs.Prelude.{◌≡◌, ℕ, List, IfOk, IfErr, Ok, string_bytes};
 ghost use Rattle.cli_words.specs.declared.tasks.Notation.TheVariants.{Assembly as Texts};
 ghost use Rattle.object.specs.Entry.{entry_of};
@@ -15,11 +15,12 @@ use asm::partial::{assemble, disassemble};
 use cli_words::Notation;
 use std::alloc::Global;
 
-/// The bytes that the text says line by line, of units as bytes too, in lower-case hex on one line.
+/// Assembles a text line by line, and returns its bytes in lower-case hex on one line. A line may also give a unit as
+/// bytes.
 ///
 /// # Errors
 ///
-/// The fault of the first line that has one, or want of memory.
+/// Fails with `Assembly` for the first line that has a fault, and with `Memory` if memory runs out.
 pub fn assembled_partly(alloc: Global, text: &str) -> Result<String, InputRefusal>
     ensures assembled { IfOk result (λ line. AssemblesPartly text.now (string_bytes line)) }
     ensures refused { IfErr result (RefusesLines text.now) }
@@ -30,11 +31,11 @@ pub fn assembled_partly(alloc: Global, text: &str) -> Result<String, InputRefusa
     Ok(line)
 }
 
-/// The bytes that the text says line by line, of units as bytes too.
+/// Assembles a text line by line, and returns its bytes. A line may also give a unit as bytes.
 ///
 /// # Errors
 ///
-/// The fault of the first line that has one, or want of memory.
+/// Fails with `Assembly` for the first line that has a fault, and with `Memory` if memory runs out.
 pub fn assembled_partly_raw(alloc: Global, text: &str) -> Result<Vec<u8>, InputRefusal>
     ensures assembled { IfOk result (λ bytes. AssemblesPartlyRaw text.now bytes.items) }
     ensures refused { IfErr result (RefusesLines text.now) }
@@ -42,12 +43,13 @@ pub fn assembled_partly_raw(alloc: Global, text: &str) -> Result<Vec<u8>, InputR
     Ok(assemble(alloc, text)?)
 }
 
-/// The text of the code in this notation that a file has: its instructions, and the units with which none begins as
+/// Disassembles the code that a file contains in this notation. A unit at which no instruction begins is written as
 /// bytes.
 ///
 /// # Errors
 ///
-/// Bytes that are no whole units, what of an object or a text is refused, or want of memory.
+/// Fails if the code is not whole units of 8 bytes, if an object has no code for the entry, if a text does not assemble
+/// or is not UTF-8, or if memory runs out.
 pub fn disassembled_partly(
     alloc: Global,
     notation: &Notation,
@@ -63,7 +65,7 @@ pub fn disassembled_partly(
     }
 }
 
-/// The text of these bytes.
+/// Disassembles code. The resulting text assembles to the same bytes.
 fn of_code(alloc: Global, bytes: &[u8]) -> Result<String, InputRefusal>
     ensures text { IfOk result (λ text. IsTextOf bytes.now (string_bytes text)) }
     ensures again { IfOk result (λ text. bytes_said (string_bytes text) ≡ Ok bytes.now) }
@@ -72,7 +74,7 @@ fn of_code(alloc: Global, bytes: &[u8]) -> Result<String, InputRefusal>
     Ok(disassemble(alloc, bytes)?)
 }
 
-/// That of the bytes that a text says.
+/// Disassembles the bytes that a text assembles to.
 #[tactic(auto, using(crate::proofs::PartLemmas::cut_said))]
 fn of_text(alloc: Global, text: &str) -> Result<String, InputRefusal>
     ensures text { IfOk result (λ own. DisassemblesPartly Texts text.now (string_bytes own)) }
@@ -82,7 +84,7 @@ fn of_text(alloc: Global, text: &str) -> Result<String, InputRefusal>
     Ok(of_code(alloc, bytes.as_slice())?)
 }
 
-/// That of the code of an object's entry.
+/// Disassembles the code of an object's entry.
 fn of_object(alloc: Global, object: &[u8], entry: Option<&str>) -> Result<String, InputRefusal>
     ensures text { IfOk result (λ text. (code : List ℕ) × (entry_of object.now (asked entry.entry) ≡ Ok code)
         × IsTextOf code (string_bytes text) × (bytes_said (string_bytes text) ≡ Ok code)) }

@@ -1,5 +1,5 @@
-//! What a task prints and, where that tells of a program's trial in the setting of a second file, whose relay it was
-//! there.
+//! Computes what a task prints together with the relay of its trial: which general's relay in which round the program
+//! ran in.
 ghost use Rattle.std.specs.Prelude.{◌≡◌, IfErr, IfOk, IsSomeAnd, MatchResult, None, Ok, Err, Some, option_map};
 ghost use Rattle.cli_tasks.specs.TaskAnswers.{trial_of};
 ghost use Rattle.cli_tasks.specs.TaskFaults.{Prevents};
@@ -24,15 +24,17 @@ use std::thread::Threads;
 use streams::Source;
 use verify::Verified;
 
-/// What a task prints, and the place of the trial that it tells of, if it tells of one.
+/// The bytes that a task prints, and the relay of the trial that they describe, if they describe one.
 #[derive(Drop)]
 pub struct Answer {
+    /// The bytes that the task prints.
     pub text: Vec<u8>,
-    /// Whose relay it was.
+    /// The relay in which the program was tried, or `None` if no program was tried in the setting of a second file.
     pub place: Option<Shape>,
 }
 
-/// The notation of the program that the task tries in the setting of its second file, and whether its steps are told.
+/// Returns the notation of the program that the task tries in the setting of its second file, and whether the steps of
+/// the trial are printed. Returns `None` for any other task.
 fn trial_of(task: &Task) -> Option<(&Notation, bool)>
     ensures { option_map (λ trial. (trial.0.now, trial.1)) result ≡ trial_of task.now }
 {
@@ -47,11 +49,12 @@ fn trial_of(task: &Task) -> Option<(&Notation, bool)>
     }
 }
 
-/// The task's answer on its files as `answered` gives it, and the place of a trial in the setting of the second file.
+/// Computes the answer of a task on its files, as `answered` does. If the task tries a program in the setting of its
+/// second file, the answer includes the relay of the trial.
 ///
 /// # Errors
 ///
-/// A file that cannot be read or is refused, or want of memory.
+/// Fails if a file cannot be read or is rejected, if the threads of a muster give no chronicle, or if memory runs out.
 #[tactic(auto, using(crate::proofs::PlaceLemmas::placeless))]
 pub fn placed<'a, T, R>(
     rt: &T,
@@ -77,7 +80,7 @@ where
     }
 }
 
-/// The answer of a task that tries a program.
+/// Computes the answer of a task that tries a program in the setting of its second file.
 fn trial_placed<'a, R: Source>(
     alloc: Global,
     task: &'a Task,
@@ -108,7 +111,7 @@ fn trial_placed<'a, R: Source>(
     }
 }
 
-/// What is told of the program's trial in the setting of the second file, and whose relay it was.
+/// Tries a program in the setting that the second file describes. Returns what is printed of this trial, and its relay.
 pub(crate) fn trial_at<'a, R: Source>(
     alloc: Global,
     task: &Task,

@@ -1,4 +1,4 @@
-//! A scenario in which the files stand that it names.
+//! Prepares a scenario that names files: puts the programs in these files in place of their names.
 ghost use Rattle.std.specs.Prelude.{◌≡◌, ◌++◌, ◌∷◌, [], IfErr, IfOk, OnOk, option_map, string_bytes};
 ghost use Rattle.std.specs.List.{AllZip};
 ghost use Rattle.toml.specs.Parse.{parse_document};
@@ -12,7 +12,7 @@ use cli_words::Task;
 use scenario::{LoadedFile, Reference, asked, resolved};
 use std::alloc::{AllocError, Global};
 
-/// Whether the task's first file is a scenario, or may be one.
+/// Checks whether the task's first file is a scenario, or may be one.
 pub fn reads_scenario(task: &Task) -> bool
     ensures { result ≡ reads_scenario task.now }
 {
@@ -36,12 +36,13 @@ pub fn reads_scenario(task: &Task) -> bool
     }
 }
 
-/// The bytes of a scenario in which the files stand that it names, each in its place; the same bytes where they are no
-/// text, no TOML, or name none.
+/// Returns the bytes of a scenario in which the files that it names replace their names, and each traitor has a table
+/// of his own. Returns the same bytes if they are not UTF-8, are not TOML, or name neither files nor generals who share
+/// a table.
 ///
 /// # Errors
 ///
-/// A file that is named is not taken, or want of memory.
+/// Fails if a named file cannot be used, or if memory runs out.
 pub fn with_files<D: Folder>(
     alloc: Global,
     bytes: Vec<u8>,
@@ -60,7 +61,8 @@ pub fn with_files<D: Folder>(
     }
 }
 
-/// The text in which the files stand that it names, if it names some.
+/// Returns the text in which the named files replace their names, and each traitor has a table of his own. Returns
+/// `None` if nothing is to be replaced.
 fn with_named<D: Folder>(
     alloc: Global,
     text: &str,
@@ -76,7 +78,7 @@ fn with_named<D: Folder>(
     Ok(resolved(alloc, text, files.as_slice())?)
 }
 
-/// The files that are named so, in this order.
+/// Reads the named files, in this order.
 fn read_all<D: Folder>(
     alloc: Global,
     named: &[Reference],
@@ -92,7 +94,7 @@ fn read_all<D: Folder>(
     Ok(files)
 }
 
-/// Pushes a file.
+/// Appends a file to the list.
 fn push(files: &mut Vec<LoadedFile>, file: LoadedFile) -> Result<(), AllocError>
     ensures { OnOk result (files.new.items ≡ files.old.items ++ file ∷ []) }
 {

@@ -1,3 +1,4 @@
+//! Reads, verifies and runs a program in the bench setting (subcommand `check`).
 ghost use Rattle.std.specs.Prelude.{◌≡◌, Ok, Err, IfOk, IfErr, MatchResult, None, Some, string_bytes};
 ghost use Rattle.asm.specs.Program.{program_of};
 ghost use Rattle.codec.specs.Program.{SpellsProgram};
@@ -21,24 +22,26 @@ use std::alloc::{AllocError, Global};
 use trial::{Setting, first_lines, run_in};
 use verify::{Refused, Verified, verify};
 
-/// An accepted program and its run on the bench.
+/// The size of an accepted program, and the result of its run in the bench setting.
 #[derive(Clone, Copy)]
 pub struct Checked {
+    /// The number of instructions.
     pub instructions: usize,
-    /// How many units of 64 bits the program takes.
+    /// The number of units of 64 bits that the program takes.
     pub units: usize,
-    /// What the program exited with.
+    /// The value with which the program exited.
     pub r0: u64,
-    /// How many steps it took.
+    /// The number of steps that the run took.
     pub steps: u32,
 }
 
-/// Reads a program in this notation, verifies it and runs it on the bench. The board that it asks is its own, and
-/// begins with zeros.
+/// Reads a program in this notation, verifies it, and runs it in the bench setting. The program runs with a board of
+/// its own, which opens with zeros.
 ///
 /// # Errors
 ///
-/// What the codec, the assembler or the verifier refuses, what of an object is refused, or want of memory.
+/// Fails if the codec, the assembler or the verifier rejects the program, if an object has no code for the entry, if a
+/// text is not UTF-8, or if memory runs out.
 pub fn check(
     alloc: Global,
     notation: &Notation,
@@ -53,11 +56,12 @@ pub fn check(
     Ok((verified, checked))
 }
 
-/// The program in this notation that a file has, verified.
+/// Reads a program in this notation from the bytes of a file, and verifies it.
 ///
 /// # Errors
 ///
-/// What the codec, the assembler or the verifier refuses, what of an object is refused, or want of memory.
+/// Fails if the codec, the assembler or the verifier rejects the program, if an object has no code for the entry, if a
+/// text is not UTF-8, or if memory runs out.
 pub fn accepted_in(
     alloc: Global,
     notation: &Notation,
@@ -75,7 +79,7 @@ pub fn accepted_in(
     }
 }
 
-/// Verifies the program that an object's entry has.
+/// Reads the program of an object's entry, and verifies it.
 fn accepted_object(
     alloc: Global,
     object: &[u8],
@@ -92,11 +96,11 @@ fn accepted_object(
     }
 }
 
-/// Decodes and verifies a program.
+/// Decodes a program from bytecode, and verifies it.
 ///
 /// # Errors
 ///
-/// What the codec or the verifier refuses, or want of memory.
+/// Fails if the codec or the verifier rejects the program, or if memory runs out.
 pub fn accepted(alloc: Global, bytes: &[u8]) -> Result<Verified, InputRefusal>
     ensures spelt { IfOk result (λ program. SpellsProgram bytes.now program) }
     ensures accepted { IfOk result (λ program. judged program ≡ None) }
@@ -107,11 +111,11 @@ pub fn accepted(alloc: Global, bytes: &[u8]) -> Result<Verified, InputRefusal>
     accepted_program(alloc, program)
 }
 
-/// Verifies the program that the assembly says.
+/// Assembles a program from text, and verifies it.
 ///
 /// # Errors
 ///
-/// What the assembler or the verifier refuses, or want of memory.
+/// Fails if the assembler or the verifier rejects the program, or if memory runs out.
 pub fn accepted_text(alloc: Global, text: &str) -> Result<Verified, InputRefusal>
     ensures said { IfOk result (λ program. program_of text.now ≡ Some program) }
     ensures accepted { IfOk result (λ program. judged program ≡ None) }
@@ -122,7 +126,7 @@ pub fn accepted_text(alloc: Global, text: &str) -> Result<Verified, InputRefusal
     accepted_program(alloc, program)
 }
 
-/// Verifies a program.
+/// Verifies a program, and returns it as verified or why it is rejected.
 fn accepted_program(alloc: Global, program: Program) -> Result<Verified, InputRefusal>
     ensures same { IfOk result (λ verified. verified ≡ program) }
     ensures accepted { IfOk result (λ verified. judged verified ≡ None) }
@@ -132,7 +136,7 @@ fn accepted_program(alloc: Global, program: Program) -> Result<Verified, InputRe
     accepted_by(verify(alloc, program))
 }
 
-/// The verified program, or why it is refused.
+/// Returns the verified program, or the verifier's error as an `InputRefusal`.
 fn accepted_by(judgement: Result<Verified, Refused>) -> Result<Verified, InputRefusal>
     ensures { MatchResult judgement (λ verified. result ≡ Ok verified)
         (λ refused. result ≡ Err (verifier_refusal refused.fault)) }
@@ -143,7 +147,7 @@ fn accepted_by(judgement: Result<Verified, Refused>) -> Result<Verified, InputRe
     }
 }
 
-/// Runs a program on the bench.
+/// Runs a verified program in the bench setting, and returns the result of the run.
 fn run(alloc: Global, verified: &Verified) -> Result<Checked, AllocError>
     requires accepted { judged verified.now ≡ None }
     ensures { IfOk result (IsRun verified.now) }
@@ -158,7 +162,7 @@ fn run(alloc: Global, verified: &Verified) -> Result<Checked, AllocError>
     })
 }
 
-/// What a check prints.
+/// Returns the lines that `check` prints of an accepted program's run.
 pub(crate) fn checked_text(alloc: Global, checked: &Checked) -> Result<String, AllocError>
     ensures { IfOk result (λ text. string_bytes text ≡ checked_lines checked.now) }
 {

@@ -1,4 +1,4 @@
-//! How a program is explained.
+//! Explains a program: what the verifier knows at each instruction, and why it rejects one (`check --explain`).
 ghost use Rattle.std.specs.Prelude.{IfOk, IfErr, option_map, string_bytes};
 ghost use Rattle.cli_tasks.specs.Programs.{Explains, IsBehind, IsWhy};
 ghost use Rattle.cli_tasks.specs.ProgramRefusals.{RefusesNotation};
@@ -11,7 +11,8 @@ use explain::{UnitTexts, explanation_at};
 use insn::Program;
 use std::alloc::{AllocError, Global};
 
-/// The explanation of a program that a file of these bytes has in this notation.
+/// Returns the explanation of a program. The program comes from a file with these bytes, in this notation, and the
+/// explanation shows how and where each unit is written there.
 fn told(
     alloc: Global,
     notation: &Notation,
@@ -29,8 +30,8 @@ fn told(
     explanation_at(alloc, program, &written)
 }
 
-/// The lines of an accepted program that a file of these bytes has, and behind them an empty one and its explanation,
-/// if it is asked for, in the notation in which it is.
+/// Appends an empty line and the explanation of an accepted program to its lines. The program comes from a file with
+/// these bytes, in the notation `asked`. Returns the lines unchanged if `asked` is `None`.
 pub(crate) fn with_explanation(
     alloc: Global,
     lines: String,
@@ -51,11 +52,12 @@ pub(crate) fn with_explanation(
     Ok(text)
 }
 
-/// The explanation of the program in this notation that a file of these bytes has.
+/// Reads a program in this notation from the bytes of a file, and returns its explanation. The verifier need not accept
+/// the program.
 ///
 /// # Errors
 ///
-/// What of the file is refused, or want of memory.
+/// Fails if the bytes are not a program in this notation, or if memory runs out.
 pub fn explanation(alloc: Global, notation: &Notation, bytes: &[u8]) -> Result<String, InputRefusal>
     ensures why { IfOk result (λ text. IsWhy notation.now bytes.now (string_bytes text)) }
     ensures refused { IfErr result (RefusesNotation notation.now bytes.now) }

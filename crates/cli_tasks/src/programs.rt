@@ -1,4 +1,4 @@
-//! The program that a file has.
+//! Reads the program that a file contains, as bytecode, assembly or an ELF object. Does not verify it.
 ghost use Rattle.std.specs.Prelude.{◌≡◌, IfOk, IfErr, MatchResult, Ok, Err, Some};
 ghost use Rattle.asm.specs.Program.{program_of};
 ghost use Rattle.codec.specs.Program.{SpellsProgram};
@@ -16,7 +16,7 @@ use insn::Program;
 use object::ObjectFault;
 use std::alloc::Global;
 
-/// The program in this notation that a file of these bytes has.
+/// Reads a program in this notation from the bytes of a file.
 pub(crate) fn program_in(
     alloc: Global,
     notation: &Notation,
@@ -32,7 +32,7 @@ pub(crate) fn program_in(
     }
 }
 
-/// The program that the bytes spell.
+/// Decodes a program from bytecode.
 fn of_bytes(alloc: Global, bytes: &[u8]) -> Result<Program, InputRefusal>
     ensures program { IfOk result (λ program. SpellsProgram bytes.now program) }
     ensures refused { IfErr result (RefusesDisassembly bytes.now) }
@@ -40,7 +40,7 @@ fn of_bytes(alloc: Global, bytes: &[u8]) -> Result<Program, InputRefusal>
     Ok(decode(alloc, bytes)?)
 }
 
-/// That which the assembly says.
+/// Assembles a program from text.
 fn of_text(alloc: Global, text: &str) -> Result<Program, InputRefusal>
     ensures program { IfOk result (λ program. program_of text.now ≡ Some program) }
     ensures refused { IfErr result (RefusesAssembly text.now) }
@@ -48,7 +48,7 @@ fn of_text(alloc: Global, text: &str) -> Result<Program, InputRefusal>
     Ok(assemble(alloc, text)?)
 }
 
-/// That of an object's entry.
+/// Decodes the program of an object's entry.
 fn of_object(alloc: Global, object: &[u8], entry: Option<&str>) -> Result<Program, InputRefusal>
     ensures program { IfOk result (λ program. HasEntry (asked entry.entry) object.now program) }
     ensures refused { IfErr result (RefusesObject RefusesDisassembly (asked entry.entry) object.now) }
@@ -59,7 +59,8 @@ fn of_object(alloc: Global, object: &[u8], entry: Option<&str>) -> Result<Progra
     }
 }
 
-/// The code of an object's entry.
+/// Returns the code of an object's entry: of the function with the given name, or of the only function if no name is
+/// given.
 pub(crate) fn code_in<'a>(object: &'a [u8], entry: Option<&str>) -> Result<&'a [u8], ObjectFault>
     ensures { MatchResult result (λ code. entry_of object.now (asked entry.entry) ≡ Ok code.now)
         (λ fault. entry_of object.now (asked entry.entry) ≡ Err fault) }

@@ -1,4 +1,4 @@
-//! A task's files are read here, no further than their bytes can matter.
+//! Reads the files of a task, and no further than their bytes matter.
 ghost use Rattle.std.specs.Prelude.{◌≡◌, ◌<◌, ◌*◌, ℕ, List, length, IfOk, IfErr, IsSomeAnd, option_map};
 ghost use Rattle.std.specs.IoError.{error_kind};
 ghost use Rattle.cli_tasks.specs.Faults.{Stops, unread_by};
@@ -18,10 +18,11 @@ use std::io::{self, ErrorKind};
 use streams::{Source, Within};
 use trace::MOST_SCHEDULE_BYTES;
 
-/// The most bytes of a program.
+/// The largest number of bytes that a program's bytecode may have.
 const MOST_OF_A_PROGRAM: usize = 8 * Program::MOST_UNITS;
 
-/// All bytes of the only or first file. Bytecode that is longer than any program is refused without being kept.
+/// Reads all bytes of the only or first file. Bytecode that is longer than any program is rejected and is not kept
+/// whole in memory.
 pub(crate) fn read_first<'a, R: Source>(
     alloc: Global,
     task: &'a Task,
@@ -46,7 +47,7 @@ pub(crate) fn read_first<'a, R: Source>(
     }
 }
 
-/// All bytes of a file of bytecode, which are no more than a program has.
+/// Reads all bytes of a file of bytecode. Rejects bytecode that is longer than any program.
 fn read_program<'a, R: Source>(
     alloc: Global,
     task: &'a Task,
@@ -67,7 +68,8 @@ fn read_program<'a, R: Source>(
     }
 }
 
-/// The first fault of bytecode of so many bytes, which are more than a program has. It does not turn on the bytes.
+/// Returns the first fault of bytecode with `number` bytes, which are more than a program may have. The fault depends
+/// only on the number.
 fn too_long(number: usize) -> CodecError
     requires { 8 * 4096 < number }
     ensures { (bytes : List ℕ) → length bytes ≡ number → RefusesBytes bytes result }
@@ -79,7 +81,8 @@ fn too_long(number: usize) -> CodecError
     }
 }
 
-/// The bytes of a schedule's file or, where they are more than a schedule has, the first of them.
+/// Reads the bytes of a schedule's file. If they are more than a schedule may have, reads a beginning of them that is
+/// longer than this limit.
 pub(crate) fn read_schedule<'a, R: Source>(
     alloc: Global,
     file: &'a str,
@@ -94,7 +97,7 @@ pub(crate) fn read_schedule<'a, R: Source>(
     }
 }
 
-/// All bytes of the second file, none where there is no such file.
+/// Reads all bytes of the second file. Returns no bytes if there is no second file.
 pub(crate) fn read_second<'a, R: Source>(
     alloc: Global,
     file: &'a str,
@@ -109,7 +112,7 @@ pub(crate) fn read_second<'a, R: Source>(
     }
 }
 
-/// All bytes of the file with this name.
+/// Reads all bytes of the file with this name.
 fn read<'a, R: Source>(alloc: Global, file: &'a str, source: R) -> Result<Vec<u8>, TaskFailure<'a>>
     ensures whole { IfOk result (λ all. AreBytes (R.bytes source) all.items) }
     ensures fault { IfErr result (Stops (R.fails source) (λ _ _. ⊥) file.entry.now) }
@@ -120,7 +123,8 @@ fn read<'a, R: Source>(alloc: Global, file: &'a str, source: R) -> Result<Vec<u8
     }
 }
 
-/// The fault of a file with this name whose reading failed so.
+/// Returns the failure for a file of this name that could not be read: `Memory` if memory ran out, and `Read`
+/// otherwise.
 fn unread<'a>(error: &io::Error, file: &'a str) -> TaskFailure<'a>
     ensures kind { result ≡ unread_by (error_kind error.now) file.entry }
     ensures stops { Stops (Unit {0}) (λ _ _. ⊥) file.entry.now result }

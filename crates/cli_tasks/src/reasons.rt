@@ -1,10 +1,10 @@
-//! Why a file is not read or written, as the system says.
+//! Says why the operating system could not read or write a file.
 ghost use Rattle.std.specs.Prelude.{◌≡◌};
 ghost use Rattle.cli_tasks.specs.Reasons.{reason_text};
 
 use std::io::ErrorKind;
 
-/// The sentence for an error of this kind.
+/// Returns the sentence that describes an error of this kind.
 pub fn reason(kind: ErrorKind) -> &'static str
     ensures { result.now ≡ reason_text kind }
 {

@@ -1,3 +1,4 @@
+//! Why the input of a task is rejected: one type for the errors of all readers, with conversions into it.
 use asm::AsmError;
 use book::TableError;
 use campaign_schedules::{AccessFault, AccessesError};
@@ -11,34 +12,35 @@ use trace::TraceError;
 use trial::SettingError;
 use verify::VerifyError;
 
-/// Why a task does not take a file's bytes: what is refused, with its code and place.
+/// The reason why a task rejects its input. Its text contains the code and the place of the fault, if there are any.
 #[derive(Debug, Drop)]
 pub enum InputRefusal {
-    /// The bytes spell no program.
+    /// The bytes are not the bytecode of a program.
     Codec(CodecError),
     /// The object has no code for the entry.
     Object(object::ObjectFault),
-    /// The program is not accepted.
+    /// The verifier rejects the program.
     Verifier(VerifyError),
-    /// The text says no program.
+    /// The text does not assemble.
     Assembly(AsmError),
-    /// The text tells no message table.
+    /// The text is not a message table, or there is no table with these numbers.
     Table(TableError),
-    /// The text tells no scenario.
+    /// The text is not a scenario of the kind that the task needs.
     Scenario(ScenarioError),
-    /// The text tells no setting.
+    /// The text is not a setting.
     Setting(SettingError),
-    /// The text tells no schedule, or no chronicle of the scenario's.
+    /// The text is not a schedule, or not a chronicle of the scenario.
     Trace(TraceError),
-    /// The threads gave no chronicle.
+    /// The threads of a muster gave no chronicle.
     Threads(MusterError),
-    /// The accesses that are listed cannot come so.
+    /// The text does not list accesses, or a listed access cannot happen.
     Accesses(AccessFault),
-    /// One who is named is none of so many generals.
+    /// The general is named but is not one of this number of generals, or is the commander where a lieutenant is
+    /// needed.
     Stranger { general: u8, generals: u8 },
-    /// The bytes are no text in UTF-8.
+    /// The bytes are not UTF-8 text.
     NotText,
-    /// Want of memory.
+    /// Memory ran out.
     Memory,
 }
 

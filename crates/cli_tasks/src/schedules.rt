@@ -1,3 +1,4 @@
+//! Makes schedules for a campaign, from its chronicle or from a list of accesses (subcommand `schedule`).
 ghost use Rattle.std.specs.Prelude.{IfErr, IfOk, string_bytes};
 ghost use Rattle.cli_tasks.specs.Refusals.{RefusesChronicle, RefusesText};
 ghost use Rattle.cli_tasks.specs.CampaignRefusals.{RefusesListed};
@@ -10,11 +11,12 @@ use crate::texts::as_text;
 use round::Scenario;
 use std::alloc::Global;
 
-/// The schedule by which the oral campaign has the chronicle that these bytes are the text of.
+/// Returns a schedule by which the oral campaign has the chronicle whose text these bytes are.
 ///
 /// # Errors
 ///
-/// The first line that is not the chronicle's, or want of memory.
+/// Fails with `Trace` and the line at fault if the bytes are not a chronicle of the campaign, with `NotText` if they
+/// are not UTF-8, and with `Memory` if memory runs out.
 pub fn retraced(alloc: Global, scenario: &Scenario, bytes: &[u8]) -> Result<Vec<u8>, InputRefusal>
     ensures retraced { IfOk result (λ lines. IsScheduleFor scenario.now bytes.now lines.items) }
     ensures refused { IfErr result (RefusesText (RefusesChronicle (Oral scenario.now)) bytes.now) }
@@ -22,11 +24,12 @@ pub fn retraced(alloc: Global, scenario: &Scenario, bytes: &[u8]) -> Result<Vec<
     Ok(campaign_schedules::retraced(alloc, scenario, as_text(bytes)?)?.into_bytes())
 }
 
-/// The schedule by which the oral campaign that these bytes tell has the accesses that the text lists.
+/// Reads an oral campaign from these bytes, and returns a schedule by which it has the accesses that the text lists.
 ///
 /// # Errors
 ///
-/// What is refused of the bytes, then of the list, the first access that cannot come, or want of memory.
+/// Fails first for a fault of the bytes, then for a fault of the list, and then for the first listed access that cannot
+/// happen. Fails with `Memory` if memory runs out.
 #[tactic(auto, using(crate::proofs::ListedLemmas::of_scenario, crate::proofs::ListedLemmas::of_accesses))]
 pub fn arranged(alloc: Global, bytes: &[u8], list: &str) -> Result<String, InputRefusal>
     ensures arranged { IfOk result (λ lines. Arranges list.now bytes.now (string_bytes lines)) }

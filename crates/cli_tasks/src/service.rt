@@ -1,3 +1,4 @@
+//! Runs a subcommand on its files: reads them, computes the answer, and prints the answer or the error.
 ghost use Rattle.std.specs.Prelude.{◌≡◌, ◌≢◌, ◌⊎◌, [], Ok, Err, IfOk, IfErr, IfSome, IsErrAnd, IsSomeAnd, MatchResult, OnOk, codes, option_map};
 ghost use Rattle.std.specs.Fmt.{with_newline};
 ghost use Rattle.std.specs.Io.KnownBytes.{Appends};
@@ -32,10 +33,14 @@ use streams::{Output, Source};
 use verify::Verified;
 use world::Schedule;
 
-/// Does the task on its files: prints what it answers, or what is at fault, a line and what is said behind it. The
-/// second file is read where the task has one, and only where the first is not refused. All that is printed is in
-/// memory first. Only a muster starts threads, and it waits for them. A task that reads no file is given an empty one.
-/// The result is the exit status: 0 done, 1 refused or a fault of a file, 3 want of memory.
+/// Does a task on its files. Prints the answer to `out`, or the error to `fault`, as one line and the lines of its
+/// hint. A task that reads no file is given an empty first file.
+///
+/// The second file is read only if there is one, and only if the first file is accepted. The whole answer is in memory
+/// before any of it is printed. Only a muster starts threads, and `serve` waits for them.
+///
+/// Returns the exit status: 0 if the task is done, 3 if memory runs out, and 1 for any other failure, for example if a
+/// file is rejected or the output fails.
 pub fn serve<T, R, O, F>(
     rt: &T,
     alloc: Global,
@@ -71,7 +76,7 @@ where
     }
 }
 
-/// Says why a task is not done. The result is the exit status.
+/// Prints the error of a task to `fault`, and returns the exit status. If that output fails, nothing more is reported.
 fn ended<F: Output>(failure: &TaskFailure<'_>, fault: &mut F) -> u8
     ensures status { result ≡ status_of failure.now }
     ensures told { F.fails fault.old ⊎ IfSome (with_newline (fault_text failure.now))
@@ -81,7 +86,7 @@ fn ended<F: Output>(failure: &TaskFailure<'_>, fault: &mut F) -> u8
     failure.status()
 }
 
-/// Prints the whole answer, or nothing where there is none. Where the output fails, at most a beginning of the answer
+/// Prints the whole answer, or nothing if there is no answer. If the output fails, at most a beginning of the answer
 /// was printed.
 fn print<'a, T, R, O>(
     rt: &T,
@@ -109,11 +114,11 @@ where
     }
 }
 
-/// The task's answer on its files, which `serve` prints.
+/// Computes the answer of a task on its files, which `serve` prints.
 ///
 /// # Errors
 ///
-/// A file that cannot be read or is refused, or want of memory.
+/// Fails if a file cannot be read or is rejected, if the threads of a muster give no chronicle, or if memory runs out.
 pub fn answered<'a, T, R>(
     rt: &T,
     alloc: Global,
@@ -165,7 +170,8 @@ where
     }
 }
 
-/// The text of a muster, or the fault of a campaign that is not mustered, whose second file has this name.
+/// Returns the text of a muster, or turns the error of the muster into the task's failure. `file` is the name of the
+/// task's second file.
 fn mustered_text<'a>(
     alloc: Global,
     text: Result<Vec<u8>, InputRefusal>,
@@ -182,7 +188,7 @@ fn mustered_text<'a>(
     }
 }
 
-/// What is told of the program's trial in the setting of the second file.
+/// Tries a program in the setting that the second file describes, and returns what is printed of this trial.
 #[tactic(auto, using(crate::proofs::PlaceLemmas::of_place))]
 fn trial_of<'a, R: Source>(
     alloc: Global,
@@ -207,7 +213,8 @@ fn trial_of<'a, R: Source>(
     }
 }
 
-/// The text of the campaign by the schedule of the second file: this account of it, and how these decisions come about.
+/// Plays the campaign by the schedule in the second file. Returns this account of it, and after it the explanation of
+/// the decisions, if one is asked for.
 fn play_by<'a, R: Source>(
     alloc: Global,
     campaign: Campaign,
@@ -231,7 +238,7 @@ fn play_by<'a, R: Source>(
     }
 }
 
-/// The schedule of the second file, the empty one where there is none.
+/// Reads the schedule in the second file. Returns the empty schedule if there is no second file.
 pub(crate) fn scheduled<'a, R: Source>(
     alloc: Global,
     reported: bool,
@@ -264,7 +271,8 @@ pub(crate) fn scheduled<'a, R: Source>(
     }
 }
 
-/// The audit of the second file as a chronicle of the campaign, and how these decisions come about.
+/// Audits the second file as a chronicle of the campaign. Returns the lines of the audit, and after them the
+/// explanation of the decisions, if one is asked for.
 fn audit_of<'a, R: Source>(
     alloc: Global,
     campaign: &Campaign,

@@ -1,4 +1,5 @@
-//! The chronicles of campaigns that bytes tell. Whether they are a text is asked only where they tell none.
+//! Reads the chronicle of a campaign from the bytes of a file, and checks that it is sound. Checks whether the bytes
+//! are UTF-8 only if they are not a chronicle.
 ghost use Rattle.std.specs.Prelude.{◌≡◌, ◌≢◌, IfOk, IfErr, None, false};
 ghost use Rattle.std.specs.Str.{IsUtf8};
 ghost use Rattle.scenario.specs.declared.messages.Campaign.TheVariants.{Oral, Signed};
@@ -16,12 +17,13 @@ use signed::SignedChronicle;
 use std::alloc::Global;
 use world::Chronicle;
 
-/// The chronicle of an oral campaign, if the bytes are the text of one of the scenario's.
+/// Reads the chronicle of an oral campaign. The bytes must be the text of a chronicle of this scenario.
 ///
 /// # Errors
 ///
-/// That the bytes are no text, or the first line that is not the chronicle's, or, where they name a version, want of
-/// memory.
+/// Fails with `NotText` if the bytes are not UTF-8, with `Trace` and the line at fault if they are not a chronicle of
+/// the scenario, and with `Memory` if memory runs out. Bytes that name no version in which the scenario may be written
+/// never lead to `Memory`.
 pub fn sound_chronicle(
     alloc: Global,
     scenario: &Scenario,
@@ -42,11 +44,13 @@ pub fn sound_chronicle(
     }
 }
 
-/// The chronicle of a signed campaign, if the bytes are the text of one of the scenario's.
+/// Reads the chronicle of a signed campaign. The bytes must be the text of a chronicle of this scenario.
 ///
 /// # Errors
 ///
-/// Those of `sound_chronicle`.
+/// Fails with `NotText` if the bytes are not UTF-8, with `Trace` and the line at fault if they are not a chronicle of
+/// the scenario, and with `Memory` if memory runs out. Bytes that do not name the version of signed campaigns never
+/// lead to `Memory`.
 pub fn sound_signed_chronicle(
     alloc: Global,
     scenario: &Scenario,

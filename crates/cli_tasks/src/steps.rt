@@ -1,5 +1,5 @@
-//! What is told of a run: by `check --trace` its steps, and by `check --explain` in a setting its calls that put
-//! nothing.
+//! Describes the run of a program: its steps (`check --trace`), and its calls that put no order (`check --explain` in a
+//! setting).
 ghost use Rattle.std.specs.Prelude.{◌≡◌, ◌++◌, IfOk, option_map, string_bytes};
 ghost use Rattle.cli_tasks.specs.Answers.{AreSlipsBehind, steps_behind};
 
@@ -10,12 +10,12 @@ use std::alloc::{AllocError, Global};
 use trial::Setting;
 use verify::Verified;
 
-/// The lines of a program's run in this setting, and behind them an empty one and a line for each of its steps, if they
-/// are asked for.
+/// Appends an empty line and a line for each step of a program's run in this setting to the lines of the run. Returns
+/// the lines unchanged if `traced` is not set.
 ///
 /// # Errors
 ///
-/// `AllocError` where the memory for the context, the outbox, an access or the lines is refused.
+/// Fails with `AllocError` if there is no memory for the context, the outbox, an access or the lines.
 pub(crate) fn with_steps(
     alloc: Global,
     lines: String,
@@ -38,13 +38,13 @@ pub(crate) fn with_steps(
     Ok(text)
 }
 
-/// What is said of an accepted program, and behind it a line for each call of its run in this setting that puts
-/// nothing, with its unit and, where that is known, its place in the file of these bytes, if an explanation is asked
-/// for.
+/// Appends to the text about an accepted program a line for each call that puts no order in its run in this setting.
+/// Such a line names the unit and, if it is known, the place of the unit in the file, which has these bytes. Returns
+/// the text unchanged if `asked`, the notation of the program in the file, is `None`.
 ///
 /// # Errors
 ///
-/// `AllocError` where the memory for the context, the outbox, an access or the lines is refused.
+/// Fails with `AllocError` if there is no memory for the context, the outbox, an access or the lines.
 pub(crate) fn with_slips(
     alloc: Global,
     told: String,

@@ -1,16 +1,17 @@
-//! The story at a scenario's head, which a page shows.
+//! The story of a scenario, which a page shows: the comments and blank lines at its head.
 ghost use Rattle.std.specs.Prelude.{◌≡◌, ◌++◌, IfOk, OnOk};
 ghost use Rattle.cli_tasks.specs.Story.{is_blank, is_page, story, story_on, with_story};
 
 use cli_words::Task;
 use std::alloc::{AllocError, Global};
 
-/// The bytes that are read of a scenario of these own bytes, in which the files stand that it names: for a page, its
-/// story comes before, which the text with the files has not.
+/// Returns the bytes that are read of a scenario. `own` is the scenario's own text, and `bytes` the text in which the
+/// named files replace their names. That text has no story, so for a page the story of `own` is put before it. Nothing
+/// is put before `bytes` if they equal `own`.
 ///
 /// # Errors
 ///
-/// `AllocError` where memory is refused.
+/// Fails with `AllocError` if memory runs out.
 pub fn with_story(
     alloc: Global,
     task: &Task,
@@ -27,21 +28,21 @@ pub fn with_story(
     Ok(text)
 }
 
-/// Whether the task makes a page.
+/// Checks whether the task makes a page.
 fn is_page(task: &Task) -> bool
     ensures { result ≡ is_page task.now }
 {
     matches!(task, Task::Page { .. })
 }
 
-/// Whether a byte is a blank, a tab, or ends a line.
+/// Checks whether a byte is a space, a tab, a carriage return or a line feed.
 fn is_blank(byte: u8) -> bool
     ensures { result ≡ is_blank byte }
 {
     byte == b' ' || byte == b'\t' || byte == b'\r' || byte == b'\n'
 }
 
-/// The comments and blank lines at the head of a scenario.
+/// Returns the comments and blank lines at the head of a scenario.
 fn story(alloc: Global, bytes: &[u8]) -> Result<Vec<u8>, AllocError>
     ensures { IfOk result (λ text. text.items ≡ story bytes.now) }
 {

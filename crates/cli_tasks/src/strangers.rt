@@ -1,17 +1,17 @@
-//! Generals whom the words name, and who may be none of a table's or a campaign's.
+//! Checks that the generals named on the command line are generals of the message table or the campaign.
 ghost use Rattle.std.specs.Prelude.{◌≡◌, nat_le, None, IfErr, OnOk};
 ghost use Rattle.cli_tasks.specs.Strangers.{IsStranger, IsStrangerToTree, stranger_among, stranger_to_tree};
 
 use crate::refusal::InputRefusal;
 
-/// Whether this is the number of none of so many generals.
+/// Checks whether `general` is not one of `generals` generals, who are numbered from 0.
 fn is_stranger(generals: u8, general: u8) -> bool
     ensures { result ≡ nat_le generals general }
 {
     general >= generals
 }
 
-/// The first of those who are named that is none of so many generals.
+/// Returns the first named general who is not one of `generals` generals, or `None` if all are.
 fn stranger_among(generals: u8, named: &[u8]) -> Option<u8>
     ensures { result ≡ stranger_among generals named.now }
 {
@@ -23,11 +23,11 @@ fn stranger_among(generals: u8, named: &[u8]) -> Option<u8>
     None
 }
 
-/// Makes sure that all who are named are of so many generals.
+/// Checks that each named general is one of `generals` generals.
 ///
 /// # Errors
 ///
-/// The first who is none of them.
+/// Fails with `Stranger` for the first who is not.
 pub(crate) fn know_all(generals: u8, named: &[u8]) -> Result<(), InputRefusal>
     ensures known { OnOk result (stranger_among generals named.now ≡ None) }
     ensures refused { IfErr result (IsStranger generals named.now) }
@@ -38,12 +38,13 @@ pub(crate) fn know_all(generals: u8, named: &[u8]) -> Result<(), InputRefusal>
     }
 }
 
-/// Makes sure that this one is a lieutenant of so many generals under this commander, and that all who are named as
-/// traitors are of them.
+/// Checks that `general` is a lieutenant among `generals` generals under this commander, and that each general named as
+/// a traitor is one of them.
 ///
 /// # Errors
 ///
-/// He, or else the first of the others who is none of them.
+/// Fails with `Stranger` for `general` if he is not a lieutenant, or else for the first named traitor who is not one of
+/// the generals.
 pub(crate) fn know_tree(
     generals: u8,
     commander: u8,

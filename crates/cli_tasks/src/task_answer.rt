@@ -1,3 +1,5 @@
+//! Computes what each subcommand results in on its first file: the text to print, or a program or a campaign with which
+//! it goes on.
 ghost use Rattle.std.specs.Prelude.{IfOk, IfErr, None};
 ghost use Rattle.cli_tasks.specs.TaskAnswers.{ComesTo};
 ghost use Rattle.cli_tasks.specs.TaskRefusals.{Refuses};
@@ -19,11 +21,12 @@ use cli_words::{Accesses, Course, Spelling, Task};
 use show_tree::View;
 use std::alloc::Global;
 
-/// What the task comes to on an only or first file of these bytes.
+/// Computes what a task results in on its only or first file, which has these bytes. The result is all that the task
+/// prints, or a program or a campaign with which it goes on. A task that reads no file ignores the bytes.
 ///
 /// # Errors
 ///
-/// What is refused, or want of memory.
+/// Fails with the reason why the task rejects the file or the words, and with `Memory` if memory runs out.
 pub fn answer(alloc: Global, task: &Task, bytes: &[u8]) -> Result<FirstAnswer, InputRefusal>
     ensures answered { IfOk result (ComesTo task.now bytes.now) }
     ensures refused { IfErr result (Refuses task.now bytes.now) }

@@ -1,4 +1,4 @@
-//! Message tables and campaigns as trees.
+//! Draws as a tree what a lieutenant received, by a message table or in a campaign (subcommand `tree`).
 ghost use Rattle.std.specs.Prelude.{◌≡◌, ◌++◌, [], true, false, IfErr, IfOk, OnOk, string_bytes};
 ghost use Rattle.show_tree.specs.Drawn.{DrawsTable};
 ghost use Rattle.show_tree.specs.Shown.{ordered};
@@ -22,13 +22,15 @@ use toml::Table;
 use toml::de::Error;
 use world::{Chronicle, Schedule, play};
 
-/// What this general was told by the message table or, where the text is TOML, in the oral campaign that it tells,
-/// without a schedule; drawn so far, where these generals are named as traitors, and the campaign's own besides.
+/// Draws as a tree what a general received by a message table. A text that is TOML describes an oral campaign instead,
+/// which is played by the empty schedule. `view` says how many levels are drawn. The generals in `traitors` are drawn
+/// as traitors, and so are the traitors of the campaign.
 ///
 /// # Errors
 ///
-/// What the table or the scenario refuses; he, if he is no lieutenant of it, since a commander is told nothing; the
-/// first who is named and is none of its generals; or want of memory.
+/// Fails with `Table` or `Scenario` for the first fault of the text. Fails with `Stranger` for `general` if he is not a
+/// lieutenant, since the commander receives nothing, or for the first of `traitors` who is not one of the generals.
+/// Fails with `Memory` if memory runs out.
 #[tactic(auto, using(crate::proofs::PicturingLemmas::pictured))]
 pub fn pictured(
     alloc: Global,
@@ -52,7 +54,7 @@ pub fn pictured(
     Ok(campaign_pictured(alloc, scenario, traitors, view, form, general)?)
 }
 
-/// What he was told by the message table.
+/// Draws what a general received by a message table.
 #[tactic(auto, using(crate::proofs::StrangerLemmas::table_known))]
 fn table_pictured(
     alloc: Global,
@@ -71,7 +73,8 @@ fn table_pictured(
     Ok(drawn(alloc, text, traitors, view, form, general)?)
 }
 
-/// The oral campaign that the text tells, of which he is a lieutenant, and all who are named are generals.
+/// Reads an oral campaign from text, and checks that `general` is one of its lieutenants and that each of `traitors` is
+/// one of its generals.
 #[tactic(auto, using(crate::proofs::StrangerLemmas::scenario_known))]
 fn known_scenario(
     alloc: Global,
@@ -88,7 +91,7 @@ fn known_scenario(
     Ok(scenario)
 }
 
-/// The oral campaign that the text tells.
+/// Reads an oral campaign from text.
 fn scenario_in(alloc: Global, text: &str) -> Result<Scenario, InputRefusal>
     ensures told { IfOk result (Tells text.now) }
     ensures refused { IfErr result (RefusesScenario text.now) }
@@ -96,7 +99,7 @@ fn scenario_in(alloc: Global, text: &str) -> Result<Scenario, InputRefusal>
     Ok(scenario::read(alloc, text)?)
 }
 
-/// Whether a text that was parsed so is TOML.
+/// Returns whether a text is TOML, where `parsed` is the result of parsing it. Fails if the parser ran out of memory.
 fn parses(parsed: Result<Table, Error>) -> Result<bool, AllocError>
     ensures { TellsWhetherToml parsed result }
 {
@@ -107,14 +110,15 @@ fn parses(parsed: Result<Table, Error>) -> Result<bool, AllocError>
     }
 }
 
-/// Whether the text is TOML.
+/// Checks whether the text is TOML.
 fn is_toml(alloc: Global, text: &str) -> Result<bool, AllocError>
     ensures { IfOk result (λ is. is ≡ is_toml text.now) }
 {
     parses(toml::table_from_str(alloc, text))
 }
 
-/// What he was told in the campaign, whose own traitors are named besides.
+/// Plays an oral campaign by the empty schedule, and draws what a general received in it. The traitors of the campaign
+/// are drawn as traitors, and so are the generals in `named`.
 #[tactic(auto, using(crate::proofs::PicturingLemmas::played_wholly, crate::proofs::PicturingLemmas::of_same))]
 fn campaign_pictured(
     alloc: Global,
@@ -138,7 +142,7 @@ fn campaign_pictured(
     Ok(chronicle_pictured(alloc, &chronicle, all.as_slice(), view, form, general)?)
 }
 
-/// What he was told in the campaign of a chronicle, by the message table that its letters tell.
+/// Draws what a general received in the campaign of a chronicle, by the message table that its letters give.
 #[tactic(auto, using(crate::proofs::PicturingLemmas::is_drawn))]
 fn chronicle_pictured(
     alloc: Global,
@@ -157,7 +161,7 @@ fn chronicle_pictured(
     Ok(tree_drawn(alloc, &table, traitors, view, form, general)?)
 }
 
-/// The form of a drawing.
+/// Returns the form of the tree for a drawing.
 fn form(drawing: Drawing) -> TreeForm
     ensures { result ≡ form_of drawing }
 {

@@ -1,3 +1,5 @@
+//! Computes what `check` prints of a program: its run in the bench setting, or its trial in the setting of a second
+//! file.
 ghost use Rattle.std.specs.Prelude.{IfOk, IfErr, option_map, string_bytes, None};
 ghost use Rattle.cli_tasks.specs.Answers.{IsTriedAt, IsChecked};
 ghost use Rattle.cli_tasks.specs.ProgramRefusals.{RefusesSetting, RefusesCheckIn};
@@ -14,11 +16,12 @@ use std::alloc::Global;
 use trial::{Setting, read, tried};
 use verify::Verified;
 
-/// What a check prints of a file with a program in this notation, with its steps and its explanation or without them.
+/// Computes what `check` prints of the program that a file contains in this notation. The text has the lines of the run
+/// in the bench setting. The steps follow if `traced` is set, and the explanation follows if `explained` is set.
 ///
 /// # Errors
 ///
-/// What of the file is refused, or want of memory.
+/// Fails if the file is rejected, or if memory runs out.
 pub fn checked_in(
     alloc: Global,
     notation: &Notation,
@@ -36,13 +39,15 @@ pub fn checked_in(
     Ok(with_explanation(alloc, lines, asked, bytes, verified.program())?)
 }
 
-/// The lines of the program's trial in the setting that the second file tells, and behind them its steps, if they are
-/// asked for. If it is asked for, in the notation in which the first file has the program, its explanation stands
-/// behind these, and a note for each call that puts nothing. With the lines comes whose relay it was.
+/// Tries a program in the setting that the second file describes. Returns the text of the trial, and its relay. The
+/// text has the lines of the trial, and then its steps if `traced` is set. If an explanation is asked for, `asked` is
+/// the notation of the program in the first file. Then the explanation follows, and a note for each call that puts no
+/// order.
 ///
 /// # Errors
 ///
-/// The first fault of the setting, or want of memory.
+/// Fails with `Setting` for the first fault of the setting, with `NotText` if the second file is not UTF-8, and with
+/// `Memory` if memory runs out.
 pub fn tried_by(
     alloc: Global,
     program: &Verified,

@@ -1,4 +1,4 @@
-//! Where and how the units of the program that a file has are written.
+//! Finds where and how the units of a program are written: lines of assembly, or source lines of an ELF object.
 ghost use Rattle.std.specs.Prelude.{◌≡◌, IfOk, map, string_bytes};
 ghost use Rattle.std.specs.Str.{IsUtf8};
 ghost use Rattle.asm.specs.Places.{AreWritten, statements_of};
@@ -12,8 +12,8 @@ use cli_words::Notation;
 use object::entry_places;
 use std::alloc::{AllocError, Global};
 
-/// Where each unit of the program that a file of these bytes has in this notation is written: of assembly on which
-/// line, of an object in which line of which file.
+/// Returns for each unit of the program in a file where it is written. For assembly this is the line, and for an object
+/// the line of a source file. The list is empty for bytecode.
 pub(crate) fn written_in(
     alloc: Global,
     notation: &Notation,
@@ -28,7 +28,8 @@ pub(crate) fn written_in(
     }
 }
 
-/// That of the program that assembly says.
+/// Returns for each unit of an assembled text the line on which it is written. The list is empty if the bytes are not
+/// UTF-8.
 fn in_text(alloc: Global, bytes: &[u8]) -> Result<Vec<String>, AllocError>
     ensures { IfOk result (λ places. IsUtf8 bytes.now →
         AreWritten (read_on nothing 1 (lines_of bytes.now)) (map string_bytes places.items)) }
@@ -39,7 +40,7 @@ fn in_text(alloc: Global, bytes: &[u8]) -> Result<Vec<String>, AllocError>
     }
 }
 
-/// That of an object's entry.
+/// Returns for each unit of an object's entry the line of a source file where it is written.
 fn in_object(alloc: Global, object: &[u8], entry: Option<&str>) -> Result<Vec<String>, AllocError>
     ensures { IfOk result (λ places. AreEntryPlaces object.now (function_of object.now (asked entry.entry))
         (map string_bytes places.items)) }
@@ -50,8 +51,8 @@ fn in_object(alloc: Global, object: &[u8], entry: Option<&str>) -> Result<Vec<St
     }
 }
 
-/// How each unit of the program that a file of these bytes has in this notation is written: of assembly in the words of
-/// its line.
+/// Returns for each unit of the program in a file how it is written. For assembly this is the statement in the words of
+/// its line. The list is empty for bytecode and objects.
 pub(crate) fn statements_in(
     alloc: Global,
     notation: &Notation,
@@ -65,7 +66,8 @@ pub(crate) fn statements_in(
     }
 }
 
-/// That of the program that assembly says.
+/// Returns for each unit of an assembled text the statement in the words of its line. The list is empty if the bytes
+/// are not UTF-8.
 fn statements_of_text(alloc: Global, bytes: &[u8]) -> Result<Vec<String>, AllocError>
     ensures { IfOk result (λ statements. IsUtf8 bytes.now →
         map string_bytes statements.items ≡ statements_of bytes.now) }

@@ -1,4 +1,4 @@
-//! What is said behind the line of a refusal where an explanation is asked for.
+//! Makes the report that is printed after the error line of a rejected input if an explanation is asked for.
 ghost use Rattle.std.specs.Prelude.{◌≡◌, ◌++◌, IfOk, IfSome, string_bytes};
 ghost use Rattle.streams.specs.Names.{shown};
 ghost use Rattle.cli_report.specs.Bytecode.{bytecode_told};
@@ -21,7 +21,7 @@ use std::alloc::{AllocError, Global};
 use streams::FileName;
 use trace::{TraceError, signed_told_again, told_again};
 
-/// What a file is in which a line is at fault: a schedule, a chronicle of this campaign, or none of these.
+/// The role of a file in which a line is at fault: a schedule, a chronicle of this campaign, or any other file.
 #[derive(Clone, Copy)]
 pub enum FileRole<'a> {
     Schedule,
@@ -29,7 +29,7 @@ pub enum FileRole<'a> {
     Nothing,
 }
 
-/// Whether the task is to explain what it refuses.
+/// Checks whether the task must explain why it rejects its input.
 pub fn is_explained(task: &Task) -> bool
     ensures { result ≡ is_explained task.now }
 {
@@ -53,14 +53,14 @@ pub fn is_explained(task: &Task) -> bool
     }
 }
 
-/// The name of a file as it is told.
+/// Returns the name of a file as it is printed.
 fn shown_name(alloc: Global, file: &str) -> Result<String, AllocError>
     ensures { IfOk result (λ name. IfSome (shown file.now) (λ told. string_bytes name ≡ told)) }
 {
     format!(in alloc; "{}", FileName(file))
 }
 
-/// Of bytecode: what the bytes seem to be, and why they are refused.
+/// Returns the report on rejected bytecode: what the bytes seem to be, and why they are rejected.
 fn bytecode_told(
     alloc: Global,
     name: &str,
@@ -81,7 +81,7 @@ fn bytecode_told(
     }
 }
 
-/// The text that a campaign has in place of this one, which is not sound.
+/// Returns the text that the chronicle of a campaign should have in place of this one, which is not sound.
 fn campaign_again(alloc: Global, campaign: &Campaign, text: &[u8]) -> Result<Vec<u8>, AllocError>
     ensures { IfOk result (λ again. again.items ≡ campaign_again campaign.now text.now) }
 {
@@ -91,7 +91,7 @@ fn campaign_again(alloc: Global, campaign: &Campaign, text: &[u8]) -> Result<Vec
     }
 }
 
-/// Of a schedule or a chronicle: why a line is refused.
+/// Returns the report on a rejected line of a schedule or a chronicle. The report is empty for any other file.
 fn trace_told(
     alloc: Global,
     of: FileRole<'_>,
@@ -116,7 +116,8 @@ fn trace_told(
     }
 }
 
-/// What stands behind the line of a refusal of a file with this name and these bytes.
+/// Returns the report that is printed after the error line of a rejected file with this name and these bytes. The
+/// report is empty for errors that have none.
 fn told_by(
     alloc: Global,
     of: FileRole<'_>,
@@ -154,7 +155,7 @@ fn told_by(
     }
 }
 
-/// The fault of a file with this name, with this text behind its line.
+/// Returns the failure for a rejected file of this name, with this text as its hint.
 fn with_text<'a>(refusal: InputRefusal, file: &'a str, text: String) -> TaskFailure<'a>
     ensures { result ≡ text_fault refusal file.entry text }
 {
@@ -165,7 +166,7 @@ fn with_text<'a>(refusal: InputRefusal, file: &'a str, text: String) -> TaskFail
     }
 }
 
-/// The fault of a file with this name and these bytes, with what is said behind its line.
+/// Returns the failure for a rejected file with this name and these bytes, with the report as its hint.
 fn told<'a>(
     alloc: Global,
     of: FileRole<'_>,
@@ -184,7 +185,8 @@ fn told<'a>(
     }
 }
 
-/// Whether more is said of a refusal than what is said of it always: of an object's fault there is no more.
+/// Checks whether the task reports more about a refusal than the hint that is always printed. It does so if an
+/// explanation is asked for, but never for an object's fault.
 fn is_reported(task: &Task, refusal: &InputRefusal) -> bool
     ensures { result ≡ is_reported task.now refusal.now }
 {
@@ -194,8 +196,9 @@ fn is_reported(task: &Task, refusal: &InputRefusal) -> bool
     }
 }
 
-/// The fault of the task's first file, of which these bytes are to be bytecode, with what is said behind its line where
-/// it is not the verifier that refuses it.
+/// Returns the failure of a task that rejects its first file, without the explanation of a program. If a report is
+/// asked for, the hint is the report on `own`, the bytes in which the fault is located. Otherwise the failure is that
+/// of `TaskFailure::of_bytes`.
 pub fn unjudged<'a>(
     alloc: Global,
     task: &Task,
@@ -212,8 +215,8 @@ pub fn unjudged<'a>(
     }
 }
 
-/// The fault of a second file with this name and these bytes, with what is said behind its line where an explanation is
-/// asked for.
+/// Returns the failure for a rejected second file with this name and these bytes. If `explained` is set, the report is
+/// its hint.
 pub fn later<'a>(
     alloc: Global,
     explained: bool,
