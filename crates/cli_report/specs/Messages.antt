@@ -1,4 +1,4 @@
--- What is said of a fault of a message table.
+-- Defines the report of a fault of a message table (own).
 use Rattle.std.specs.Prelude.{ℕ, List, ◌++◌, ◌-◌, ◌==◌, ◌||◌, if◌then◌else◌, Option, None, Some, codes, decimal, length}
 use Rattle.combine.specs.Names.{rule_names}
 use Rattle.book.specs.declared.fault.TableFault.{TableFault}
@@ -24,7 +24,8 @@ table_sentence fault.Place number =
     ++ codes "has at most bound + 1 generals, none twice, and the receiver is not on it"
 table_sentence fault.Twice number = codes "a line before tells this receiver of this label"
 
--- what is likely by the first of these characters that stands in the line
+-- Returns the help message for a line of the wrong shape: the likely cause by the first of these characters that the
+-- line contains.
 abbrev pub shape_advice : ℕ → List ℕ → Option (List ℕ)
 shape_advice number line =
     if begins_marked number line then Some (codes "the file begins with a byte order mark: save it without one")
@@ -44,11 +45,11 @@ table_line_told name f number None = report_text name (table_sentence f number) 
 table_line_told name f number (Some line) =
     report_text name (table_sentence f number) (Some (all_marked number (trimmed line))) (table_advice f number line)
 
--- of a fault at a line of the text of a file with this name
+-- Returns the report of a fault at a line of the text of a file with this name.
 unfoldable pub table_told : List ℕ → List ℕ → TableFault → ℕ → List ℕ
 table_told name text f number = table_line_told name f number (line_at text number)
 
--- ---- a general who is named, and is none of the table's
+-- ---- a named general who is not one of the table's
 
 abbrev pub stranger_sentence : ℕ → List ℕ
 stranger_sentence generals = codes "the table has the generals 0 to " ++ decimal (generals - 1)
@@ -58,6 +59,6 @@ stranger_line_told name generals None = report_text name (stranger_sentence gene
 stranger_line_told name generals (Some line) =
     report_text name (stranger_sentence generals) (Some (all_marked 1 (trimmed line))) None
 
--- of a table of so many, the text of a file with this name: at its first line
+-- Returns the report for a table of `generals` generals in a file with this name, at the table's first line.
 unfoldable pub stranger_told : List ℕ → List ℕ → ℕ → List ℕ
 stranger_told name text generals = stranger_line_told name generals (line_at text 1)

@@ -1,4 +1,4 @@
--- What is said of a muster that gave no chronicle, which is a fault of no file.
+-- Defines the report of a muster that returned no chronicle, for which no file is at fault (own).
 use Rattle.std.specs.Prelude.{ℕ, List, ◌++◌, codes}
 use Rattle.threads.specs.declared.error.MusterError.{MusterError}
 use Rattle.threads.specs.declared.error.MusterError.TheVariants as errors

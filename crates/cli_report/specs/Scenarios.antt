@@ -1,4 +1,4 @@
--- What is said of a fault of a scenario: the sentence of each code, and the place in the text.
+-- Defines the report of a fault of a scenario: the sentence for each code, and the place in the text (own).
 use Rattle.std.specs.Prelude.{ℕ, suc, zero, ◌≡◌, ◌⊎◌, List, [], ◌∷◌, ◌++◌, Bool, true, false, ◌+◌, ◌-◌, ◌*◌, ◌^◌, ◌==◌, ◌&&◌, ◌||◌, nat_eq, nat_le, nat_lt, if◌then◌else◌, Option, None, Some, Result, Ok, Err, codes, drop, length, option_and_then, option_map, take}
 use Rattle.std.specs.Fmt.{decimal}
 use Rattle.std.specs.List.{starts_with}
@@ -78,7 +78,7 @@ place_sentence f (places.Word index) = word_sentence f
 place_sentence f (places.Table index) = codes "a traitor is a table, begun by `[[traitor]]`"
 place_sentence f (places.Entry index name) = name_sentence f name
 
--- a missing key is one of the word, any other fault one of its value
+-- Holds if a fault is in the value of a key. A missing key is not.
 abbrev pub is_of_value : ScenarioFault → Bool
 is_of_value faults.Key = false
 is_of_value f = true
@@ -104,7 +104,7 @@ abbrev pub entry_keys : List (List ℕ)
 entry_keys = codes "general" ∷ codes "generals" ∷ codes "asm" ∷ codes "asm_file" ∷ codes "code" ∷ codes "code_file" ∷
     codes "elf" ∷ codes "entry" ∷ []
 
--- the sentence, the key in its line, and a key that is near
+-- Returns the report of an unknown key: the sentence, the key in its line, and a close key.
 abbrev pub key_told : List ℕ → List ℕ → List ℕ → Option Found → Option (List ℕ) → List ℕ
 key_told name sentence key line known =
     report_text name sentence (option_map (shown_at false key) line) (option_map (near_words (codes "key")) known)
@@ -113,7 +113,8 @@ unfoldable pub top_key_told : List ℕ → List ℕ → List ℕ → List ℕ
 top_key_told name text key =
     key_told name (codes "a scenario has no such key") key (found 0 key text) (near key top_keys)
 
--- the key that is near is the key itself: a table may have it, but not beside its others, or with another value
+-- Holds if the close key is the key itself. A table may have that key, but not next to its others, or not with this
+-- value.
 abbrev pub is_itself : Option (List ℕ) → List ℕ → Bool
 is_itself None key = false
 is_itself (Some known) key = bytes_eq known key
@@ -139,55 +140,56 @@ unknown_told name text (Some index) key = entry_key_told name text index key
 
 -- ---- a program
 
--- the line of a key of the table of this general, as far as `general = G` stands in it
+-- Returns the line of a key in the table of this general. The table is found by its line `general = G`.
 unfoldable pub program_line : ℕ → List ℕ → List ℕ → Option Found
 program_line general word text = option_and_then (λ table. found table word text) (table_of general text)
 
--- the text goes on over lines, between three quotation marks
+-- Holds if the value is a text over several lines, between three quotation marks.
 abbrev pub is_long : List ℕ → Bool
 is_long value = starts_with nat_eq value (codes "\"\"\"") || starts_with nat_eq value (codes "'''")
 
--- a line feed of a text on one line, written `\n`
+-- Holds if a text on one line begins with an escaped line feed, `\n`.
 abbrev pub is_feed : List ℕ → Bool
 is_feed (c ∷ d ∷ cs) = c == 92 && d == 110
 is_feed _ = false
 
--- behind the first line feed
+-- Returns the text after the first escaped line feed.
 abbrev pub behind_feed : List ℕ → List ℕ
 behind_feed [] = []
 behind_feed (c ∷ cs) = if is_feed (c ∷ cs) then drop 1 cs else behind_feed cs
 
--- behind so many of them
+-- Returns the text after its first escaped line feeds, of the given number.
 abbrev pub behind_feeds : ℕ → List ℕ → List ℕ
 behind_feeds zero text = text
 behind_feeds (suc n) text = behind_feeds n (behind_feed text)
 
--- before the next one, and before the quotation mark that ends the text
+-- Returns the text before its next escaped line feed or the quotation mark that ends it.
 abbrev pub before_feed : List ℕ → List ℕ → List ℕ
 before_feed quote [] = []
 before_feed quote (c ∷ cs) =
     if is_feed (c ∷ cs) || starts_with nat_eq (c ∷ cs) quote then [] else c ∷ before_feed quote cs
 
--- before the quotation mark that ends a text that goes on over lines
+-- Returns the text before the quotation marks that end a text over several lines.
 abbrev pub before_quote : List ℕ → List ℕ → List ℕ
 before_quote quote [] = []
 before_quote quote (c ∷ cs) = if starts_with nat_eq (c ∷ cs) quote then [] else c ∷ before_quote quote cs
 
--- a line of the program that begins at this end of a line of the file
+-- Returns the spot of a line of the program that begins where the rest `end` of a line of the file begins.
 abbrev pub end_spot : Found → List ℕ → List ℕ → Spot
 end_spot line end code =
     record { number = line.number; shown = line.line; front = length line.line - length end; code = code }
 
--- the line that stands so many behind the line of this number, by its own number, which has 64 bits
+-- Returns the line that is `more` lines after line `first`, with its number. The number must have at most 64 bits.
 unfoldable pub line_behind : List ℕ → ℕ → ℕ → Option (ℕ × List ℕ)
 line_behind text first more = if nat_lt (first + more) (2 ^ 64)
     then option_map (λ line. (first + more, line)) (line_at text (first + more)) else None
 
--- a line of the file that is one of the program, which this quotation mark ends
+-- Returns the spot of a line of the program that is a line of the file, up to the quotation marks `quote`.
 abbrev pub line_spot : List ℕ → ℕ × List ℕ → Spot
 line_spot quote line = record { number = line.0; shown = line.1; front = 0; code = before_quote quote line.1 }
 
--- a long text begins on its key's line or, where nothing stands behind its quotation marks there, on the next
+-- Returns the spot of a line of a text over several lines. The text begins on its key's line or, if nothing follows the
+-- quotation marks there, on the next line.
 abbrev pub long_spot : List ℕ → ℕ → Found → List ℕ → List ℕ → Option Spot
 long_spot text number line quote rest =
     if length (trimmed rest) == 0 then option_map (line_spot quote) (line_behind text line.number number)
@@ -197,7 +199,7 @@ long_spot text number line quote rest =
 abbrev pub short_spot : Found → List ℕ → List ℕ → Spot
 short_spot line quote end = end_spot line end (before_feed quote end)
 
--- a line of the program by its number, whose key stands in this line of the file
+-- Returns the spot of line `number` of the program whose key is in this line of the file.
 abbrev pub spot_in : List ℕ → ℕ → Found → Option Spot
 spot_in text number line =
     if is_long (value_end line.line)
@@ -212,7 +214,7 @@ spot_told name f (Some spot) = code_told name f spot
 abbrev pub text_told : List ℕ → List ℕ → AsmFault → ℕ → Option Found → List ℕ
 text_told name text f number line = spot_told name f (option_and_then (spot_in text number) line)
 
--- the digits of a unit that a program may have, from them on
+-- Returns the rest of the line from the hex digits of a unit on, if a program may have that unit.
 abbrev pub unit_end : List ℕ → ℕ → List ℕ
 unit_end line unit = if nat_le unit 4096 then drop (16 * unit) (drop 1 (value_end line)) else []
 
@@ -231,38 +233,40 @@ abbrev pub verifier_sentence : Reason → ℕ → List ℕ
 verifier_sentence reason unit =
     codes "the verifier refuses this program, by " ++ (code_of reason ++ (codes " at its unit " ++ decimal unit))
 
--- the line of the program: that of its assembly, else that of its bytecode
+-- Returns the line with the key of a program: that of its assembly, otherwise that of its bytecode.
 abbrev pub source_line : ℕ → List ℕ → Option Found
 source_line general text = or_else (program_line general (codes "asm") text) (program_line general (codes "code") text)
 
--- a unit of this assembly, whose key stands in this line of the file: its statement in the line that has it
+-- The mark is the statement of a unit of this assembly, in the line of the file that has it. `line` has the key of the
+-- program.
 abbrev pub IsUnitShown : List ℕ → ℕ → List ℕ → Option Found → Option Mark → Type 0
 IsUnitShown text unit asm line mark = (number : ℕ) × IsUnitLine asm unit number
     × (mark ≡ option_map unit_mark (option_and_then (spot_in text number) line))
 
--- the key of the program
+-- Marks the key of the program's assembly or, if there is only bytecode, all of the line with its key.
 abbrev pub source_shown : ℕ → List ℕ → Option Mark
 source_shown general text = option_map (shown_at false (codes "asm")) (source_line general text)
 
--- the key of bytecode
+-- Marks the key of the bytecode.
 abbrev pub bytecode_shown : ℕ → List ℕ → Option Mark
 bytecode_shown general text = option_map (shown_at false (codes "code")) (program_line general (codes "code") text)
 
--- the place of a unit that the verifier refuses: of bytecode it is the key
+-- The mark is the place of a unit that the verifier rejects. For bytecode it is the key.
 abbrev pub IsRefusedAt : List ℕ → ℕ → ℕ → Option Source → Option Mark → Type 0
 IsRefusedAt text general unit None mark = mark ≡ source_shown general text
 IsRefusedAt text general unit (Some (Hex digits)) mark = mark ≡ bytecode_shown general text
 IsRefusedAt text general unit (Some (Assembly asm)) mark =
     IsUnitShown text unit asm (program_line general (codes "asm") text) mark
 
--- the table of a text that was parsed so, none where it is no TOML, or want of memory
+-- The second result has the table of the first one, or `None` if the text is not TOML. It fails if the first one ran
+-- out of memory.
 abbrev pub IsTableBy : {T : Type 0} → Result T Error → Result (Option T) AllocError → Type 0
 IsTableBy (Ok table) (Ok (Some own)) = own ≡ table
 IsTableBy (Err error) (Ok None) = ¬ IsMemory error
 IsTableBy (Err error) (Err _) = IsMemory error
 IsTableBy _ _ = ⊥
 
--- the tables that the bytes say, which are perhaps no text
+-- The members are those of the bytes as TOML. There are none if the bytes are not UTF-8 or not TOML.
 abbrev pub IsDocumentOf : List ℕ → Option Members → Type 0
 IsDocumentOf bytes members = (IsUtf8 bytes × (members ≡ parse_document bytes)) ⊎ (¬ IsUtf8 bytes × (members ≡ None))
 

@@ -1,4 +1,4 @@
--- What is said of a fault of a setting: the sentence of each code, and the place in the text.
+-- Defines the report of a fault of a setting: the sentence for each code, and the place in the text (own).
 use Rattle.std.specs.Prelude.{ℕ, List, [], ◌∷◌, ◌++◌, true, false, Option, None, codes, option_map}
 use Rattle.trial.specs.Names.{text_of}
 use Rattle.trial.specs.declared.place.SettingKey.{SettingKey}
@@ -48,7 +48,7 @@ setting_word (places.Key name) = text_of name
 setting_word (places.Order rank) = codes "taken"
 setting_word (places.Word slot) = codes "board"
 
--- the value that is at fault: a key that is missing stands nowhere
+-- Marks the value that is at fault. A key that is missing has no place.
 abbrev pub setting_mark : SettingPlace → List ℕ → Option Mark
 setting_mark place text = option_map (shown_at true (setting_word place)) (found 0 (setting_word place) text)
 
