@@ -1,4 +1,4 @@
--- The rows of the code, as usages.
+-- Defines the view of the code's subcommands as usages (own).
 use Rattle.std.specs.Prelude.{ℕ, List, [], ◌∷◌, map}
 use Rattle.std.specs.Borrow.{Bor}
 use Rattle.clap.specs.Words.{App, Rule, Shape, with_subcommand}
@@ -25,14 +25,15 @@ usage_of s = record {
   flags = map flag_of s.flags.now;
 }
 
--- the rule of a flag, and the shape of a subcommand
+-- Returns the rule of a flag.
 unfoldable pub rule_for : declared.Flag → Rule
 rule_for flag = flag_rule (flag_of flag)
 
+-- Returns the shape of a subcommand.
 unfoldable pub shape_for : Subcommand → Shape
 shape_for s = shape (usage_of s)
 
--- the program with these subcommands, one behind the other
+-- Returns the program with these subcommands added, one after the other.
 abbrev pub with_subcommands : App → List Subcommand → App
 with_subcommands app [] = app
 with_subcommands app (subcommand ∷ rest) = with_subcommands (with_subcommand app (shape_for subcommand)) rest

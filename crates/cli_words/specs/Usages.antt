@@ -1,4 +1,4 @@
--- The subcommands, a row each.
+-- Defines the subcommands, one row each (own).
 use Rattle.std.specs.Prelude.{List, [], ◌∷◌, Option, codes, find}
 use Rattle.std.specs.Str.{bytes_eq}
 use Rattle.cli_words.specs.Usage.{Text, Usage, letter, option, switch}

@@ -1,4 +1,4 @@
-//! The subcommands, a row each.
+//! Lists the subcommands, with their places, their flags and the texts of their help.
 ghost use Rattle.std.specs.Prelude.{◌≡◌, map};
 ghost use Rattle.cli_words.specs.Asked.{words_of};
 ghost use Rattle.cli_words.specs.Lab.{named_in, usages_for};
@@ -399,7 +399,7 @@ const SCHEDULE: Subcommand<'static> = Subcommand {
     }],
 };
 
-/// All subcommands, as help lists them.
+/// Returns all subcommands, in the order in which help lists them.
 pub(crate) fn subcommands() -> &'static [Subcommand<'static>]
     ensures { map usage_of result.now ≡ usages }
 {
@@ -408,7 +408,7 @@ pub(crate) fn subcommands() -> &'static [Subcommand<'static>]
     ]
 }
 
-/// The subcommand that the first word names, and else all.
+/// Returns the subcommand that the first word names, or all subcommands if the first word names none.
 pub(crate) fn subcommands_for(words: &[&str]) -> &'static [Subcommand<'static>]
     ensures { map usage_of result.now ≡ usages_for (words_of words.now) }
 {
@@ -418,7 +418,7 @@ pub(crate) fn subcommands_for(words: &[&str]) -> &'static [Subcommand<'static>]
     named_among(name, subcommands())
 }
 
-/// The subcommand of this name alone, and else all of these.
+/// Returns only the subcommand of this name, or all of them if none has the name.
 fn named_among(
     name: &str,
     subcommands: &'static [Subcommand<'static>],
