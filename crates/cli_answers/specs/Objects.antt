@@ -40,6 +40,7 @@ with_mark r ms = if length r.mark == 0 then ms else put r.mark (boolean r.holds)
 unfoldable pub shaped : Row → List Word → Option Members
 shaped r words = told_by r.parts words (with_mark r (called r.line))
 
+-- Returns the first object if there is one, and otherwise the second.
 abbrev pub first_by : Option Members → Option Members → Option Members
 first_by None later = later
 first_by (Some ms) later = Some ms
@@ -54,6 +55,7 @@ first_shaped h (r ∷ rs) words =
 abbrev pub unshaped : List ℕ → Members
 unshaped line = put (codes "text") (string (utf8_lossy line)) (called (codes "text"))
 
+-- Returns the object that was found, or `ms` if there is none.
 abbrev pub or : Option Members → Members → Members
 or None ms = ms
 or (Some found) ms = found

@@ -42,7 +42,7 @@ abbrev pub said : List ℕ → List (List ℕ) → Option (List ℕ)
 said code lines =
     if slice_index code 0 == 86 then why lines else if slice_index code 0 == 79 then slice_get lines 0 else None
 
--- Returns why a file is refused with this code, as the lines after the first say.
+-- Returns why a file is rejected with this code, as the lines after the first say.
 abbrev pub sentence_of : List ℕ → List (List ℕ) → Option (List ℕ)
 sentence_of code lines = option_or (reported lines) (said code lines)
 
@@ -59,7 +59,7 @@ namer (c ∷ cs) = option_or (namer cs) (namer_behind (c ∷ cs))
 abbrev pub second_of : List (List ℕ) → Option (List ℕ)
 second_of lines = slice_get lines 1
 
--- Returns where the object file is named that is refused with this code. The second of the lines says so.
+-- Returns where the object file is named that is rejected with this code. The second of the lines says so.
 abbrev pub namer_of : List ℕ → List (List ℕ) → Option (List ℕ)
 namer_of code lines = if slice_index code 0 == 79 then option_and_then namer (second_of lines) else None
 
@@ -78,7 +78,7 @@ with_namer None ms = ms
 with_namer (Some key) ms = with_text (codes "named_by") key ms
 
 -- Returns the object of a refusal: its code, its place and its class. The lines after the first add where an object
--- file is named, and why the file is refused.
+-- file is named, and why the file is rejected.
 abbrev pub refused_object : List ℕ → List (List ℕ) → Members
 refused_object told lines =
     let code = before space told in

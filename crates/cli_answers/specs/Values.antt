@@ -7,6 +7,7 @@ use Rattle.text.specs.Number.{decimal_of}
 use Rattle.text.specs.Parts.{pieces}
 use Rattle.text.specs.Stop.{dot}
 
+-- A word of a line, as bytes.
 abbrev pub Word : Type 0
 Word = List ℕ
 

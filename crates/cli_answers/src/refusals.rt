@@ -108,7 +108,7 @@ fn said<'a>(code: &[u8], lines: &'a [u8]) -> Option<&'a [u8]>
     }
 }
 
-/// Returns why a file is refused with this code, if the lines say so.
+/// Returns why a file is rejected with this code, if the lines say so.
 fn sentence_of<'a>(code: &[u8], lines: &'a [u8]) -> Option<&'a [u8]>
     ensures { option_map (λ s. s.now) result ≡ sentence_of code.now (lines_of lines.now) }
 {
@@ -148,7 +148,7 @@ fn namer(line: &[u8]) -> Option<&[u8]>
     last
 }
 
-/// Returns where the object file is named that is refused with this code, if the lines say so.
+/// Returns where the object file is named that is rejected with this code, if the lines say so.
 fn namer_of<'a>(code: &[u8], lines: &'a [u8]) -> Option<&'a [u8]>
     ensures { option_map (λ k. k.now) result ≡ namer_of code.now (lines_of lines.now) }
 {
@@ -209,7 +209,7 @@ fn put_text(
 }
 
 /// Returns the object of a refusal: its code, its place and its class. The lines after the first add where an object
-/// file is named, and why the file is refused.
+/// file is named, and why the file is rejected.
 fn refused(alloc: Global, told: &[u8], lines: &[u8]) -> Result<Map<String, Value>, AllocError>
     ensures { IfOk result (λ object. members_view object.entries ≡ refused_object told.now (lines_of lines.now)) }
 {

@@ -31,9 +31,11 @@ has_name code = nat_lt (until colon (before Blank code)) (length (before Blank c
 unfoldable pub statement_in : List ℕ → List ℕ
 statement_in code = if has_name code then from Solid (drop 1 (from colon code)) else code
 
+-- Returns the mnemonic in a line's code.
 abbrev pub mnemonic_in : List ℕ → List ℕ
 mnemonic_in code = before Blank (statement_in code)
 
+-- Returns the operands in a line's code, as one text.
 abbrev pub operands_in : List ℕ → List ℕ
 operands_in code = from Solid (from Blank (statement_in code))
 
@@ -43,6 +45,7 @@ last_of [] = []
 last_of (piece ∷ []) = piece
 last_of (piece ∷ next ∷ pieces) = last_of (next ∷ pieces)
 
+-- Returns the last operand, without the blanks before it.
 unfoldable pub last_operand : List ℕ → List ℕ
 last_operand operands = from Solid (last_of (pieces comma operands))
 
@@ -61,9 +64,11 @@ Part = List ℕ × ℕ
 abbrev pub part_view : Bor (List ℕ) × ℕ → Part
 part_view part = (part.0.now, part.1)
 
+-- Returns all of this rest of the code as a part.
 abbrev pub all_of : List ℕ → Part
 all_of end = (end, length end)
 
+-- Returns the mnemonic of a statement as a part.
 abbrev pub mnemonic_part : List ℕ → Part
 mnemonic_part statement = (statement, until Blank statement)
 
@@ -91,6 +96,7 @@ part_of fault.Count code = all_of code
 abbrev pub behind_front : List ℕ → Part → ℕ × ℕ
 behind_front line part = (length (trimmed (before semicolon line)) - length part.0, part.1)
 
+-- Returns how many bytes of the line are before the part at fault, and how many it has.
 unfoldable pub place_in : AsmFault → List ℕ → ℕ × ℕ
 place_in f line = behind_front line (part_of f (code_in line))
 
@@ -123,6 +129,7 @@ unit_mark s = spot_mark s (statement_place s.code)
 
 -- ---- the sentence
 
+-- Returns the sentence for a line of the wrong shape. The argument is the code from its first non-ASCII byte on.
 abbrev pub outline_sentence : List ℕ → List ℕ
 outline_sentence [] = codes "a line is `[name:] [mnemonic operands] [; comment]`, with commas between the operands"
 outline_sentence (c ∷ cs) = codes "a character that is not of ASCII stands outside a comment"
@@ -134,11 +141,13 @@ call_sentence [] = takes_text takes.Call
 call_sentence (c ∷ cs) = if is_within 97 122 c || is_within 65 90 c || c == 95
     then codes "there is no helper of this name" else takes_text takes.Call
 
+-- Returns the sentence for operands that do not fit the mnemonic, by what the mnemonic takes.
 abbrev pub operand_sentence : Option Takes → List ℕ → List ℕ
 operand_sentence None operands = codes "the operands are not those of the mnemonic"
 operand_sentence (Some takes.Call) operands = call_sentence operands
 operand_sentence (Some takes) operands = takes_text takes
 
+-- Returns the sentence for a number out of range, by what the mnemonic takes.
 abbrev pub range_sentence : Option Takes → List ℕ
 range_sentence (Some takes.Wide) = codes "a number here is -9223372036854775808 to 18446744073709551615"
 range_sentence (Some takes.Load) = codes "an offset is -32768 to 32767"
@@ -150,6 +159,7 @@ range_sentence (Some takes.StoreNumber) =
     codes "a number here is -2147483648 to 2147483647, and an offset -32768 to 32767"
 range_sentence _ = codes "a number here is -2147483648 to 2147483647"
 
+-- Returns the sentence for a fault in this code.
 abbrev pub assembly_sentence : AsmFault → List ℕ → List ℕ
 assembly_sentence fault.Line code = outline_sentence (past_ascii code)
 assembly_sentence fault.Mnemonic code = codes "there is no such mnemonic"
@@ -161,9 +171,11 @@ assembly_sentence fault.Count code = codes "a program has 1 to 4096 units"
 
 -- ---- the help
 
+-- Holds if the byte is among these bytes.
 abbrev pub has : ℕ → List ℕ → Bool
 has byte bytes = list_any (λ b. b == byte) bytes
 
+-- Holds if an ASCII capital letter is among the bytes.
 abbrev pub has_capital : List ℕ → Bool
 has_capital bytes = list_any (λ b. is_within 65 90 b) bytes
 
@@ -171,6 +183,7 @@ has_capital bytes = list_any (λ b. is_within 65 90 b) bytes
 abbrev pub order_mark : List ℕ
 order_mark = 239 ∷ 187 ∷ 191 ∷ []
 
+-- Holds for the first line of a file if it begins with a byte order mark.
 abbrev pub begins_marked : ℕ → List ℕ → Bool
 begins_marked number line = number == 1 && starts_with nat_eq line order_mark
 
@@ -191,14 +204,17 @@ or_small code (Some advice) = Some advice
 or_small code None =
     if has_capital code then Some (codes "mnemonics, registers and helpers are written small") else None
 
+-- Holds if the mnemonic takes a helper.
 abbrev pub is_call : Option Takes → Bool
 is_call (Some takes.Call) = true
 is_call _ = false
 
+-- Returns the help message for operands that do not fit the mnemonic.
 abbrev pub operand_advice : Option Takes → List ℕ → Option (List ℕ)
 operand_advice takes operands =
     or_small operands (if is_call takes then option_map (near_words (codes "helper")) (near operands helpers) else None)
 
+-- Returns the help message for a fault in a line, if a cause is likely.
 abbrev pub assembly_advice : AsmFault → ℕ → List ℕ → List ℕ → Option (List ℕ)
 assembly_advice fault.Line number line code = outline_advice number line code
 assembly_advice fault.Mnemonic number line code =
@@ -214,6 +230,7 @@ code_told name f s =
     report_text name (assembly_sentence f (code_in s.code)) (Some (spot_mark s (place_in f s.code)))
     (assembly_advice f s.number s.code (code_in s.code))
 
+-- Returns the report of a fault in a line of a file. Without a line, the report has no excerpt.
 abbrev pub line_told : List ℕ → AsmFault → ℕ → Option (List ℕ) → List ℕ
 line_told name f number None = report_text name (assembly_sentence f []) None None
 line_told name f number (Some line) = code_told name f (whole number line)

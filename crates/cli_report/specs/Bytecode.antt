@@ -72,6 +72,7 @@ unit_marked fault.Count unit digits = None
 unit_marked f unit [] = None
 unit_marked f unit (d ∷ ds) = Some (marked unit (d ∷ ds) (unit_place f (d ∷ ds)).0 (unit_place f (d ∷ ds)).1)
 
+-- Returns the report of a fault at a unit with these hex digits.
 abbrev pub unit_told : List ℕ → CodecFault → ℕ → List ℕ → List ℕ
 unit_told name f unit digits = report_text name (unit_sentence f digits) (unit_marked f unit digits) None
 

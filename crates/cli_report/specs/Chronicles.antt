@@ -10,11 +10,13 @@ use Rattle.cli_report.specs.Report.{has_words, report_text, shown_line}
 
 -- ---- schedules
 
+-- The sentence for a faulty line of a schedule.
 abbrev pub schedule_sentence : List ℕ
 schedule_sentence =
     codes "a line is entries with one space between them, `G` or `G*K` for K of them, G being 0 to 12 and K 1 to 4096; "
     ++ codes "a schedule has at most 5 lines and 1048576 bytes"
 
+-- Returns the help message for a faulty line of a schedule: the likely cause by what the line contains.
 abbrev pub schedule_advice : ℕ → List ℕ → Option (List ℕ)
 schedule_advice number line =
     if begins_marked number line then Some (codes "the file begins with a byte order mark: save it without one")
@@ -22,6 +24,7 @@ schedule_advice number line =
     else if has 35 line then Some (codes "a schedule has no comments")
     else None
 
+-- Returns the report of a fault in a line of a schedule. Without a line, the report has no excerpt.
 abbrev pub schedule_line_told : List ℕ → ℕ → Option (List ℕ) → List ℕ
 schedule_line_told name number None = report_text name schedule_sentence None None
 schedule_line_told name number (Some line) =
@@ -56,6 +59,7 @@ chronicle_advice number None line =
     else if has 13 line then Some (codes "the file has Windows line ends: a line ends with a line feed alone")
     else None
 
+-- Returns the report of a fault in a line of a chronicle. Without a line, the report has no excerpt.
 abbrev pub chronicle_line_told : List ℕ → Bool → TraceFault → ℕ → Option (List ℕ) → Option (List ℕ) → List ℕ
 chronicle_line_told name last f number wanted None =
     report_text name (chronicle_sentence last f) None (option_map has_words wanted)

@@ -10,6 +10,7 @@ use Rattle.cli_report.specs.Scenarios.{IsProgramTold, place_told, unknown_told}
 use Rattle.cli_report.specs.Settings.{setting_place_told, setting_unknown_told}
 use Rattle.cli_report.specs.Toml.{TellsToml}
 
+-- Returns the report that there was not enough memory.
 abbrev pub memory_told : List ℕ → List ℕ
 memory_told name = report_text name (codes "there is not enough memory") None None
 

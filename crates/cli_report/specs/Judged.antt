@@ -70,6 +70,8 @@ IsExplainedOf source line told =
     × (told ≡ codes "\n" ++ explained_at (in_lists places statements) program)))
     ⊎ ((fault : ProgramFault) × IsFaultOf fault source × (told ≡ []))
 
+-- The text is an empty line and the explanation of the source's program. It is empty if there is no source, or if the
+-- source has a fault.
 abbrev pub IsExplainedBy : Option Source → Option Found → List ℕ → Type 0
 IsExplainedBy None line told = told ≡ []
 IsExplainedBy (Some source) line told = IsExplainedOf source line told

@@ -11,6 +11,7 @@ use Rattle.cli_report.specs.declared.keys.Found.{Found as Kept}
 use Rattle.cli_report.specs.Lines.{all_marked, is_white, marked, trimmed}
 use Rattle.cli_report.specs.Report.{Mark}
 
+-- The header that begins a traitor's table.
 abbrev pub header : List ℕ
 header = codes "[[traitor]]"
 
@@ -46,12 +47,15 @@ found_on sought word tables number (line ∷ lines) =
     then Some (record { number = number; line = line; tables = sought })
     else found_on sought word (table_at tables line) (number + 1) lines
 
+-- Returns the first line that begins with this word and has `sought` headers up to and including it.
 unfoldable pub found : ℕ → List ℕ → List ℕ → Option Found
 found sought word text = found_on sought word 0 1 (lines_of text)
 
+-- The stop at an equals sign.
 abbrev pub equals : Stop
 equals = Byte 61
 
+-- The stop at a number sign, which begins a comment.
 abbrev pub hash : Stop
 hash = Byte 35
 
@@ -70,6 +74,7 @@ table_of_on digits tables (line ∷ lines) =
     if begins_with (codes "general") line && bytes_eq (value_in line) digits then Some (table_at tables line)
     else table_of_on digits (table_at tables line) lines
 
+-- Returns how many headers there are up to the first line `general = G`, where G is the number of this general.
 unfoldable pub table_of : ℕ → List ℕ → Option ℕ
 table_of general text = table_of_on (decimal general) 0 (lines_of text)
 
@@ -87,6 +92,7 @@ shown_at by_value word f =
     if begins_with word f.line then (if by_value then value_marked f else word_marked word f)
     else all_marked f.number (trimmed f.line)
 
+-- Returns the first line if there is one, and otherwise the second.
 abbrev pub or_else : Option Found → Option Found → Option Found
 or_else None other = other
 or_else (Some f) other = Some f

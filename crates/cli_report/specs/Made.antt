@@ -47,23 +47,30 @@ other_key names.Asm = codes "asm_file"
 other_key names.Code = codes "code_file"
 other_key name = text_of name
 
+-- Returns the name of the key if its line is found, and otherwise the key that a table may have in its place.
 abbrev pub word_if : Option Found → ScenarioKey → List ℕ
 word_if None name = other_key name
 word_if (Some f) name = text_of name
 
+-- Returns the key that is written in this table of the own text: `name` itself, or the key that a table may have in its
+-- place.
 abbrev pub own_word : ℕ → ScenarioKey → List ℕ → List ℕ
 own_word index name own = word_if (found (index + 1) (text_of name) own) name
 
+-- Marks this key or its value in the table with this index.
 abbrev pub word_shown : ScenarioFault → ℕ → List ℕ → List ℕ → Option Mark
 word_shown f index word own = option_map (shown_at (is_of_value f) word) (entry_line index word own)
 
+-- Marks a place in the scenario's own text.
 unfoldable pub own_mark : ScenarioFault → ScenarioPlace → List ℕ → Option Mark
 own_mark f (places.Entry index name) own = word_shown f index (own_word index name own) own
 own_mark f place own = place_mark f place own
 
+-- Returns the report of a fault at a place in the scenario's own text.
 unfoldable pub own_place_told : List ℕ → List ℕ → ScenarioFault → ScenarioPlace → List ℕ
 own_place_told name own f place = report_text name (place_sentence f place) (own_mark f place own) None
 
+-- Returns the number of the table in the scenario's own text from which table `at` of the resolved text comes.
 abbrev pub own_index : Option Members → Option ℕ → Option ℕ
 own_index own at = option_map (λ index. origin index own) at
 
@@ -82,13 +89,16 @@ quoted (mark ∷ name) = before (Byte mark) name
 abbrev pub file_named : Found → List ℕ
 file_named f = quoted (value_end f.line)
 
+-- Returns the name of a file, as it is shown.
 abbrev pub file_shown : Found → List ℕ
 file_shown f = shown_line (file_named f)
 
+-- Returns the assembly of a program, or an empty text if the program is not written in assembly.
 abbrev pub assembly_of : Option Source → List ℕ
 assembly_of (Some (Assembly text)) = text
 assembly_of source = []
 
+-- Returns the hex digits of a program, or an empty text if the program is not written in hex digits.
 abbrev pub digits_of : Option Source → List ℕ
 digits_of (Some (Hex text)) = text
 digits_of source = []
@@ -98,6 +108,8 @@ abbrev pub file_told : List ℕ → AsmFault → ℕ → Option Source → Optio
 file_told name f number source None = report_text name (assembly_sentence f []) None None
 file_told name f number source (Some key) = assembly_told (file_shown key) (assembly_of source) f number
 
+-- Returns the report of a fault at a line of assembly. The last argument is the line of the key `asm`, if the table has
+-- it. Without it, the assembly is in a file.
 abbrev pub asm_told : List ℕ → List ℕ → AsmFault → ℕ → Option Source → Option ℕ → Option Found → List ℕ
 asm_told name own f number source table (Some line) = text_told name own f number (Some line)
 asm_told name own f number source table None = file_told name f number source (own_line table (codes "asm_file") own)
@@ -119,13 +131,16 @@ file_key_shown None object = object_shown object
 abbrev pub bytes_shown : Option ℕ → List ℕ → Option Mark
 bytes_shown table own = file_key_shown (own_line table (codes "code_file") own) (own_line table (codes "elf") own)
 
+-- Returns the report of a fault in a unit of bytecode. The last argument is the line of the key `code`, if the table
+-- has it. Without it, the bytecode is in a file.
 abbrev pub unit_told : List ℕ → List ℕ → CodecFault → ℕ → Option Source → Option ℕ → Option Found → List ℕ
 unit_told name own f unit source table (Some line) = code_line_told name f unit (Some line)
 unit_told name own f unit source table None =
     report_text name (unit_sentence f (unit_digits (digits_of source) unit)) (bytes_shown table own) None
 
--- ---- a program that the verifier refuses
+-- ---- a program that the verifier rejects
 
+-- Marks the statement in line `number` of a text, if there is such a line.
 abbrev pub line_shown : List ℕ → ℕ → Option Mark
 line_shown text number = option_map (λ line. unit_mark (whole number line)) (line_at text number)
 
@@ -139,20 +154,26 @@ IsUnitTold file reason unit text told =
 abbrev pub key_told : List ℕ → Reason → ℕ → Option Mark → List ℕ
 key_told name reason unit mark = report_text name (verifier_sentence reason unit) mark None
 
+-- Marks the key `code` of this table or, without it, the name of the bytecode file or object file.
 abbrev pub code_shown : Option ℕ → List ℕ → Option Found → Option Mark
 code_shown table own (Some line) = Some (shown_at false (codes "code") line)
 code_shown table own None = bytes_shown table own
 
+-- The text is the report of a program that the verifier rejects and whose assembly is not in the scenario's own text.
+-- `key` names the assembly file, if there is one.
 abbrev pub IsRefusedFile : List ℕ → List ℕ → Reason → ℕ → Option Source → Option ℕ → Option Found → List ℕ → Type 0
 IsRefusedFile name own reason unit source table (Some key) told =
     IsUnitTold (file_shown key) reason unit (assembly_of source) told
 IsRefusedFile name own reason unit source table None told =
     told ≡ key_told name reason unit (code_shown table own (own_line table (codes "code") own))
 
+-- The text is the report of a program that the verifier rejects and whose assembly is in the scenario. `line` has the
+-- key of the program.
 abbrev pub IsOwnUnitTold : List ℕ → List ℕ → Reason → ℕ → List ℕ → Found → List ℕ → Type 0
 IsOwnUnitTold name own reason unit text line told =
     (mark : Option Mark) × IsUnitShown own unit text (Some line) mark × (told ≡ key_told name reason unit mark)
 
+-- The text is the report of a program that the verifier rejects. `line` has the key `asm`, if the table has it.
 abbrev pub IsRefusedTold : List ℕ → List ℕ → Reason → ℕ → Option Source → Option ℕ → Option Found → List ℕ → Type 0
 IsRefusedTold name own reason unit source table (Some line) told =
     IsOwnUnitTold name own reason unit (assembly_of source) line told
@@ -161,6 +182,7 @@ IsRefusedTold name own reason unit source table None told =
 
 -- ---- all of it
 
+-- Returns the report of bytecode that is not an even number of hex digits.
 abbrev pub hex_told : List ℕ → List ℕ → Option ℕ → List ℕ
 hex_told name own table =
     report_text name (codes "bytecode is an even number of digits in hex, without blanks")
@@ -192,19 +214,24 @@ ReportsMade name own made errors.Memory told = told ≡ memory_told name
 abbrev pub in_file : Found
 in_file = record { number = 0; line = codes "asm='''"; tables = 0 }
 
+-- Returns the line from which the lines of an assembly file are counted if `key` names one, and otherwise the line
+-- `bytes`.
 abbrev pub file_line : Option Found → Option Found → Option Found
 file_line None bytes = bytes
 file_line (Some key) bytes = Some in_file
 
+-- Returns the line from which a program's lines are counted, if its assembly is not in the scenario's own text.
 abbrev pub file_source : Option ℕ → List ℕ → Option Found
 file_source table own =
     file_line (own_line table (codes "asm_file") own)
     (or_else (own_line table (codes "code") own)
     (or_else (own_line table (codes "code_file") own) (own_line table (codes "elf") own)))
 
+-- Returns the line from which a program's lines are counted.
 abbrev pub own_source : Option ℕ → List ℕ → Option Found
 own_source table own = or_else (own_line table (codes "asm") own) (file_source table own)
 
+-- The text after the report is the explanation of this general's program, or nothing if there is no such general.
 abbrev pub IsMadeJudged : List ℕ → Option Members → Option ℕ → List ℕ → Type 0
 IsMadeJudged own made None behind = behind ≡ []
 IsMadeJudged own made (Some g) behind =

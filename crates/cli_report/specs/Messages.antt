@@ -7,10 +7,12 @@ use Rattle.cli_report.specs.Assembly.{begins_marked, has}
 use Rattle.cli_report.specs.Lines.{all_marked, line_at, trimmed}
 use Rattle.cli_report.specs.Report.{report_text}
 
+-- The sentence for a first line of the wrong shape.
 abbrev pub first_sentence : List ℕ
 first_sentence = codes
     "the first line is `generals N bound M commander C`, perhaps with ` rule R` behind it, where R is " ++ rule_names
 
+-- Returns the sentence for a fault in line `number` of a table.
 abbrev pub table_sentence : TableFault → ℕ → List ℕ
 table_sentence fault.Line number =
     if number == 1
@@ -36,10 +38,12 @@ shape_advice number line =
     else if has 9 line then Some (codes "one space stands between two parts, and no tab")
     else None
 
+-- Returns the help message for a faulty line of a table, if a cause is likely.
 abbrev pub table_advice : TableFault → ℕ → List ℕ → Option (List ℕ)
 table_advice fault.Line number line = shape_advice number line
 table_advice _ number line = None
 
+-- Returns the report of a fault in a line of a table. Without a line, the report has no excerpt.
 abbrev pub table_line_told : List ℕ → TableFault → ℕ → Option (List ℕ) → List ℕ
 table_line_told name f number None = report_text name (table_sentence f number) None None
 table_line_told name f number (Some line) =
@@ -51,9 +55,11 @@ table_told name text f number = table_line_told name f number (line_at text numb
 
 -- ---- a named general who is not one of the table's
 
+-- Returns the sentence with the numbers of the table's generals.
 abbrev pub stranger_sentence : ℕ → List ℕ
 stranger_sentence generals = codes "the table has the generals 0 to " ++ decimal (generals - 1)
 
+-- Returns the report that a named general is not one of the table's. `line` is the table's first line.
 abbrev pub stranger_line_told : List ℕ → ℕ → Option (List ℕ) → List ℕ
 stranger_line_told name generals None = report_text name (stranger_sentence generals) None None
 stranger_line_told name generals (Some line) =

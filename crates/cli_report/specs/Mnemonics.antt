@@ -7,6 +7,7 @@ use Rattle.asm.specs.declared.mnemonic.Mnemonic.TheVariants as words
 use Rattle.cli_report.specs.declared.mnemonics.Takes.{Takes}
 use Rattle.cli_report.specs.declared.mnemonics.Takes.TheVariants as takes
 
+-- Returns the operands that a mnemonic takes.
 abbrev pub takes_of : Mnemonic → Takes
 takes_of (words.Arithmetic width operation) = takes.Arithmetic
 takes_of (words.Negate width) = takes.Register

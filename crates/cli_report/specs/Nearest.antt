@@ -15,7 +15,7 @@ abbrev pub nearest : List ℕ → List ℕ → List (List ℕ) → List ℕ
 nearest word best [] = best
 nearest word best (name ∷ names) = nearest word (nearer word best name) names
 
--- Holds if a word that is not empty has at most half as many edits as bytes.
+-- Holds if the word is not empty, and its distance from the name is at most half its size in bytes.
 abbrev pub is_near : List ℕ → List ℕ → Bool
 is_near word name = nat_lt 0 (length word) && nat_le (distance word name) (length word / 2)
 

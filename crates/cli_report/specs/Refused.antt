@@ -31,10 +31,12 @@ abbrev pub Refuses : Taken → List ℕ → ScenarioError → Type 0
 Refuses taken.Oral text error = (error ≢ Memory) × Reads (parse_document text) (Err error)
 Refuses taken.Any text error = (error ≢ Memory) × ReadsAny (parse_document text) (Err error)
 
+-- The text is a campaign of the accepted kind.
 abbrev pub Takes : Taken → List ℕ → Type 0
 Takes taken.Oral text = (s : Scenario) × Reads (parse_document text) (Ok s)
 Takes taken.Any text = (c : Campaign) × ReadsAny (parse_document text) (Ok c)
 
+-- The text is a campaign of the accepted kind and has no error, or this is its first error.
 abbrev pub IsErrorOf : Taken → List ℕ → Option ScenarioError → Type 0
 IsErrorOf kind text None = Takes kind text
 IsErrorOf kind text (Some error) = Refuses kind text error
@@ -61,9 +63,13 @@ IsToldOf kind file own made None = Takes kind made
 IsToldOf kind file own made (Some lines) =
     (error : ScenarioError) × Refuses kind made error × IsRefusalShown file own made error lines
 
+-- If the task explains, the lines report the rejection of the resolved text, or there are none because it is accepted.
+-- If the task does not explain, there are no lines.
 abbrev pub IsToldBy : Option Taken → List ℕ → List ℕ → List ℕ → Option (List ℕ) → Type 0
 IsToldBy None file own made lines = lines ≡ None
 IsToldBy (Some kind) file own made lines = IsToldOf kind file own made lines
 
+-- The lines report the rejection of the task's scenario. There are none if it is accepted, or if the task does not
+-- explain.
 abbrev pub IsTold : Task → List ℕ → List ℕ → Option (List ℕ) → Type 0
 IsTold task own made lines = IsToldBy (taken_by task) (unwrap_or (file_of task) []) own made lines

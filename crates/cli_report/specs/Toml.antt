@@ -14,9 +14,11 @@ span_marked text start end =
     let lines = pieces feed (take start text) in
     marked (length lines) (trimmed (unwrap_or (line_at text (length lines)) [])) (length (last_of lines)) (end - start)
 
+-- Returns the sentence with a parser's message.
 abbrev pub unread_sentence : List ℕ → List ℕ
 unread_sentence message = codes "the text is no TOML: " ++ message
 
+-- Returns the report of a parser's message on the bytes between these two offsets.
 abbrev pub span_told : List ℕ → List ℕ → List ℕ → ℕ → ℕ → List ℕ
 span_told name text message start end =
     report_text name (unread_sentence message) (Some (span_marked text start end)) None
@@ -30,6 +32,6 @@ pub record IsUnread (name text told : List ℕ) : Type 0 where
   pub within : end ≤ length text
   pub is : told ≡ span_told name text message start end
 
--- The text is the report of a file's text that is UTF-8 and not TOML.
+-- If the file's text is UTF-8 and not TOML, `told` is the report of a parser's message.
 abbrev pub TellsToml : List ℕ → List ℕ → List ℕ → Type 0
 TellsToml name text told = IsUtf8 text → parse_document text ≡ None → IsUnread name text told

@@ -9,6 +9,7 @@ use Rattle.asm.specs.Program.{lines_of, nothing, read_on}
 abbrev pub as_line : ℕ → ℕ
 as_line number = if nat_lt number (2 ^ 64) then number else 0
 
+-- Returns the number if there is one, and otherwise 0.
 abbrev pub line_in : Option ℕ → ℕ
 line_in None = 0
 line_in (Some number) = as_line number
@@ -17,6 +18,7 @@ line_in (Some number) = as_line number
 abbrev pub number_in : List ℕ → ℕ
 number_in place = line_in (digits_on 10 0 (drop 5 place))
 
+-- Returns the number of the line in a place, or 0 without a place.
 abbrev pub place_number : Option (String Global) → ℕ
 place_number None = 0
 place_number (Some place) = number_in (string_bytes place)

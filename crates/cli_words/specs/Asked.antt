@@ -55,7 +55,7 @@ abbrev pub has_turns : Told → Bool
 has_turns told = reads seed_in (codes "seed") told && excludes (codes "seed") (codes "schedule") told
     && wants (codes "schedule-out") (codes "seed") told
 
--- Holds if the subcommand is not one of these, or else if the condition holds.
+-- Holds if the subcommand is not one of these, or if `holds` is true.
 abbrev pub if_of : List Text → Told → Bool → Bool
 if_of names told holds = not (is_of names told) || holds
 

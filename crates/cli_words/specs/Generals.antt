@@ -17,7 +17,7 @@ general_in word = below 13 word
 unfoldable pub order_in : List ℕ → Option ℕ
 order_in word = below (2 ^ 32) word
 
--- Returns how many there are of something, 1 to 18446744073709551615.
+-- Returns a count, 1 to 18446744073709551615.
 unfoldable pub count_in : List ℕ → Option ℕ
 count_in word = decimal_of word >>= λ n. if nat_lt 0 n && nat_lt n (2 ^ 64) then Some n else None
 

@@ -25,6 +25,7 @@ flag_rule (letter name c) = record (new_rule name) { short = Some c; value_names
 abbrev pub shape : Usage → Shape
 shape usage = record (new_shape usage.name) { rules = map place_rule usage.places ++ map flag_rule usage.flags }
 
+-- Returns the subcommand with this usage, which has no subcommands.
 abbrev pub leaf : Usage → App
 leaf usage = record { top = shape usage; subs = [] }
 
@@ -41,6 +42,7 @@ abbrev pub described : App → App
 described app =
     record app { top = record app.top { no_binary_name = true; subcommand_required = true; has_version = true } }
 
+-- The program before its subcommands are added.
 abbrev pub app_before : App
 app_before = described (new_app (codes "byzlab"))
 
@@ -48,6 +50,7 @@ app_before = described (new_app (codes "byzlab"))
 abbrev pub app_with : List Usage → App
 app_with usages = record { top = record app_before.top { is_leaf = false }; subs = map shape usages }
 
+-- The program with all subcommands.
 abbrev pub lab_app : App
 lab_app = app_with usages
 
@@ -85,5 +88,6 @@ given name rows = option_map_or given_value (find (λ row. bytes_eq row.id name)
 abbrev pub told_of : Text × List Row → Told
 told_of met = record { name = met.0; value = λ name. given name met.1 }
 
+-- Returns the subcommand that `clap` parsed, if there is one.
 abbrev pub task_met : Option (Text × List Row) → Option Told
 task_met = option_map told_of

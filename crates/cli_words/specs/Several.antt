@@ -31,12 +31,15 @@ pub record Parted : Type 0 where
   pub kept : List Text
   pub files : List Text
 
+-- The view of a subcommand's words in the code.
 abbrev pub parted_of : Parts → Parted
 parted_of parts = record { kept = words_of parts.kept.items; files = words_of parts.files.items }
 
+-- Puts a word that applies to each file before the others.
 abbrev pub with_kept : Text → Parted → Parted
 with_kept word rest = record { kept = word ∷ rest.kept; files = rest.files }
 
+-- Puts a file before the others.
 abbrev pub with_file : Text → Parted → Parted
 with_file word rest = record { kept = rest.kept; files = word ∷ rest.files }
 
@@ -77,6 +80,7 @@ are_several number parts =
 abbrev pub request_of : Text → List Text → List Text → List Text
 request_of name kept files = name ∷ kept ++ codes "--" ∷ files
 
+-- Returns the words of each request for a subcommand of this name with `number` places.
 abbrev pub requests_by : Text → List Text → ℕ → Parted → List (List Text)
 requests_by name words number parts =
     if are_several number parts then map (request_of name parts.kept) (groups number parts.files)

@@ -40,6 +40,7 @@ pub record Told : Type 0 where
   pub name : Text
   pub value : Text → Option Text
 
+-- Returns what the words give to this name.
 abbrev pub word_of : Text → Told → Option Text
 word_of name told = told.value name
 
@@ -51,9 +52,11 @@ has name told = is_some (word_of name told)
 abbrev pub is_of : List Text → Told → Bool
 is_of names told = list_any (λ name. bytes_eq name told.name) names
 
+-- The subcommands that read a program which may be an ELF object.
 abbrev pub programs : List Text
 programs = codes "check" ∷ codes "dis" ∷ []
 
+-- The subcommands that print a campaign and may explain its decisions.
 abbrev pub campaigns : List Text
 campaigns = codes "play" ∷ codes "muster" ∷ codes "audit" ∷ []
 
@@ -71,6 +74,7 @@ coursed = codes "draw" ∷ codes "page" ∷ []
 
 -- ---- what the words say of a part of a task
 
+-- The words say that the program is written in this notation.
 abbrev pub IsNotation : Told → Notation → Type 0
 IsNotation told Bytecode =
     (has (codes "asm") told ≡ false) × (has (codes "elf") told ≡ false) × (word_of (codes "entry") told ≡ None)
@@ -79,6 +83,7 @@ IsNotation told Assembly =
 IsNotation told (Object entry) = (has (codes "asm") told ≡ false) × (has (codes "elf") told ≡ true)
     × (word_of (codes "entry") told ≡ option_map string_bytes entry)
 
+-- Holds if bytecode is written as its bytes.
 abbrev pub is_raw : Spelling → Bool
 is_raw Hex = false
 is_raw Raw = true
@@ -95,15 +100,18 @@ abbrev pub NamesGeneral : Text → Told → Option ℕ → Type 0
 NamesGeneral name told None = word_of name told ≡ None
 NamesGeneral name told (Some g) = (word_of name told >>= general_in) ≡ Some g
 
+-- The words say that a table is filled in like this, or is printed to be filled in.
 abbrev pub IsFilling : Told → Option Filling → Type 0
 IsFilling told None = (word_of (codes "loyal") told ≡ None) × (word_of (codes "lie") told ≡ None)
 IsFilling told (Some filling) =
     ((word_of (codes "loyal") told >>= order_in) ≡ Some filling.order) × NamesGeneral (codes "lie") told filling.liar
 
+-- Holds if a campaign is printed as its message table.
 abbrev pub is_table : Account → Bool
 is_table Chronicle = false
 is_table Table = true
 
+-- The words ask for an explanation of these lieutenants' decisions, or for none.
 abbrev pub AreExplained : Told → Option Lieutenants → Type 0
 AreExplained told None = (has (codes "explain") told ≡ false) × (word_of (codes "of") told ≡ None)
 AreExplained told (Some All) = (has (codes "explain") told ≡ true) × (word_of (codes "of") told ≡ None)
@@ -119,6 +127,7 @@ abbrev pub NamesSeed : Told → Option ℕ → Type 0
 NamesSeed told None = word_of (codes "seed") told ≡ None
 NamesSeed told (Some seed) = (word_of (codes "seed") told >>= seed_in) ≡ Some seed
 
+-- The words say that a campaign is played by this schedule.
 abbrev pub AreTurns : Told → Turns → Type 0
 AreTurns told (OfFile file) =
     (word_of (codes "schedule") told ≡ option_map string_bytes file) × (word_of (codes "seed") told ≡ None)
@@ -137,6 +146,7 @@ AreAccesses told (Listed text) =
 abbrev pub is_text : Told → Bool
 is_text told = has (codes "text") told || has (codes "ascii") told
 
+-- The words say that a tree is drawn in this way.
 abbrev pub IsDrawing : Told → Drawing → Type 0
 IsDrawing told Boxes =
     (has (codes "ascii") told ≡ false) × (has (codes "dot") told ≡ false) × (has (codes "svg") told ≡ false)
@@ -150,6 +160,7 @@ abbrev pub levels_in : Option Text → Option ℕ
 levels_in None = Some 4
 levels_in (Some word) = depth_in word
 
+-- The words say that a campaign takes this course.
 abbrev pub IsCourse : Told → Course → Type 0
 IsCourse told (Scheduled file) =
     (word_of (codes "schedule") told ≡ option_map string_bytes file) × (word_of (codes "chronicle") told ≡ None)

@@ -6,6 +6,7 @@ use Rattle.std.specs.Str.{bytes_eq, chars}
 use Rattle.clap.specs.Lexer.{long_of, short_of}
 use Rattle.clap.specs.Walk.{attached_value}
 
+-- A text, as bytes.
 abbrev pub Text : Type 0
 Text = List ℕ
 
@@ -22,11 +23,13 @@ pub record Usage : Type 0 where
   pub places : List Text
   pub flags : List Flag
 
+-- Holds if the flag is written `--NAME` with this name.
 abbrev pub is_long : Text → Flag → Bool
 is_long name (switch own) = bytes_eq own name
 is_long name (option own) = bytes_eq own name
 is_long name (letter own c) = false
 
+-- Holds if the flag is written with this letter.
 abbrev pub is_short : ℕ → Flag → Bool
 is_short c (switch name) = false
 is_short c (option name) = false
@@ -45,6 +48,7 @@ pub data Look : Type 0 where
 abbrev pub short_look : Text → Look
 short_look flags = option_map_or (λ c. short c (drop (length (encode_utf8 c)) flags)) (slice_get (chars flags) 0) plain
 
+-- Returns the look of a word.
 unfoldable pub look_of : Text → Look
 look_of word = if bytes_eq word (codes "--") then end_of_flags
     else option_map_or (λ p. long p.0 p.1) (long_of word) (option_map_or short_look (short_of word) plain)
@@ -64,6 +68,7 @@ pub record State : Type 0 where
   pub met : List (Text × Text)
   pub next : Next
 
+-- Returns the value that was read for this name.
 abbrev pub value_at : Text → List (Text × Text) → Option Text
 value_at name met = option_map (λ p. p.1) (find (λ p. bytes_eq p.0 name) met)
 
@@ -79,6 +84,7 @@ abbrev pub placed_in : List Text → Text → State → Option State
 placed_in [] word state = None
 placed_in (name ∷ left) word state = Some (record state { left = left; met = state.met ++ (name, word) ∷ [] })
 
+-- Stores the word at the next place, if one is left.
 abbrev pub placed : Text → State → Option State
 placed word state = placed_in state.left word state
 
@@ -92,6 +98,7 @@ flag_met (Some (letter name c)) (Some value) state = met_once name value state
 flag_met (Some (switch name)) (Some value) state = None
 flag_met None value state = None
 
+-- Reads a word that is not an option's value, by its look.
 abbrev pub read_on : List Flag → Look → Text → State → Option State
 read_on flags end_of_flags word state = Some (record state { next = only_places })
 read_on flags (long name value) word state = flag_met (find (is_long name) flags) value state
@@ -103,20 +110,24 @@ abbrev pub valued : Look → Text → Text → State → Option State
 valued plain name word state = met_once name word state
 valued _ name word state = None
 
+-- Reads a word, by what may come next.
 abbrev pub after_next : List Flag → Next → Text → State → Option State
 after_next flags anything word state = read_on flags (look_of word) word state
 after_next flags (value_of name) word state = valued (look_of word) name word state
 after_next flags only_places word state = placed word state
 
+-- Reads one more word. The result is `None` if the subcommand does not accept it.
 abbrev pub after : List Flag → Text → State → Option State
 after flags word state = after_next flags state.next word state
 
 -- ---- all words
 
+-- Reads the words one after the other. The result is `None` if the subcommand does not accept one of them.
 unfoldable pub read_from : List Flag → State → List Text → Option State
 read_from flags state [] = Some state
 read_from flags state (word ∷ rest) = option_and_then (λ next. read_from flags next rest) (after flags word state)
 
+-- Holds if an option waits for its value.
 abbrev pub waits : Next → Bool
 waits (value_of name) = true
 waits _ = false

@@ -15,7 +15,8 @@ use std::alloc::{AllocError, Global};
 const ABOUT: &str =
     "A laboratory for the Byzantine generals problem; a hyphen as a file is standard input";
 
-/// The text that `--version` prints: the version, and the line of `rt version` for the toolchain that proves this one.
+/// The text that `--version` prints: the version, and the line of `rt version` for the toolchain that proves this
+/// program.
 const VERSION: &str = "1.0.0, proved with Rattle, logic dac8208d650f15bf";
 
 /// Returns the command line for these words. It has the subcommand that the first word names, or all subcommands if the

@@ -33,7 +33,7 @@ pub enum Misuse {
     Seed(String),
     /// `--asm` and `--elf` are used together, so that a file has two notations.
     TwoNotations,
-    /// `--units` and `--partial` are used together, so that units would be before parts that are not all instructions.
+    /// `--units` and `--partial` are used together, although only an instruction has its unit before it.
     UnitsOfParts,
     /// `--schedule` and `--chronicle` are used together, so that a campaign takes two courses.
     TwoCourses,
@@ -41,7 +41,7 @@ pub enum Misuse {
     EntryAlone,
     /// `--of` is missing.
     NobodyNamed,
-    /// A tree is to be drawn in two ways: at least two of `--dot`, `--svg`, and `--text` or `--ascii` are used.
+    /// A tree would be drawn in two ways: at least two of `--dot`, `--svg`, and `--text` or `--ascii` are used.
     TwoDrawings,
     /// `--of` is used without `--explain`.
     OfAlone,

@@ -19,8 +19,11 @@ struct Parts<'a> {
 }
 
 /// Returns the words of each request. If `--verdicts` is among the flags of `check`, `play` or `audit`, there is one
-/// request for each file, and for `audit` one for each scenario with its chronicle. A request has the words of the
-/// flags, `--`, and the file or files. In any other case, the words themselves are the only request.
+/// request for each file, and for `audit` one for each scenario with its chronicle. A request has the subcommand's
+/// name, the words of the flags, `--`, and the file or files.
+///
+/// In any other case, the words themselves are the only request. This is also so without a file, and for `audit` if
+/// the number of files is odd.
 ///
 /// # Errors
 ///

@@ -6,6 +6,7 @@ ghost use Rattle.cli_words.specs.declared.generals.GeneralsError.TheVariants.{No
 use std::alloc::{AllocError, Global};
 use text::{Stop, decimal, piece};
 
+/// The stop between the numbers of generals.
 const COMMA: Stop = Stop::Byte(b',');
 
 /// Why a word does not list generals.
@@ -102,7 +103,7 @@ pub(crate) fn order(word: &[u8]) -> Option<u32>
     }
 }
 
-/// Reads how many there are of something, 1 to 18446744073709551615. Returns `None` for any other word.
+/// Reads a count, 1 to 18446744073709551615. Returns `None` for any other word.
 #[tactic(auto, unfolding(crate::specs::Generals::count_in))]
 pub(crate) fn count(word: &[u8]) -> Option<u64>
     ensures { result ≡ count_in word.now }

@@ -8,57 +8,71 @@ ghost use Rattle.cli_words.specs.Usages.{usages};
 use crate::subcommand::{Flag, Place, Subcommand};
 use std::slice;
 
+/// The help of `--explain` for a program.
 const EXPLAIN: &str =
     "Tells what is known of the registers that are read, and what a refused instruction misses";
 
+/// The help of `--explain` for a campaign.
 const EXPLAIN_DECISIONS: &str = "Tells how each decision comes about, or why a file is refused";
 
+/// The help of `--entry`.
 const ENTRY: &str = "The function of the object; without it, its only global one";
 
+/// The help of `--json`.
 const JSON: &str = "Prints JSON Lines, an object for each line, and what is refused as one too";
 
+/// The help of `--verdicts`.
 const VERDICTS: &str = "Prints one line for each file, and takes several";
 
+/// The help of `--of` for a campaign.
 const OF: &str = "Explains this lieutenant's decision alone";
 
+/// The place of a program.
 const BYTECODE: Place<'static> = Place {
     name: "FILE",
     help: "The program, as raw bytecode",
 };
 
+/// The place of a message table.
 const TOLD: Place<'static> = Place {
     name: "FILE",
     help: "The message table: who told whom what",
 };
 
+/// The place of a scenario.
 const SCENARIO: Place<'static> = Place {
     name: "SCENARIO",
     help: "The campaign, as TOML: the generals, the order, the traitors' programs",
 };
 
+/// The place of a chronicle.
 const CHRONICLE: Place<'static> = Place {
     name: "CHRONICLE",
     help: "What `play` or `muster` has printed of this campaign",
 };
 
+/// The place of a chronicle, or of a list of accesses.
 const ACCESSES: Place<'static> = Place {
     name: "CHRONICLE",
     help: "What `play` or `muster` has printed of this campaign; with --accesses the accesses themselves, \
            as '5 4 / 4 5'",
 };
 
+/// The option `--schedule`.
 const SCHEDULED: Flag<'static> = Flag::Option {
     name: "schedule",
     value: "FILE",
     help: "The order of the turns; without it each round is punctual",
 };
 
+/// The option `--chronicle` of `page`.
 const RECORDED: Flag<'static> = Flag::Option {
     name: "chronicle",
     value: "FILE",
     help: "Tells what this chronicle tells",
 };
 
+/// The option `-o` of `page`.
 const PAGE_TARGET: Flag<'static> = Flag::Letter {
     name: "target",
     letter: 'o',
