@@ -24,8 +24,8 @@ fn is_shaped(request: &TaskRequest) -> bool
 /// Serves a request. Without JSON and one line, it does the task as `cli_tasks::serve` does. If JSON or one line is
 /// asked for, it prints the answer or the refusal on `out` in that form.
 ///
-/// Returns the exit status: 0 if the task is done, 1 if a file is rejected or cannot be read or the output fails, and 3
-/// if there is not enough memory.
+/// Returns the exit status: 0 if the task is done, 3 if there is not enough memory, and 1 otherwise, for example if a
+/// file is rejected or the output fails.
 #[tactic(auto, using(crate::proofs::ShownLemmas::shown_plainly))]
 pub fn serve<T, R, O, F>(
     rt: &T,
@@ -81,8 +81,9 @@ where
     }
 }
 
-/// Prints this line, which says why the task is not done: a file of the task does not open, or is not accepted. Returns
-/// the exit status: 1, or 3 if there is not enough memory.
+/// Prints this line, which says why the task is not done: a file of the task does not open, or is not accepted. The
+/// line goes to `fault` or, if JSON or one line is asked for, to `out` in that form. Returns the exit status: 1, or 3
+/// if there is not enough memory.
 pub fn turned_down<D, O, F>(
     alloc: Global,
     request: &TaskRequest,

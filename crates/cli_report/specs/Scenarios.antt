@@ -84,7 +84,7 @@ place_sentence f (places.Word index) = word_sentence f
 place_sentence f (places.Table index) = codes "a traitor is a table, begun by `[[traitor]]`"
 place_sentence f (places.Entry index name) = name_sentence f name
 
--- Holds if a fault is in the value of a key. A missing key is not.
+-- Holds if a fault is in the value of a key. The fault that a key is missing is not.
 abbrev pub is_of_value : ScenarioFault → Bool
 is_of_value faults.Key = false
 is_of_value f = true
@@ -174,7 +174,7 @@ abbrev pub behind_feed : List ℕ → List ℕ
 behind_feed [] = []
 behind_feed (c ∷ cs) = if is_feed (c ∷ cs) then drop 1 cs else behind_feed cs
 
--- Returns the text after its first escaped line feeds, of the given number.
+-- Returns the text after as many escaped line feeds as the number says, or nothing if it has fewer.
 abbrev pub behind_feeds : ℕ → List ℕ → List ℕ
 behind_feeds zero text = text
 behind_feeds (suc n) text = behind_feeds n (behind_feed text)

@@ -144,7 +144,7 @@ pub(crate) fn place_sentence(
     }
 }
 
-/// Checks whether a fault is in the value of a key. A missing key is not.
+/// Checks whether a fault is in the value of a key. The fault that a key is missing is not.
 pub(crate) fn is_of_value(fault: ScenarioFault) -> bool
     ensures { result ≡ is_of_value fault }
 {

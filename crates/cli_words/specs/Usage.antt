@@ -74,17 +74,17 @@ value_at name met = option_map (λ p. p.1) (find (λ p. bytes_eq p.0 name) met)
 
 -- ---- one more word
 
--- Stores the value of this name, unless the name has one already.
+-- Stores the value of this name. The result is `None` if the name has a value already.
 abbrev pub met_once : Text → Text → State → Option State
 met_once name value state = if is_some (value_at name state.met) then None
     else Some (record state { met = state.met ++ (name, value) ∷ []; next = anything })
 
--- Stores the word at the next place.
+-- Stores the word at the next of the places that are left. The result is `None` if there is none.
 abbrev pub placed_in : List Text → Text → State → Option State
 placed_in [] word state = None
 placed_in (name ∷ left) word state = Some (record state { left = left; met = state.met ++ (name, word) ∷ [] })
 
--- Stores the word at the next place, if one is left.
+-- Stores the word at the next place. The result is `None` if no place is left.
 abbrev pub placed : Text → State → Option State
 placed word state = placed_in state.left word state
 
