@@ -1,4 +1,4 @@
--- The shapes of the lines that are printed, and what their words are called (own).
+-- Defines the shapes of the lines that are printed, and the names of their words (own).
 use Rattle.std.specs.Prelude.{ℕ, Bool, true, false, List, [], ◌∷◌, codes, map}
 use Rattle.text.specs.Parts.{pieces}
 use Rattle.text.specs.Stop.{space}
@@ -8,7 +8,8 @@ use Rattle.cli_answers.specs.declared.shape.Shape.{Shape}
 use Rattle.cli_answers.specs.declared.shape.Within.{Within}
 use Rattle.cli_answers.specs.declared.shape.Within.TheVariants.{Nothing, Round, Letter, Outbox}
 
--- what such a line is called, its words with their names, what holds of it or does not, and where it stands
+-- A shape of lines: the kind of such a line, its words with their names, its mark, which is true of each such line or
+-- false of each, and its place.
 pub record Row : Type 0 where
   pub line : List ℕ
   pub parts : List (List ℕ × List ℕ)
@@ -16,6 +17,7 @@ pub record Row : Type 0 where
   pub holds : Bool
   pub within : Within
 
+-- The view of a shape in the code.
 abbrev pub row_of : Shape → Row
 row_of s = record {
   line = s.line.now;
@@ -25,11 +27,12 @@ row_of s = record {
   within = s.within;
 }
 
--- each word with its name
+-- Returns each word with its name.
 abbrev pub paired : List (List ℕ) → List (List ℕ) → List (List ℕ × List ℕ)
 paired (w ∷ ws) (n ∷ ns) = (w, n) ∷ paired ws ns
 paired _ _ = []
 
+-- Returns the shape with these words and names and this mark.
 abbrev pub marked : List ℕ → List ℕ → List ℕ → List ℕ → Bool → Within → Row
 marked line words names mark holds within = record {
   line = line;
@@ -39,18 +42,19 @@ marked line words names mark holds within = record {
   within = within;
 }
 
--- a line of which no more is told
+-- Returns the shape with these words and names, without a mark.
 abbrev pub plain : List ℕ → List ℕ → List ℕ → Within → Row
 plain line words names within = marked line words names [] false within
 
--- those of the accesses, as `asking` words them
+-- Returns the shape of an access with this wording.
 abbrev pub access_row : asking.Row → Row
 access_row r = record { line = codes "access"; parts = r.parts; mark = []; holds = false; within = Round }
 
+-- The shapes of accesses.
 abbrev pub accesses : List Row
 accesses = map access_row rows
 
--- all others; a line has the first shape that fits it
+-- The shapes of all other lines. A line has the first shape that fits it.
 unfoldable pub shapes : List Row
 shapes =
     plain (codes "version") (codes "chronicle N") (codes "- version") Nothing

@@ -1,4 +1,4 @@
-//! One line of a file, as JSON.
+//! Prints the one line for a file as a JSON object with the file's name.
 ghost use Rattle.std.specs.Prelude.{◌≡◌, false, IfOk};
 ghost use Rattle.serde_json.specs.View.{members_view};
 ghost use Rattle.serde_json.specs.Written.{members_have_float};
@@ -14,7 +14,7 @@ use crate::refusals::refusal_object;
 use serde_json::{Map, Value, put};
 use std::alloc::{AllocError, Global};
 
-/// The line of an object, with the file's name in it.
+/// Returns an object as a line of JSON, with the file's name in it.
 #[tactic(auto, using(crate::proofs::CleanLemmas::file_clean))]
 fn named(alloc: Global, file: &str, object: Map<String, Value>) -> Result<Vec<u8>, AllocError>
     requires { members_have_float (members_view object.entries) ≡ false }
@@ -32,11 +32,11 @@ fn named(alloc: Global, file: &str, object: Map<String, Value>) -> Result<Vec<u8
     Ok(out)
 }
 
-/// A line of the answer on the file of this name, as a line of JSON.
+/// Returns a line of the answer on this file as a line of JSON.
 ///
 /// # Errors
 ///
-/// `AllocError` where memory is refused.
+/// Fails with `AllocError` if there is not enough memory.
 pub fn answer_of(alloc: Global, file: &str, line: &[u8]) -> Result<Vec<u8>, AllocError>
     ensures { IfOk result (λ out. out.items ≡ object_line (with_file file.now (line_object at_first line.now))) }
 {
@@ -44,11 +44,11 @@ pub fn answer_of(alloc: Global, file: &str, line: &[u8]) -> Result<Vec<u8>, Allo
     named(alloc, file, object)
 }
 
-/// What is said where a task is not done on the file of this name, as a line of JSON.
+/// Returns as a line of JSON why a task is not done on this file.
 ///
 /// # Errors
 ///
-/// `AllocError` where memory is refused.
+/// Fails with `AllocError` if there is not enough memory.
 pub fn refusal_of(alloc: Global, file: &str, text: &[u8]) -> Result<Vec<u8>, AllocError>
     ensures { IfOk result (λ out. out.items ≡ object_line (with_file file.now (refusal_object text.now))) }
 {

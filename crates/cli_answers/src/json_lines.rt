@@ -1,4 +1,4 @@
-//! A text as JSON Lines.
+//! Prints a text as JSON Lines, with one object for each line.
 ghost use Rattle.std.specs.Prelude.{◌≡◌, ◌++◌, false, IfOk, OnOk, string_bytes};
 ghost use Rattle.serde_json.specs.Data.{object};
 ghost use Rattle.serde_json.specs.View.{members_view};
@@ -12,7 +12,7 @@ use serde_json::{Map, Value};
 use std::alloc::{AllocError, Global};
 use text::line;
 
-/// Adds the line of an object.
+/// Appends an object as a line of JSON.
 pub(crate) fn push_object(
     alloc: Global,
     out: &mut Vec<u8>,
@@ -27,13 +27,15 @@ pub(crate) fn push_object(
     Ok(())
 }
 
-/// A text as JSON Lines: an object for each of its lines, whose members are the line's words by their names. What a
-/// line tells of the campaign and of the letter in which it stands is told with the lines behind it; of a text that
-/// tells of a trial the place is given in which the program was tried.
+/// Returns a text as JSON Lines, with an object for each of its lines. The members of the object are the words of the
+/// line, each with its name. If the line has a place in a chronicle, the object also has that place, as the lines
+/// before it describe it.
+///
+/// If the text is the answer of a trial, `place` is the relay in which the program was tried.
 ///
 /// # Errors
 ///
-/// `AllocError` where memory is refused.
+/// Fails with `AllocError` if there is not enough memory.
 pub fn answer(alloc: Global, place: Option<Shape>, text: &[u8]) -> Result<Vec<u8>, AllocError>
     ensures { IfOk result (λ lines. lines.items ≡ json_text place text.now) }
 {

@@ -1,4 +1,4 @@
-//! The label of a rank.
+//! Puts the place of a line into its object: the round, the general, and the label of a rank.
 ghost use Rattle.std.specs.Prelude.{◌≡◌, ◌==◌, false, true, IfOk, OnOk, option_and_then, slice_get};
 ghost use Rattle.label.specs.Relay.{IsShape, relay};
 ghost use Rattle.serde_json.specs.View.{items_view, members_view};
@@ -10,7 +10,7 @@ use label::{Label, Space, count, unrank};
 use serde_json::{Map, Value, put};
 use std::alloc::{AllocError, Global};
 
-/// Whether there is such a relay.
+/// Checks whether there is a relay with these numbers.
 fn is_possible(held: Held) -> bool
     ensures same { result ≡ is_possible held }
     ensures within { result ≡ true → IsShape (shape_of held) }
@@ -22,7 +22,7 @@ fn is_possible(held: Held) -> bool
         && held.round <= 5
 }
 
-/// The label of this rank, among those that a lieutenant relays.
+/// Returns the label of this rank, among those that the lieutenant relays.
 fn relayed(held: Held, rank: u64) -> Option<Label>
     requires shape { IsShape (shape_of held) }
     requires lieutenant { (held.general == held.commander) ≡ false }
@@ -40,7 +40,7 @@ fn relayed(held: Held, rank: u64) -> Option<Label>
     unrank(space, size, rank as u32).ok()
 }
 
-/// Generals as a list.
+/// Returns generals as a list of JSON numbers.
 fn numbers(alloc: Global, generals: &[u8]) -> Result<Vec<Value>, AllocError>
     ensures { IfOk result (λ all. items_view all.items ≡ numbers generals.now) }
 {
@@ -51,7 +51,7 @@ fn numbers(alloc: Global, generals: &[u8]) -> Result<Vec<Value>, AllocError>
     Ok(all)
 }
 
-/// Puts a label, if there is one.
+/// Puts a label into the object, if there is one.
 fn put_relayed(
     alloc: Global,
     object: &mut Map<String, Value>,
@@ -68,7 +68,8 @@ fn put_relayed(
     }
 }
 
-/// Puts the label of this rank, if it is the commander's of round 1.
+/// Puts the label that the commander relays into the object. It is the empty one, of rank 0 in round 1, and there is no
+/// other.
 fn put_own(
     alloc: Global,
     object: &mut Map<String, Value>,
@@ -84,7 +85,7 @@ fn put_own(
     Ok(())
 }
 
-/// Puts the label of this rank, among those that the general relays, where there is one.
+/// Puts the label of this rank into the object, if the general relays one of this rank.
 #[tactic(auto, unfolding(crate::specs::Labels::label_of), using(crate::proofs::LabelLemmas::own_relayed))]
 fn put_label(
     alloc: Global,
@@ -104,7 +105,7 @@ fn put_label(
     put_relayed(alloc, object, relayed(held, rank))
 }
 
-/// Puts the label of this rank, if there is one.
+/// Puts the label of this rank into the object, if there is a rank and a label of it.
 fn put_label_of(
     alloc: Global,
     object: &mut Map<String, Value>,
@@ -120,7 +121,7 @@ fn put_label_of(
     }
 }
 
-/// Puts where a line stands.
+/// Puts the place of a line into its object, as far as the shape of the line has one.
 pub(crate) fn put_place(
     alloc: Global,
     object: &mut Map<String, Value>,

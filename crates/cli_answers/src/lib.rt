@@ -1,4 +1,5 @@
-//! Answers in the form that was asked for: as text, as JSON Lines, or as one line.
+//! Serves a request, and prints its answer or its refusal in the form that is asked for: as text, as JSON Lines, or as
+//! one line.
 #![tactic(auto)]
 
 mod file_line;

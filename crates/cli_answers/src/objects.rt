@@ -1,4 +1,4 @@
-//! A line as an object.
+//! Turns a line of an answer into a JSON object, by the first shape that fits it.
 ghost use Rattle.std.specs.Prelude.{◌≡◌, IfOk, IfErr, OnOk, map, option_map};
 ghost use Rattle.serde_json.specs.View.{members_view, view};
 ghost use Rattle.text.specs.Parts.{pieces};
@@ -16,7 +16,7 @@ use serde_json::{Map, Value, put};
 use std::alloc::{AllocError, Global};
 use text::{SPACE, piece};
 
-/// Puts a member by its name, but for a dash.
+/// Puts a value into the object at its name, unless the name is a dash.
 fn put_named(
     alloc: Global,
     object: &mut Map<String, Value>,
@@ -32,7 +32,8 @@ fn put_named(
     put(object, alloc, name, value)
 }
 
-/// Puts what the words of a line tell by the words of a shape and their names, and answers whether all of them fit.
+/// Puts the values of a line's words into the object, by the words of a shape and their names. Returns whether all
+/// words fit.
 fn put_told(
     alloc: Global,
     object: &mut Map<String, Value>,
@@ -64,7 +65,7 @@ fn put_told(
     Ok(rest.is_none())
 }
 
-/// An object that says what a line is called.
+/// Returns an object with only the kind of its line.
 pub(crate) fn called(alloc: Global, line: &str) -> Result<Map<String, Value>, AllocError>
     ensures { IfOk result (λ object. members_view object.entries ≡ called line.now) }
 {
@@ -78,7 +79,7 @@ pub(crate) fn called(alloc: Global, line: &str) -> Result<Map<String, Value>, Al
     Ok(object)
 }
 
-/// Puts what holds of each line of a shape.
+/// Puts the mark of a shape into the object, if the shape has one.
 fn put_mark(alloc: Global, object: &mut Map<String, Value>, shape: &Shape) -> Result<(), AllocError>
     ensures { OnOk result (members_view object.new.entries
         ≡ with_mark (row_of shape.now) (members_view object.old.entries)) }
@@ -89,7 +90,7 @@ fn put_mark(alloc: Global, object: &mut Map<String, Value>, shape: &Shape) -> Re
     put(object, alloc, shape.mark, Value::Bool(shape.holds))
 }
 
-/// The object of a line of this shape; none where it does not fit.
+/// Returns the object of a line of this shape, or `None` if the line does not fit.
 #[tactic(auto, unfolding(crate::specs::Objects::shaped))]
 fn shaped(
     alloc: Global,
@@ -108,7 +109,8 @@ fn shaped(
     }
 }
 
-/// The object of a line by the first of these shapes that fits, with where the line stands.
+/// Returns the object of a line by the first of these shapes that fits, with the place of the line. Returns `None` if
+/// none fits.
 fn first_shaped(
     alloc: Global,
     held: Held,
@@ -128,7 +130,8 @@ fn first_shaped(
     Ok(None)
 }
 
-/// The object of a line by the first of these accesses that fits, with where the line stands.
+/// Returns the object of a line by the first of these accesses that fits, with the place of the line. Returns `None` if
+/// none fits.
 fn access_object(
     alloc: Global,
     held: Held,
@@ -149,7 +152,7 @@ fn access_object(
     Ok(None)
 }
 
-/// A line of no shape, as it is.
+/// Returns the object of a line that fits no shape, which has the line as a text.
 pub(crate) fn unshaped(alloc: Global, line: &[u8]) -> Result<Map<String, Value>, AllocError>
     ensures { IfOk result (λ object. members_view object.entries ≡ unshaped line.now) }
 {
@@ -158,7 +161,7 @@ pub(crate) fn unshaped(alloc: Global, line: &[u8]) -> Result<Map<String, Value>,
     Ok(object)
 }
 
-/// The object of a line.
+/// Returns the object of a line.
 #[tactic(auto, unfolding(crate::specs::Objects::line_object))]
 pub(crate) fn line_object(
     alloc: Global,

@@ -1,4 +1,4 @@
-//! The line that says what has come of a task.
+//! Finds the line of an answer that says how a task ended, and the name of the file that is judged.
 ghost use Rattle.std.specs.Prelude.{◌≡◌, find, option_map};
 ghost use Rattle.text.specs.Parts.{before, lines_of};
 ghost use Rattle.text.specs.Stop.{feed};
@@ -7,7 +7,8 @@ ghost use Rattle.cli_answers.specs.Printing.{is_verdict, judged, outcome};
 use cli_words::Task;
 use text::{Stop, cut, line};
 
-/// The name of the file that is judged.
+/// Returns the name of the file that is judged: the chronicle for an audit, and otherwise the only file or the first
+/// one.
 pub(crate) fn judged(task: &Task) -> &str
     ensures { result.now ≡ judged task.now }
 {
@@ -17,7 +18,7 @@ pub(crate) fn judged(task: &Task) -> &str
     }
 }
 
-/// What stands before the first line feed.
+/// Returns the text before its first line feed.
 pub(crate) fn first_line(text: &[u8]) -> &[u8]
     ensures { result.now ≡ before feed text.now }
 {
@@ -25,14 +26,14 @@ pub(crate) fn first_line(text: &[u8]) -> &[u8]
     line
 }
 
-/// Whether the line is a verdict.
+/// Checks whether the line is a verdict on a campaign.
 fn is_verdict(line: &[u8]) -> bool
     ensures { result ≡ is_verdict line.now }
 {
     line.strip_prefix(b"verdict ").is_some()
 }
 
-/// The first line that is a verdict.
+/// Returns the first line that is a verdict, if there is one.
 fn verdict(text: &[u8]) -> Option<&[u8]>
     ensures { option_map (λ l. l.now) result ≡ find is_verdict (lines_of text.now) }
 {
@@ -46,7 +47,7 @@ fn verdict(text: &[u8]) -> Option<&[u8]>
     None
 }
 
-/// The line of a text that says what has come of the task.
+/// Returns the line that says how the task ended: the first verdict or, without one, the first line.
 pub(crate) fn outcome(text: &[u8]) -> &[u8]
     ensures { result.now ≡ outcome text.now }
 {

@@ -1,4 +1,4 @@
-//! Where a line stands.
+//! Keeps the place of a line in a chronicle: its campaign, its round and its letter.
 ghost use Rattle.std.specs.Prelude.{◌≡◌};
 ghost use Rattle.serde_json.specs.View.{members_view};
 ghost use Rattle.cli_answers.specs.Labels.{at_first, heard, held_by, number_at};
@@ -6,18 +6,18 @@ ghost use Rattle.cli_answers.specs.Labels.{at_first, heard, held_by, number_at};
 use label::Shape;
 use serde_json::{Map, Value};
 
-/// What is known of the campaign and of the letter in which a line stands, by the lines before: each 0 until one has
-/// told it.
+/// What the lines so far say of the campaign and the letter to which the next line belongs. Each number is 0 until a
+/// line contains it.
 #[derive(Clone, Copy)]
 pub(crate) struct Held {
     pub generals: u64,
     pub commander: u64,
     pub round: u64,
-    /// Whose letter it is.
+    /// The general whose letter it is.
     pub general: u64,
 }
 
-/// The number at a name.
+/// Returns the number that the object has at this name, if it has one.
 pub(crate) fn number_at(object: &Map<String, Value>, name: &str) -> Option<u64>
     ensures { result ≡ number_at name.now (members_view object.now.entries) }
 {
@@ -28,7 +28,7 @@ pub(crate) fn number_at(object: &Map<String, Value>, name: &str) -> Option<u64>
 }
 
 impl Held {
-    /// Before the first line: nothing.
+    /// Returns what is known before the first line, which is nothing.
     pub(crate) fn at_first() -> Held
         ensures { result ≡ at_first }
     {
@@ -40,7 +40,8 @@ impl Held {
         }
     }
 
-    /// Before the first line of a text that tells of a trial in this place, if it tells of one.
+    /// Returns what is known before the first line of a text. If the text is the answer of a trial, `place` is the
+    /// relay in which the program was tried.
     pub(crate) fn by(place: Option<Shape>) -> Held
         ensures { result ≡ held_by place }
     {
@@ -55,7 +56,7 @@ impl Held {
         }
     }
 
-    /// What is known behind a line.
+    /// Returns what is known after a line, given the object of that line.
     pub(crate) fn behind(self, object: &Map<String, Value>) -> Held
         ensures { result ≡ heard self (members_view object.now.entries) }
     {

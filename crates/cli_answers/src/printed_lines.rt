@@ -1,4 +1,4 @@
-//! What is printed of an answer, and of a refusal.
+//! Lays out an answer or a refusal in the form that is asked for: as text, as JSON, or as one line.
 ghost use Rattle.std.specs.Prelude.{◌≡◌, IfOk, IfSome};
 ghost use Rattle.cli_answers.specs.Printing.{answer_as, named_line, refusal_as};
 
@@ -8,7 +8,7 @@ use label::Shape;
 use std::alloc::{AllocError, Global};
 use streams::FileName;
 
-/// A line behind the name of its file.
+/// Returns a line with its file's name before it.
 fn named_line(alloc: Global, name: &str, line: &[u8]) -> Result<Vec<u8>, AllocError>
     ensures { IfOk result (λ all. IfSome (named_line name.now line.now) (λ known. all.items ≡ known)) }
 {
@@ -19,7 +19,8 @@ fn named_line(alloc: Global, name: &str, line: &[u8]) -> Result<Vec<u8>, AllocEr
     Ok(lines)
 }
 
-/// An answer's text in the form that is asked for, of a trial in this place, if it tells of one.
+/// Returns an answer's text in the form that is asked for. If it is the answer of a trial, `place` is the relay in
+/// which the program was tried.
 pub(crate) fn answer_lines(
     alloc: Global,
     request: &TaskRequest,
@@ -37,7 +38,7 @@ pub(crate) fn answer_lines(
     }
 }
 
-/// A refusal's text in the form that is asked for.
+/// Returns a refusal's text in the form that is asked for.
 pub(crate) fn refusal_lines(
     alloc: Global,
     request: &TaskRequest,

@@ -1,4 +1,4 @@
-//! Answers and refusals, printed in the form that is asked for.
+//! Prints answers and refusals in the form that is asked for, and returns the exit status.
 ghost use Rattle.std.specs.Prelude.{◌≡◌, ◌⊎◌, IfSome, codes};
 ghost use Rattle.std.specs.Io.KnownBytes.{Appends};
 ghost use Rattle.cli_tasks.specs.Serving.{Tells};
@@ -11,7 +11,7 @@ use label::Shape;
 use std::alloc::Global;
 use streams::Output;
 
-/// Says that memory is wanting.
+/// Reports that memory ran out. Returns the exit status 3.
 pub(crate) fn lacking<F: Output>(fault: &mut F) -> u8
     ensures status { result ≡ 3 }
     ensures memory { Tells (F.fails fault.old) (F.contents fault.old) (F.contents fault.new) (codes "out of memory") }
@@ -20,7 +20,7 @@ pub(crate) fn lacking<F: Output>(fault: &mut F) -> u8
     3
 }
 
-/// Says that the output failed.
+/// Reports that the output failed. Returns the exit status 1.
 fn unwritten<F: Output>(fault: &mut F) -> u8
     ensures status { result ≡ 1 }
     ensures told { Tells (F.fails fault.old) (F.contents fault.old) (F.contents fault.new) (codes "fault write") }
@@ -29,7 +29,8 @@ fn unwritten<F: Output>(fault: &mut F) -> u8
     1
 }
 
-/// Prints an answer, which may tell of a trial in such a place. The result is the exit status.
+/// Prints an answer. If it is the answer of a trial, `place` is the relay in which the program was tried. Returns the
+/// exit status: 0 if the answer was printed, 1 if the output failed, and 3 if there was not enough memory.
 pub(crate) fn show_answer<O: Output, F: Output>(
     alloc: Global,
     request: &TaskRequest,
@@ -58,7 +59,7 @@ pub(crate) fn show_answer<O: Output, F: Output>(
     }
 }
 
-/// Prints a refusal. The result is the exit status.
+/// Prints a refusal. Returns the exit status: 1, or 3 if there was not enough memory.
 pub(crate) fn show_refusal<O: Output, F: Output>(
     alloc: Global,
     request: &TaskRequest,

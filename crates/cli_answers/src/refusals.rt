@@ -1,4 +1,4 @@
-//! A refusal, or a fault of a file, as an object.
+//! Turns the text of a refusal, or of a file's fault, into a JSON object.
 ghost use Rattle.std.specs.Prelude.{◌≡◌, IfNone, IfOk, IfSome, OnOk, drop, false, option_and_then, option_map, slice_get, true};
 ghost use Rattle.serde_json.specs.View.{members_view};
 ghost use Rattle.text.specs.Parts.{before, lines_of};
@@ -12,7 +12,7 @@ use serde_json::{Map, Value, put};
 use std::alloc::{AllocError, Global};
 use text::{FEED, SPACE, Stop, cut, line};
 
-/// What stands before the first stop, and what behind it.
+/// Returns the bytes before the first stop, and those after it.
 fn parted(stop: Stop, bytes: &[u8]) -> (&[u8], &[u8])
     ensures front { result.0.now ≡ before stop bytes.now }
     ensures back { result.1.now ≡ behind_stop stop bytes.now }
@@ -24,7 +24,7 @@ fn parted(stop: Stop, bytes: &[u8]) -> (&[u8], &[u8])
     }
 }
 
-/// Whether the verifier refuses, of a program itself or of a traitor's.
+/// Checks whether a code says that the verifier rejects a program, also if it is a traitor's.
 fn is_unsafe(code: &[u8]) -> bool
     ensures { result ≡ is_unsafe code.now }
 {
@@ -34,7 +34,7 @@ fn is_unsafe(code: &[u8]) -> bool
     }
 }
 
-/// Why a file is not taken: it is malformed, or its program unsafe.
+/// Returns the class of a refusal by its code: `unsafe` if the verifier rejects a program, and otherwise `malformed`.
 fn class_of(code: &[u8]) -> &'static str
     ensures { result.now ≡ class_of code.now }
 {
@@ -45,7 +45,7 @@ fn class_of(code: &[u8]) -> &'static str
     }
 }
 
-/// The sentence behind the mark of a report, if the line has it.
+/// Returns the sentence after `error: `, or `None` if the line does not begin with that.
 fn behind_mark(line: &[u8]) -> Option<&[u8]>
     ensures some { IfSome result (λ s. (is_reported line.now ≡ true) × (s.now ≡ drop 7 line.now)) }
     ensures none { IfNone result (is_reported line.now ≡ false) }
@@ -53,7 +53,7 @@ fn behind_mark(line: &[u8]) -> Option<&[u8]>
     line.strip_prefix(b"error: ")
 }
 
-/// The sentence of a report, if one of the lines has it.
+/// Returns the sentence of the report in the lines, if there is one.
 fn reported(lines: &[u8]) -> Option<&[u8]>
     ensures { option_map (λ s. s.now) result ≡ reported (lines_of lines.now) }
 {
@@ -67,14 +67,14 @@ fn reported(lines: &[u8]) -> Option<&[u8]>
     None
 }
 
-/// Whether the line of an explanation is no note and no help.
+/// Checks whether the line of an explanation is neither a note nor a help message.
 fn is_why(line: &[u8]) -> bool
     ensures { result ≡ is_why line.now }
 {
     line.strip_prefix(b"note: ").is_none() && line.strip_prefix(b"help: ").is_none()
 }
 
-/// The line of an explanation that says why.
+/// Returns the line of an explanation that says why: the last one that is neither a note nor a help message.
 fn why(lines: &[u8]) -> Option<&[u8]>
     ensures { option_map (λ l. l.now) result ≡ why (lines_of lines.now) }
 {
@@ -89,7 +89,7 @@ fn why(lines: &[u8]) -> Option<&[u8]>
     last
 }
 
-/// The first of the lines.
+/// Returns the first of the lines, if there is one.
 fn first_of(lines: &[u8]) -> Option<&[u8]>
     ensures { option_map (λ l. l.now) result ≡ slice_get (lines_of lines.now) 0 }
 {
@@ -97,7 +97,7 @@ fn first_of(lines: &[u8]) -> Option<&[u8]>
     Some(first)
 }
 
-/// What the lines say of a refusal by this code without a report.
+/// Returns what the lines say of a refusal with this code that has no report.
 fn said<'a>(code: &[u8], lines: &'a [u8]) -> Option<&'a [u8]>
     ensures { option_map (λ l. l.now) result ≡ said code.now (lines_of lines.now) }
 {
@@ -108,7 +108,7 @@ fn said<'a>(code: &[u8], lines: &'a [u8]) -> Option<&'a [u8]>
     }
 }
 
-/// Why a file is refused by this code, if the lines say it.
+/// Returns why a file is rejected with this code, if the lines say so.
 fn sentence_of<'a>(code: &[u8], lines: &'a [u8]) -> Option<&'a [u8]>
     ensures { option_map (λ s. s.now) result ≡ sentence_of code.now (lines_of lines.now) }
 {
@@ -118,7 +118,7 @@ fn sentence_of<'a>(code: &[u8], lines: &'a [u8]) -> Option<&'a [u8]>
     }
 }
 
-/// The second of the lines.
+/// Returns the second of the lines, if there is one.
 fn second_of(lines: &[u8]) -> Option<&[u8]>
     ensures { option_map (λ l. l.now) result ≡ second_of (lines_of lines.now) }
 {
@@ -126,14 +126,14 @@ fn second_of(lines: &[u8]) -> Option<&[u8]>
     first_of(behind)
 }
 
-/// What stands here behind the words that say where a file is named, if they stand here.
+/// Returns the text after ` is named by `, if the words begin with that.
 fn namer_behind(words: &[u8]) -> Option<&[u8]>
     ensures { option_map (λ k. k.now) result ≡ namer_behind words.now }
 {
     words.strip_prefix(b" is named by ")
 }
 
-/// Where a file is named, as the last such words of a line say.
+/// Returns where a file is named: the text after the last ` is named by ` in a line.
 fn namer(line: &[u8]) -> Option<&[u8]>
     ensures { option_map (λ k. k.now) result ≡ namer line.now }
 {
@@ -148,7 +148,7 @@ fn namer(line: &[u8]) -> Option<&[u8]>
     last
 }
 
-/// Where the object is named that is refused by this code, if the lines say it.
+/// Returns where the object file is named that is rejected with this code, if the lines say so.
 fn namer_of<'a>(code: &[u8], lines: &'a [u8]) -> Option<&'a [u8]>
     ensures { option_map (λ k. k.now) result ≡ namer_of code.now (lines_of lines.now) }
 {
@@ -158,14 +158,14 @@ fn namer_of<'a>(code: &[u8], lines: &'a [u8]) -> Option<&'a [u8]>
     }
 }
 
-/// Where the file is named that has a fault, if the lines say it.
+/// Returns where the file with the fault is named, if the lines say so.
 fn namer_of_fault(lines: &[u8]) -> Option<&[u8]>
     ensures { option_map (λ k. k.now) result ≡ option_and_then namer (slice_get (lines_of lines.now) 0) }
 {
     namer(first_of(lines)?)
 }
 
-/// Puts where a file is named, if that is said.
+/// Puts into the object where a file is named, if that is known.
 fn put_namer(
     alloc: Global,
     object: &mut Map<String, Value>,
@@ -180,7 +180,7 @@ fn put_namer(
     }
 }
 
-/// Puts a sentence, if there is one.
+/// Puts a sentence into the object, if there is one.
 fn put_sentence(
     alloc: Global,
     object: &mut Map<String, Value>,
@@ -195,7 +195,7 @@ fn put_sentence(
     }
 }
 
-/// A text as a value by a name.
+/// Puts a text into the object at this name.
 fn put_text(
     alloc: Global,
     object: &mut Map<String, Value>,
@@ -208,7 +208,8 @@ fn put_text(
     put(object, alloc, name, spelled(alloc, text)?)
 }
 
-/// The object of a refusal: its code and place, and by the lines behind its own where an object is named, and why.
+/// Returns the object of a refusal: its code, its place and its class. The lines after the first add where an object
+/// file is named, and why the file is rejected.
 fn refused(alloc: Global, told: &[u8], lines: &[u8]) -> Result<Map<String, Value>, AllocError>
     ensures { IfOk result (λ object. members_view object.entries ≡ refused_object told.now (lines_of lines.now)) }
 {
@@ -227,7 +228,8 @@ fn refused(alloc: Global, told: &[u8], lines: &[u8]) -> Result<Map<String, Value
     Ok(object)
 }
 
-/// The object of a fault of a file: with where it is named, and the report behind it.
+/// Returns the object of a file's fault: the fault, the file as its place, and its class. The lines after the first add
+/// where the file is named, and the sentence of the report.
 fn fault(alloc: Global, told: &[u8], lines: &[u8]) -> Result<Map<String, Value>, AllocError>
     ensures { IfOk result (λ object. members_view object.entries ≡ fault_object told.now (lines_of lines.now)) }
 {
@@ -246,7 +248,7 @@ fn fault(alloc: Global, told: &[u8], lines: &[u8]) -> Result<Map<String, Value>,
     Ok(object)
 }
 
-/// The object of what is said where a task is not done.
+/// Returns the object of the text that says why a task is not done.
 #[tactic(auto, unfolding(crate::specs::Refusals::refusal_object))]
 pub(crate) fn refusal_object(alloc: Global, text: &[u8]) -> Result<Map<String, Value>, AllocError>
     ensures { IfOk result (λ object. members_view object.entries ≡ refusal_object text.now) }
@@ -262,13 +264,14 @@ pub(crate) fn refusal_object(alloc: Global, text: &[u8]) -> Result<Map<String, V
     }
 }
 
-/// What is said where a task is not done, as a line of JSON: of a refusal its code, its place, whether the file is
-/// malformed or its program unsafe, and why; of a fault of a file what it is, as its place the file, and why. The
-/// sentence that says why is there where the lines behind the first have it, and so is where a scenario names the file.
+/// Returns as a line of JSON why a task is not done. For a refusal, the object has the code, the place, and the class:
+/// the file is malformed, or its program is unsafe. For a file's fault, the object has the fault, and the file as its
+/// place. The sentence that says why is included if the lines after the first have it, and so is where a scenario names
+/// the file.
 ///
 /// # Errors
 ///
-/// `AllocError` where memory is refused.
+/// Fails with `AllocError` if there is not enough memory.
 pub fn refusal(alloc: Global, text: &[u8]) -> Result<Vec<u8>, AllocError>
     ensures { IfOk result (λ line. line.items ≡ object_line (refusal_object text.now)) }
 {

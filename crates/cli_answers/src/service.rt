@@ -1,4 +1,4 @@
-//! Requests, served.
+//! Serves a request: does its task, and prints the answer or the refusal in the form that is asked for.
 ghost use Rattle.std.specs.Prelude.{◌≡◌, ◌⊎◌, IfSome, IsSomeAnd, codes, false, true};
 ghost use Rattle.cli_tasks.specs.Serving.{IsFault, Tells, files};
 ghost use Rattle.streams.specs.Writing.{AppendsFront};
@@ -14,16 +14,18 @@ use std::sync::Wait;
 use std::thread::Threads;
 use streams::{Output, Source};
 
-/// Whether JSON, or one line, is asked for.
+/// Checks whether JSON or one line is asked for.
 fn is_shaped(request: &TaskRequest) -> bool
     ensures { result ≡ is_shaped request.now }
 {
     request.json || request.verdicts
 }
 
-/// Does what is asked for, as `cli_tasks::serve` does the task; where JSON or one line is asked for, the answer or the
-/// refusal is printed so, on `out`. The result is the exit status: 0 done, 1 refused or a fault of a file, 3 want of
-/// memory.
+/// Serves a request. Without JSON and one line, it does the task as `cli_tasks::serve` does. If JSON or one line is
+/// asked for, it prints the answer or the refusal on `out` in that form.
+///
+/// Returns the exit status: 0 if the task is done, 3 if there is not enough memory, and 1 otherwise, for example if a
+/// file is rejected or the output fails.
 #[tactic(auto, using(crate::proofs::ShownLemmas::shown_plainly))]
 pub fn serve<T, R, O, F>(
     rt: &T,
@@ -45,12 +47,12 @@ where
         IsShown request.now (files R.bytes first second) (O.contents out.old) (O.contents out.new) }
     ensures quiet { result ≡ 0 → fault.new ≡ fault.old }
 
-    // Neither JSON nor one line is asked for.
+    // This clause is for requests that ask for neither JSON nor one line.
     ensures at_fault { is_shaped request.now ≡ false → result ≡ 1 →
         IsFault (R.fails first) (IsSomeAnd second R.fails) (O.fails out.old)
         (AppendsFront (O.contents out.old) (O.contents out.new)) request.now.task (files R.bytes first second)
         (out.new ≡ out.old) (Tells (F.fails fault.old) (F.contents fault.old) (F.contents fault.new)) }
-    // One of them is.
+    // This clause is for requests that ask for JSON or one line.
     ensures refused { is_shaped request.now ≡ true → result ≡ 1 →
         IsAnswerUnwritten (O.fails out.old)
         (Tells (F.fails fault.old) (F.contents fault.old) (F.contents fault.new)) request.now
@@ -79,8 +81,9 @@ where
     }
 }
 
-/// Says that the task is not done, by this line: a file of it does not open, or is not taken. The result is the exit
-/// status: 1, or 3 for want of memory.
+/// Prints this line, which says why the task is not done: a file of the task does not open, or is not accepted. The
+/// line goes to `fault` or, if JSON or one line is asked for, to `out` in that form. Returns the exit status: 1, or 3
+/// if there is not enough memory.
 pub fn turned_down<D, O, F>(
     alloc: Global,
     request: &TaskRequest,
@@ -93,10 +96,10 @@ where
     O: Output,
     F: Output,
     ensures status { (result ≡ 1) ⊎ (result ≡ 3) }
-    // Neither JSON nor one line is asked for.
+    // This clause is for requests that ask for neither JSON nor one line.
     ensures plain { is_shaped request.now ≡ false → (result ≡ 1) × (out.new ≡ out.old)
         × IfSome (D.output line) (Tells (F.fails fault.old) (F.contents fault.old) (F.contents fault.new)) }
-    // One of them is.
+    // This clause is for requests that ask for JSON or one line.
     ensures shown { is_shaped request.now ≡ true → result ≡ 1 →
         IfSome (D.output line)
         (IsRefusalShown (fault.new ≡ fault.old) (O.fails out.old)
@@ -113,7 +116,8 @@ where
     1
 }
 
-/// Prints this line as a refusal, in the form that is asked for. The result is the exit status.
+/// Prints this line as a refusal, in the form that is asked for. Returns the exit status: 1, or 3 if there is not
+/// enough memory.
 fn shown<D, O, F>(alloc: Global, request: &TaskRequest, line: D, out: &mut O, fault: &mut F) -> u8
 where
     D: Display + Drop,

@@ -1,40 +1,41 @@
-//! The shapes of lines, and what their words are called.
+//! Lists the shapes of the lines that are printed, and the names of their words in JSON.
 ghost use Rattle.std.specs.Prelude.{◌≡◌, map};
 ghost use Rattle.board.specs.Wording as asking;
 ghost use Rattle.cli_answers.specs.Shapes.{access_row, row_of, shapes};
 
 use board::Wording;
 
-/// Where a line stands in a chronicle, which is told with it.
+/// The place of a line in a chronicle, which is put into its object.
 #[derive(Clone, Copy, PartialEq, Eq)]
 pub(crate) enum Within {
-    /// Nowhere.
+    /// The line has no place.
     Nothing,
-    /// In a round.
+    /// The line is in a round.
     Round,
-    /// In a letter of a round.
+    /// The line is in a letter of a round.
     Letter,
-    /// In an outbox, of which a rank has its label.
+    /// The line is in an outbox, where a rank has its label.
     Outbox,
 }
 
-/// A shape of lines.
+/// A shape of lines: what its words are, and their names.
 #[derive(Clone, Copy)]
 pub(crate) struct Shape {
-    /// What such a line is called.
+    /// The kind of such a line.
     pub line: &'static str,
-    /// Its words, and what each is called, or a dash where it is not told. Of the words `N` stands for a number, `P`
-    /// for a number or a dash, `A` for yes, no or a dash, `S` for numbers joined by dots or a dash, `C` for a rule's
-    /// word, `*` for all words that are left, each a number or a dash, and any other for itself.
+    /// The words of such a line, each with its name, or with a dash if it is left out of the object. `N` is a number,
+    /// `P` a number or a dash, `A` yes, no or a dash, `S` numbers joined by dots or a dash, and `C` the word of a rule.
+    /// `*` is all words that are left, each a number or a dash. Any other word is itself.
     pub parts: &'static [(&'static str, &'static str)],
-    /// What holds of each such line, or does not; no name where nothing is told.
+    /// The mark: the name of what is true of each such line, or false of each. It is empty if there is no mark.
     pub mark: &'static str,
+    /// Whether the mark is true.
     pub holds: bool,
-    /// Where it stands.
+    /// The place of such a line.
     pub within: Within,
 }
 
-/// The rows of the table but those of accesses; a line has the first shape that fits it.
+/// The shapes of all lines except accesses. A line has the first shape that fits it.
 const SHAPES: &[Shape] = &[
     Shape {
         line: "version",
@@ -268,7 +269,7 @@ const SHAPES: &[Shape] = &[
     },
 ];
 
-/// The shape of the accesses that are worded so.
+/// Returns the shape of an access with this wording.
 pub(crate) fn access_shape(wording: &Wording) -> Shape
     ensures { row_of result ≡ access_row (asking.row_of wording.now) }
 {
@@ -281,7 +282,7 @@ pub(crate) fn access_shape(wording: &Wording) -> Shape
     }
 }
 
-/// The shapes of all other lines that are told by their words.
+/// Returns the shapes of all lines except accesses.
 #[tactic(auto, unfolding(crate::specs::Shapes::shapes))]
 pub(crate) fn shapes() -> &'static [Shape]
     ensures { map row_of result.now ≡ shapes }

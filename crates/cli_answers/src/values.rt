@@ -1,4 +1,4 @@
-//! What a word of a line tells.
+//! Turns a word of a line into a JSON value.
 ghost use Rattle.std.specs.Prelude.{◌≡◌, IfOk, option_map};
 ghost use Rattle.std.specs.Str.Lossy.{utf8_lossy};
 ghost use Rattle.serde_json.specs.Data.{string};
@@ -12,7 +12,7 @@ use serde_json::Value;
 use std::alloc::{AllocError, Global};
 use text::{DOT, SPACE, decimal, piece};
 
-/// A number of 64 bits, in decimal without leading zeros.
+/// Reads a number of 64 bits, in decimal without leading zeros.
 fn small(word: &[u8]) -> Option<u64>
     ensures { result ≡ small word.now }
 {
@@ -20,7 +20,7 @@ fn small(word: &[u8]) -> Option<u64>
     u64::try_from(number).ok()
 }
 
-/// A number.
+/// Returns a number as a value, or `None` for any other word.
 fn number(word: &[u8]) -> Option<Value>
     ensures { option_map view result ≡ number_of word.now }
 {
@@ -28,7 +28,7 @@ fn number(word: &[u8]) -> Option<Value>
     Some(Value::from(number))
 }
 
-/// A number, or a dash for nothing.
+/// Returns a number as a value, or null for a dash.
 fn place(word: &[u8]) -> Option<Value>
     ensures { option_map view result ≡ place_of word.now }
 {
@@ -38,7 +38,7 @@ fn place(word: &[u8]) -> Option<Value>
     number(word)
 }
 
-/// Yes or no, or a dash for neither.
+/// Returns a boolean for `yes` or `no`, or null for a dash.
 fn yes_no(word: &[u8]) -> Option<Value>
     ensures { option_map view result ≡ yes_no_of word.now }
 {
@@ -53,7 +53,7 @@ fn yes_no(word: &[u8]) -> Option<Value>
     }
 }
 
-/// Numbers joined by dots.
+/// Returns numbers joined by dots as an array, or `None` for any other word.
 fn numbers(alloc: Global, word: &[u8]) -> Result<Option<Value>, AllocError>
     ensures { IfOk result (λ o. option_map view o ≡ numbers_of word.now) }
 {
@@ -70,7 +70,7 @@ fn numbers(alloc: Global, word: &[u8]) -> Result<Option<Value>, AllocError>
     Ok(Some(Value::Array(items)))
 }
 
-/// Numbers joined by dots, or a dash for none.
+/// Returns numbers joined by dots as an array, which is empty for a dash.
 fn joined(alloc: Global, word: &[u8]) -> Result<Option<Value>, AllocError>
     ensures { IfOk result (λ o. option_map view o ≡ joined word.now) }
 {
@@ -80,7 +80,7 @@ fn joined(alloc: Global, word: &[u8]) -> Result<Option<Value>, AllocError>
     numbers(alloc, word)
 }
 
-/// All words that are left of a line: numbers, or dashes for nothing.
+/// Returns all words that are left of a line as an array of numbers, with null for a dash.
 pub(crate) fn places(alloc: Global, words: Option<&[u8]>) -> Result<Option<Value>, AllocError>
     ensures { IfOk result (λ o. option_map view o ≡ places (left space words.entry)) }
 {
@@ -97,7 +97,7 @@ pub(crate) fn places(alloc: Global, words: Option<&[u8]>) -> Result<Option<Value
     Ok(Some(Value::Array(items)))
 }
 
-/// A rule's word, as a text.
+/// Returns the word of a rule as a text, or `None` for any other word.
 fn rule(alloc: Global, word: &[u8]) -> Result<Option<Value>, AllocError>
     ensures { IfOk result (λ o. option_map view o ≡ rule_of word.now) }
 {
@@ -107,9 +107,9 @@ fn rule(alloc: Global, word: &[u8]) -> Result<Option<Value>, AllocError>
     }
 }
 
-/// What a word tells that stands for this word of a shape: a number for `N`, a number or a dash for `P`, yes, no or a
-/// dash for `A`, numbers joined by dots or a dash for `S`, a rule's word for `C`, and for another word that word
-/// itself.
+/// Returns the value of a word, given what the shape has in its place. It is a number for `N`, a number or null for
+/// `P`, a boolean or null for `A`, an array of numbers for `S`, and the word of a rule for `C`. For anything else, the
+/// word must be the same, and is the value. Returns `None` if the word does not fit.
 #[tactic(auto, unfolding(crate::specs::Values::told))]
 pub(crate) fn told(alloc: Global, kind: &[u8], word: &[u8]) -> Result<Option<Value>, AllocError>
     ensures { IfOk result (λ o. option_map view o ≡ told kind.now word.now) }
@@ -131,7 +131,7 @@ pub(crate) fn told(alloc: Global, kind: &[u8], word: &[u8]) -> Result<Option<Val
     }
 }
 
-/// A word as a text.
+/// Returns a word as a text, with replacement characters for what is not UTF-8.
 pub(crate) fn spelled(alloc: Global, word: &[u8]) -> Result<Value, AllocError>
     ensures { IfOk result (λ v. view v ≡ string (utf8_lossy word.now)) }
 {

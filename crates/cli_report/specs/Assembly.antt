@@ -1,4 +1,5 @@
--- What is said of a fault of an assembly text: the sentence of each code, the place in the line, and a help.
+-- Defines the report of a fault of an assembly text: the sentence for each code, the part of the line to mark, and the
+-- help message (own).
 use Rattle.std.specs.Prelude.{ℕ, List, [], ◌∷◌, Bool, true, false, ◌+◌, ◌-◌, ◌==◌, ◌&&◌, ◌||◌, nat_lt, nat_eq, if◌then◌else◌, Option, None, Some, codes, drop, length, option_map}
 use Rattle.std.specs.Borrow.{Bor}
 use Rattle.std.specs.List.{list_any, starts_with}
@@ -18,65 +19,70 @@ use Rattle.cli_report.specs.Report.{Mark, near_words, report_text}
 
 -- ---- the parts of a line
 
--- what stands before the comment, without the white space round it
+-- Returns what is before the comment of a line, without the blanks before it and the white space after it.
 unfoldable pub code_in : List ℕ → List ℕ
 code_in line = from Solid (trimmed (before semicolon line))
 
--- a colon stands in the first word
+-- Holds if the first word contains a colon.
 abbrev pub has_name : List ℕ → Bool
 has_name code = nat_lt (until colon (before Blank code)) (length (before Blank code))
 
--- behind the name, if there is one: the mnemonic and its operands
+-- Returns the mnemonic and its operands, which are after the name if there is one.
 unfoldable pub statement_in : List ℕ → List ℕ
 statement_in code = if has_name code then from Solid (drop 1 (from colon code)) else code
 
+-- Returns the mnemonic in a line's code.
 abbrev pub mnemonic_in : List ℕ → List ℕ
 mnemonic_in code = before Blank (statement_in code)
 
+-- Returns the operands in a line's code, as one text.
 abbrev pub operands_in : List ℕ → List ℕ
 operands_in code = from Solid (from Blank (statement_in code))
 
--- the last piece between commas
+-- Returns the last piece of operands that are separated by commas.
 abbrev pub last_of : List (List ℕ) → List ℕ
 last_of [] = []
 last_of (piece ∷ []) = piece
 last_of (piece ∷ next ∷ pieces) = last_of (next ∷ pieces)
 
+-- Returns the last operand, without the blanks before it.
 unfoldable pub last_operand : List ℕ → List ℕ
 last_operand operands = from Solid (last_of (pieces comma operands))
 
--- from the first byte past ASCII on
+-- Returns the code from its first non-ASCII byte on.
 abbrev pub past_ascii : List ℕ → List ℕ
 past_ascii [] = []
 past_ascii (c ∷ cs) = if nat_lt c 128 then past_ascii cs else c ∷ cs
 
 -- ---- the place
 
--- a part of the code: the end of the code that it begins, and its size
+-- A part of the code: the rest of the code from its start, and its size in bytes.
 abbrev pub Part : Type 0
 Part = List ℕ × ℕ
 
--- the code's own part, seen so
+-- The view of a part that the code computes.
 abbrev pub part_view : Bor (List ℕ) × ℕ → Part
 part_view part = (part.0.now, part.1)
 
+-- Returns all of this rest of the code as a part.
 abbrev pub all_of : List ℕ → Part
 all_of end = (end, length end)
 
+-- Returns the mnemonic of a statement as a part.
 abbrev pub mnemonic_part : List ℕ → Part
 mnemonic_part statement = (statement, until Blank statement)
 
--- the first character past ASCII, or all of the code
+-- Returns the first non-ASCII byte, or all of the code if there is none.
 abbrev pub outline_part : List ℕ → List ℕ → Part
 outline_part code [] = all_of code
 outline_part code (c ∷ cs) = (c ∷ cs, 1)
 
--- the operands or, where there are none, the mnemonic
+-- Returns the operands, or the mnemonic if there are none.
 abbrev pub operands_part : List ℕ → List ℕ → Part
 operands_part statement [] = mnemonic_part statement
 operands_part statement (c ∷ cs) = all_of (c ∷ cs)
 
--- what is at fault: the name, the mnemonic, its operands, the last of them, or all of the code
+-- Returns the part at fault: the name, the mnemonic, its operands, the last of them, or all of the code.
 abbrev pub part_of : AsmFault → List ℕ → Part
 part_of fault.Line code = outline_part code (past_ascii code)
 part_of fault.Mnemonic code = mnemonic_part (statement_in code)
@@ -86,57 +92,62 @@ part_of fault.Twice code = (code, until colon code)
 part_of fault.Range code = operands_part (statement_in code) (operands_in code)
 part_of fault.Count code = all_of code
 
--- how many bytes of the line stand before the part, the code being what stands before the comment, and how many it has
+-- Returns how many bytes of the line are before the part, and how many it has. The code ends where the comment begins.
 abbrev pub behind_front : List ℕ → Part → ℕ × ℕ
 behind_front line part = (length (trimmed (before semicolon line)) - length part.0, part.1)
 
+-- Returns how many bytes of the line are before the part at fault, and how many it has.
 unfoldable pub place_in : AsmFault → List ℕ → ℕ × ℕ
 place_in f line = behind_front line (part_of f (code_in line))
 
--- the same of the statement
+-- Returns how many bytes of the line are before the statement, and how many it has.
 unfoldable pub statement_place : List ℕ → ℕ × ℕ
 statement_place line = behind_front line (all_of (statement_in (code_in line)))
 
--- a line of code where it stands: in this line of the file, behind so many bytes of it
+-- A line of code at its place in a file: the file's line, how many bytes of it are before the code, and the code.
 pub record Spot : Type 0 where
   pub number : ℕ
   pub shown : List ℕ
   pub front : ℕ
   pub code : List ℕ
 
--- the code's own spot, seen so
+-- The view of a spot that the code keeps.
 abbrev pub spot_view : Held → Spot
 spot_view s = record { number = s.number; shown = s.shown.now; front = length s.front.now; code = s.code.now }
 
--- all of a line of the file
+-- Returns the spot of code that is a whole line of the file.
 abbrev pub whole : ℕ → List ℕ → Spot
 whole number line = record { number = number; shown = line; front = 0; code = line }
 
--- a part of the code, marked in the line of the file
+-- Marks a part of the code in the line of the file.
 abbrev pub spot_mark : Spot → ℕ × ℕ → Mark
 spot_mark s part = marked s.number (trimmed s.shown) (s.front + part.0) part.1
 
--- its statement
+-- Marks the statement of the code in the line of the file.
 abbrev pub unit_mark : Spot → Mark
 unit_mark s = spot_mark s (statement_place s.code)
 
 -- ---- the sentence
 
+-- Returns the sentence for a line of the wrong shape. The argument is the code from its first non-ASCII byte on.
 abbrev pub outline_sentence : List ℕ → List ℕ
 outline_sentence [] = codes "a line is `[name:] [mnemonic operands] [; comment]`, with commas between the operands"
 outline_sentence (c ∷ cs) = codes "a character that is not of ASCII stands outside a comment"
 
--- no operand, or one that begins no number, is taken for a helper's name
+-- Returns the sentence for a wrong operand of `call`. An operand that begins with a letter or `_` is taken for a
+-- helper's name.
 abbrev pub call_sentence : List ℕ → List ℕ
 call_sentence [] = takes_text takes.Call
 call_sentence (c ∷ cs) = if is_within 97 122 c || is_within 65 90 c || c == 95
     then codes "there is no helper of this name" else takes_text takes.Call
 
+-- Returns the sentence for operands that do not fit the mnemonic, by what the mnemonic takes.
 abbrev pub operand_sentence : Option Takes → List ℕ → List ℕ
 operand_sentence None operands = codes "the operands are not those of the mnemonic"
 operand_sentence (Some takes.Call) operands = call_sentence operands
 operand_sentence (Some takes) operands = takes_text takes
 
+-- Returns the sentence for a number out of range, by what the mnemonic takes.
 abbrev pub range_sentence : Option Takes → List ℕ
 range_sentence (Some takes.Wide) = codes "a number here is -9223372036854775808 to 18446744073709551615"
 range_sentence (Some takes.Load) = codes "an offset is -32768 to 32767"
@@ -148,6 +159,7 @@ range_sentence (Some takes.StoreNumber) =
     codes "a number here is -2147483648 to 2147483647, and an offset -32768 to 32767"
 range_sentence _ = codes "a number here is -2147483648 to 2147483647"
 
+-- Returns the sentence for a fault in this code.
 abbrev pub assembly_sentence : AsmFault → List ℕ → List ℕ
 assembly_sentence fault.Line code = outline_sentence (past_ascii code)
 assembly_sentence fault.Mnemonic code = codes "there is no such mnemonic"
@@ -159,20 +171,24 @@ assembly_sentence fault.Count code = codes "a program has 1 to 4096 units"
 
 -- ---- the help
 
+-- Holds if the byte is among these bytes.
 abbrev pub has : ℕ → List ℕ → Bool
 has byte bytes = list_any (λ b. b == byte) bytes
 
+-- Holds if an ASCII capital letter is among the bytes.
 abbrev pub has_capital : List ℕ → Bool
 has_capital bytes = list_any (λ b. is_within 65 90 b) bytes
 
--- the three bytes of a mark of the byte order
+-- The three bytes of a byte order mark.
 abbrev pub order_mark : List ℕ
 order_mark = 239 ∷ 187 ∷ 191 ∷ []
 
+-- Holds for the first line of a file if it begins with a byte order mark.
 abbrev pub begins_marked : ℕ → List ℕ → Bool
 begins_marked number line = number == 1 && starts_with nat_eq line order_mark
 
--- of the outline: what is likely by the first of these characters that stands in the line
+-- Returns the help message for a line of the wrong shape: the likely cause by the first of these characters that the
+-- line contains.
 abbrev pub outline_advice : ℕ → List ℕ → List ℕ → Option (List ℕ)
 outline_advice number line code =
     if begins_marked number line then Some (codes "the file begins with a byte order mark: save it without one")
@@ -182,20 +198,23 @@ outline_advice number line code =
     else if has 91 code then Some (codes "inside an operand stands no blank: `[r1+8]`")
     else None
 
--- a nearly equal name; without one, a capital letter
+-- Returns the help message that names a close name or, without one, the message about capital letters.
 abbrev pub or_small : List ℕ → Option (List ℕ) → Option (List ℕ)
 or_small code (Some advice) = Some advice
 or_small code None =
     if has_capital code then Some (codes "mnemonics, registers and helpers are written small") else None
 
+-- Holds if the mnemonic takes a helper.
 abbrev pub is_call : Option Takes → Bool
 is_call (Some takes.Call) = true
 is_call _ = false
 
+-- Returns the help message for operands that do not fit the mnemonic.
 abbrev pub operand_advice : Option Takes → List ℕ → Option (List ℕ)
 operand_advice takes operands =
     or_small operands (if is_call takes then option_map (near_words (codes "helper")) (near operands helpers) else None)
 
+-- Returns the help message for a fault in a line, if a cause is likely.
 abbrev pub assembly_advice : AsmFault → ℕ → List ℕ → List ℕ → Option (List ℕ)
 assembly_advice fault.Line number line code = outline_advice number line code
 assembly_advice fault.Mnemonic number line code =
@@ -205,16 +224,17 @@ assembly_advice _ number line code = None
 
 -- ---- all of it
 
--- of a fault in a line of code, which stands here in the file with this name
+-- Returns the report of a fault in a line of code at this spot of the file with this name.
 abbrev pub code_told : List ℕ → AsmFault → Spot → List ℕ
 code_told name f s =
     report_text name (assembly_sentence f (code_in s.code)) (Some (spot_mark s (place_in f s.code)))
     (assembly_advice f s.number s.code (code_in s.code))
 
+-- Returns the report of a fault in a line of a file. Without a line, the report has no excerpt.
 abbrev pub line_told : List ℕ → AsmFault → ℕ → Option (List ℕ) → List ℕ
 line_told name f number None = report_text name (assembly_sentence f []) None None
 line_told name f number (Some line) = code_told name f (whole number line)
 
--- of a fault at a line of the text of a file with this name
+-- Returns the report of a fault at a line of the text of a file with this name.
 unfoldable pub assembly_told : List ℕ → List ℕ → AsmFault → ℕ → List ℕ
 assembly_told name text f number = line_told name f number (line_at text number)

@@ -1,4 +1,5 @@
--- What is said of a fault of bytecode: the sentence of each code, and the place among the digits in hex of the unit.
+-- Defines the report of a fault of bytecode: the sentence for each code, and the part of the unit's hex digits to mark
+-- (own).
 use Rattle.std.specs.Prelude.{ℕ, List, [], ◌∷◌, ◌*◌, ◌==◌, ◌||◌, if◌then◌else◌, Option, None, Some, codes, drop, take, unwrap_or}
 use Rattle.codec.specs.declared.fault.CodecFault.{CodecFault}
 use Rattle.codec.specs.declared.fault.CodecFault.TheVariants as fault
@@ -7,11 +8,12 @@ use Rattle.text.specs.Number.{digits_on}
 use Rattle.cli_report.specs.Lines.{marked}
 use Rattle.cli_report.specs.Report.{Mark, report_text}
 
--- the number of two digits
+-- Returns the number in the first two hex digits, or 0 if there is none.
 abbrev pub byte_of : List ℕ → ℕ
 byte_of digits = unwrap_or (digits_on 16 0 (take 2 digits)) 0
 
--- an instruction that is left out, by its opcode, with its group (RFC 9669, sections 2.4 and 5)
+-- Returns the sentence for an instruction that is left out, by its opcode, with its conformance group (RFC 9669,
+-- sections 2.4 and 5).
 abbrev pub left_out_sentence : ℕ → List ℕ
 left_out_sentence opcode =
     if opcode == 0x85 then codes
@@ -21,7 +23,7 @@ left_out_sentence opcode =
     else if opcode == 0xdb then codes "an atomic instruction of 64 bits (group atomic64) is left out"
     else codes "a packet load (group packet) is left out"
 
--- what an operand chooses, by the opcode
+-- Returns the sentence for a field that selects none of the instruction's forms, by the opcode.
 abbrev pub choice_sentence : ℕ → List ℕ
 choice_sentence opcode =
     if opcode == 0xd4 || opcode == 0xd7 || opcode == 0xdc
@@ -30,7 +32,7 @@ choice_sentence opcode =
     then codes "the offset of a move is 0, or 8, 16 or (of 64 bits) 32 to extend so many bits by their sign"
     else codes "the offset of a division or a remainder is 0, or 1 for the signed one"
 
--- of a fault in a unit of these digits
+-- Returns the sentence for a fault in a unit with these hex digits.
 abbrev pub unit_sentence : CodecFault → List ℕ → List ℕ
 unit_sentence fault.Length digits = codes "the file ends within this unit, and a unit has 8 bytes"
 unit_sentence fault.Opcode digits = codes "no instruction has this opcode"
@@ -41,15 +43,17 @@ unit_sentence fault.LeftOut digits = left_out_sentence (byte_of digits)
 unit_sentence fault.Operand digits = choice_sentence (byte_of digits)
 unit_sentence fault.Count digits = codes "a program has 1 to 4096 units"
 
--- a call and a wide load are left out for their source register, which stands in the second byte
+-- Returns the digits of what shows that an instruction is left out. For a call and a wide load it is the source
+-- register, which is in the second byte, and otherwise the opcode.
 abbrev pub left_out_place : ℕ → ℕ × ℕ
 left_out_place opcode = if opcode == 0x85 || opcode == 0x18 then (2, 2) else (0, 2)
 
--- a swap is chosen by the last four bytes, another form by the offset
+-- Returns the digits of what selects the form of an instruction. For a swap they are those of the last four bytes, and
+-- otherwise those of the offset.
 abbrev pub choice_place : ℕ → ℕ × ℕ
 choice_place opcode = if opcode == 0xd4 || opcode == 0xd7 || opcode == 0xdc then (8, 8) else (4, 4)
 
--- before the part so many digits, and so many in it
+-- Returns how many digits are before the part at fault, and how many it has.
 abbrev pub unit_place : CodecFault → List ℕ → ℕ × ℕ
 unit_place fault.Opcode digits = (0, 2)
 unit_place fault.Register digits = (2, 2)
@@ -57,19 +61,21 @@ unit_place fault.LeftOut digits = left_out_place (byte_of digits)
 unit_place fault.Operand digits = choice_place (byte_of digits)
 unit_place _ digits = (0, 16)
 
--- the bytes of a unit, of those that a program may have
+-- Returns the bytes of a unit, among the bytes that a program may have.
 abbrev pub unit_at : List ℕ → ℕ → List ℕ
 unit_at bytes unit = take 8 (drop (8 * unit) (take 32768 bytes))
 
--- the unit, with the part marked: none where the file has too many units or none
+-- Marks the part at fault in a unit's digits. The result is `None` if the file has no such unit, or if the fault is the
+-- number of units.
 abbrev pub unit_marked : CodecFault → ℕ → List ℕ → Option Mark
 unit_marked fault.Count unit digits = None
 unit_marked f unit [] = None
 unit_marked f unit (d ∷ ds) = Some (marked unit (d ∷ ds) (unit_place f (d ∷ ds)).0 (unit_place f (d ∷ ds)).1)
 
+-- Returns the report of a fault at a unit with these hex digits.
 abbrev pub unit_told : List ℕ → CodecFault → ℕ → List ℕ → List ℕ
 unit_told name f unit digits = report_text name (unit_sentence f digits) (unit_marked f unit digits) None
 
--- of a fault at a unit of the file with this name and these bytes
+-- Returns the report of a fault at a unit of the file with this name and these bytes.
 unfoldable pub bytecode_told : List ℕ → List ℕ → CodecFault → ℕ → List ℕ
 bytecode_told name bytes f unit = unit_told name f unit (encode_lower (unit_at bytes unit))

@@ -1,4 +1,4 @@
--- What is said of a fault of a schedule or a chronicle.
+-- Defines the report of a fault of a schedule or a chronicle (own).
 use Rattle.std.specs.Prelude.{ℕ, List, ◌++◌, Bool, true, false, ◌==◌, if◌then◌else◌, Option, None, Some, codes, length, option_map, take}
 use Rattle.text.specs.Stop.{feed}
 use Rattle.text.specs.Parts.{pieces}
@@ -8,13 +8,15 @@ use Rattle.cli_report.specs.Assembly.{begins_marked, has}
 use Rattle.cli_report.specs.Lines.{all_marked, line_at, trimmed}
 use Rattle.cli_report.specs.Report.{has_words, report_text, shown_line}
 
--- ---- of a schedule
+-- ---- schedules
 
+-- The sentence for a faulty line of a schedule.
 abbrev pub schedule_sentence : List ℕ
 schedule_sentence =
     codes "a line is entries with one space between them, `G` or `G*K` for K of them, G being 0 to 12 and K 1 to 4096; "
     ++ codes "a schedule has at most 5 lines and 1048576 bytes"
 
+-- Returns the help message for a faulty line of a schedule: the likely cause by what the line contains.
 abbrev pub schedule_advice : ℕ → List ℕ → Option (List ℕ)
 schedule_advice number line =
     if begins_marked number line then Some (codes "the file begins with a byte order mark: save it without one")
@@ -22,23 +24,25 @@ schedule_advice number line =
     else if has 35 line then Some (codes "a schedule has no comments")
     else None
 
+-- Returns the report of a fault in a line of a schedule. Without a line, the report has no excerpt.
 abbrev pub schedule_line_told : List ℕ → ℕ → Option (List ℕ) → List ℕ
 schedule_line_told name number None = report_text name schedule_sentence None None
 schedule_line_told name number (Some line) =
     report_text name schedule_sentence (Some (all_marked number (trimmed line))) (schedule_advice number line)
 
--- of a line of the schedule of a file with this name, as far as a schedule goes
+-- Returns the report of a fault at a line of the schedule in a file with this name, within the most bytes that a
+-- schedule has.
 unfoldable pub schedule_told : List ℕ → List ℕ → ℕ → List ℕ
 schedule_told name text number = schedule_line_told name number (line_at (take 1048576 text) number)
 
--- ---- of a chronicle
+-- ---- chronicles
 
--- behind the last line feed of the text stands this line
+-- Holds if this line is the one after the last line feed of the text.
 abbrev pub is_last : List ℕ → ℕ → Bool
 is_last text number = number == length (pieces feed text)
 
--- by whether the line is the last one: a shape that it lacks is then its line feed, and any other fault is that no line
--- stands there
+-- Returns the sentence for a fault, by whether the line is the last one. A last line of the wrong shape lacks its line
+-- feed. With any other fault, the campaign has a line and the file has none.
 abbrev pub chronicle_sentence : Bool → TraceFault → List ℕ
 chronicle_sentence true fault.Line = codes "the file is cut off: this line has no line feed at its end"
 chronicle_sentence true f = codes "the file ends here, and the campaign has more lines"
@@ -46,7 +50,8 @@ chronicle_sentence false fault.Line = codes "no line of a chronicle has this sha
 chronicle_sentence false fault.Scenario = codes "the first two lines are not those of this scenario's campaign"
 chronicle_sentence false fault.Differs = codes "this line is not the campaign's"
 
--- the line that is to stand there, where it is known; else by the first of these that stands in the line
+-- Returns the help message: the campaign's own line if it is known, otherwise the likely cause by what the line
+-- contains.
 abbrev pub chronicle_advice : ℕ → Option (List ℕ) → List ℕ → Option (List ℕ)
 chronicle_advice number (Some wanted) line = Some (has_words wanted)
 chronicle_advice number None line =
@@ -54,6 +59,7 @@ chronicle_advice number None line =
     else if has 13 line then Some (codes "the file has Windows line ends: a line ends with a line feed alone")
     else None
 
+-- Returns the report of a fault in a line of a chronicle. Without a line, the report has no excerpt.
 abbrev pub chronicle_line_told : List ℕ → Bool → TraceFault → ℕ → Option (List ℕ) → Option (List ℕ) → List ℕ
 chronicle_line_told name last f number wanted None =
     report_text name (chronicle_sentence last f) None (option_map has_words wanted)
@@ -61,16 +67,18 @@ chronicle_line_told name last f number wanted (Some line) =
     report_text name (chronicle_sentence last f) (Some (all_marked number (trimmed line)))
     (chronicle_advice number wanted line)
 
--- of a fault at a line of the chronicle of a file with this name, where the campaign has this line
+-- Returns the report of a fault at a line of the chronicle in a file with this name. `wanted` is the campaign's own
+-- line, if it is known.
 unfoldable pub chronicle_told : List ℕ → List ℕ → TraceFault → ℕ → Option (List ℕ) → List ℕ
 chronicle_told name text f number wanted =
     chronicle_line_told name (is_last text number) f number wanted (line_at text number)
 
--- the line that the campaign has, as it is shown, where its text is this: of a line of no shape it is not said
+-- Returns the campaign's own line, as it is shown, where `again` is the campaign's chronicle. For a line of the wrong
+-- shape it is not reported.
 abbrev pub wanted_in : TraceFault → List ℕ → ℕ → Option (List ℕ)
 wanted_in fault.Line again number = None
 wanted_in f again number = option_map shown_line (line_at again number)
 
--- the same, where the campaign has this text
+-- Returns the report of a fault at a line of a chronicle, where `again` is the campaign's own chronicle.
 abbrev pub replayed_told : List ℕ → List ℕ → TraceFault → ℕ → List ℕ → List ℕ
 replayed_told name text f number again = chronicle_told name text f number (wanted_in f again number)

@@ -1,4 +1,4 @@
--- The law of what is said: each refusal has a sentence, and the place that is told lies within the file.
+-- Defines the law of reports: each refusal has a sentence, and the place in its report is within the file (own).
 use Rattle.std.specs.Prelude.{ℕ, ◌≡◌, ◌≢◌, ◌⊎◌, ◌+◌, ◌≤◌, List, [], Option, None, Some, IfSome, codes, length, option_and_then, take, unwrap_or}
 use Rattle.hex.specs.Hex.{encode_lower}
 use Rattle.asm.specs.declared.fault.AsmFault.{AsmFault}
@@ -29,18 +29,18 @@ use Rattle.object.specs.declared.fault.ObjectFault.{ObjectFault}
 use Rattle.threads.specs.declared.error.MusterError.{MusterError}
 use Rattle.cli_report.specs.Report.{Mark, report_text}
 
--- the mark is a part of a line of the text, or stands behind its last line
+-- The mark is a part of a line of the text, or is after its last line.
 pub record IsInText (text : List ℕ) (m : Mark) : Type 0 where
   pub line : m.line ≡ trimmed (unwrap_or (line_at text m.number) [])
   pub part : m.from + m.size ≤ length m.line
 
--- the mark is a part of the digits of a unit of the bytes
+-- The mark is a part of the hex digits of a unit of the bytes.
 pub record IsInUnit (bytes : List ℕ) (m : Mark) : Type 0 where
   pub unit : m.line ≡ encode_lower (unit_at bytes m.number)
   pub some : m.line ≢ []
   pub part : m.from + m.size ≤ length m.line
 
--- what is told is a report, with a sentence, and a place of which this holds
+-- The text is a report with a sentence. If it has a place, the place satisfies `IsIn`.
 pub record IsReport (IsIn : Mark → Type 0) (name told : List ℕ) : Type 0 where
   pub sentence : List ℕ
   pub place : Option Mark
@@ -49,8 +49,8 @@ pub record IsReport (IsIn : Mark → Type 0) (name told : List ℕ) : Type 0 whe
   pub says : sentence ≢ []
   pub within : IfSome place IsIn
 
--- of a fault in the program of a general whose table in the scenario's own text names a file of assembly, what is told
--- is a report under the name of that file, as it is shown, with a place in its text
+-- The fault is in the program of a general whose table in the scenario's own text names an assembly file. The text is a
+-- report under the name of that file, as it is shown, with a place in the file's text.
 pub record IsReportOfFile (own : List ℕ) (made : Option Members) (error : ScenarioError) (told : List ℕ) : Type 0 where
   pub general : ℕ
   pub fault : ProgramFault
@@ -59,9 +59,9 @@ pub record IsReportOfFile (own : List ℕ) (made : Option Members) (error : Scen
   pub named : own_line (seat general (parse_document own)) (codes "asm_file") own ≡ Some key
   pub report : IsReport (IsInText (assembly_of (option_and_then (source_by general) made))) (file_shown key) told
 
--- each refusal of each kind of file is told by a report, of a text that is no TOML where it is one in UTF-8; an
--- object's fault and a muster's, which are none of a line, by a sentence; an error of a scenario that names files by a
--- report of its own text or of such a file
+-- Each refusal of each kind of file has a report. For an error that a text is not TOML, this holds if the text is UTF-8
+-- and not TOML. The fault of an object or of a muster has no line, only a sentence. The error of a scenario that names
+-- files has a report of its own text or of such a file.
 pub record RefusalsAreTold : Type 0 where
   pub assembly : (name text : List ℕ) (fault : AsmFault) (line : ℕ) →
       IsReport (IsInText text) name (assembly_told name text fault line)

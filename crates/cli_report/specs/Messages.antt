@@ -1,4 +1,4 @@
--- What is said of a fault of a message table.
+-- Defines the report of a fault of a message table (own).
 use Rattle.std.specs.Prelude.{ℕ, List, ◌++◌, ◌-◌, ◌==◌, ◌||◌, if◌then◌else◌, Option, None, Some, codes, decimal, length}
 use Rattle.combine.specs.Names.{rule_names}
 use Rattle.book.specs.declared.fault.TableFault.{TableFault}
@@ -7,10 +7,12 @@ use Rattle.cli_report.specs.Assembly.{begins_marked, has}
 use Rattle.cli_report.specs.Lines.{all_marked, line_at, trimmed}
 use Rattle.cli_report.specs.Report.{report_text}
 
+-- The sentence for a first line of the wrong shape.
 abbrev pub first_sentence : List ℕ
 first_sentence = codes
     "the first line is `generals N bound M commander C`, perhaps with ` rule R` behind it, where R is " ++ rule_names
 
+-- Returns the sentence for a fault in line `number` of a table.
 abbrev pub table_sentence : TableFault → ℕ → List ℕ
 table_sentence fault.Line number =
     if number == 1
@@ -24,7 +26,8 @@ table_sentence fault.Place number =
     ++ codes "has at most bound + 1 generals, none twice, and the receiver is not on it"
 table_sentence fault.Twice number = codes "a line before tells this receiver of this label"
 
--- what is likely by the first of these characters that stands in the line
+-- Returns the help message for a line of the wrong shape: the likely cause by the first of these characters that the
+-- line contains.
 abbrev pub shape_advice : ℕ → List ℕ → Option (List ℕ)
 shape_advice number line =
     if begins_marked number line then Some (codes "the file begins with a byte order mark: save it without one")
@@ -35,29 +38,33 @@ shape_advice number line =
     else if has 9 line then Some (codes "one space stands between two parts, and no tab")
     else None
 
+-- Returns the help message for a faulty line of a table, if a cause is likely.
 abbrev pub table_advice : TableFault → ℕ → List ℕ → Option (List ℕ)
 table_advice fault.Line number line = shape_advice number line
 table_advice _ number line = None
 
+-- Returns the report of a fault in a line of a table. Without a line, the report has no excerpt.
 abbrev pub table_line_told : List ℕ → TableFault → ℕ → Option (List ℕ) → List ℕ
 table_line_told name f number None = report_text name (table_sentence f number) None None
 table_line_told name f number (Some line) =
     report_text name (table_sentence f number) (Some (all_marked number (trimmed line))) (table_advice f number line)
 
--- of a fault at a line of the text of a file with this name
+-- Returns the report of a fault at a line of the text of a file with this name.
 unfoldable pub table_told : List ℕ → List ℕ → TableFault → ℕ → List ℕ
 table_told name text f number = table_line_told name f number (line_at text number)
 
--- ---- a general who is named, and is none of the table's
+-- ---- a named general who is not one of the table's
 
+-- Returns the sentence with the numbers of the table's generals.
 abbrev pub stranger_sentence : ℕ → List ℕ
 stranger_sentence generals = codes "the table has the generals 0 to " ++ decimal (generals - 1)
 
+-- Returns the report that a named general is not one of the table's. `line` is the table's first line.
 abbrev pub stranger_line_told : List ℕ → ℕ → Option (List ℕ) → List ℕ
 stranger_line_told name generals None = report_text name (stranger_sentence generals) None None
 stranger_line_told name generals (Some line) =
     report_text name (stranger_sentence generals) (Some (all_marked 1 (trimmed line))) None
 
--- of a table of so many, the text of a file with this name: at its first line
+-- Returns the report for a table of `generals` generals in a file with this name, at the table's first line.
 unfoldable pub stranger_told : List ℕ → List ℕ → ℕ → List ℕ
 stranger_told name text generals = stranger_line_told name generals (line_at text 1)

@@ -1,4 +1,4 @@
--- What each mnemonic takes.
+-- Defines the operands that each mnemonic takes (own).
 use Rattle.std.specs.Prelude.{ℕ, List, [], ◌∷◌, if◌then◌else◌, Option, None, Some, codes, map, option_map}
 use Rattle.std.specs.Str.{bytes_eq}
 use Rattle.asm.specs.Table.{mnemonic_of, mnemonics, name_of}
@@ -7,6 +7,7 @@ use Rattle.asm.specs.declared.mnemonic.Mnemonic.TheVariants as words
 use Rattle.cli_report.specs.declared.mnemonics.Takes.{Takes}
 use Rattle.cli_report.specs.declared.mnemonics.Takes.TheVariants as takes
 
+-- Returns the operands that a mnemonic takes.
 abbrev pub takes_of : Mnemonic → Takes
 takes_of (words.Arithmetic width operation) = takes.Arithmetic
 takes_of (words.Negate width) = takes.Register
@@ -23,15 +24,15 @@ takes_of (words.StoreNumber size) = takes.StoreNumber
 takes_of words.Call = takes.Call
 takes_of words.Exit = takes.Nothing
 
--- what the mnemonic of a word takes
+-- Returns the operands that a mnemonic takes, or `None` if the word is not a mnemonic.
 unfoldable pub taken : List ℕ → Option Takes
 taken word = option_map takes_of (mnemonic_of word)
 
--- the words of all mnemonics
+-- The words of all mnemonics.
 unfoldable pub mnemonic_names : List (List ℕ)
 mnemonic_names = map name_of mnemonics
 
--- the sentence that says so
+-- Returns the sentence that describes these operands.
 abbrev pub takes_text : Takes → List ℕ
 takes_text takes.Arithmetic = codes "this mnemonic takes `rD, rS` or `rD, number`, with registers r0 to r10"
 takes_text takes.Register = codes "this mnemonic takes one register, r0 to r10"
@@ -46,7 +47,7 @@ takes_text takes.Wide = codes "this mnemonic takes `rD, number`, with registers 
 takes_text takes.Call = codes "this mnemonic takes a helper's name, or its number"
 takes_text takes.Nothing = codes "this mnemonic takes no operand"
 
--- the first of a table's rows that has the word
+-- Returns the operands in the first row that has the word.
 abbrev pub first_taken : List ℕ → List (List ℕ × Takes) → Option Takes
 first_taken word [] = None
 first_taken word (row ∷ rows) = if bytes_eq row.0 word then Some row.1 else first_taken word rows

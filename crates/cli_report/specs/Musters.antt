@@ -1,8 +1,9 @@
--- What is said of a muster that gave no chronicle, which is a fault of no file.
+-- Defines the report of a muster that returned no chronicle, for which no file is at fault (own).
 use Rattle.std.specs.Prelude.{ℕ, List, ◌++◌, codes}
 use Rattle.threads.specs.declared.error.MusterError.{MusterError}
 use Rattle.threads.specs.declared.error.MusterError.TheVariants as errors
 
+-- Returns the sentence for the error of a muster.
 abbrev pub muster_sentence : MusterError → List ℕ
 muster_sentence errors.Unaccounted =
     codes "the board's accesses do not account for the letters that the threads gave back: "
@@ -13,5 +14,6 @@ muster_sentence errors.Post =
     codes "a general's letter found the post full: this is a fault of the program, and of no file"
 muster_sentence errors.Memory = codes "there is not enough memory"
 
+-- Returns the report of a muster's error.
 abbrev pub muster_told : MusterError → List ℕ
 muster_told error = codes "\nerror: " ++ muster_sentence error

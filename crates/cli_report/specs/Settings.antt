@@ -1,4 +1,4 @@
--- What is said of a fault of a setting: the sentence of each code, and the place in the text.
+-- Defines the report of a fault of a setting: the sentence for each code, and the place in the text (own).
 use Rattle.std.specs.Prelude.{ℕ, List, [], ◌∷◌, ◌++◌, true, false, Option, None, codes, option_map}
 use Rattle.trial.specs.Names.{text_of}
 use Rattle.trial.specs.declared.place.SettingKey.{SettingKey}
@@ -11,11 +11,13 @@ use Rattle.cli_report.specs.Keys.{found, shown_at}
 use Rattle.cli_report.specs.Nearest.{near}
 use Rattle.cli_report.specs.Report.{Mark, near_words, report_text}
 
+-- Returns the sentence for a value of the wrong type.
 abbrev pub setting_kind_sentence : SettingKey → List ℕ
 setting_kind_sentence names.Taken = codes "the orders taken are a list of whole numbers"
 setting_kind_sentence names.Board = codes "the board is a list of whole numbers"
 setting_kind_sentence name = codes "a whole number is wanted here"
 
+-- Returns the sentence for a value out of its range.
 abbrev pub setting_range_sentence : SettingKey → List ℕ
 setting_range_sentence names.Generals = codes "there are 2 to 13 generals"
 setting_range_sentence names.Bound = codes "a bound is 0 to 4, and at most generals - 2"
@@ -24,41 +26,49 @@ setting_range_sentence names.Taken = codes "these are more orders than he relays
 setting_range_sentence names.Board = codes "a board has at most 64 words"
 setting_range_sentence name = codes "this value is out of its range"
 
+-- Returns the sentence for a fault of a key or its value.
 abbrev pub setting_name_sentence : SettingFault → SettingKey → List ℕ
 setting_name_sentence faults.Key name = codes "the key `" ++ text_of name ++ codes "` is missing"
 setting_name_sentence faults.Kind name = setting_kind_sentence name
 setting_name_sentence faults.Range name = setting_range_sentence name
 setting_name_sentence faults.General name = codes "no general has this number: they are 0 to generals - 1"
 
+-- Returns the sentence for a fault of an order that was taken.
 abbrev pub order_sentence : SettingFault → List ℕ
 order_sentence faults.Kind = codes "an order that was taken is a whole number"
 order_sentence f = codes "an order is 0 to 4294967295"
 
+-- Returns the sentence for a fault of a word of the board.
 abbrev pub setting_word_sentence : SettingFault → List ℕ
 setting_word_sentence faults.Kind = codes "a word of the board is a whole number"
 setting_word_sentence f = codes "a word of the board is 0 to 2^63 - 1"
 
+-- Returns the sentence for a fault at this place.
 abbrev pub setting_sentence : SettingFault → SettingPlace → List ℕ
 setting_sentence f (places.Key name) = setting_name_sentence f name
 setting_sentence f (places.Order rank) = order_sentence f
 setting_sentence f (places.Word slot) = setting_word_sentence f
 
+-- Returns the key whose value is at fault.
 abbrev pub setting_word : SettingPlace → List ℕ
 setting_word (places.Key name) = text_of name
 setting_word (places.Order rank) = codes "taken"
 setting_word (places.Word slot) = codes "board"
 
--- the value that is at fault: a key that is missing stands nowhere
+-- Marks the value that is at fault. A key that is missing has no place.
 abbrev pub setting_mark : SettingPlace → List ℕ → Option Mark
 setting_mark place text = option_map (shown_at true (setting_word place)) (found 0 (setting_word place) text)
 
+-- Returns the report of a fault at a place in a setting with this name and text.
 unfoldable pub setting_place_told : List ℕ → List ℕ → SettingFault → SettingPlace → List ℕ
 setting_place_told name text f place = report_text name (setting_sentence f place) (setting_mark place text) None
 
+-- The keys of a setting.
 abbrev pub setting_keys : List (List ℕ)
 setting_keys = codes "generals" ∷ codes "bound" ∷ codes "commander" ∷ codes "general" ∷ codes "round" ∷ codes "taken" ∷
     codes "board" ∷ []
 
+-- Returns the report of an unknown key in a setting.
 unfoldable pub setting_unknown_told : List ℕ → List ℕ → List ℕ → List ℕ
 setting_unknown_told name text key =
     report_text name (codes "a setting has no such key") (option_map (shown_at false key) (found 0 key text))

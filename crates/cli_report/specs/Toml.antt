@@ -1,4 +1,4 @@
--- What is said of a text that is no TOML: what its parser says, and where.
+-- Defines the report of a text that is not TOML: the parser's message and its place (own).
 use Rattle.std.specs.Prelude.{ℕ, ◌≡◌, ◌-◌, ◌≤◌, List, [], ◌++◌, None, Some, codes, length, take, unwrap_or}
 use Rattle.std.specs.Str.{IsUtf8}
 use Rattle.text.specs.Stop.{feed}
@@ -8,20 +8,22 @@ use Rattle.cli_report.specs.Assembly.{last_of}
 use Rattle.cli_report.specs.Lines.{line_at, marked, trimmed}
 use Rattle.cli_report.specs.Report.{Mark, report_text}
 
--- the bytes of a text between these two places, marked in the line of the first
+-- Marks the bytes of a text between these two offsets, in the line of the first.
 abbrev pub span_marked : List ℕ → ℕ → ℕ → Mark
 span_marked text start end =
     let lines = pieces feed (take start text) in
     marked (length lines) (trimmed (unwrap_or (line_at text (length lines)) [])) (length (last_of lines)) (end - start)
 
+-- Returns the sentence with a parser's message.
 abbrev pub unread_sentence : List ℕ → List ℕ
 unread_sentence message = codes "the text is no TOML: " ++ message
 
+-- Returns the report of a parser's message on the bytes between these two offsets.
 abbrev pub span_told : List ℕ → List ℕ → List ℕ → ℕ → ℕ → List ℕ
 span_told name text message start end =
     report_text name (unread_sentence message) (Some (span_marked text start end)) None
 
--- the text is told with a message at a place of its own; what the message says is the parser's affair
+-- The text is the report of some message at some place in the file's text. What the message says is left to the parser.
 pub record IsUnread (name text told : List ℕ) : Type 0 where
   pub message : List ℕ
   pub start : ℕ
@@ -30,6 +32,6 @@ pub record IsUnread (name text told : List ℕ) : Type 0 where
   pub within : end ≤ length text
   pub is : told ≡ span_told name text message start end
 
--- of a text that is no TOML
+-- If the file's text is UTF-8 and not TOML, `told` is the report of a parser's message.
 abbrev pub TellsToml : List ℕ → List ℕ → List ℕ → Type 0
 TellsToml name text told = IsUtf8 text → parse_document text ≡ None → IsUnread name text told

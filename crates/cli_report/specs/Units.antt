@@ -1,31 +1,33 @@
--- In which line of its assembly a unit is written (own).
+-- Defines the line of assembly in which a unit is written (own).
 use Rattle.std.specs.Prelude.{ℕ, ◌≡◌, ◌^◌, nat_lt, if◌then◌else◌, List, Option, None, Some, String, drop, map, slice_get, string_bytes}
 use Rattle.std.specs.declared.alloc.Global.{Global}
 use Rattle.text.specs.Number.{digits_on}
 use Rattle.asm.specs.Places.{AreWritten}
 use Rattle.asm.specs.Program.{lines_of, nothing, read_on}
 
--- a number of 64 bits, which each line's is
+-- Returns the number, or 0 if it has more than 64 bits. The number of each line has at most 64.
 abbrev pub as_line : ℕ → ℕ
 as_line number = if nat_lt number (2 ^ 64) then number else 0
 
+-- Returns the number if there is one, and otherwise 0.
 abbrev pub line_in : Option ℕ → ℕ
 line_in None = 0
 line_in (Some number) = as_line number
 
--- the number behind `line `
+-- Returns the number after `line `.
 abbrev pub number_in : List ℕ → ℕ
 number_in place = line_in (digits_on 10 0 (drop 5 place))
 
+-- Returns the number of the line in a place, or 0 without a place.
 abbrev pub place_number : Option (String Global) → ℕ
 place_number None = 0
 place_number (Some place) = number_in (string_bytes place)
 
--- the line of a unit, whose units stand in these places
+-- Returns the line of a unit, given the places of all units.
 abbrev pub unit_line : List (String Global) → ℕ → ℕ
 unit_line places unit = place_number (slice_get places unit)
 
--- the line of a unit of this text
+-- The number is the line of a unit in this assembly text.
 abbrev pub IsUnitLine : List ℕ → ℕ → ℕ → Type 0
 IsUnitLine text unit number = (places : List (String Global))
     × AreWritten (read_on nothing 1 (lines_of text)) (map string_bytes places) × (number ≡ unit_line places unit)

@@ -1,4 +1,4 @@
-//! What is said of a fault of an assembly text.
+//! Reports faults of an assembly text: the sentence, the part of the line to mark, and a help message.
 ghost use Rattle.std.specs.Prelude.{◌≡◌, ◌≤◌, IfOk, codes, drop, length, option_map, string_bytes};
 ghost use Rattle.asm.specs.Helper.{helpers};
 ghost use Rattle.text.specs.declared.stop.Stop.TheVariants.{Blank};
@@ -19,14 +19,14 @@ use explain::HELPERS;
 use std::alloc::{AllocError, Global};
 use text::{Stop, cut, find, piece};
 
-/// What stands before the comment of a line, without the white space at its end.
+/// Returns the part of a line before its comment, without the white space at its end.
 fn before_comment(line: &[u8]) -> &[u8]
     ensures { result.now ≡ trimmed (before semicolon line.now) }
 {
     trimmed(cut(Stop::Byte(b';'), line).0)
 }
 
-/// The same without the blanks before it.
+/// Returns the code of a line: the part before its comment, without the blanks before it and the white space after it.
 #[tactic(auto, unfolding(crate::specs::Assembly::code_in))]
 fn code_in(line: &[u8]) -> &[u8]
     ensures { result.now ≡ code_in line.now }
@@ -34,7 +34,7 @@ fn code_in(line: &[u8]) -> &[u8]
     cut(Stop::Solid, before_comment(line)).1
 }
 
-/// What stands behind the first byte.
+/// Returns the bytes after the first one.
 fn behind_first(bytes: &[u8]) -> &[u8]
     ensures { result.now ≡ drop 1 bytes.now }
 {
@@ -44,7 +44,7 @@ fn behind_first(bytes: &[u8]) -> &[u8]
     }
 }
 
-/// The mnemonic of the code and its operands.
+/// Returns the statement in a line's code: the mnemonic and its operands, without a name before them.
 #[tactic(auto, unfolding(crate::specs::Assembly::statement_in))]
 fn statement_in(code: &[u8]) -> &[u8]
     ensures { result.now ≡ statement_in code.now }
@@ -58,14 +58,14 @@ fn statement_in(code: &[u8]) -> &[u8]
     }
 }
 
-/// The mnemonic.
+/// Returns the mnemonic in a line's code.
 fn mnemonic_in(code: &[u8]) -> &[u8]
     ensures { result.now ≡ mnemonic_in code.now }
 {
     cut(Stop::Blank, statement_in(code)).0
 }
 
-/// Its operands.
+/// Returns the operands in a line's code, as one text.
 fn operands_in(code: &[u8]) -> &[u8]
     ensures { result.now ≡ operands_in code.now }
 {
@@ -73,7 +73,7 @@ fn operands_in(code: &[u8]) -> &[u8]
     cut(Stop::Solid, behind).1
 }
 
-/// The last of the pieces between commas.
+/// Returns the last piece of operands that are separated by commas.
 fn last_piece(operands: &[u8]) -> &[u8]
     ensures { result.now ≡ last_of (pieces comma operands.now) }
 {
@@ -84,7 +84,7 @@ fn last_piece(operands: &[u8]) -> &[u8]
     last
 }
 
-/// The last of the operands.
+/// Returns the last operand, without the blanks before it.
 #[tactic(auto, unfolding(crate::specs::Assembly::last_operand))]
 fn last_operand(operands: &[u8]) -> &[u8]
     ensures { result.now ≡ last_operand operands.now }
@@ -92,7 +92,7 @@ fn last_operand(operands: &[u8]) -> &[u8]
     cut(Stop::Solid, last_piece(operands)).1
 }
 
-/// The code from its first byte past ASCII on.
+/// Returns the code from its first non-ASCII byte on, or nothing if it has none.
 fn past_ascii(code: &[u8]) -> &[u8]
     ensures { result.now ≡ past_ascii code.now }
 {
@@ -104,7 +104,8 @@ fn past_ascii(code: &[u8]) -> &[u8]
     &[]
 }
 
-/// The first character past ASCII, or all of the code.
+/// Returns the part to mark in a line of the wrong shape: the first non-ASCII byte, or all of the code if it has none.
+/// The part is given by the rest of the code from its start, and its size in bytes.
 fn outline_part(code: &[u8]) -> (&[u8], usize)
     ensures { part_view result ≡ outline_part code.now (past_ascii code.now) }
 {
@@ -114,7 +115,8 @@ fn outline_part(code: &[u8]) -> (&[u8], usize)
     }
 }
 
-/// The operands or, where there are none, the mnemonic.
+/// Returns the part to mark if operands are wrong: the operands, or the mnemonic if there are none. The part is given
+/// by the rest of the code from its start, and its size in bytes.
 fn operands_part(code: &[u8]) -> (&[u8], usize)
     ensures { part_view result ≡ operands_part (statement_in code.now) (operands_in code.now) }
 {
@@ -124,7 +126,7 @@ fn operands_part(code: &[u8]) -> (&[u8], usize)
     }
 }
 
-/// The mnemonic.
+/// Returns the mnemonic as a part of the code: the rest of the code from its start, and its size in bytes.
 fn mnemonic_part(code: &[u8]) -> (&[u8], usize)
     ensures { part_view result ≡ mnemonic_part (statement_in code.now) }
 {
@@ -132,7 +134,7 @@ fn mnemonic_part(code: &[u8]) -> (&[u8], usize)
     (statement, find(Stop::Blank, statement))
 }
 
-/// The part of the code that is at fault: the end of the code that it begins, and its size.
+/// Returns the part of the code that is at fault: the rest of the code from its start, and its size in bytes.
 fn part_of(fault: AsmFault, code: &[u8]) -> (&[u8], usize)
     ensures { part_view result ≡ part_of fault code.now }
 {
@@ -149,7 +151,7 @@ fn part_of(fault: AsmFault, code: &[u8]) -> (&[u8], usize)
     }
 }
 
-/// How many bytes of the line stand before the part that is at fault, and how many it has.
+/// Returns where the part at fault is in the line: how many bytes are before it, and how many it has.
 #[tactic(auto, unfolding(crate::specs::Assembly::place_in))]
 fn place_in(fault: AsmFault, line: &[u8]) -> (usize, usize)
     ensures place { result ≡ place_in fault line.now }
@@ -159,7 +161,7 @@ fn place_in(fault: AsmFault, line: &[u8]) -> (usize, usize)
     (before_comment(line).len().saturating_sub(end.len()), size)
 }
 
-/// The same of the statement.
+/// Returns where the statement is in the line: how many bytes are before it, and how many it has.
 #[tactic(auto, unfolding(crate::specs::Assembly::statement_place))]
 fn statement_place(line: &[u8]) -> (usize, usize)
     ensures place { result ≡ statement_place line.now }
@@ -172,7 +174,7 @@ fn statement_place(line: &[u8]) -> (usize, usize)
     )
 }
 
-/// What is wrong with the outline of the code.
+/// Returns the sentence for a line of the wrong shape.
 fn outline_sentence(code: &[u8]) -> &'static str
     ensures { result.now ≡ outline_sentence (past_ascii code.now) }
 {
@@ -183,7 +185,8 @@ fn outline_sentence(code: &[u8]) -> &'static str
     }
 }
 
-/// What is wrong with what is called.
+/// Returns the sentence for a wrong operand of `call`. An operand that begins with a letter or `_` is taken for a
+/// helper's name.
 fn call_sentence(operands: &[u8]) -> &'static str
     ensures { result.now ≡ call_sentence operands.now }
 {
@@ -193,7 +196,7 @@ fn call_sentence(operands: &[u8]) -> &'static str
     }
 }
 
-/// What is wrong with the operands.
+/// Returns the sentence for operands that do not fit the mnemonic, by what the mnemonic takes.
 fn operand_sentence(takes: Option<Takes>, operands: &[u8]) -> &'static str
     ensures { result.now ≡ operand_sentence takes operands.now }
 {
@@ -204,7 +207,7 @@ fn operand_sentence(takes: Option<Takes>, operands: &[u8]) -> &'static str
     }
 }
 
-/// Which numbers the mnemonic takes.
+/// Returns the sentence for a number out of range, by what the mnemonic takes.
 fn range_sentence(takes: Option<Takes>) -> &'static str
     ensures { result.now ≡ range_sentence takes }
 {
@@ -220,7 +223,7 @@ fn range_sentence(takes: Option<Takes>) -> &'static str
     }
 }
 
-/// What was wanted.
+/// Returns the sentence for a fault in this code.
 pub(crate) fn sentence(fault: AsmFault, code: &[u8]) -> &'static str
     ensures { result.now ≡ assembly_sentence fault code.now }
 {
@@ -235,28 +238,28 @@ pub(crate) fn sentence(fault: AsmFault, code: &[u8]) -> &'static str
     }
 }
 
-/// Whether the byte is one of these.
+/// Checks whether the byte is among these bytes.
 pub(crate) fn has(byte: u8, bytes: &[u8]) -> bool
     ensures { result ≡ has byte bytes.now }
 {
     bytes.iter().any(|b| *b == byte)
 }
 
-/// Whether a capital letter is among the bytes.
+/// Checks whether an ASCII capital letter is among the bytes.
 fn has_capital(bytes: &[u8]) -> bool
     ensures { result ≡ has_capital bytes.now }
 {
     bytes.iter().any(|b| b'A' <= *b && *b <= b'Z')
 }
 
-/// Whether the file begins with a mark of the byte order.
+/// Checks whether this is the first line of a file and begins with a byte order mark (EF BB BF).
 pub(crate) fn begins_marked(number: u64, line: &[u8]) -> bool
     ensures { result ≡ begins_marked number line.now }
 {
     number == 1 && line.starts_with(b"\xEF\xBB\xBF")
 }
 
-/// What may mend an outline.
+/// Returns a help message for a line of the wrong shape, if a cause is likely.
 fn outline_help(number: u64, line: &[u8], code: &[u8]) -> Option<Help<'static>>
     ensures { option_map help_words result ≡ outline_advice number line.now code.now }
 {
@@ -276,7 +279,8 @@ fn outline_help(number: u64, line: &[u8], code: &[u8]) -> Option<Help<'static>>
     Some(Help::Said(sentence))
 }
 
-/// A name of this kind, if one is near; without one, that capital letters are none.
+/// Returns a help message with this name of the given kind. Without a name, returns the message that names are written
+/// in lower case if the code has a capital letter.
 fn or_small(code: &[u8], kind: &'static str, name: Option<&'static str>) -> Option<Help<'static>>
     ensures { option_map help_words result
         ≡ or_small code.now (option_map (near_words kind.now) (option_map (λ n. n.now) name.entry)) }
@@ -290,14 +294,14 @@ fn or_small(code: &[u8], kind: &'static str, name: Option<&'static str>) -> Opti
     }
 }
 
-/// The helper whose name is near.
+/// Returns the helper whose name is close to the word, if there is one.
 fn near_helper(alloc: Global, word: &[u8]) -> Result<Option<&'static str>, AllocError>
     ensures { IfOk result (λ name. option_map (λ n. n.now) name ≡ near word.now helpers) }
 {
     near(alloc, word, &HELPERS)
 }
 
-/// Whether the mnemonic takes a helper.
+/// Checks whether the mnemonic takes a helper.
 fn is_call(takes: Option<Takes>) -> bool
     ensures { result ≡ is_call takes }
 {
@@ -307,7 +311,7 @@ fn is_call(takes: Option<Takes>) -> bool
     }
 }
 
-/// What may mend a helper's name.
+/// Returns a help message for a word that is not the name of a helper.
 fn helper_help(alloc: Global, word: &[u8]) -> Result<Option<Help<'static>>, AllocError>
     ensures { IfOk result (λ help. option_map help_words help
         ≡ or_small word.now (option_map (near_words (codes "helper")) (near word.now helpers))) }
@@ -316,7 +320,7 @@ fn helper_help(alloc: Global, word: &[u8]) -> Result<Option<Help<'static>>, Allo
     Ok(or_small(word, "helper", name))
 }
 
-/// What may mend operands.
+/// Returns a help message for operands that do not fit the mnemonic.
 fn operand_help(
     alloc: Global,
     takes: Option<Takes>,
@@ -330,7 +334,7 @@ fn operand_help(
     Ok(or_small(operands, "helper", None))
 }
 
-/// What may mend a mnemonic.
+/// Returns a help message for a word that is not a mnemonic.
 fn mnemonic_help(alloc: Global, word: &[u8]) -> Result<Option<Help<'static>>, AllocError>
     ensures { IfOk result (λ help. option_map help_words help
         ≡ or_small word.now (option_map (near_words (codes "mnemonic")) (near word.now mnemonic_names))) }
@@ -340,7 +344,7 @@ fn mnemonic_help(alloc: Global, word: &[u8]) -> Result<Option<Help<'static>>, Al
     Ok(or_small(word, "mnemonic", name))
 }
 
-/// What may mend a line.
+/// Returns a help message for a fault in a line, if a cause is likely.
 fn help(
     alloc: Global,
     fault: AsmFault,
@@ -358,7 +362,8 @@ fn help(
     }
 }
 
-/// A line of code where it stands in a file: in this line of it, behind this front.
+/// A line of code at its place in a file: the number and the bytes of the file's line, the bytes of that line before
+/// the code, and the code.
 #[derive(Clone, Copy)]
 pub(crate) struct Spot<'a> {
     pub number: u64,
@@ -367,7 +372,7 @@ pub(crate) struct Spot<'a> {
     pub code: &'a [u8],
 }
 
-/// All of a line of the file.
+/// Returns the spot of code that is a whole line of the file.
 pub(crate) fn whole(number: u64, line: &[u8]) -> Spot<'_>
     ensures { spot_view result ≡ whole number line.now }
 {
@@ -379,7 +384,7 @@ pub(crate) fn whole(number: u64, line: &[u8]) -> Spot<'_>
     }
 }
 
-/// The statement of a line of code, marked in the line of the file.
+/// Marks the statement of a line of code in the line of the file.
 pub(crate) fn unit_mark(spot: Spot<'_>) -> Mark<'_>
     ensures { mark_view result ≡ unit_mark (spot_view spot.entry) }
 {
@@ -392,7 +397,7 @@ pub(crate) fn unit_mark(spot: Spot<'_>) -> Mark<'_>
     )
 }
 
-/// What is said of a fault in a line of code.
+/// Returns the report of a fault in a line of code. `name` is the file's name.
 pub(crate) fn code_told(
     alloc: Global,
     name: &str,
@@ -413,7 +418,7 @@ pub(crate) fn code_told(
     report(alloc, name, sentence(fault, code), Some(mark), help)
 }
 
-/// What is said of a fault in this line of a file.
+/// Returns the report of a fault in a line of a file. Without a line, the report has no excerpt.
 fn line_told(
     alloc: Global,
     name: &str,
@@ -430,7 +435,7 @@ fn line_told(
     code_told(alloc, name, fault, whole(number, line))
 }
 
-/// What is said of a fault at a line of the assembly text of the file with this name.
+/// Returns the report of a fault at line `number` of an assembly text. `name` is the file's name.
 #[tactic(auto, unfolding(crate::specs::Assembly::assembly_told))]
 pub fn of_assembly(
     alloc: Global,

@@ -1,4 +1,4 @@
-//! What is said of a fault of bytecode.
+//! Reports faults of bytecode: the sentence, and the part of the unit's hex digits to mark.
 ghost use Rattle.std.specs.Prelude.{◌≡◌, ◌≤◌, IfOk, option_map, string_bytes};
 ghost use Rattle.cli_report.specs.Bytecode.{byte_of, bytecode_told, choice_place, choice_sentence, left_out_place, left_out_sentence, unit_at, unit_marked, unit_place, unit_sentence, unit_told};
 ghost use Rattle.cli_report.specs.Report.{mark_view};
@@ -9,17 +9,17 @@ use codec::CodecFault;
 use std::alloc::{AllocError, Global};
 use text::{Base, digits};
 
-/// The most bytes of a program.
+/// The greatest size of a program in bytes: 4096 units of 8 bytes.
 const MOST_BYTES: usize = 32768;
 
-/// The number of two digits.
+/// Returns the number in the first two hex digits, or 0 if there is none.
 fn byte_of(hex: &[u8]) -> u128
     ensures { result ≡ byte_of hex.now }
 {
     digits(Base::Sixteen, front(hex, 2)).unwrap_or(0)
 }
 
-/// Which instruction is left out, by its opcode.
+/// Returns the sentence for an instruction that is left out of this instruction set, by its opcode.
 fn left_out_sentence(opcode: u128) -> &'static str
     ensures { result.now ≡ left_out_sentence opcode }
 {
@@ -33,7 +33,7 @@ fn left_out_sentence(opcode: u128) -> &'static str
     }
 }
 
-/// What an operand chooses, by the opcode.
+/// Returns the sentence for a field that selects none of the instruction's forms, by its opcode.
 fn choice_sentence(opcode: u128) -> &'static str
     ensures { result.now ≡ choice_sentence opcode }
 {
@@ -45,7 +45,7 @@ fn choice_sentence(opcode: u128) -> &'static str
     }
 }
 
-/// What was wanted of a unit of these digits.
+/// Returns the sentence for a fault in the unit with these hex digits.
 pub(crate) fn unit_sentence(fault: CodecFault, hex: &[u8]) -> &'static str
     ensures { result.now ≡ unit_sentence fault hex.now }
 {
@@ -61,7 +61,8 @@ pub(crate) fn unit_sentence(fault: CodecFault, hex: &[u8]) -> &'static str
     }
 }
 
-/// Where an instruction that is left out says so.
+/// Returns which hex digits show that an instruction is left out: how many digits are before them, and how many they
+/// are.
 fn left_out_place(opcode: u128) -> (usize, usize)
     ensures { result ≡ left_out_place opcode }
 {
@@ -71,7 +72,7 @@ fn left_out_place(opcode: u128) -> (usize, usize)
     }
 }
 
-/// Where an operand chooses.
+/// Returns which hex digits select the form of an instruction: how many digits are before them, and how many they are.
 fn choice_place(opcode: u128) -> (usize, usize)
     ensures { result ≡ choice_place opcode }
 {
@@ -81,7 +82,7 @@ fn choice_place(opcode: u128) -> (usize, usize)
     }
 }
 
-/// How many digits stand before the part that is at fault, and how many it has.
+/// Returns which hex digits of a unit are at fault: how many digits are before them, and how many they are.
 pub(crate) fn unit_place(fault: CodecFault, hex: &[u8]) -> (usize, usize)
     ensures place { result ≡ unit_place fault hex.now }
     ensures few { result.0 ≤ 8 }
@@ -95,7 +96,7 @@ pub(crate) fn unit_place(fault: CodecFault, hex: &[u8]) -> (usize, usize)
     }
 }
 
-/// The bytes of a unit, of those that a program may have.
+/// Returns the bytes of a unit, counted from 0: fewer than 8 if the file ends within it, and none from unit 4096 on.
 fn unit_at(bytes: &[u8], unit: usize) -> &[u8]
     ensures { result.now ≡ unit_at bytes.now unit }
 {
@@ -106,7 +107,8 @@ fn unit_at(bytes: &[u8], unit: usize) -> &[u8]
     front(behind(program, 8 * unit), 8)
 }
 
-/// The unit with the part that is at fault, if it is one of the file.
+/// Marks the hex digits that are at fault in a unit. Returns `None` if the file has no such unit, or if the fault is
+/// the number of units.
 fn unit_marked(fault: CodecFault, unit: usize, hex: &[u8]) -> Option<Mark<'_>>
     ensures { option_map mark_view result ≡ unit_marked fault unit hex.now }
 {
@@ -117,7 +119,8 @@ fn unit_marked(fault: CodecFault, unit: usize, hex: &[u8]) -> Option<Mark<'_>>
     Some(marked(unit as u64, hex, from, size))
 }
 
-/// What is said of a fault at a unit of the file with this name and these bytes.
+/// Returns the report of a fault at a unit of bytecode. The excerpt shows the unit's number and its hex digits. `name`
+/// is the file's name.
 #[tactic(auto, unfolding(crate::specs::Bytecode::bytecode_told))]
 pub fn of_bytecode(
     alloc: Global,

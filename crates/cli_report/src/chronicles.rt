@@ -1,4 +1,4 @@
-//! What is said of a fault of a schedule or a chronicle.
+//! Reports faults of a schedule or a chronicle, at the line of the fault.
 ghost use Rattle.std.specs.Prelude.{◌≡◌, IfOk, option_map, string_bytes};
 ghost use Rattle.cli_report.specs.Chronicles.{chronicle_advice, chronicle_line_told, chronicle_sentence, chronicle_told, is_last, replayed_told, schedule_advice, schedule_line_told, schedule_sentence, schedule_told, wanted_in};
 ghost use Rattle.cli_report.specs.Report.{help_words};
@@ -10,7 +10,7 @@ use crate::toml_errors::last_line;
 use std::alloc::{AllocError, Global};
 use trace::{MOST_SCHEDULE_BYTES, TraceFault};
 
-/// What may mend a text that comes from another system.
+/// Returns a help message for a line that shows the encoding of another system: a byte order mark or a carriage return.
 fn ends_help(number: u64, line: &[u8]) -> Option<Help<'static>>
     ensures { option_map help_words result ≡ chronicle_advice number None line.now }
 {
@@ -23,7 +23,7 @@ fn ends_help(number: u64, line: &[u8]) -> Option<Help<'static>>
     }
 }
 
-/// What may mend a line of a schedule.
+/// Returns a help message for a faulty line of a schedule, if a cause is likely.
 fn schedule_help(number: u64, line: &[u8]) -> Option<Help<'static>>
     ensures { option_map help_words result ≡ schedule_advice number line.now }
 {
@@ -34,7 +34,7 @@ fn schedule_help(number: u64, line: &[u8]) -> Option<Help<'static>>
     }
 }
 
-/// What is said of this line of a schedule.
+/// Returns the report of a fault in a line of a schedule. Without a line, the report has no excerpt.
 fn schedule_line_told(
     alloc: Global,
     name: &str,
@@ -60,7 +60,8 @@ fn schedule_line_told(
     )
 }
 
-/// What is said of a line of the schedule of the file with this name, as far as a schedule goes.
+/// Returns the report of a fault in line `number` of a schedule. Only the first 1048576 bytes are looked at, the most
+/// that a schedule has. `name` is the file's name.
 #[tactic(auto, unfolding(crate::specs::Chronicles::schedule_told))]
 pub fn of_schedule(
     alloc: Global,
@@ -74,14 +75,15 @@ pub fn of_schedule(
     schedule_line_told(alloc, name, number, line)
 }
 
-/// Whether the line stands behind the last line feed of the text.
+/// Checks whether the line is the one after the last line feed of the text.
 fn is_last(text: &[u8], number: u64) -> bool
     ensures { result ≡ is_last text.now number }
 {
     number == last_line(text).0
 }
 
-/// What is wrong with a line of a chronicle, by whether it is the last one.
+/// Returns the sentence for a fault in a line of a chronicle. `last` says whether it is the line after the last line
+/// feed.
 fn chronicle_sentence(last: bool, fault: TraceFault) -> &'static str
     ensures { result.now ≡ chronicle_sentence last fault }
 {
@@ -94,7 +96,8 @@ fn chronicle_sentence(last: bool, fault: TraceFault) -> &'static str
     }
 }
 
-/// What may mend a line of a chronicle: the campaign's, where it is known.
+/// Returns a help message for a faulty line of a chronicle: the campaign's own line if it is known, otherwise a likely
+/// cause.
 fn chronicle_help<'a>(number: u64, wanted: Option<&'a str>, line: &[u8]) -> Option<Help<'a>>
     ensures { option_map help_words result ≡ chronicle_advice number (option_map (λ w. w.now) wanted.entry) line.now }
 {
@@ -104,7 +107,7 @@ fn chronicle_help<'a>(number: u64, wanted: Option<&'a str>, line: &[u8]) -> Opti
     }
 }
 
-/// What is said of this line of a chronicle.
+/// Returns the report of a fault in a line of a chronicle. Without a line, the report has no excerpt.
 fn chronicle_line_told(
     alloc: Global,
     name: &str,
@@ -137,7 +140,8 @@ fn chronicle_line_told(
     }
 }
 
-/// The line that the campaign has, as it is shown, where its text is this.
+/// Returns line `number` of the campaign's own chronicle, as it is shown. Returns `None` if there is no such line, or
+/// if the fault is the shape of the line in the file.
 fn wanted_in(
     alloc: Global,
     fault: TraceFault,
@@ -155,7 +159,7 @@ fn wanted_in(
     }
 }
 
-/// What is said of a fault at a line of a chronicle, where the campaign has this line, if it is known.
+/// Returns the report of a fault at line `number` of a chronicle. `wanted` is the campaign's own line, if it is known.
 #[tactic(auto, unfolding(crate::specs::Chronicles::chronicle_told))]
 fn chronicle_told(
     alloc: Global,
@@ -173,8 +177,8 @@ fn chronicle_told(
     chronicle_line_told(alloc, name, last, fault, number, wanted, line)
 }
 
-/// What is said of a fault at a line of the chronicle of the file with this name, in place of which the campaign has
-/// this text.
+/// Returns the report of a fault at line `number` of a chronicle. `name` is the file's name, and `again` is the
+/// chronicle that the campaign has instead.
 pub fn of_chronicle(
     alloc: Global,
     name: &str,

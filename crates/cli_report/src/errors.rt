@@ -1,4 +1,4 @@
-//! What is said of the errors of a scenario and a setting.
+//! Reports the errors of a scenario or a setting.
 ghost use Rattle.std.specs.Prelude.{IfOk, string_bytes};
 ghost use Rattle.cli_report.specs.Errors.{ReportsScenario, TellsScenario, TellsSetting};
 
@@ -11,8 +11,8 @@ use scenario::ScenarioError;
 use std::alloc::{AllocError, Global};
 use trial::SettingError;
 
-/// What is said of an error of the scenario of the file with this name: the report, and behind that of a program that
-/// the verifier refuses its explanation.
+/// Returns the report of a scenario's error. If the verifier rejects a program, the program's explanation follows.
+/// `name` is the file's name.
 pub fn of_scenario(
     alloc: Global,
     name: &str,
@@ -27,7 +27,7 @@ pub fn of_scenario(
     Ok(told)
 }
 
-/// The report of an error of the scenario of the file with this name.
+/// Returns the report of a scenario's error, without the explanation of a rejected program. `name` is the file's name.
 fn scenario_report(
     alloc: Global,
     name: &str,
@@ -51,7 +51,7 @@ fn scenario_report(
     }
 }
 
-/// What is said of an error of the setting of the file with this name.
+/// Returns the report of a setting's error. `name` is the file's name.
 pub fn of_setting(
     alloc: Global,
     name: &str,

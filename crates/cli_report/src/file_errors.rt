@@ -1,4 +1,4 @@
-//! What is said of an error of a scenario that names files: at its own lines, and at those of the files.
+//! Reports errors of a scenario that names files, at the scenario's own lines or at those of the files.
 ghost use Rattle.std.specs.Prelude.{◌≡◌, IfOk, None, codes, option_and_then, option_map, string_bytes};
 ghost use Rattle.toml.specs.Parse.{parse_document};
 ghost use Rattle.toml.specs.View.{table_view};
@@ -31,7 +31,8 @@ use text::{Stop, cut};
 use toml::Table;
 use verify::Reason;
 
-/// The place in the scenario's own text, whose tables stand for those that are made of them.
+/// Returns the place in the scenario's own text for a place in the resolved text. Several tables of the resolved text
+/// can come from one table of the own text.
 fn own_place(alloc: Global, own: &str, place: ScenarioPlace) -> Result<ScenarioPlace, AllocError>
     ensures { IfOk result (λ at. at ≡ own_place (parse_document own.now) place) }
 {
@@ -45,7 +46,8 @@ fn own_place(alloc: Global, own: &str, place: ScenarioPlace) -> Result<ScenarioP
     }
 }
 
-/// The same of a table's number.
+/// Returns the number of the table in the scenario's own text from which table `at` of the resolved text comes. Returns
+/// `None` for the top of the text.
 fn own_index(alloc: Global, own: &str, at: Option<usize>) -> Result<Option<usize>, AllocError>
     ensures { IfOk result (λ index. index ≡ own_index (parse_document own.now) at) }
 {
@@ -55,7 +57,8 @@ fn own_index(alloc: Global, own: &str, at: Option<usize>) -> Result<Option<usize
     }
 }
 
-/// By which key a table has from a file, or for several generals, what this key tells.
+/// Returns the key that a table may have in place of this one: the key that names a file or lists several generals.
+/// Another key is returned unchanged.
 fn other_key(name: ScenarioKey) -> &'static str
     ensures { result.now ≡ other_key name }
 {
@@ -67,7 +70,8 @@ fn other_key(name: ScenarioKey) -> &'static str
     }
 }
 
-/// The key of this table that tells it.
+/// Returns the key that is written in this table of the own text: `name` itself, or the key that a table may have in
+/// its place.
 fn own_word(index: usize, name: ScenarioKey, own: &[u8]) -> &'static str
     ensures { result.now ≡ own_word index name own.now }
 {
@@ -77,7 +81,7 @@ fn own_word(index: usize, name: ScenarioKey, own: &[u8]) -> &'static str
     }
 }
 
-/// Where a place stands in the scenario's own text.
+/// Marks a place in the scenario's own text.
 #[tactic(auto, unfolding(crate::specs::Made::own_mark))]
 fn own_mark(fault: ScenarioFault, place: ScenarioPlace, own: &[u8]) -> Option<Mark<'_>>
     ensures { option_map mark_view result ≡ own_mark fault place own.now }
@@ -91,7 +95,7 @@ fn own_mark(fault: ScenarioFault, place: ScenarioPlace, own: &[u8]) -> Option<Ma
     }
 }
 
-/// What is said of a fault at a place of the scenario's own text.
+/// Returns the report of a fault at a place in the scenario's own text.
 #[tactic(auto, unfolding(crate::specs::Made::own_place_told))]
 fn own_place_told(
     alloc: Global,
@@ -107,7 +111,7 @@ fn own_place_told(
     report(alloc, name, sentence.as_str(), mark, None)
 }
 
-/// The line of a key of this table.
+/// Returns the line of a key in this table of the own text, if the table has the key.
 fn own_line<'a>(table: Option<usize>, word: &[u8], own: &'a [u8]) -> Option<Found<'a>>
     ensures { option_map found_view result ≡ own_line table word.now own.now }
 {
@@ -117,7 +121,7 @@ fn own_line<'a>(table: Option<usize>, word: &[u8], own: &'a [u8]) -> Option<Foun
     }
 }
 
-/// The name of the file that stands in this line.
+/// Returns the name of the file that a line has as its value, without the quotation marks.
 fn file_named(line: Found<'_>) -> &[u8]
     ensures { result.now ≡ file_named (found_view line.entry) }
 {
@@ -127,7 +131,7 @@ fn file_named(line: Found<'_>) -> &[u8]
     }
 }
 
-/// The assembly that is written so.
+/// Returns the assembly of a program, or an empty text if the program is not written in assembly.
 fn assembly_of<'a>(source: Option<ProgramText<'a>>) -> &'a str
     ensures { result.now ≡ assembly_of (option_map source_of source.entry) }
 {
@@ -137,7 +141,7 @@ fn assembly_of<'a>(source: Option<ProgramText<'a>>) -> &'a str
     }
 }
 
-/// The digits of the bytecode that is written so.
+/// Returns the hex digits of a program, or an empty text if the program is not written in hex digits.
 fn digits_of<'a>(source: Option<ProgramText<'a>>) -> &'a str
     ensures { result.now ≡ digits_of (option_map source_of source.entry) }
 {
@@ -147,7 +151,8 @@ fn digits_of<'a>(source: Option<ProgramText<'a>>) -> &'a str
     }
 }
 
-/// What is said of a fault in a line of the file of assembly that this line names.
+/// Returns the report of a fault at a line of the assembly file that the line `key` names. Without that line, the
+/// report has no excerpt.
 fn file_told(
     alloc: Global,
     name: &str,
@@ -167,7 +172,7 @@ fn file_told(
     of_assembly(alloc, file.as_str(), text, fault, number)
 }
 
-/// What is said of a fault in a line of assembly.
+/// Returns the report of a fault at a line of assembly, which is in the scenario or in a file that the scenario names.
 fn asm_told(
     alloc: Global,
     name: &str,
@@ -190,7 +195,7 @@ fn asm_told(
     }
 }
 
-/// The digits of a unit, of those that a program may have.
+/// Returns the hex digits of a unit, at most 16. A unit past 4096 has none.
 fn unit_digits(digits: &[u8], unit: usize) -> &[u8]
     ensures { result.now ≡ unit_digits digits.now unit }
 {
@@ -200,7 +205,7 @@ fn unit_digits(digits: &[u8], unit: usize) -> &[u8]
     front(behind(digits, 16 * unit), 16)
 }
 
-/// The key by which a table names a file of bytecode, or an object.
+/// Marks the name of the bytecode file in this table or, without one, of the object file.
 fn bytes_shown(table: Option<usize>, own: &[u8]) -> Option<Mark<'_>>
     ensures { option_map mark_view result ≡ bytes_shown table own.now }
 {
@@ -210,7 +215,7 @@ fn bytes_shown(table: Option<usize>, own: &[u8]) -> Option<Mark<'_>>
     }
 }
 
-/// What is said of a fault in a unit.
+/// Returns the report of a fault in a unit of bytecode, which is in the scenario or in a file that the scenario names.
 fn unit_told(
     alloc: Global,
     name: &str,
@@ -232,7 +237,7 @@ fn unit_told(
     report(alloc, name, unit_sentence(fault, digits), mark, None)
 }
 
-/// What is said of a unit of a file of assembly.
+/// Returns the report of a program in an assembly file that the verifier rejects, at the line of the unit.
 fn unit_of_file_told(
     alloc: Global,
     file: &str,
@@ -247,7 +252,7 @@ fn unit_of_file_told(
     line_told(alloc, file, sentence.as_str(), text, number)
 }
 
-/// What is said at a line of a file.
+/// Returns the report with this sentence at a line of a file.
 fn line_told(
     alloc: Global,
     file: &str,
@@ -262,7 +267,7 @@ fn line_told(
     report(alloc, file, sentence, mark, None)
 }
 
-/// The statement of a line.
+/// Marks the statement in line `number` of a text, if there is such a line.
 fn line_shown(text: &[u8], number: u64) -> Option<Mark<'_>>
     ensures { option_map mark_view result ≡ line_shown text.now number }
 {
@@ -270,7 +275,7 @@ fn line_shown(text: &[u8], number: u64) -> Option<Mark<'_>>
     Some(unit_mark(whole(number, line)))
 }
 
-/// What is said of a program that the verifier refuses, at this place of the scenario's own text.
+/// Returns the report of a program that the verifier rejects, at this place in the scenario's own text.
 fn key_told(
     alloc: Global,
     name: &str,
@@ -285,7 +290,7 @@ fn key_told(
     report(alloc, name, sentence.as_str(), mark, None)
 }
 
-/// The key of its bytecode.
+/// Marks the key `code` of this table or, without it, the name of the bytecode file or object file.
 fn code_shown(table: Option<usize>, own: &[u8]) -> Option<Mark<'_>>
     ensures { option_map mark_view result ≡ code_shown table own.now (own_line table (codes "code") own.now) }
 {
@@ -295,7 +300,8 @@ fn code_shown(table: Option<usize>, own: &[u8]) -> Option<Mark<'_>>
     }
 }
 
-/// What is said of a unit of this assembly, whose key stands in this line of the scenario's own text.
+/// Returns the report of a program that the verifier rejects and whose assembly is in the scenario. The report is at
+/// the line of the unit, and `line` has the key of the program.
 fn own_unit_told(
     alloc: Global,
     name: &str,
@@ -312,7 +318,7 @@ fn own_unit_told(
     key_told(alloc, name, reason, unit, mark)
 }
 
-/// What is said of a program that the verifier refuses.
+/// Returns the report of a program that the verifier rejects.
 fn refused_told(
     alloc: Global,
     name: &str,
@@ -331,7 +337,7 @@ fn refused_told(
     }
 }
 
-/// The same where its assembly does not stand in the scenario.
+/// Returns the report of a program that the verifier rejects and whose assembly is not in the scenario's own text.
 fn refused_file_told(
     alloc: Global,
     name: &str,
@@ -353,7 +359,7 @@ fn refused_file_told(
     }
 }
 
-/// What is said of digits that are none.
+/// Returns the report of bytecode that is not an even number of hex digits.
 fn hex_told(
     alloc: Global,
     name: &str,
@@ -367,7 +373,7 @@ fn hex_told(
     report(alloc, name, sentence, mark, None)
 }
 
-/// What is said of a fault of a program that is written so, of the general who has this table.
+/// Returns the report of a fault in a general's program. `table` is the number of his table in the scenario's own text.
 fn program_told(
     alloc: Global,
     name: &str,
@@ -393,7 +399,8 @@ fn program_told(
     }
 }
 
-/// The report of an error of the text that was made.
+/// Returns the report of an error in the resolved text. `made` is the table of that text, and `own` is the scenario's
+/// own text.
 fn made_report(
     alloc: Global,
     name: &str,
@@ -423,7 +430,7 @@ fn made_report(
     }
 }
 
-/// The line of a file of assembly's text from which its lines are counted.
+/// Returns the line from which the lines of an assembly file are counted: line 0, as if the file's text began after it.
 fn in_file() -> Found<'static>
     ensures { found_view result ≡ in_file }
 {
@@ -434,7 +441,7 @@ fn in_file() -> Found<'static>
     }
 }
 
-/// The line from which the lines of a program are counted that stands in no assembly of the scenario.
+/// Returns the line from which a program's lines are counted, if its assembly is not in the scenario's own text.
 fn file_source(table: Option<usize>, own: &[u8]) -> Option<Found<'_>>
     ensures { option_map found_view result ≡ file_source table own.now }
 {
@@ -450,7 +457,7 @@ fn file_source(table: Option<usize>, own: &[u8]) -> Option<Found<'_>>
     own_line(table, b"elf", own)
 }
 
-/// The line from which the lines of a program are counted.
+/// Returns the line from which a program's lines are counted.
 fn own_source(table: Option<usize>, own: &[u8]) -> Option<Found<'_>>
     ensures { option_map found_view result ≡ own_source table own.now }
 {
@@ -460,7 +467,8 @@ fn own_source(table: Option<usize>, own: &[u8]) -> Option<Found<'_>>
     }
 }
 
-/// What stands behind the report: of a program that the verifier refuses what it knows of it.
+/// Returns the text after the report: the explanation of the program if the verifier rejects it, and nothing for
+/// another error.
 fn made_judged(
     alloc: Global,
     own: &str,
@@ -480,8 +488,10 @@ fn made_judged(
     explained_of(alloc, general, written, own_source(table, own.as_bytes()))
 }
 
-/// What is said of an error of the text that was made of the own text of a scenario, in which its files stand: the
-/// report, at the own line or that of the file, and behind that of a program that the verifier refuses its explanation.
+/// Returns the report of an error in the resolved text of a scenario, at a line of the scenario's own text or of a file
+/// that it names. If the verifier rejects a program, the program's explanation follows.
+///
+/// `own` is the scenario's own text, `made` is the text with the contents of its files, and `name` is the file's name.
 pub fn of_made(
     alloc: Global,
     name: &str,

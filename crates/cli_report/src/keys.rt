@@ -1,4 +1,4 @@
-//! Where a key of a TOML text stands.
+//! Finds the line of a key in a TOML text, and marks the key or its value there.
 ghost use Rattle.std.specs.Prelude.{◌≡◌, ◌+◌, ◌<◌, ◌≤◌, ◌^◌, IfOk, option_map};
 ghost use Rattle.cli_report.specs.Keys.{begins_with, ends_word, entry_line, found, found_view, header, shown_at, table_at, table_of, value_end, value_in, value_marked, word_marked};
 ghost use Rattle.cli_report.specs.Report.{mark_view};
@@ -8,7 +8,8 @@ use crate::report::{Mark, behind};
 use std::alloc::{AllocError, Global};
 use text::{Stop, cut, find};
 
-/// A line by its number, and behind how many headers it stands.
+/// A line of a text: its number, counted from 1, its bytes, and how many `[[traitor]]` headers there are up to and
+/// including it.
 #[derive(Clone, Copy)]
 pub(crate) struct Found<'a> {
     pub number: u64,
@@ -16,14 +17,14 @@ pub(crate) struct Found<'a> {
     pub tables: u64,
 }
 
-/// What begins a table of a traitor.
+/// Returns the header that begins a traitor's table.
 pub(crate) fn header() -> &'static [u8]
     ensures { result.now ≡ header }
 {
     b"[[traitor]]"
 }
 
-/// Whether a word ends here.
+/// Checks whether a word ends before these bytes: at `=`, `#`, white space or the end of the line.
 fn ends_word(bytes: &[u8]) -> bool
     ensures { result ≡ ends_word bytes.now }
 {
@@ -37,7 +38,7 @@ fn ends_word(bytes: &[u8]) -> bool
     }
 }
 
-/// Whether the line begins with this word.
+/// Checks whether the line begins with this word, apart from blanks.
 fn begins_with(word: &[u8], line: &[u8]) -> bool
     ensures { result ≡ begins_with word.now line.now }
 {
@@ -45,7 +46,7 @@ fn begins_with(word: &[u8], line: &[u8]) -> bool
     solid.starts_with(word) && ends_word(behind(solid, word.len()))
 }
 
-/// How many headers stand up to this line, behind so many.
+/// Returns how many headers there are up to and including this line, if `tables` headers are before it.
 fn table_at(tables: u64, line: &[u8]) -> u64
     requires { tables + 1 < 2 ^ 64 }
     ensures at { result ≡ table_at tables line.now }
@@ -58,7 +59,7 @@ fn table_at(tables: u64, line: &[u8]) -> u64
     }
 }
 
-/// The first line that begins with this word and has so many headers up to it.
+/// Returns the first line that begins with this word and has `sought` headers up to and including it.
 #[tactic(auto, unfolding(crate::specs::Keys::found))]
 pub(crate) fn find_line<'a>(sought: u128, word: &[u8], text: &'a [u8]) -> Option<Found<'a>>
     ensures { option_map found_view result ≡ found sought word.now text.now }
@@ -81,7 +82,7 @@ pub(crate) fn find_line<'a>(sought: u128, word: &[u8], text: &'a [u8]) -> Option
     None
 }
 
-/// The end of a line that begins with its value.
+/// Returns the rest of a line from its value on. The value is after the `=` and the blanks that follow it.
 pub(crate) fn value_end(line: &[u8]) -> &[u8]
     ensures { result.now ≡ value_end line.now }
 {
@@ -89,14 +90,14 @@ pub(crate) fn value_end(line: &[u8]) -> &[u8]
     cut(Stop::Solid, behind(behind_key, 1)).1
 }
 
-/// The value, without a comment.
+/// Returns the value in a line, without the comment and the white space after it.
 pub(crate) fn value_in(line: &[u8]) -> &[u8]
     ensures { result.now ≡ value_in line.now }
 {
     trimmed(cut(Stop::Byte(b'#'), value_end(line)).0)
 }
 
-/// Behind how many headers the first line stands that names the general.
+/// Returns how many headers there are up to the first line `general = G`, where G is the number of this general.
 #[tactic(auto, unfolding(crate::specs::Keys::table_of))]
 pub(crate) fn table_of(alloc: Global, general: u8, text: &[u8]) -> Result<Option<u64>, AllocError>
     ensures { IfOk result (λ table. table ≡ table_of general text.now) }
@@ -114,7 +115,7 @@ pub(crate) fn table_of(alloc: Global, general: u8, text: &[u8]) -> Result<Option
     Ok(None)
 }
 
-/// The word that a line begins with.
+/// Marks the word at the beginning of a line.
 fn word_marked<'a>(word: &[u8], found: Found<'a>) -> Mark<'a>
     ensures { mark_view result ≡ word_marked word.now (found_view found.entry) }
 {
@@ -126,7 +127,7 @@ fn word_marked<'a>(word: &[u8], found: Found<'a>) -> Mark<'a>
     )
 }
 
-/// Its value.
+/// Marks the value in a line.
 fn value_marked(found: Found<'_>) -> Mark<'_>
     ensures { mark_view result ≡ value_marked (found_view found.entry) }
 {
@@ -139,7 +140,8 @@ fn value_marked(found: Found<'_>) -> Mark<'_>
     )
 }
 
-/// The word or its value; in a line that begins otherwise, all of it.
+/// Marks the word at the beginning of a line, or its value if `by_value`. If the line does not begin with the word, all
+/// of it is marked.
 pub(crate) fn shown_at<'a>(by_value: bool, word: &[u8], found: Found<'a>) -> Mark<'a>
     ensures { mark_view result ≡ shown_at by_value word.now (found_view found.entry) }
 {
@@ -152,8 +154,8 @@ pub(crate) fn shown_at<'a>(by_value: bool, word: &[u8], found: Found<'a>) -> Mar
     }
 }
 
-/// The line of a key of the table of this number or, without one, of the table's header or, without one, of the key
-/// `traitor`.
+/// Returns the line of a key in table `index`, counted from 0. Without that line, returns the header of the table, and
+/// without a header, the key `traitor` at the top.
 pub(crate) fn entry_line<'a>(index: usize, word: &[u8], text: &'a [u8]) -> Option<Found<'a>>
     ensures { option_map found_view result ≡ entry_line index word.now text.now }
 {

@@ -1,5 +1,5 @@
-//! Reports of refused files: the sentence of each code, its place in the file, and a help where one is likely. A fault
-//! in a file that a scenario names is reported at its place in that file.
+//! Reports why a file is rejected: a sentence for each error code, the place in the file, and a help message if a cause
+//! is likely. A fault in a file that a scenario names is reported at its place in that file.
 #![tactic(auto)]
 
 mod assembly;

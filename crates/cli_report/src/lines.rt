@@ -1,4 +1,4 @@
-//! The lines of a file, and the places in them.
+//! Finds the lines of a file, and marks parts of them.
 ghost use Rattle.std.specs.Prelude.{◌≡◌, option_map};
 ghost use Rattle.cli_report.specs.Lines.{all_marked, is_white, line_at, marked, trimmed};
 ghost use Rattle.cli_report.specs.Report.{mark_view};
@@ -6,14 +6,14 @@ ghost use Rattle.cli_report.specs.Report.{mark_view};
 use crate::report::Mark;
 use text::{Stop, find};
 
-/// Whether a byte is a space, a tab or a carriage return.
+/// Checks whether a byte is a space, a tab or a carriage return.
 fn is_white(byte: u8) -> bool
     ensures { result ≡ is_white byte }
 {
     byte == b' ' || byte == b'\t' || byte == b'\r'
 }
 
-/// The line without the white space at its end.
+/// Returns the line without the white space at its end.
 pub(crate) fn trimmed(line: &[u8]) -> &[u8]
     ensures { result.now ≡ trimmed line.now }
 {
@@ -27,7 +27,7 @@ pub(crate) fn trimmed(line: &[u8]) -> &[u8]
     &[]
 }
 
-/// The line of this number, from 1 on.
+/// Returns the line with this number, counted from 1, if there is one.
 pub(crate) fn line_at(text: &[u8], number: u64) -> Option<&[u8]>
     ensures { option_map (λ line. line.now) result ≡ line_at text.now number }
 {
@@ -42,7 +42,7 @@ pub(crate) fn line_at(text: &[u8], number: u64) -> Option<&[u8]>
     Some(line)
 }
 
-/// So many bytes of a line behind so many others, as far as the line goes.
+/// Marks the `size` bytes of a line after its first `before` bytes, as far as the line has them.
 pub(crate) fn marked(number: u64, line: &[u8], before: usize, size: usize) -> Mark<'_>
     ensures { mark_view result ≡ marked number line.now before size }
 {
@@ -55,7 +55,7 @@ pub(crate) fn marked(number: u64, line: &[u8], before: usize, size: usize) -> Ma
     }
 }
 
-/// All of a line but the blanks before it.
+/// Marks all of a line but the blanks at its beginning.
 pub(crate) fn all_marked(number: u64, line: &[u8]) -> Mark<'_>
     ensures { mark_view result ≡ all_marked number line.now }
 {

@@ -1,4 +1,4 @@
-//! What is said of a fault of a message table.
+//! Reports faults of a message table, at the line of the fault.
 ghost use Rattle.std.specs.Prelude.{◌≡◌, IfOk, option_map, string_bytes};
 ghost use Rattle.cli_report.specs.Messages.{first_sentence, shape_advice, stranger_line_told, stranger_told, table_advice, table_line_told, table_sentence, table_told};
 ghost use Rattle.cli_report.specs.Report.{help_words};
@@ -10,7 +10,7 @@ use book::TableFault;
 use combine::Rule;
 use std::alloc::{AllocError, Global};
 
-/// What was wanted in the first line.
+/// Returns the sentence for a first line of the wrong shape.
 fn first_sentence(alloc: Global) -> Result<String, AllocError>
     ensures { IfOk result (λ text. string_bytes text ≡ first_sentence) }
 {
@@ -20,7 +20,7 @@ fn first_sentence(alloc: Global) -> Result<String, AllocError>
     )
 }
 
-/// What was wanted in a line of this number.
+/// Returns the sentence for a fault in line `number` of a table.
 fn sentence(alloc: Global, fault: TableFault, number: u64) -> Result<String, AllocError>
     ensures { IfOk result (λ text. string_bytes text ≡ table_sentence fault number) }
 {
@@ -39,7 +39,7 @@ fn sentence(alloc: Global, fault: TableFault, number: u64) -> Result<String, All
     String::from_str(alloc, sentence)
 }
 
-/// What may mend the shape of a line.
+/// Returns a help message for a line of the wrong shape, if a cause is likely.
 fn shape_help(number: u64, line: &[u8]) -> Option<Help<'static>>
     ensures { option_map help_words result ≡ shape_advice number line.now }
 {
@@ -61,7 +61,7 @@ fn shape_help(number: u64, line: &[u8]) -> Option<Help<'static>>
     Some(Help::Said(sentence))
 }
 
-/// What may mend a line.
+/// Returns a help message for a faulty line of a table, if a cause is likely.
 fn help(fault: TableFault, number: u64, line: &[u8]) -> Option<Help<'static>>
     ensures { option_map help_words result ≡ table_advice fault number line.now }
 {
@@ -71,7 +71,7 @@ fn help(fault: TableFault, number: u64, line: &[u8]) -> Option<Help<'static>>
     }
 }
 
-/// What is said of a fault in this line of a file.
+/// Returns the report of a fault in a line of a table. Without a line, the report has no excerpt.
 fn line_told(
     alloc: Global,
     name: &str,
@@ -91,7 +91,7 @@ fn line_told(
     report(alloc, name, sentence.as_str(), Some(mark), help)
 }
 
-/// What is said of a fault at a line of the message table of the file with this name.
+/// Returns the report of a fault at line `number` of a message table. `name` is the file's name.
 #[tactic(auto, unfolding(crate::specs::Messages::table_told))]
 pub fn of_table(
     alloc: Global,
@@ -105,7 +105,8 @@ pub fn of_table(
     line_told(alloc, name, fault, number, line_at(text, number))
 }
 
-/// What is said of a general who is named, and is none of a table's, whose first line this is.
+/// Returns the report that a named general is not one of the table's. `generals` is how many it has, and `line` is its
+/// first line.
 fn stranger_line_told(
     alloc: Global,
     name: &str,
@@ -124,8 +125,8 @@ fn stranger_line_told(
     report(alloc, name, sentence.as_str(), Some(mark), None)
 }
 
-/// What is said of a general who is named, and is none of the generals of the message table of the file with this name:
-/// how many there are, at its first line.
+/// Returns the report that a named general is not one of the message table's. The report gives the numbers of the
+/// table's generals, at its first line. `name` is the file's name.
 #[tactic(auto, unfolding(crate::specs::Messages::stranger_told))]
 pub fn of_stranger(
     alloc: Global,

@@ -1,37 +1,38 @@
-//! What each mnemonic takes.
+//! Lists the mnemonics of assembly, and the operands that each takes.
 ghost use Rattle.std.specs.Prelude.{◌≡◌, map, IfOk};
 ghost use Rattle.cli_report.specs.Mnemonics.{first_taken, mnemonic_names, taken, takes_text};
 
 use std::alloc::{AllocError, Global};
 
-/// What a mnemonic takes.
+/// The operands that a mnemonic takes.
 #[derive(Clone, Copy)]
 pub(crate) enum Takes {
-    /// A register, and a register or a number.
+    /// A register, then a register or a number.
     Arithmetic,
-    /// A register.
+    /// One register.
     Register,
     /// Two registers.
     Registers,
-    /// A target.
+    /// The target of a jump.
     Target,
-    /// A register, a register or a number, and a target.
+    /// A register, then a register or a number, then the target of a jump.
     Branch,
-    /// A register and a place in memory.
+    /// A register, then a place in memory.
     Load,
-    /// A place in memory and a register.
+    /// A place in memory, then a register.
     StoreRegister,
-    /// A place in memory and a number.
+    /// A place in memory, then a number.
     StoreNumber,
-    /// A register and a number of 64 bits.
+    /// A register, then a number of 64 bits.
     Wide,
     /// A helper.
     Call,
+    /// No operand.
     Nothing,
 }
 
 impl Takes {
-    /// The sentence that says so.
+    /// Returns the sentence that describes these operands.
     pub(crate) fn text(self) -> &'static str
         ensures { result.now ≡ takes_text self }
     {
@@ -53,7 +54,7 @@ impl Takes {
     }
 }
 
-/// The mnemonics, and what each takes.
+/// The mnemonics, and the operands that each takes.
 static MNEMONICS: [(&'static str, Takes); 86] = [
     ("add", Takes::Arithmetic),
     ("add.w", Takes::Arithmetic),
@@ -143,7 +144,7 @@ static MNEMONICS: [(&'static str, Takes); 86] = [
     ("xor.w", Takes::Arithmetic),
 ];
 
-/// The first of a table's rows that has the word.
+/// Returns the operands in the first row that has the word, if there is one.
 fn search(rows: &[(&'static str, Takes)], word: &[u8]) -> Option<Takes>
     ensures { result ≡ first_taken word.now (map (λ row. (row.0.now, row.1)) rows.now) }
 {
@@ -155,7 +156,7 @@ fn search(rows: &[(&'static str, Takes)], word: &[u8]) -> Option<Takes>
     None
 }
 
-/// What the mnemonic of a word takes.
+/// Returns the operands that a mnemonic takes, or `None` if the word is not a mnemonic.
 #[tactic(auto, unfolding(crate::specs::Mnemonics::taken))]
 pub(crate) fn taken(word: &[u8]) -> Option<Takes>
     ensures { result ≡ taken word.now }
@@ -163,7 +164,7 @@ pub(crate) fn taken(word: &[u8]) -> Option<Takes>
     search(&MNEMONICS, word)
 }
 
-/// The words of a table's rows.
+/// Returns the words of the rows, in their order.
 fn words(alloc: Global, rows: &[(&'static str, Takes)]) -> Result<Vec<&'static str>, AllocError>
     ensures { IfOk result (λ words. map (λ word. word.now) words.items ≡ map (λ row. row.0.now) rows.now) }
 {
@@ -174,7 +175,7 @@ fn words(alloc: Global, rows: &[(&'static str, Takes)]) -> Result<Vec<&'static s
     Ok(words)
 }
 
-/// The words of all mnemonics.
+/// Returns the words of all mnemonics.
 #[tactic(auto, unfolding(crate::specs::Mnemonics::mnemonic_names))]
 pub(crate) fn names(alloc: Global) -> Result<Vec<&'static str>, AllocError>
     ensures { IfOk result (λ names. map (λ name. name.now) names.items ≡ mnemonic_names) }

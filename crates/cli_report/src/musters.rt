@@ -1,11 +1,11 @@
-//! What is said of a muster that gave no chronicle.
+//! Reports why a muster returned no chronicle.
 ghost use Rattle.std.specs.Prelude.{◌≡◌, IfOk, string_bytes};
 ghost use Rattle.cli_report.specs.Musters.{muster_sentence, muster_told};
 
 use std::alloc::{AllocError, Global};
 use threads::MusterError;
 
-/// Why there is no chronicle.
+/// Returns the sentence for the error of a muster.
 fn sentence(error: MusterError) -> &'static str
     ensures { result.now ≡ muster_sentence error }
 {
@@ -21,7 +21,7 @@ fn sentence(error: MusterError) -> &'static str
     }
 }
 
-/// What is said of a muster that gave no chronicle, which is a fault of no file.
+/// Returns the report of a muster's error. It names no file, because no file is at fault.
 pub fn of_muster(alloc: Global, error: MusterError) -> Result<String, AllocError>
     ensures { IfOk result (λ told. string_bytes told ≡ muster_told error) }
 {

@@ -1,18 +1,19 @@
-//! The name that is nearest to a word.
+//! Finds the known name that is closest to a misspelled word.
 ghost use Rattle.std.specs.Prelude.{◌≡◌, map, option_map, IfOk};
 ghost use Rattle.cli_report.specs.Nearest.{distance, near};
 
 use std::alloc::{AllocError, Global};
 use strsim::generic_levenshtein;
 
-/// How many edits lead from a word to a name.
+/// Returns the Levenshtein distance of a word from a name, in bytes.
 fn distance(alloc: Global, word: &[u8], name: &str) -> Result<usize, AllocError>
     ensures { IfOk result (λ edits. edits ≡ distance word.now name.now) }
 {
     generic_levenshtein(alloc, word, name.as_bytes())
 }
 
-/// The nearest of the names, if it is near.
+/// Returns the first of the names with the least distance from the word. Returns `None` if this distance is more than
+/// half the word's size in bytes, or if the word is empty.
 #[tactic(auto, unfolding(crate::specs::Nearest::near))]
 pub(crate) fn near(
     alloc: Global,

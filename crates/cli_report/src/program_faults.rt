@@ -1,4 +1,4 @@
-//! What is said of a traitor's program that is none.
+//! Reports faults of a traitor's program, at its lines in the scenario's text.
 ghost use Rattle.std.specs.Prelude.{◌≡◌, IfOk, nat_eq, option_and_then, option_map, string_bytes};
 ghost use Rattle.std.specs.List.{starts_with};
 ghost use Rattle.toml.specs.View.{table_view};
@@ -21,7 +21,7 @@ use std::alloc::{AllocError, Global};
 use toml::Table;
 use verify::Reason;
 
-/// The line of a key of the table of this general.
+/// Returns the line of a key in the table of this general, if it has the key.
 #[tactic(auto, unfolding(crate::specs::Scenarios::program_line))]
 fn program_line<'a>(
     alloc: Global,
@@ -37,7 +37,7 @@ fn program_line<'a>(
     }
 }
 
-/// The line of the program: that of its assembly, else that of its bytecode.
+/// Returns the line with the key of a general's program: `asm` or, without it, `code`.
 pub(crate) fn source_line(
     alloc: Global,
     general: u8,
@@ -51,14 +51,14 @@ pub(crate) fn source_line(
     }
 }
 
-/// Whether a text goes on over lines.
+/// Checks whether a value is a text over several lines, which three quotation marks begin.
 pub(crate) fn is_long(value: &[u8]) -> bool
     ensures { result ≡ is_long value.now }
 {
     value.starts_with(b"\"\"\"") || value.starts_with(b"'''")
 }
 
-/// Whether a line feed stands here, written `\n`.
+/// Checks whether the text begins with an escaped line feed, written `\n`.
 fn is_feed(text: &[u8]) -> bool
     ensures { result ≡ is_feed text.now }
 {
@@ -68,7 +68,7 @@ fn is_feed(text: &[u8]) -> bool
     }
 }
 
-/// Behind the first line feed.
+/// Returns the text after its first escaped line feed, or nothing if it has none.
 fn behind_feed(text: &[u8]) -> &[u8]
     ensures { result.now ≡ behind_feed text.now }
 {
@@ -81,7 +81,7 @@ fn behind_feed(text: &[u8]) -> &[u8]
     &[]
 }
 
-/// Behind so many of them.
+/// Returns the text after its first `number` escaped line feeds, or nothing if it has fewer.
 fn behind_feeds(text: &[u8], number: u64) -> &[u8]
     ensures { result.now ≡ behind_feeds number text.now }
 {
@@ -92,14 +92,14 @@ fn behind_feeds(text: &[u8], number: u64) -> &[u8]
     rest
 }
 
-/// Whether this quotation mark stands here.
+/// Checks whether the text begins with this quotation mark.
 fn stands_at(quote: &[u8], text: &[u8]) -> bool
     ensures { result ≡ starts_with nat_eq text.now quote.now }
 {
     text.starts_with(quote)
 }
 
-/// Before the next one, and before the quotation mark that ends the text.
+/// Returns the text before its first escaped line feed or quotation mark `quote`, or all of it if it has neither.
 fn before_feed<'a>(quote: &[u8], text: &'a [u8]) -> &'a [u8]
     ensures { result.now ≡ before_feed quote.now text.now }
 {
@@ -112,7 +112,7 @@ fn before_feed<'a>(quote: &[u8], text: &'a [u8]) -> &'a [u8]
     text
 }
 
-/// Before the quotation mark that ends a text that goes on over lines.
+/// Returns the text before its first `quote`, which ends a text over several lines. Returns all of it if it has none.
 fn before_quote<'a>(quote: &[u8], text: &'a [u8]) -> &'a [u8]
     ensures { result.now ≡ before_quote quote.now text.now }
 {
@@ -125,7 +125,7 @@ fn before_quote<'a>(quote: &[u8], text: &'a [u8]) -> &'a [u8]
     text
 }
 
-/// A line of the program that begins at this end of a line of the file.
+/// Returns the spot of a line of the program. `line` is the line of the file, and `end` is its rest from the code on.
 fn end_spot<'a>(line: Found<'a>, end: &[u8], code: &'a [u8]) -> Spot<'a>
     ensures { spot_view result ≡ end_spot (found_view line.entry) end.now code.now }
 {
@@ -138,7 +138,7 @@ fn end_spot<'a>(line: Found<'a>, end: &[u8], code: &'a [u8]) -> Spot<'a>
     }
 }
 
-/// The line that stands so many behind the line of this number, by its own number.
+/// Returns the line that is `more` lines after line `first`, with its number.
 #[tactic(auto, unfolding(crate::specs::Scenarios::line_behind))]
 fn line_behind(text: &[u8], first: u64, more: u64) -> Option<(u64, &[u8])>
     ensures { option_map (λ line. (line.0, line.1.now)) result ≡ line_behind text.now first more }
@@ -148,7 +148,7 @@ fn line_behind(text: &[u8], first: u64, more: u64) -> Option<(u64, &[u8])>
     Some((number, line))
 }
 
-/// A line of the file that is one of the program, which this quotation mark ends.
+/// Returns the spot of a line of the program that is a line of the file, up to the quotation marks `quote`.
 fn line_spot<'a>(quote: &[u8], line: Option<(u64, &'a [u8])>) -> Option<Spot<'a>>
     ensures { option_map spot_view result
         ≡ option_map (line_spot quote.now) (option_map (λ l. (l.0, l.1.now)) line.entry) }
@@ -162,7 +162,8 @@ fn line_spot<'a>(quote: &[u8], line: Option<(u64, &'a [u8])>) -> Option<Spot<'a>
     })
 }
 
-/// A line of a program that goes on over lines to this quotation mark, and begins at this end of its key's line.
+/// Returns the spot of line `number` of a program over several lines, which ends at `quote`. `line` has the key of the
+/// program, and `rest` is what follows the opening quotation marks there.
 fn long_spot<'a>(
     text: &'a [u8],
     number: u64,
@@ -181,7 +182,7 @@ fn long_spot<'a>(
     }
 }
 
-/// A line of the program by its number, whose key stands in this line of the file.
+/// Returns the spot of line `number` of the program whose key is in this line of the file.
 fn spot_in<'a>(text: &'a [u8], number: u64, line: Found<'a>) -> Option<Spot<'a>>
     ensures { option_map spot_view result ≡ spot_in text.now number (found_view line.entry) }
 {
@@ -194,7 +195,8 @@ fn spot_in<'a>(text: &'a [u8], number: u64, line: Found<'a>) -> Option<Spot<'a>>
     Some(end_spot(line, end, code))
 }
 
-/// The same, if there is such a key.
+/// Returns the spot of line `number` of the program whose key is in this line of the file. Without a key, returns
+/// `None`.
 fn spot_of<'a>(text: &'a [u8], number: u64, line: Option<Found<'a>>) -> Option<Spot<'a>>
     ensures { option_map spot_view result
         ≡ option_and_then (spot_in text.now number) (option_map found_view line.entry) }
@@ -205,7 +207,7 @@ fn spot_of<'a>(text: &'a [u8], number: u64, line: Option<Found<'a>>) -> Option<S
     }
 }
 
-/// What is said of a fault in a line of the program that stands here.
+/// Returns the report of a fault in the program's line at this spot. Without a spot, the report has no excerpt.
 fn spot_told(
     alloc: Global,
     name: &str,
@@ -220,7 +222,7 @@ fn spot_told(
     }
 }
 
-/// What is said of a fault in a line of the program that stands in this line of the file, or begins there.
+/// Returns the report of a fault at line `number` of the program whose key is in this line of the file.
 pub(crate) fn text_told(
     alloc: Global,
     name: &str,
@@ -235,7 +237,8 @@ pub(crate) fn text_told(
     spot_told(alloc, name, fault, spot_of(text, number, line))
 }
 
-/// The digits of a unit, from them on.
+/// Returns the rest of a line from the hex digits of a unit on. The line has the key of the bytecode. A unit past 4096
+/// has no digits.
 fn unit_end(line: &[u8], unit: usize) -> &[u8]
     ensures { result.now ≡ unit_end line.now unit }
 {
@@ -245,7 +248,7 @@ fn unit_end(line: &[u8], unit: usize) -> &[u8]
     behind(behind(value_end(line), 1), 16 * unit)
 }
 
-/// What is said of a fault in a unit whose digits stand in this line.
+/// Returns the report of a fault in a unit of bytecode. `line` has the key and the hex digits.
 pub(crate) fn code_line_told(
     alloc: Global,
     name: &str,
@@ -267,7 +270,7 @@ pub(crate) fn code_line_told(
     report(alloc, name, unit_sentence(fault, digits), Some(mark), None)
 }
 
-/// Why the verifier refuses a program.
+/// Returns the sentence for a program that the verifier rejects.
 pub(crate) fn verifier_sentence(
     alloc: Global,
     reason: Reason,
@@ -278,7 +281,7 @@ pub(crate) fn verifier_sentence(
     format!(in alloc; "the verifier refuses this program, by {reason} at its unit {unit}")
 }
 
-/// The statement of a line of the program that stands here.
+/// Marks the statement in the program's line at this spot.
 fn spot_shown(spot: Option<Spot<'_>>) -> Option<Mark<'_>>
     ensures { option_map mark_view result ≡ option_map unit_mark (option_map spot_view spot.entry) }
 {
@@ -288,7 +291,7 @@ fn spot_shown(spot: Option<Spot<'_>>) -> Option<Mark<'_>>
     }
 }
 
-/// The statement of a unit of this assembly, whose key stands in this line of the file.
+/// Marks the statement of a unit of this assembly. `line` has the key of the program.
 pub(crate) fn unit_shown<'a>(
     alloc: Global,
     text: &'a [u8],
@@ -303,7 +306,7 @@ pub(crate) fn unit_shown<'a>(
     Ok(spot_shown(spot_of(text, number, line)))
 }
 
-/// The key of this general's program.
+/// Marks the key `asm` of this general's program or, without it, all of the line with the key `code`.
 fn source_shown(alloc: Global, general: u8, text: &[u8]) -> Result<Option<Mark<'_>>, AllocError>
     ensures { IfOk result (λ mark. option_map mark_view mark ≡ source_shown general text.now) }
 {
@@ -311,7 +314,7 @@ fn source_shown(alloc: Global, general: u8, text: &[u8]) -> Result<Option<Mark<'
     Ok(key_mark(b"asm", line))
 }
 
-/// The key of this general's bytecode.
+/// Marks the key `code` of this general's program.
 fn bytecode_shown(alloc: Global, general: u8, text: &[u8]) -> Result<Option<Mark<'_>>, AllocError>
     ensures { IfOk result (λ mark. option_map mark_view mark ≡ bytecode_shown general text.now) }
 {
@@ -319,7 +322,7 @@ fn bytecode_shown(alloc: Global, general: u8, text: &[u8]) -> Result<Option<Mark
     Ok(key_mark(b"code", line))
 }
 
-/// The place of a unit that the verifier refuses.
+/// Marks the place of a unit that the verifier rejects: its statement in assembly, or the key of its bytecode.
 fn refused_at<'a>(
     alloc: Global,
     text: &'a [u8],
@@ -340,7 +343,8 @@ fn refused_at<'a>(
     }
 }
 
-/// What is said of a program that the verifier refuses, of these tables of the text.
+/// Returns the report of a general's program that the verifier rejects. `tables` is what the scenario's text contains,
+/// if it is TOML.
 fn refused_by(
     alloc: Global,
     name: &str,
@@ -358,7 +362,7 @@ fn refused_by(
     report(alloc, name, sentence.as_str(), mark, None)
 }
 
-/// What is said of a program that the verifier refuses.
+/// Returns the report of a general's program that the verifier rejects.
 fn refused_told(
     alloc: Global,
     name: &str,
@@ -373,7 +377,7 @@ fn refused_told(
     refused_by(alloc, name, text, general, reason, unit, tables.as_ref())
 }
 
-/// What is said of digits that are none.
+/// Returns the report of bytecode that is not an even number of hex digits.
 fn hex_told(alloc: Global, name: &str, text: &[u8], general: u8) -> Result<String, AllocError>
     ensures { IfOk result (λ told. string_bytes told ≡ hex_told name.now text.now general) }
 {
@@ -382,7 +386,7 @@ fn hex_told(alloc: Global, name: &str, text: &[u8], general: u8) -> Result<Strin
     report(alloc, name, sentence, value_mark(b"code", line), None)
 }
 
-/// What is said of a fault of this general's program.
+/// Returns the report of a fault in this general's program.
 pub(crate) fn program_told(
     alloc: Global,
     name: &str,

@@ -1,4 +1,4 @@
-//! What the verifier knows of a traitor's program that it refuses, at the lines of the scenario's own text.
+//! Explains a traitor's program that the verifier rejects, with the lines of the scenario's own text.
 ghost use Rattle.std.specs.Prelude.{◌≡◌, ◌++◌, IfOk, codes, length, map, option_map, replicate, string_bytes, unwrap_or};
 ghost use Rattle.std.specs.Str.{IsUtf8};
 ghost use Rattle.toml.specs.Parse.{parse_document};
@@ -22,7 +22,8 @@ use scenario::{ProgramFault, ProgramText, ScenarioError, program, written_by};
 use std::alloc::{AllocError, Global};
 use toml::Table;
 
-/// How many lines of the file stand before the first line of a text that goes on over lines from this one.
+/// Returns how many lines of the file are before the first line of a program over several lines, whose key is in this
+/// line.
 fn lines_before(line: Found<'_>) -> u64
     ensures { result ≡ lines_before (found_view line.entry) }
 {
@@ -34,7 +35,7 @@ fn lines_before(line: Found<'_>) -> u64
     }
 }
 
-/// The text behind so many empty lines.
+/// Returns the text after `lines` empty lines.
 fn pushed_down(alloc: Global, lines: u64, text: &str) -> Result<String, AllocError>
     ensures { IfOk result (λ pushed. string_bytes pushed ≡ pushed_down lines text.now) }
 {
@@ -46,14 +47,14 @@ fn pushed_down(alloc: Global, lines: u64, text: &str) -> Result<String, AllocErr
     Ok(pushed)
 }
 
-/// `line N`.
+/// Returns the text `line N` for a number N.
 fn line_text(alloc: Global, number: u64) -> Result<String, AllocError>
     ensures { IfOk result (λ text. string_bytes text ≡ line_text number) }
 {
     format!(in alloc; "line {number}")
 }
 
-/// The same place for each of so many units.
+/// Returns the place `line N` once for each of `units` units.
 fn all_at(alloc: Global, units: usize, number: u64) -> Result<Vec<String>, AllocError>
     ensures { IfOk result (λ places. map string_bytes places.items ≡ replicate units (line_text number)) }
 {
@@ -64,7 +65,7 @@ fn all_at(alloc: Global, units: usize, number: u64) -> Result<Vec<String>, Alloc
     Ok(places)
 }
 
-/// Where the units of a program stand that is written so, and whose key stands in this line.
+/// Returns the places of a program's units, or none without a line. `line` has the key of the program.
 fn placed(
     alloc: Global,
     written: ProgramText<'_>,
@@ -86,7 +87,7 @@ fn placed(
     }
 }
 
-/// How the units of a program that is written so are written.
+/// Returns the statements of a program's units, as its assembly writes them. Bytecode has none.
 fn stated(alloc: Global, written: ProgramText<'_>) -> Result<Vec<String>, AllocError>
     ensures { IfOk result (λ statements. AreStated (source_of written.entry) (map string_bytes statements.items)) }
 {
@@ -96,7 +97,11 @@ fn stated(alloc: Global, written: ProgramText<'_>) -> Result<Vec<String>, AllocE
     }
 }
 
-/// The program that was made so, none where its source has a fault.
+/// Returns the program that was made, or `None` if its source has a fault.
+///
+/// # Errors
+///
+/// Fails with `AllocError` if there was not enough memory to make it.
 fn made(program: Result<Program, ScenarioError>) -> Result<Option<Program>, AllocError>
     ensures { IsMadeBy program result }
 {
@@ -107,7 +112,7 @@ fn made(program: Result<Program, ScenarioError>) -> Result<Option<Program>, Allo
     }
 }
 
-/// The program that is written so, none where it has a fault.
+/// Returns the program with this source, or `None` if the source has a fault.
 #[tactic(auto, using(crate::proofs::MadeLemmas::made_is_had))]
 fn program_of(
     alloc: Global,
@@ -119,7 +124,8 @@ fn program_of(
     made(program(alloc, general, written))
 }
 
-/// What is known of a program that is written so, whose key stands in this line: an empty line and its explanation.
+/// Returns an empty line and the explanation of a program, or nothing if its source has a fault. `line` has the key of
+/// the program.
 #[tactic(auto, using(crate::proofs::MadeLemmas::unmade_is_silent))]
 pub(crate) fn explained_of(
     alloc: Global,
@@ -144,7 +150,8 @@ pub(crate) fn explained_of(
     format!(in alloc; "\n{told}")
 }
 
-/// The same of a table, where it has this general's program.
+/// Returns an empty line and the explanation of this general's program in a scenario's table. Returns nothing if he has
+/// none there.
 fn explained_in(
     alloc: Global,
     general: u8,
@@ -160,7 +167,8 @@ fn explained_in(
     }
 }
 
-/// The same of this general's program in the text of a scenario.
+/// Returns an empty line and the explanation of this general's program in the text of a scenario. Returns nothing if
+/// the text is not TOML or has no such program.
 fn explained(alloc: Global, text: &[u8], general: u8) -> Result<String, AllocError>
     ensures { IfOk result (λ told. IsExplained text.now general (string_bytes told)) }
 {
@@ -174,7 +182,7 @@ fn explained(alloc: Global, text: &[u8], general: u8) -> Result<String, AllocErr
     }
 }
 
-/// The general whose program the verifier refuses, where that is the error.
+/// Returns the general whose program the verifier rejects, if that is the error.
 pub(crate) fn judged_of(error: &ScenarioError) -> Option<u8>
     ensures { result ≡ judged_of error.now }
 {
@@ -190,8 +198,8 @@ pub(crate) fn judged_of(error: &ScenarioError) -> Option<u8>
     }
 }
 
-/// What stands behind the report of an error of a scenario with this text: of a program that the verifier refuses what
-/// it knows of it.
+/// Returns the text after the report of a scenario's error: the explanation of the program if the verifier rejects it,
+/// and nothing for another error.
 pub(crate) fn judged(
     alloc: Global,
     text: &[u8],

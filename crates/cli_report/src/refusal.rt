@@ -1,4 +1,4 @@
-//! Why a scenario that names files is refused, at its own lines and those of its files.
+//! Reports why a scenario that names files is rejected, at its own lines and those of its files.
 ghost use Rattle.std.specs.Prelude.{◌≡◌, ◌≢◌, IfOk, IfSome, None, option_map, string_bytes};
 ghost use Rattle.std.specs.Str.{IsUtf8};
 ghost use Rattle.streams.specs.Names.{shown};
@@ -10,16 +10,16 @@ use scenario::ScenarioError;
 use std::alloc::{AllocError, Global};
 use streams::FileName;
 
-/// Which campaigns are taken.
+/// Which campaigns a task accepts.
 #[derive(Clone, Copy)]
 pub enum Taken {
-    /// Oral ones alone.
+    /// Only oral campaigns.
     Oral,
-    /// Oral and signed ones.
+    /// Oral and signed campaigns.
     Any,
 }
 
-/// Which campaigns the task takes, where it explains what it refuses of a scenario.
+/// Returns which campaigns the task accepts, if it must explain why it rejects a scenario.
 fn taken_by(task: &Task) -> Option<Taken>
     ensures { result ≡ taken_by task.now }
 {
@@ -46,7 +46,11 @@ fn taken_by(task: &Task) -> Option<Taken>
     }
 }
 
-/// The error of a text that was read so, if it has one.
+/// Returns the error of a text that was read, or `None` if it has none.
+///
+/// # Errors
+///
+/// Fails with `AllocError` if there was not enough memory to read the text.
 fn error_in<T: Drop>(read: Result<T, ScenarioError>) -> Result<Option<ScenarioError>, AllocError>
     ensures { IsErrorIn read result }
 {
@@ -57,21 +61,21 @@ fn error_in<T: Drop>(read: Result<T, ScenarioError>) -> Result<Option<ScenarioEr
     }
 }
 
-/// The error of a text of an oral campaign, if it has one.
+/// Returns the error of a text that must be an oral campaign, or `None` if it is one.
 fn error_of_oral(alloc: Global, text: &str) -> Result<Option<ScenarioError>, AllocError>
     ensures { IfOk result (IsErrorOf Oral text.now) }
 {
     error_in(scenario::read(alloc, text))
 }
 
-/// The error of a text of any campaign, if it has one.
+/// Returns the error of a text that must be an oral or a signed campaign, or `None` if it is one.
 fn error_of_any(alloc: Global, text: &str) -> Result<Option<ScenarioError>, AllocError>
     ensures { IfOk result (IsErrorOf Any text.now) }
 {
     error_in(scenario::read_any(alloc, text))
 }
 
-/// The error of a text of such a campaign, if it has one.
+/// Returns the error of a text that must be a campaign of the accepted kind, or `None` if it is one.
 fn error_of(alloc: Global, taken: Taken, text: &str) -> Result<Option<ScenarioError>, AllocError>
     ensures { IfOk result (IsErrorOf taken text.now) }
 {
@@ -81,14 +85,14 @@ fn error_of(alloc: Global, taken: Taken, text: &str) -> Result<Option<ScenarioEr
     }
 }
 
-/// The name of a file as it is shown.
+/// Returns the name of a file as it is shown.
 fn shown_name(alloc: Global, file: &str) -> Result<String, AllocError>
     ensures { IfOk result (λ name. IfSome (shown file.now) (λ own. string_bytes name ≡ own)) }
 {
     format!(in alloc; "{}", FileName(file))
 }
 
-/// What is said of a refusal, in the file of this name.
+/// Returns the report of an error of the scenario in this file.
 fn report_shown(
     alloc: Global,
     file: &str,
@@ -102,7 +106,7 @@ fn report_shown(
     crate::file_errors::of_made(alloc, name.as_str(), own, made, error)
 }
 
-/// The line of a refusal, and what is said of it.
+/// Returns the refusal line of an error, and its report.
 fn refusal_shown(
     alloc: Global,
     file: &str,
@@ -117,7 +121,7 @@ fn refusal_shown(
     format!(in alloc; "refused {error}{report}")
 }
 
-/// What is told of the text that was made, if it is refused.
+/// Returns the refusal line and the report of the resolved text, or `None` if the text is accepted.
 fn told_of(
     alloc: Global,
     taken: Taken,
@@ -133,7 +137,8 @@ fn told_of(
     }
 }
 
-/// What is told of the scenario of this own text, where the task explains what it refuses.
+/// Returns the refusal line and the report of the task's scenario. Returns `None` if the scenario is accepted, or if
+/// the task does not explain.
 fn told(alloc: Global, task: &Task, own: &str, made: &str) -> Result<Option<String>, AllocError>
     ensures { IfOk result (λ lines. IsTold task.now own.now made.now (option_map string_bytes lines)) }
 {
@@ -143,13 +148,15 @@ fn told(alloc: Global, task: &Task, own: &str, made: &str) -> Result<Option<Stri
     }
 }
 
-/// What is told of the task's scenario of these own bytes, where it explains what it refuses, and the text in which the
-/// files stand that it names is refused: the line of the refusal, and what is said of it, at its own lines and those of
-/// its files. Of a scenario that names no file, and of bytes that are no text, nothing is.
+/// Returns the refusal line and the report of the task's scenario. The report is at the scenario's own lines or at
+/// those of its files. Returns `None` if the scenario is accepted, or if the task does not explain.
+///
+/// `own` is the scenario as it was read, and `made` is the text with the contents of its files. If they are equal, no
+/// file is named, and the result is `None`. It is also `None` if one of them is not UTF-8.
 ///
 /// # Errors
 ///
-/// `AllocError` where memory is refused.
+/// Fails with `AllocError` if there is not enough memory.
 pub fn refused(
     alloc: Global,
     task: &Task,

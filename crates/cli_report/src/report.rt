@@ -1,4 +1,4 @@
-//! What stands behind the line of a refusal: a sentence, the place, a help.
+//! Lays out the report after a refusal line: a sentence, an excerpt of the file with a part marked, and a help message.
 ghost use Rattle.std.specs.Prelude.{◌≡◌, ◌++◌, codes, drop, length, map, option_map, string_bytes, take, IfOk, OnOk};
 ghost use Rattle.std.specs.Fmt.{is_char_start};
 ghost use Rattle.std.specs.List.{flat_map};
@@ -7,27 +7,27 @@ ghost use Rattle.cli_report.specs.Report.{blank_below, caret_below, carets_below
 use std::alloc::{AllocError, Global};
 use std::fmt;
 
-/// A part of a line of a file.
+/// A part of a line of a file, to be marked in an excerpt.
 #[derive(Clone, Copy)]
 pub(crate) struct Mark<'a> {
-    /// The line's number.
+    /// The number of the line.
     pub number: u64,
-    /// The line.
+    /// The bytes of the line.
     pub line: &'a [u8],
-    /// How many bytes of the line stand before the part.
+    /// How many bytes of the line are before the part.
     pub from: usize,
     /// How many bytes the part has.
     pub size: usize,
 }
 
-/// What may mend a fault.
+/// A help message: how a fault could be corrected.
 #[derive(Clone, Copy)]
 pub(crate) enum Help<'a> {
-    /// A sentence.
+    /// A sentence, which is printed as it is.
     Said(&'a str),
-    /// A name of this kind that nearly is the one that stands there.
+    /// A kind of names, and a name of that kind that is close to the one in the file.
     Near(&'a str, &'a str),
-    /// The line of the campaign.
+    /// The line that the campaign has instead.
     Has(&'a str),
 }
 
@@ -46,7 +46,7 @@ impl fmt::Display for Help<'_> {
     }
 }
 
-/// A byte as it is shown.
+/// Returns a byte as it is shown: `?` for a control character other than the tab.
 fn shown_byte(byte: u8) -> u8
     ensures { result ≡ shown_byte byte }
 {
@@ -57,7 +57,7 @@ fn shown_byte(byte: u8) -> u8
     }
 }
 
-/// A line as it is shown.
+/// Returns a line as it is shown, with `?` for control characters, and replacement characters for what is not UTF-8.
 pub(crate) fn shown_line(alloc: Global, line: &[u8]) -> Result<String, AllocError>
     ensures { IfOk result (λ text. string_bytes text ≡ shown_line line.now) }
 {
@@ -68,28 +68,29 @@ pub(crate) fn shown_line(alloc: Global, line: &[u8]) -> Result<String, AllocErro
     String::from_utf8_lossy(alloc, shown.as_slice())
 }
 
-/// The first bytes, so many or all.
+/// Returns the first `number` bytes, or all if there are fewer.
 pub(crate) fn front(bytes: &[u8], number: usize) -> &[u8]
     ensures { result.now ≡ take number bytes.now }
 {
     &bytes[..number.min(bytes.len())]
 }
 
-/// The bytes behind so many.
+/// Returns the bytes after the first `number`, or none if there are fewer.
 pub(crate) fn behind(bytes: &[u8], number: usize) -> &[u8]
     ensures { result.now ≡ drop number bytes.now }
 {
     &bytes[number.min(bytes.len())..]
 }
 
-/// Whether a character begins at this byte.
+/// Checks whether a UTF-8 character begins at this byte.
 fn is_start(byte: u8) -> bool
     ensures { result ≡ is_char_start byte }
 {
     byte < 0x80 || byte >= 0xC0
 }
 
-/// What stands below a byte before the part.
+/// Returns what is printed below a byte before the marked part: a tab below a tab, and a blank below any other
+/// character.
 fn blank_below(byte: u8) -> &'static str
     ensures { result.now ≡ blank_below byte }
 {
@@ -102,14 +103,14 @@ fn blank_below(byte: u8) -> &'static str
     }
 }
 
-/// What stands below a byte of the part.
+/// Returns what is printed below a byte of the marked part: a caret if a character begins there.
 fn caret_below(byte: u8) -> &'static str
     ensures { result.now ≡ caret_below byte }
 {
     if is_start(byte) { "^" } else { "" }
 }
 
-/// Adds what stands below the bytes before the part.
+/// Appends what is printed below the bytes before the marked part.
 fn put_blanks(out: &mut String, bytes: &[u8]) -> Result<(), AllocError>
     ensures { OnOk result (string_bytes out.new ≡ string_bytes out.old ++ flat_map blank_below bytes.now) }
 {
@@ -119,7 +120,7 @@ fn put_blanks(out: &mut String, bytes: &[u8]) -> Result<(), AllocError>
     Ok(())
 }
 
-/// Adds what stands below the bytes of the part.
+/// Appends what is printed below these bytes of the marked part.
 fn put_carets(out: &mut String, bytes: &[u8]) -> Result<(), AllocError>
     ensures { OnOk result (string_bytes out.new ≡ string_bytes out.old ++ flat_map caret_below bytes.now) }
 {
@@ -129,7 +130,7 @@ fn put_carets(out: &mut String, bytes: &[u8]) -> Result<(), AllocError>
     Ok(())
 }
 
-/// What stands below the line: a caret for each character of the part, and at least one.
+/// Returns what is printed below the line: a caret for each character of the marked part, and at least one.
 #[tactic(auto, unfolding(crate::specs::Report::carets_below))]
 fn carets(alloc: Global, mark: &Mark<'_>) -> Result<String, AllocError>
     ensures { IfOk result (λ text. string_bytes text ≡ carets_below (mark_view mark.now)) }
@@ -144,7 +145,7 @@ fn carets(alloc: Global, mark: &Mark<'_>) -> Result<String, AllocError>
     Ok(out)
 }
 
-/// As many blanks as the number has digits.
+/// Returns as many blanks as the number has decimal digits.
 fn margin(alloc: Global, number: u64) -> Result<String, AllocError>
     ensures { IfOk result (λ text. string_bytes text ≡ margin_of number) }
 {
@@ -152,7 +153,7 @@ fn margin(alloc: Global, number: u64) -> Result<String, AllocError>
     " ".repeat(alloc, digits.len())
 }
 
-/// Adds the file's name and the line's number.
+/// Appends the file's name and the number of the line.
 #[tactic(auto, unfolding(crate::specs::Report::where_text))]
 fn put_where(out: &mut String, margin: &str, name: &str, number: u64) -> Result<(), AllocError>
     ensures { OnOk result (string_bytes out.new ≡ string_bytes out.old ++ where_text margin.now name.now number) }
@@ -160,7 +161,7 @@ fn put_where(out: &mut String, margin: &str, name: &str, number: u64) -> Result<
     write!(out, "\n{margin}--> {name}:{number}\n")
 }
 
-/// Adds the line.
+/// Appends the line, after its number.
 #[tactic(auto, unfolding(crate::specs::Report::shown_text))]
 fn put_line(
     alloc: Global,
@@ -175,7 +176,7 @@ fn put_line(
     write!(out, "{margin} |\n{number} | {line}\n")
 }
 
-/// Adds what stands below the line.
+/// Appends the carets below the line.
 #[tactic(auto, unfolding(crate::specs::Report::marked_text))]
 fn put_marks(
     alloc: Global,
@@ -189,7 +190,7 @@ fn put_marks(
     write!(out, "{margin} | {carets}")
 }
 
-/// Adds the excerpt of a file with this name.
+/// Appends the excerpt: the file's name, the line with its number, and the carets below the marked part.
 fn put_excerpt(
     alloc: Global,
     out: &mut String,
@@ -205,7 +206,7 @@ fn put_excerpt(
     put_marks(alloc, out, margin, mark)
 }
 
-/// Adds a help, if there is one.
+/// Appends a help message, if there is one.
 fn put_help(out: &mut String, margin: &str, help: Option<Help<'_>>) -> Result<(), AllocError>
     ensures { OnOk result (string_bytes out.new ≡ string_bytes out.old
         ++ help_text margin.now (option_map help_words help.entry)) }
@@ -216,7 +217,8 @@ fn put_help(out: &mut String, margin: &str, help: Option<Help<'_>>) -> Result<()
     }
 }
 
-/// What stands behind the line of a refusal of the file with this name.
+/// Returns the report after a refusal line: the sentence, the excerpt or only the file's name, and the help message.
+/// `name` is the file's name.
 #[tactic(auto, unfolding(crate::specs::Report::report_text))]
 pub(crate) fn report(
     alloc: Global,

@@ -1,4 +1,4 @@
-//! What is said of a fault of a scenario.
+//! Reports faults of a scenario's keys and values, and unknown keys.
 ghost use Rattle.std.specs.Prelude.{◌≡◌, false, true, IfOk, codes, option_map, string_bytes};
 ghost use Rattle.cli_report.specs.Keys.{found_view, shown_at};
 ghost use Rattle.cli_report.specs.Nearest.{near};
@@ -12,7 +12,7 @@ use combine::Rule;
 use scenario::{ScenarioFault, ScenarioKey, ScenarioPlace};
 use std::alloc::{AllocError, Global};
 
-/// The keys at the top.
+/// The keys at the top of a scenario.
 static TOP_KEYS: [&'static str; 9] = [
     "generals",
     "bound",
@@ -25,7 +25,7 @@ static TOP_KEYS: [&'static str; 9] = [
     "traitor",
 ];
 
-/// Those of a traitor's table.
+/// The keys of a traitor's table.
 static ENTRY_KEYS: [&'static str; 8] = [
     "general",
     "generals",
@@ -37,7 +37,7 @@ static ENTRY_KEYS: [&'static str; 8] = [
     "entry",
 ];
 
-/// What is missing.
+/// Returns the sentence for a key that is missing, or that must not be there.
 fn missing_sentence(alloc: Global, name: ScenarioKey) -> Result<String, AllocError>
     ensures { IfOk result (λ text. string_bytes text ≡ missing_sentence name) }
 {
@@ -54,7 +54,7 @@ fn missing_sentence(alloc: Global, name: ScenarioKey) -> Result<String, AllocErr
     }
 }
 
-/// Of which kind a value is to be.
+/// Returns the sentence for a value of the wrong type.
 fn kind_sentence(alloc: Global, name: ScenarioKey) -> Result<String, AllocError>
     ensures { IfOk result (λ text. string_bytes text ≡ kind_sentence name) }
 {
@@ -74,7 +74,7 @@ fn kind_sentence(alloc: Global, name: ScenarioKey) -> Result<String, AllocError>
     String::from_str(alloc, sentence)
 }
 
-/// In which range it is to be.
+/// Returns the sentence for a value out of its range.
 fn range_sentence(alloc: Global, name: ScenarioKey) -> Result<String, AllocError>
     ensures { IfOk result (λ text. string_bytes text ≡ range_sentence name) }
 {
@@ -96,7 +96,7 @@ fn range_sentence(alloc: Global, name: ScenarioKey) -> Result<String, AllocError
     String::from_str(alloc, sentence)
 }
 
-/// What is wrong with a key or its value.
+/// Returns the sentence for a fault of a key or its value.
 fn name_sentence(
     alloc: Global,
     fault: ScenarioFault,
@@ -114,7 +114,7 @@ fn name_sentence(
     String::from_str(alloc, sentence)
 }
 
-/// What is wrong with a word of the board.
+/// Returns the sentence for a fault of a word of the board.
 fn word_sentence(fault: ScenarioFault) -> &'static str
     ensures { result.now ≡ word_sentence fault }
 {
@@ -124,7 +124,7 @@ fn word_sentence(fault: ScenarioFault) -> &'static str
     }
 }
 
-/// What is wrong at a place.
+/// Returns the sentence for a fault at this place.
 pub(crate) fn place_sentence(
     alloc: Global,
     fault: ScenarioFault,
@@ -144,7 +144,7 @@ pub(crate) fn place_sentence(
     }
 }
 
-/// Whether a fault is one of the value.
+/// Checks whether a fault is in the value of a key. The fault that a key is missing is not.
 pub(crate) fn is_of_value(fault: ScenarioFault) -> bool
     ensures { result ≡ is_of_value fault }
 {
@@ -154,7 +154,7 @@ pub(crate) fn is_of_value(fault: ScenarioFault) -> bool
     }
 }
 
-/// Where a place stands in the text.
+/// Marks the place of a fault in the text, if its line is found.
 pub(crate) fn place_mark(
     fault: ScenarioFault,
     place: ScenarioPlace,
@@ -178,7 +178,7 @@ pub(crate) fn place_mark(
     }
 }
 
-/// What is said of a fault at a place in the scenario of the file with this name.
+/// Returns the report of a fault at a place in a scenario. `name` is the file's name.
 #[tactic(auto, unfolding(crate::specs::Scenarios::place_told))]
 pub(crate) fn place_told(
     alloc: Global,
@@ -194,21 +194,21 @@ pub(crate) fn place_told(
     report(alloc, name, sentence.as_str(), mark, None)
 }
 
-/// The key at the top that is near.
+/// Returns the key at the top of a scenario that is close to the word, if there is one.
 fn near_top_key(alloc: Global, word: &[u8]) -> Result<Option<&'static str>, AllocError>
     ensures { IfOk result (λ key. option_map (λ k. k.now) key ≡ near word.now top_keys) }
 {
     near(alloc, word, &TOP_KEYS)
 }
 
-/// The key of a table that is near.
+/// Returns the key of a traitor's table that is close to the word, if there is one.
 fn near_entry_key(alloc: Global, word: &[u8]) -> Result<Option<&'static str>, AllocError>
     ensures { IfOk result (λ key. option_map (λ k. k.now) key ≡ near word.now entry_keys) }
 {
     near(alloc, word, &ENTRY_KEYS)
 }
 
-/// What is said of an unknown key in its line, where another one is near.
+/// Returns the report of an unknown key in its line. `known` is a key that is close to it, if there is one.
 pub(crate) fn key_report(
     alloc: Global,
     name: &str,
@@ -224,7 +224,7 @@ pub(crate) fn key_report(
     report(alloc, name, sentence, key_mark(word, line), key_help(known))
 }
 
-/// What is said of an unknown key at the top.
+/// Returns the report of an unknown key at the top of a scenario.
 fn unknown_at_top(alloc: Global, name: &str, text: &[u8], word: &[u8]) -> Result<String, AllocError>
     ensures { IfOk result (λ told. string_bytes told ≡ top_key_told name.now text.now word.now) }
 {
@@ -233,7 +233,7 @@ fn unknown_at_top(alloc: Global, name: &str, text: &[u8], word: &[u8]) -> Result
     key_report(alloc, name, "a scenario has no such key", word, line, known)
 }
 
-/// What is said of an unknown key of the traitor's table of this number.
+/// Returns the report of an unknown key in the traitor's table `index`, counted from 0.
 fn unknown_in_table(
     alloc: Global,
     name: &str,
@@ -250,7 +250,7 @@ fn unknown_in_table(
     key_report(alloc, name, sentence, word, line, other)
 }
 
-/// Whether the key that is near is the word itself.
+/// Checks whether the close key is the word itself.
 fn is_itself(known: Option<&'static str>, word: &[u8]) -> bool
     ensures { result ≡ is_itself (option_map (λ k. k.now) known.entry) word.now }
 {
@@ -260,7 +260,8 @@ fn is_itself(known: Option<&'static str>, word: &[u8]) -> bool
     }
 }
 
-/// Why a table is not to have this key: there is none, or it does not stand beside the others.
+/// Returns the sentence for a key that a table must not have. Either no table has such a key, or it does not fit the
+/// table's others.
 fn entry_sentence(known: Option<&'static str>, word: &[u8]) -> &'static str
     ensures { result.now ≡ entry_sentence (option_map (λ k. k.now) known.entry) word.now }
 {
@@ -272,14 +273,14 @@ fn entry_sentence(known: Option<&'static str>, word: &[u8]) -> &'static str
     }
 }
 
-/// The key that is near, where it is another.
+/// Returns the close key, unless it is the word itself.
 fn other_than(known: Option<&'static str>, word: &[u8]) -> Option<&'static str>
     ensures { option_map (λ k. k.now) result ≡ other_than (option_map (λ k. k.now) known.entry) word.now }
 {
     if is_itself(known, word) { None } else { known }
 }
 
-/// What is said of an unknown key, at the top or of the traitor's table of this number.
+/// Returns the report of an unknown key, at the top of a scenario or in the traitor's table `index`, counted from 0.
 pub(crate) fn unknown_told(
     alloc: Global,
     name: &str,
@@ -295,7 +296,7 @@ pub(crate) fn unknown_told(
     }
 }
 
-/// The key in its line.
+/// Marks the key in its line.
 pub(crate) fn key_mark<'a>(word: &[u8], line: Option<Found<'a>>) -> Option<Mark<'a>>
     ensures { option_map mark_view result ≡ option_map (shown_at false word.now) (option_map found_view line.entry) }
 {
@@ -305,7 +306,7 @@ pub(crate) fn key_mark<'a>(word: &[u8], line: Option<Found<'a>>) -> Option<Mark<
     }
 }
 
-/// The value of a key in its line.
+/// Marks the value of a key in its line.
 pub(crate) fn value_mark<'a>(word: &[u8], line: Option<Found<'a>>) -> Option<Mark<'a>>
     ensures { option_map mark_view result ≡ option_map (shown_at true word.now) (option_map found_view line.entry) }
 {
@@ -315,7 +316,7 @@ pub(crate) fn value_mark<'a>(word: &[u8], line: Option<Found<'a>>) -> Option<Mar
     }
 }
 
-/// A key that is near.
+/// Returns the help message that names a close key.
 pub(crate) fn key_help(known: Option<&'static str>) -> Option<Help<'static>>
     ensures { option_map help_words result
         ≡ option_map (near_words (codes "key")) (option_map (λ key. key.now) known.entry) }

@@ -1,4 +1,4 @@
-//! What is said of a fault of a setting.
+//! Reports faults of a setting's keys and values, and unknown keys.
 ghost use Rattle.std.specs.Prelude.{◌≡◌, IfOk, option_map, string_bytes};
 ghost use Rattle.cli_report.specs.Nearest.{near};
 ghost use Rattle.cli_report.specs.Report.{mark_view};
@@ -22,7 +22,7 @@ static KEYS: [&'static str; 7] = [
     "board",
 ];
 
-/// Of which kind the value is to be.
+/// Returns the sentence for a value of the wrong type.
 fn kind_sentence(name: SettingKey) -> &'static str
     ensures { result.now ≡ setting_kind_sentence name }
 {
@@ -33,7 +33,7 @@ fn kind_sentence(name: SettingKey) -> &'static str
     }
 }
 
-/// In which range it is to be.
+/// Returns the sentence for a value out of its range.
 fn range_sentence(name: SettingKey) -> &'static str
     ensures { result.now ≡ setting_range_sentence name }
 {
@@ -47,7 +47,7 @@ fn range_sentence(name: SettingKey) -> &'static str
     }
 }
 
-/// What is wrong with a key or its value.
+/// Returns the sentence for a fault of a key or its value.
 fn name_sentence(alloc: Global, fault: SettingFault, name: SettingKey) -> Result<String, AllocError>
     ensures { IfOk result (λ text. string_bytes text ≡ setting_name_sentence fault name) }
 {
@@ -60,7 +60,7 @@ fn name_sentence(alloc: Global, fault: SettingFault, name: SettingKey) -> Result
     String::from_str(alloc, sentence)
 }
 
-/// What is wrong with an order that was taken.
+/// Returns the sentence for a fault of an order that was taken.
 fn order_sentence(fault: SettingFault) -> &'static str
     ensures { result.now ≡ order_sentence fault }
 {
@@ -70,7 +70,7 @@ fn order_sentence(fault: SettingFault) -> &'static str
     }
 }
 
-/// What is wrong with a word of the board.
+/// Returns the sentence for a fault of a word of the board.
 fn word_sentence(fault: SettingFault) -> &'static str
     ensures { result.now ≡ setting_word_sentence fault }
 {
@@ -80,7 +80,7 @@ fn word_sentence(fault: SettingFault) -> &'static str
     }
 }
 
-/// What is wrong at a place.
+/// Returns the sentence for a fault at this place.
 fn sentence(alloc: Global, fault: SettingFault, place: SettingPlace) -> Result<String, AllocError>
     ensures { IfOk result (λ text. string_bytes text ≡ setting_sentence fault place) }
 {
@@ -91,7 +91,7 @@ fn sentence(alloc: Global, fault: SettingFault, place: SettingPlace) -> Result<S
     }
 }
 
-/// The key whose value is at fault.
+/// Returns the key whose value is at fault.
 fn word(place: SettingPlace) -> &'static str
     ensures { result.now ≡ setting_word place }
 {
@@ -102,7 +102,7 @@ fn word(place: SettingPlace) -> &'static str
     }
 }
 
-/// The value that is at fault.
+/// Marks the value that is at fault, if its line is found.
 fn mark(place: SettingPlace, text: &[u8]) -> Option<Mark<'_>>
     ensures { option_map mark_view result ≡ setting_mark place text.now }
 {
@@ -110,7 +110,7 @@ fn mark(place: SettingPlace, text: &[u8]) -> Option<Mark<'_>>
     value_mark(word, find_line(0, word, text))
 }
 
-/// What is said of a fault at a place in the setting of the file with this name.
+/// Returns the report of a fault at a place in a setting. `name` is the file's name.
 #[tactic(auto, unfolding(crate::specs::Settings::setting_place_told))]
 pub(crate) fn place_told(
     alloc: Global,
@@ -126,14 +126,14 @@ pub(crate) fn place_told(
     report(alloc, name, sentence.as_str(), mark, None)
 }
 
-/// The key that is near.
+/// Returns the key of a setting that is close to the word, if there is one.
 fn near_key(alloc: Global, word: &[u8]) -> Result<Option<&'static str>, AllocError>
     ensures { IfOk result (λ key. option_map (λ k. k.now) key ≡ near word.now setting_keys) }
 {
     near(alloc, word, &KEYS)
 }
 
-/// What is said of an unknown key.
+/// Returns the report of an unknown key in a setting. `name` is the file's name.
 pub(crate) fn unknown_told(
     alloc: Global,
     name: &str,

@@ -1,4 +1,4 @@
-//! The program of a general in a scenario's text.
+//! Finds the program of a general in a scenario's text.
 ghost use Rattle.std.specs.Prelude.{◌≡◌, IfOk, option_and_then, option_map};
 ghost use Rattle.toml.specs.Parse.{parse_document};
 ghost use Rattle.toml.specs.View.{table_view};
@@ -11,7 +11,11 @@ use std::alloc::{AllocError, Global};
 use toml::de::Error;
 use toml::{Table, table_from_str};
 
-/// The table of a text that was parsed so, if it is one.
+/// Returns the table that was parsed, or `None` if the text is not TOML.
+///
+/// # Errors
+///
+/// Fails with `AllocError` if there was not enough memory to parse the text.
 fn table_of(parsed: Result<Table, Error>) -> Result<Option<Table>, AllocError>
     ensures { IsTableBy parsed result }
 {
@@ -22,14 +26,14 @@ fn table_of(parsed: Result<Table, Error>) -> Result<Option<Table>, AllocError>
     }
 }
 
-/// The table that a text is, if it is one.
+/// Parses a text as TOML. Returns `None` if it is not TOML.
 pub(crate) fn table_in(alloc: Global, text: &str) -> Result<Option<Table>, AllocError>
     ensures { IfOk result (λ table. option_map table_view table ≡ parse_document text.now) }
 {
     table_of(table_from_str(alloc, text))
 }
 
-/// The table that bytes are, if they are a text and it is one.
+/// Parses bytes as TOML. Returns `None` if they are not UTF-8, or not TOML.
 pub(crate) fn document_of(alloc: Global, bytes: &[u8]) -> Result<Option<Table>, AllocError>
     ensures { IfOk result (λ table. IsDocumentOf bytes.now (option_map table_view table)) }
 {
@@ -39,7 +43,7 @@ pub(crate) fn document_of(alloc: Global, bytes: &[u8]) -> Result<Option<Table>, 
     }
 }
 
-/// The program of this general in the tables of a text.
+/// Returns the program of this general in a scenario's table, if there is one.
 pub(crate) fn source_in(tables: Option<&Table>, general: u8) -> Option<ProgramText<'_>>
     ensures { option_map source_of result
         ≡ option_and_then (source_by general) (option_map (λ t. table_view t.now) tables.entry) }

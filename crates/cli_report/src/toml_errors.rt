@@ -1,4 +1,4 @@
-//! What is said of a text that is no TOML.
+//! Reports a text that is not TOML, at the place that the parser names.
 ghost use Rattle.std.specs.Prelude.{◌≡◌, ◌↔◌, IfOk, IsErr, length, string_bytes};
 ghost use Rattle.text.specs.Stop.{feed};
 ghost use Rattle.text.specs.Parts.{pieces};
@@ -14,7 +14,7 @@ use text::{Stop, piece};
 use toml::de::Error;
 use toml::table_from_str;
 
-/// How many lines there are up to the end of the bytes, and the last of them, which ends there.
+/// Returns how many lines there are up to the end of the bytes, and the last of them.
 pub(crate) fn last_line(bytes: &[u8]) -> (u64, &[u8])
     ensures number { result.0 ≡ length (pieces feed bytes.now) }
     ensures last { result.1.now ≡ last_of (pieces feed bytes.now) }
@@ -28,7 +28,7 @@ pub(crate) fn last_line(bytes: &[u8]) -> (u64, &[u8])
     (number, last)
 }
 
-/// The bytes of a text between these two places.
+/// Marks the bytes of a text from offset `start` to offset `end`, in the line of the first.
 fn span_marked(text: &[u8], start: usize, end: usize) -> Mark<'_>
     ensures { mark_view result ≡ span_marked text.now start end }
 {
@@ -37,7 +37,7 @@ fn span_marked(text: &[u8], start: usize, end: usize) -> Mark<'_>
     marked(number, trimmed(line), last.len(), end.saturating_sub(start))
 }
 
-/// What is said of a text between these two places.
+/// Returns the report of a parser's message on the bytes from offset `start` to offset `end`.
 fn span_told(
     alloc: Global,
     name: &str,
@@ -53,11 +53,11 @@ fn span_told(
     report(alloc, name, sentence.as_str(), Some(mark), None)
 }
 
-/// Between which places of the text the parser found its fault.
+/// Returns the byte offsets between which the parser found its fault.
 ///
 /// # Errors
 ///
-/// That it found none, for want of memory.
+/// Fails if the parser ran out of memory, so that it found none.
 fn span_of(error: &Error) -> Result<(usize, usize), AllocError>
     ensures memory { IsErr result ↔ IsMemory error.now }
     ensures span { IfOk result (λ span. (span.0 ≡ span_start error.now) × (span.1 ≡ span_end error.now)) }
@@ -68,7 +68,7 @@ fn span_of(error: &Error) -> Result<(usize, usize), AllocError>
     }
 }
 
-/// What is said of the text of the file with this name, which is no TOML: what the parser says, and where.
+/// Returns the report of a text that is not TOML: the parser's message and its place. `name` is the file's name.
 pub(crate) fn not_toml(alloc: Global, name: &str, text: &[u8]) -> Result<String, AllocError>
     ensures { IfOk result (λ told. TellsToml name.now text.now (string_bytes told)) }
 {

@@ -1,4 +1,4 @@
-//! In which line of its assembly a unit is written.
+//! Finds the line of assembly in which a unit is written.
 ghost use Rattle.std.specs.Prelude.{◌≡◌, IfOk};
 ghost use Rattle.cli_report.specs.Units.{IsUnitLine, as_line, number_in, unit_line};
 
@@ -6,7 +6,7 @@ use crate::report::behind;
 use std::alloc::{AllocError, Global};
 use text::{Base, digits};
 
-/// The number in `line N`.
+/// Returns the number in `line N`, or 0 if there is none.
 fn number_in(place: &str) -> u64
     ensures { result ≡ number_in place.now }
 {
@@ -16,7 +16,7 @@ fn number_in(place: &str) -> u64
     }
 }
 
-/// The line of a unit, whose units stand in these places.
+/// Returns the line of a unit, given the places of all units. Returns 0 if there is no such unit.
 fn unit_line(places: &[String], unit: usize) -> u64
     ensures { result ≡ unit_line places.now unit }
 {
@@ -26,7 +26,7 @@ fn unit_line(places: &[String], unit: usize) -> u64
     }
 }
 
-/// A number of 64 bits; 0 of one that has more.
+/// Returns the number, or 0 if it has more than 64 bits.
 fn as_line(number: u128) -> u64
     ensures { result ≡ as_line number }
 {
@@ -36,7 +36,7 @@ fn as_line(number: u128) -> u64
     }
 }
 
-/// The line of a unit of this text.
+/// Returns the line of a unit in this assembly text, or 0 if there is no such unit.
 pub(crate) fn line_of_unit(alloc: Global, text: &str, unit: usize) -> Result<u64, AllocError>
     ensures { IfOk result (λ number. IsUnitLine text.now unit number) }
 {

@@ -1,4 +1,4 @@
--- What the words behind the program's name ask for.
+-- Defines what the words after the program's name ask for (own).
 use Rattle.std.specs.Prelude.{◌&&◌, ◌||◌, not, Bool, true, List, [], ◌∷◌, Option, Some, None}
 use Rattle.std.specs.Prelude.{codes, if◌then◌else◌, is_some, map, option_and_then, option_map}
 use Rattle.std.specs.Borrow.{Bor}
@@ -8,57 +8,58 @@ use Rattle.cli_words.specs.Tasks.{Told, are_two, campaigns, coursed, has, is_of,
 use Rattle.cli_words.specs.Usage.{Text, Usage, taken_in, value_at}
 use Rattle.cli_words.specs.Usages.{usage_named}
 
--- the texts behind the references
+-- Returns the texts to which the references point.
 abbrev pub words_of : List (Bor Text) → List Text
 words_of = map (λ word. word.now)
 
--- the subcommand's name, and what it takes of its words
+-- Returns the subcommand's name and what it reads from its words, if it accepts them.
 abbrev pub told_in : Usage → List Text → Option Told
 told_in usage words =
     option_map (λ met. record { name = usage.name; value = λ name. value_at name met }) (taken_in usage words)
 
--- what `clap` takes: a subcommand's name, and its words
+-- Returns the subcommand's name and its words, if `clap` accepts them.
 abbrev pub spelt : List Text → Option Told
 spelt [] = None
 spelt (name ∷ words) = option_and_then (λ usage. told_in usage words) (usage_named name)
 
--- ---- what `clap` is not told of
+-- ---- what `clap` does not check
 
--- the option's word is read so, where it is there
+-- Holds if the option's word can be read, or if there is no such option.
 abbrev pub reads : {X : Type 0} → (Text → Option X) → Text → Told → Bool
 reads read name told = option_map_or (λ word. is_some (read word)) (word_of name told) true
 
--- the one stands only with the other
+-- Holds if `name` is used only with `other`.
 abbrev pub wants : Text → Text → Told → Bool
 wants name other told = not (has name told) || has other told
 
--- a file has one notation
+-- Holds if a file has only one notation, and `--entry` is used only with `--elf`.
 abbrev pub has_notation : Told → Bool
 has_notation told = not (has (codes "asm") told && has (codes "elf") told) && wants (codes "entry") (codes "elf") told
 
--- the order and the liar are numbers, and nobody lies in a table that is not filled in
+-- Holds if the order and the liar are numbers, and there is a liar only in a table that is filled in.
 abbrev pub has_filling : Told → Bool
 has_filling told = reads order_in (codes "loyal") told && reads general_in (codes "lie") told
     && wants (codes "lie") (codes "loyal") told
 
--- somebody's tree is drawn in one way, to a depth
+-- Holds if a lieutenant is named, the depth is a number of levels, and the tree is drawn in one way only.
 abbrev pub has_tree : Told → Bool
 has_tree told = has (codes "of") told && reads depth_in (codes "depth") told
     && not (are_two (is_text told) (has (codes "dot") told) (has (codes "svg") told))
 
--- the one does not stand with the other
+-- Holds if `name` is not used together with `other`.
 abbrev pub excludes : Text → Text → Told → Bool
 excludes name other told = not (has name told && has other told)
 
--- a campaign is played by one schedule, and only a random one is written
+-- Holds if a campaign is played by one schedule, and only a random schedule is written to a file.
 abbrev pub has_turns : Told → Bool
 has_turns told = reads seed_in (codes "seed") told && excludes (codes "seed") (codes "schedule") told
     && wants (codes "schedule-out") (codes "seed") told
 
--- a rule for these subcommands alone
+-- Holds if the subcommand is not one of these, or if `holds` is true.
 abbrev pub if_of : List Text → Told → Bool → Bool
 if_of names told holds = not (is_of names told) || holds
 
+-- Holds if words that `clap` accepts are not misused.
 abbrev pub is_meant : Told → Bool
 is_meant told = if_of programs told (has_notation told)
     && if_of of_traitors told (reads generals_in (codes "traitors") told)
@@ -71,6 +72,6 @@ is_meant told = if_of programs told (has_notation told)
     && if_of coursed told (excludes (codes "chronicle") (codes "schedule") told)
     && if_of (codes "play" ∷ []) told (has_turns told)
 
--- what the words ask for: what they spell, where that is no misuse
+-- Returns what the words ask for, if `clap` accepts them and they are not misused.
 abbrev pub asked : List Text → Option Told
 asked words = option_and_then (λ told. if is_meant told then Some told else None) (spelt words)

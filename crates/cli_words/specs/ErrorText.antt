@@ -1,4 +1,4 @@
--- What is said of an error: of refused words what `clap` says, of which it promises nothing.
+-- Defines the texts of errors. For words that `clap` rejects, the text is `clap`'s own and is not specified (own).
 use Rattle.std.specs.Prelude.{ℕ, ◌++◌, List, Option, Some, None, codes, option_map, string_bytes}
 use Rattle.std.specs.Fmt.{debug_str}
 use Rattle.cli_words.specs.declared.errors.TaskError.{TaskError}
@@ -6,11 +6,12 @@ use Rattle.cli_words.specs.declared.errors.TaskError.TheVariants as error
 use Rattle.cli_words.specs.declared.errors.Misuse.{Misuse}
 use Rattle.cli_words.specs.declared.errors.Misuse.TheVariants.{Traitors, Of, Lie, Loyal, Most, Depth, NobodyNamed, TwoDrawings, TwoNotations, UnitsOfParts, TwoCourses, EntryAlone, OfAlone, LieAlone, Seed, TwoSchedules, OutAlone}
 
--- the word is none that the option takes, and this is what it takes
+-- Returns the text for a word that the option does not accept, and says what the option accepts.
 abbrev pub invalid : List ℕ → List ℕ → List ℕ → Option (List ℕ)
 invalid word option wanted = option_map
     (λ quoted. codes "invalid value " ++ quoted ++ codes " for '" ++ option ++ codes "': " ++ wanted) (debug_str word)
 
+-- Returns the text of a misuse.
 abbrev pub misuse_text : Misuse → Option (List ℕ)
 misuse_text (Traitors word) =
     invalid (string_bytes word) (codes "--traitors <G,H>") (codes "the numbers of generals, 0 to 12, joined by commas")
@@ -34,6 +35,7 @@ misuse_text LieAlone = Some (codes "the argument '--lie <G>' cannot be used with
 misuse_text TwoSchedules = Some (codes "the argument '--seed <S>' cannot be used with '--schedule <FILE>'")
 misuse_text OutAlone = Some (codes "the argument '--schedule-out <FILE>' cannot be used without '--seed <S>'")
 
+-- Returns the text of an error, or `None` if it is `clap`'s own.
 abbrev pub error_text : TaskError → Option (List ℕ)
 error_text (error.Words refusal) = None
 error_text (error.Misuse misuse) = option_map (λ text. codes "error: " ++ text) (misuse_text misuse)

@@ -1,4 +1,4 @@
--- What a task and its refusal say.
+-- Defines what words say of a task, and why they name none (own).
 use Rattle.std.specs.Prelude.{⊤, ℕ, ◌≡◌, ◌≢◌, ◌&&◌, ◌||◌, Bool, true, false, List, [], ◌∷◌, Option, None, Some, codes, is_some, option_map}
 use Rattle.std.specs.List.{list_any}
 use Rattle.std.specs.Str.{bytes_eq}
@@ -34,42 +34,47 @@ use Rattle.cli_words.specs.declared.errors.Misuse.TheVariants.{Traitors, Of, Lie
 use Rattle.cli_words.specs.declared.errors.TaskError.{TaskError}
 use Rattle.cli_words.specs.declared.errors.TaskError.TheVariants as error
 
--- a subcommand's name, and what was met behind it by each name: the word at a place, the value of an option, `true` of
--- a switch
+-- A subcommand's name, and what the words after it give to each name: the word at a place, the value of an option, or
+-- `true` for a switch.
 pub record Told : Type 0 where
   pub name : Text
   pub value : Text → Option Text
 
+-- Returns what the words give to this name.
 abbrev pub word_of : Text → Told → Option Text
 word_of name told = told.value name
 
--- whether what has this name was met
+-- Holds if the words have the place, option or switch of this name.
 abbrev pub has : Text → Told → Bool
 has name told = is_some (word_of name told)
 
--- the subcommand is one of these
+-- Holds if the subcommand is one of these.
 abbrev pub is_of : List Text → Told → Bool
 is_of names told = list_any (λ name. bytes_eq name told.name) names
 
+-- The subcommands that read a program which may be an ELF object.
 abbrev pub programs : List Text
 programs = codes "check" ∷ codes "dis" ∷ []
 
+-- The subcommands that print a campaign and may explain its decisions.
 abbrev pub campaigns : List Text
 campaigns = codes "play" ∷ codes "muster" ∷ codes "audit" ∷ []
 
--- those that take the number of a lieutenant, and those that take names of traitors
+-- The subcommands that take the number of a lieutenant.
 abbrev pub of_one : List Text
 of_one = codes "tree" ∷ campaigns
 
+-- The subcommands that take the numbers of traitors.
 abbrev pub of_traitors : List Text
 of_traitors = codes "book" ∷ codes "tree" ∷ []
 
--- those whose campaign takes a course
+-- The subcommands that draw or describe a campaign, which takes a course.
 abbrev pub coursed : List Text
 coursed = codes "draw" ∷ codes "page" ∷ []
 
 -- ---- what the words say of a part of a task
 
+-- The words say that the program is written in this notation.
 abbrev pub IsNotation : Told → Notation → Type 0
 IsNotation told Bytecode =
     (has (codes "asm") told ≡ false) × (has (codes "elf") told ≡ false) × (word_of (codes "entry") told ≡ None)
@@ -78,45 +83,51 @@ IsNotation told Assembly =
 IsNotation told (Object entry) = (has (codes "asm") told ≡ false) × (has (codes "elf") told ≡ true)
     × (word_of (codes "entry") told ≡ option_map string_bytes entry)
 
+-- Holds if bytecode is written as its bytes.
 abbrev pub is_raw : Spelling → Bool
 is_raw Hex = false
 is_raw Raw = true
 
--- whom `--explain` or `--traitors` names as traitors, where an explanation is asked for
+-- Returns the generals that the value of `--traitors` names. Without it, returns no generals if an explanation is asked
+-- for, and `None` otherwise.
 abbrev pub named : Bool → Option Text → Option (List ℕ)
 named explained (Some word) = generals_in word
 named true None = Some []
 named false None = None
 
--- the option names this general, and is not there where there is none
+-- The option names this general, or it is not used and there is no general.
 abbrev pub NamesGeneral : Text → Told → Option ℕ → Type 0
 NamesGeneral name told None = word_of name told ≡ None
 NamesGeneral name told (Some g) = (word_of name told >>= general_in) ≡ Some g
 
+-- The words say that a table is filled in like this, or is printed to be filled in.
 abbrev pub IsFilling : Told → Option Filling → Type 0
 IsFilling told None = (word_of (codes "loyal") told ≡ None) × (word_of (codes "lie") told ≡ None)
 IsFilling told (Some filling) =
     ((word_of (codes "loyal") told >>= order_in) ≡ Some filling.order) × NamesGeneral (codes "lie") told filling.liar
 
+-- Holds if a campaign is printed as its message table.
 abbrev pub is_table : Account → Bool
 is_table Chronicle = false
 is_table Table = true
 
+-- The words ask for an explanation of these lieutenants' decisions, or for none.
 abbrev pub AreExplained : Told → Option Lieutenants → Type 0
 AreExplained told None = (has (codes "explain") told ≡ false) × (word_of (codes "of") told ≡ None)
 AreExplained told (Some All) = (has (codes "explain") told ≡ true) × (word_of (codes "of") told ≡ None)
 AreExplained told (Some (One g)) = (has (codes "explain") told ≡ true) × NamesGeneral (codes "of") told (Some g)
 
--- the option names this number, and is not there where there is none
+-- The option names this number, or it is not used and there is no number.
 abbrev pub NamesCount : Text → Told → Option ℕ → Type 0
 NamesCount name told None = word_of name told ≡ None
 NamesCount name told (Some n) = (word_of name told >>= count_in) ≡ Some n
 
--- the option names this seed, and is not there where there is none
+-- The option names this seed, or it is not used and there is no seed.
 abbrev pub NamesSeed : Told → Option ℕ → Type 0
 NamesSeed told None = word_of (codes "seed") told ≡ None
 NamesSeed told (Some seed) = (word_of (codes "seed") told >>= seed_in) ≡ Some seed
 
+-- The words say that a campaign is played by this schedule.
 abbrev pub AreTurns : Told → Turns → Type 0
 AreTurns told (OfFile file) =
     (word_of (codes "schedule") told ≡ option_map string_bytes file) × (word_of (codes "seed") told ≡ None)
@@ -124,17 +135,18 @@ AreTurns told (OfFile file) =
 AreTurns told (OfSeed seed target) = (word_of (codes "schedule") told ≡ None) × NamesSeed told (Some seed)
     × (word_of (codes "schedule-out") told ≡ option_map string_bytes target)
 
--- the word at the second place names a chronicle, or lists the accesses
+-- The word at the second place is the name of a chronicle's file or, with `--accesses`, lists the accesses.
 abbrev pub AreAccesses : Told → Accesses → Type 0
 AreAccesses told (OfChronicle file) =
     (word_of (codes "CHRONICLE") told ≡ Some (string_bytes file)) × (has (codes "accesses") told ≡ false)
 AreAccesses told (Listed text) =
     (word_of (codes "CHRONICLE") told ≡ Some (string_bytes text)) × (has (codes "accesses") told ≡ true)
 
--- lines of text are asked for: they are drawn too where nothing is
+-- Holds if lines of text are asked for. They are also drawn if no way of drawing is asked for.
 abbrev pub is_text : Told → Bool
 is_text told = has (codes "text") told || has (codes "ascii") told
 
+-- The words say that a tree is drawn in this way.
 abbrev pub IsDrawing : Told → Drawing → Type 0
 IsDrawing told Boxes =
     (has (codes "ascii") told ≡ false) × (has (codes "dot") told ≡ false) × (has (codes "svg") told ≡ false)
@@ -143,19 +155,21 @@ IsDrawing told Ascii =
 IsDrawing told Graph = (is_text told ≡ false) × (has (codes "dot") told ≡ true) × (has (codes "svg") told ≡ false)
 IsDrawing told Svg = (is_text told ≡ false) × (has (codes "dot") told ≡ false) × (has (codes "svg") told ≡ true)
 
--- so many levels, all where none are named
+-- Returns how many levels are drawn: those that the word names, or 4 if there is no word.
 abbrev pub levels_in : Option Text → Option ℕ
 levels_in None = Some 4
 levels_in (Some word) = depth_in word
 
+-- The words say that a campaign takes this course.
 abbrev pub IsCourse : Told → Course → Type 0
 IsCourse told (Scheduled file) =
     (word_of (codes "schedule") told ≡ option_map string_bytes file) × (word_of (codes "chronicle") told ≡ None)
 IsCourse told (Recorded file) =
     (word_of (codes "schedule") told ≡ None) × (word_of (codes "chronicle") told ≡ Some (string_bytes file))
 
--- ---- the words say this task
+-- ---- the task that the words name
 
+-- The words name this task.
 abbrev pub Says : Told → Task → Type 0
 Says told (Check file notation context explained traced) = (told.name ≡ codes "check")
     × (word_of (codes "FILE") told ≡ Some (string_bytes file)) × IsNotation told notation
@@ -209,13 +223,14 @@ Says told (Page scenario course target) = (told.name ≡ codes "page")
 Says told (Retrace scenario accesses) = (told.name ≡ codes "schedule")
     × (word_of (codes "SCENARIO") told ≡ Some (string_bytes scenario)) × AreAccesses told accesses
 
--- the words ask for this: the task, and whether its answer is to be JSON, or one line
+-- The words ask for this task, and say whether its answer is printed as JSON, or as one line.
 abbrev pub Asks : Told → TaskRequest → Type 0
 Asks told request =
     Says told request.task × (has (codes "json") told ≡ request.json) × (has (codes "verdicts") told ≡ request.verdicts)
 
--- ---- the names of the task's files: of its only or first, of the second, and of the one that it writes
+-- ---- the names of a task's files: the only or first one, the second one, and the one that it writes
 
+-- Returns the name of the only file or of the first one.
 abbrev pub file_of : Task → Option Text
 file_of (Check file notation context explained traced) = Some (string_bytes file)
 file_of (Assemble file spelling target explained) = Some (string_bytes file)
@@ -234,18 +249,22 @@ file_of (Draw scenario course) = Some (string_bytes scenario)
 file_of (Page scenario course target) = Some (string_bytes scenario)
 file_of (Retrace scenario accesses) = Some (string_bytes scenario)
 
+-- Returns the name of the file with the course.
 abbrev pub course_file : Course → Option Text
 course_file (Scheduled schedule) = option_map string_bytes schedule
 course_file (Recorded chronicle) = Some (string_bytes chronicle)
 
+-- Returns the name of the file with the schedule.
 abbrev pub turns_file : Turns → Option Text
 turns_file (OfFile file) = option_map string_bytes file
 turns_file (OfSeed seed target) = None
 
+-- Returns the name of the file with the accesses.
 abbrev pub accesses_file : Accesses → Option Text
 accesses_file (OfChronicle file) = Some (string_bytes file)
 accesses_file (Listed text) = None
 
+-- Returns the name of the second file.
 abbrev pub second_of : Task → Option Text
 second_of (Check file notation context explained traced) = option_map string_bytes context
 second_of (Play scenario turns account explained) = turns_file turns
@@ -255,43 +274,49 @@ second_of (Page scenario course target) = course_file course
 second_of (Retrace scenario accesses) = accesses_file accesses
 second_of _ = None
 
+-- Returns the name of the file to which the answer is written.
 abbrev pub target_of : Task → Option Text
 target_of (Assemble file spelling target explained) = option_map string_bytes target
 target_of (AssemblePartly file spelling target explained) = option_map string_bytes target
 target_of (Page scenario course target) = option_map string_bytes target
 target_of _ = None
 
--- ---- what stands in place of a second file: the schedule of a seed; and what is written besides
+-- ---- the seed of a schedule, and what is written in addition to the answer
 
+-- Returns the seed of a random schedule.
 abbrev pub turns_seed : Turns → Option ℕ
 turns_seed (OfFile file) = None
 turns_seed (OfSeed seed target) = Some seed
 
+-- Returns the seed of the random schedule by which a campaign is played.
 abbrev pub seed_of : Task → Option ℕ
 seed_of (Play scenario turns account explained) = turns_seed turns
 seed_of _ = None
 
+-- Returns the name of the file to which a random schedule is written.
 abbrev pub seed_target : Turns → Option Text
 seed_target (OfFile file) = None
 seed_target (OfSeed seed target) = option_map string_bytes target
 
+-- Returns the name of the file to which the random schedule of a campaign is written.
 abbrev pub schedule_target_of : Task → Option Text
 schedule_target_of (Play scenario turns account explained) = seed_target turns
 schedule_target_of _ = None
 
+-- Returns the name of the folder to which the outcomes are written.
 abbrev pub folder_of : Task → Option Text
 folder_of (Explore scenario most folder) = option_map string_bytes folder
 folder_of _ = None
 
 -- ---- refusals
 
--- two of these are there
+-- Holds if at least two of these are true.
 abbrev pub are_two : Bool → Bool → Bool → Bool
 are_two true true c = true
 are_two true false c = c
 are_two false b c = b && c
 
--- the words are misused so
+-- The words are misused in this way.
 abbrev pub IsMisused : Told → Misuse → Type 0
 IsMisused told (Traitors word) = (is_of of_traitors told ≡ true)
     × (word_of (codes "traitors") told ≡ Some (string_bytes word)) × (generals_in (string_bytes word) ≡ None)
@@ -327,29 +352,29 @@ IsMisused told TwoSchedules = (is_of (codes "play" ∷ []) told ≡ true)
 IsMisused told OutAlone = (is_of (codes "play" ∷ []) told ≡ true)
     × (has (codes "schedule-out") told ≡ true) × (has (codes "seed") told ≡ false)
 
--- an error of words that `clap` takes: they are misused so, or memory is wanting
+-- The error is one of words that `clap` accepts: they are misused in this way, or there was not enough memory.
 abbrev pub IsErrorOf : Told → TaskError → Type 0
 IsErrorOf told (error.Words refusal) = ⊥
 IsErrorOf told (error.Misuse misuse) = IsMisused told misuse
 IsErrorOf told error.Memory = ⊤
 
--- `clap`'s error is told as its own, and as want of memory exactly where it is that
+-- The second error is the first one, which is `clap`'s. It is `Memory` exactly if `clap` ran out of memory.
 abbrev pub IsToldBy : Error → TaskError → Type 0
 IsToldBy refusal (error.Words own) = (own ≡ refusal) × (kind_of refusal ≢ OutOfMemory)
 IsToldBy refusal error.Memory = kind_of refusal ≡ OutOfMemory
 IsToldBy refusal (error.Misuse misuse) = ⊥
 
--- the fact holds of `clap`'s error, where it refused the words
+-- If `clap` rejected the words, the fact holds for its error.
 abbrev pub IfWords : TaskError → (Error → Type 0) → Type 0
 IfWords (error.Words refusal) P = P refusal
 IfWords _ P = ⊤
 
--- the fact holds of the misuse, where `clap` took the words
+-- If `clap` accepted the words and they are misused, the fact holds for the misuse.
 abbrev pub IfMisuse : TaskError → (Misuse → Type 0) → Type 0
 IfMisuse (error.Misuse misuse) P = P misuse
 IfMisuse _ P = ⊤
 
--- the words are refused, and not for want of memory
+-- If there was enough memory, so that the words are rejected, the fact holds.
 abbrev pub IfRefused : TaskError → Type 0 → Type 0
 IfRefused error.Memory P = ⊤
 IfRefused _ P = P

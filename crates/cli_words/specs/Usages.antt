@@ -1,4 +1,4 @@
--- The subcommands, a row each.
+-- Defines the subcommands, one row each (own).
 use Rattle.std.specs.Prelude.{List, [], ◌∷◌, Option, codes, find}
 use Rattle.std.specs.Str.{bytes_eq}
 use Rattle.cli_words.specs.Usage.{Text, Usage, letter, option, switch}
@@ -99,8 +99,10 @@ schedule = record {
   flags = switch (codes "accesses") ∷ [];
 }
 
+-- The usages of all subcommands, in the order in which help lists them.
 abbrev pub usages : List Usage
 usages = check ∷ asm ∷ dis ∷ book ∷ table ∷ muster ∷ play ∷ audit ∷ explore ∷ tree ∷ draw ∷ page ∷ schedule ∷ []
 
+-- Returns the usage of the subcommand with this name.
 abbrev pub usage_named : Text → Option Usage
 usage_named name = find (λ usage. bytes_eq usage.name name) usages

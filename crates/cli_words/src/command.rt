@@ -1,3 +1,4 @@
+//! Builds the program's command line for `clap`.
 ghost use Rattle.std.specs.Prelude.{◌≡◌, IfOk, IsSomeAnd, Some, codes, option_map, string_bytes};
 ghost use Rattle.clap.specs.Words.{app_of};
 ghost use Rattle.clap.specs.declared.builder.command.Command.TheViews.{out-Command};
@@ -10,14 +11,16 @@ use crate::subcommands::subcommands_for;
 use clap::Command;
 use std::alloc::{AllocError, Global};
 
-/// What help says of the program.
+/// The description of the program in its help.
 const ABOUT: &str =
     "A laboratory for the Byzantine generals problem; a hyphen as a file is standard input";
 
-/// What `--version` says: the version, and the line of the toolchain that proves this one (`rt version`).
+/// The text that `--version` prints: the version, and the line of `rt version` for the toolchain that proves this
+/// program.
 const VERSION: &str = "1.0.0, proved with Rattle, logic dac8208d650f15bf";
 
-/// The command line of these words: with the subcommand that the first one names, and else with all.
+/// Returns the command line for these words. It has the subcommand that the first word names, or all subcommands if the
+/// first word names none.
 pub(crate) fn lab_command<'a>(alloc: Global, words: &[&str]) -> Result<Command<'a>, AllocError>
     ensures shape { IfOk result (λ c. app_of c ≡ app_for (words_of words.now)) }
     ensures about { IfOk result (λ c. option_map (λ text. text.now) (out-Command c).about ≡ Some lab_about) }
@@ -28,7 +31,7 @@ pub(crate) fn lab_command<'a>(alloc: Global, words: &[&str]) -> Result<Command<'
     described(lab)
 }
 
-/// The program with these subcommands.
+/// Returns the command with these subcommands added.
 fn with_subcommands<'a>(
     alloc: Global,
     mut lab: Command<'a>,
@@ -43,8 +46,8 @@ fn with_subcommands<'a>(
     Ok(lab)
 }
 
-/// The program with what help and `--version` say of it. Behind its subcommands: of one more, `clap` promises nothing
-/// of these texts.
+/// Returns the command with its description, version and name. The subcommands must be added before, because `clap`
+/// promises nothing about these texts once one more is added.
 fn described<'a>(lab: Command<'a>) -> Result<Command<'a>, AllocError>
     ensures shape { IfOk result (λ c. app_of c ≡ described (app_of lab.entry)) }
     ensures about { IfOk result (λ c. option_map (λ text. text.now) (out-Command c).about ≡ Some lab_about) }

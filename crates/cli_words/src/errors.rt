@@ -1,54 +1,55 @@
+//! Defines the errors of the command line, and their texts.
 use clap::Error;
 use std::alloc::AllocError;
 use std::{error, fmt};
 
-/// Why there is no task.
+/// Why words name no task.
 #[derive(Debug, Drop)]
 pub enum TaskError {
-    /// The words were refused, or they ask for help: `clap`'s text and exit status.
+    /// `clap` rejected the words, or they ask for help. The error has `clap`'s text and exit status.
     Words(Error),
-    /// `clap` took the words, which name no task all the same.
+    /// `clap` accepted the words, but they name no task.
     Misuse(Misuse),
-    /// Want of memory, here or in `clap`.
+    /// There was not enough memory, here or in `clap`.
     Memory,
 }
 
-/// Why words that `clap` takes name no task.
+/// Why words that `clap` accepts name no task.
 #[derive(Debug, Drop)]
 pub enum Misuse {
-    /// The word behind `--traitors` names no generals.
+    /// The value of `--traitors` does not list generals.
     Traitors(String),
-    /// The word behind `--of` names no general.
+    /// The value of `--of` is not the number of a general.
     Of(String),
-    /// The word behind `--lie` names no general.
+    /// The value of `--lie` is not the number of a general.
     Lie(String),
-    /// The word behind `--loyal` is no order.
+    /// The value of `--loyal` is not an order.
     Loyal(String),
-    /// The word behind `--most` is no number of orders.
+    /// The value of `--most` is not a number of orders.
     Most(String),
-    /// The word behind `--depth` is no number of levels.
+    /// The value of `--depth` is not a number of levels.
     Depth(String),
-    /// The word behind `--seed` is no seed.
+    /// The value of `--seed` is not a seed.
     Seed(String),
-    /// A file is said to be assembly text and an ELF object.
+    /// `--asm` and `--elf` are used together, so that a file has two notations.
     TwoNotations,
-    /// Units are to stand before parts of which not all are instructions.
+    /// `--units` and `--partial` are used together, although only an instruction has its unit before it.
     UnitsOfParts,
-    /// A campaign is to take two courses.
+    /// `--schedule` and `--chronicle` are used together, so that a campaign takes two courses.
     TwoCourses,
-    /// `--entry` stands without `--elf`.
+    /// `--entry` is used without `--elf`.
     EntryAlone,
-    /// `--of` is wanting.
+    /// `--of` is missing.
     NobodyNamed,
-    /// A tree is to be drawn in two ways.
+    /// A tree would be drawn in two ways: at least two of `--dot`, `--svg`, and `--text` or `--ascii` are used.
     TwoDrawings,
-    /// `--of` stands without `--explain`.
+    /// `--of` is used without `--explain`.
     OfAlone,
-    /// `--lie` stands without `--loyal`.
+    /// `--lie` is used without `--loyal`.
     LieAlone,
-    /// A campaign is to be played by two schedules.
+    /// `--seed` and `--schedule` are used together, so that a campaign is played by two schedules.
     TwoSchedules,
-    /// `--schedule-out` stands without `--seed`.
+    /// `--schedule-out` is used without `--seed`.
     OutAlone,
 }
 

@@ -1,4 +1,4 @@
-//! Words that name several files.
+//! Splits words that name several files into one request for each file, as `--verdicts` allows.
 ghost use Rattle.std.specs.Prelude.{◌≡◌, ◌∷◌, IfOk, List, [], codes, false, map, option_map};
 ghost use Rattle.std.specs.List.{list_any};
 ghost use Rattle.std.specs.Str.{bytes_eq};
@@ -11,19 +11,23 @@ use crate::subcommand::{Flag, Subcommand};
 use crate::subcommands::{AUDIT, CHECK, PLAY};
 use std::alloc::{AllocError, Global};
 
-/// A subcommand's words: those that hold for each file, and the files.
+/// The words of a subcommand: those that apply to each file, and the files.
 #[derive(Drop)]
 struct Parts<'a> {
     kept: Vec<&'a str>,
     files: Vec<&'a str>,
 }
 
-/// The words of each request: where `--verdicts` stands among the flags of `check`, `play` or `audit`, for each file
-/// (of `audit` for a scenario and a chronicle each) those of the flags, `--`, and the file; else the words themselves.
+/// Returns the words of each request. If `--verdicts` is among the flags of `check`, `play` or `audit`, there is one
+/// request for each file, and for `audit` one for each scenario with its chronicle. A request has the subcommand's
+/// name, the words of the flags, `--`, and the file or files.
+///
+/// In any other case, the words themselves are the only request. This is also so without a file, and for `audit` if
+/// the number of files is odd.
 ///
 /// # Errors
 ///
-/// `AllocError` where memory is refused.
+/// Fails with `AllocError` if there is not enough memory.
 pub fn each<'a>(alloc: Global, words: &[&'a str]) -> Result<Vec<Vec<&'a str>>, AllocError>
     ensures { IfOk result (λ requests. map (λ request. words_of request.items) requests.items
         ≡ requests_of (words_of words.now)) }
@@ -46,7 +50,7 @@ pub fn each<'a>(alloc: Global, words: &[&'a str]) -> Result<Vec<Vec<&'a str>>, A
     }
 }
 
-/// The subcommand of this name, where it is one that prints verdicts.
+/// Returns the subcommand of this name, if it can print verdicts.
 fn judging(name: &str) -> Option<Subcommand<'static>>
     ensures { option_map usage_of result ≡ judging name.now }
 {
@@ -58,7 +62,7 @@ fn judging(name: &str) -> Option<Subcommand<'static>>
     }
 }
 
-/// The words themselves, as the only request.
+/// Returns the words themselves as the only request.
 fn alone<'a>(alloc: Global, words: &[&'a str]) -> Result<Vec<Vec<&'a str>>, AllocError>
     ensures { IfOk result (λ requests. map (λ request. words_of request.items) requests.items
         ≡ words_of words.now ∷ []) }
@@ -70,14 +74,14 @@ fn alone<'a>(alloc: Global, words: &[&'a str]) -> Result<Vec<Vec<&'a str>>, Allo
     Ok(requests)
 }
 
-/// Whether a word is one of a hyphen and more.
+/// Checks whether a word is longer than a hyphen and begins with one.
 fn is_flag(word: &str) -> bool
     ensures { result ≡ is_flag word.now }
 {
     word.as_bytes().starts_with(b"-") && word != "-"
 }
 
-/// Whether the word is this option, whose value stands in the next one.
+/// Checks whether the word is this option, whose value is the next word.
 fn is_option(flag: &Flag, word: &str) -> bool
     ensures { result ≡ is_option word.now (flag_of flag.now) }
 {
@@ -87,14 +91,14 @@ fn is_option(flag: &Flag, word: &str) -> bool
     }
 }
 
-/// Whether the word is an option, whose value stands in the next one.
+/// Checks whether the word is an option whose value is the next word.
 fn wants_value(flags: &[Flag], word: &str) -> bool
     ensures { result ≡ list_any (λ flag. is_option word.now (flag_of flag)) flags.now }
 {
     flags.iter().any(|flag| is_option(flag, word))
 }
 
-/// The words of a subcommand with these flags, parted.
+/// Splits the words of a subcommand with these flags.
 fn parted<'a>(alloc: Global, flags: &[Flag], words: &[&'a str]) -> Result<Parts<'a>, AllocError>
     ensures { IfOk result (λ parts. parted_of parts ≡ parted (map flag_of flags.now) false (words_of words.now)) }
 {
@@ -115,8 +119,8 @@ fn parted<'a>(alloc: Global, flags: &[Flag], words: &[&'a str]) -> Result<Parts<
 }
 
 impl<'a> Parts<'a> {
-    /// Takes one word more, which is the value of an option or stands before `--`; the answer is whether the next is a
-    /// value.
+    /// Adds one more word: the value of an option if `is_value`, and otherwise a word before `--`. Returns whether the
+    /// next word is a value.
     fn take(&mut self, flags: &[Flag], is_value: bool, word: &'a str) -> Result<bool, AllocError>
         requires { is_value ≡ false → bytes_eq word.now (codes "--") ≡ false }
         ensures { IfOk result (λ next. (rest : List Text) →
@@ -135,14 +139,15 @@ impl<'a> Parts<'a> {
         Ok(false)
     }
 
-    /// Whether the switch stands among the words.
+    /// Checks whether the words have the switch `--verdicts`.
     fn have_switch(&self) -> bool
         ensures { result ≡ list_any (λ word. bytes_eq word.now (codes "--verdicts")) self.now.kept.items }
     {
         self.kept.iter().any(|word| *word == "--verdicts")
     }
 
-    /// Whether the switch stands among the words, and the files go into groups of so many, one or two.
+    /// Checks whether the words have the switch `--verdicts`, and the files form groups of `number` files, which is 1
+    /// or 2.
     #[tactic(auto, using(crate::proofs::SeveralLemmas::any_word, crate::proofs::SeveralLemmas::as_many))]
     fn are_several(&self, number: usize) -> bool
         ensures { result ≡ are_several number (parted_of self.now) }
@@ -151,7 +156,7 @@ impl<'a> Parts<'a> {
         self.have_switch() && files != 0 && (number != 2 || files % 2 == 0)
     }
 
-    /// The words for these files.
+    /// Returns the words of the request for these files.
     fn request(
         &self,
         alloc: Global,
@@ -169,7 +174,7 @@ impl<'a> Parts<'a> {
         Ok(request)
     }
 
-    /// The words for each file.
+    /// Returns the words of a request for each file.
     fn singles(&self, alloc: Global, name: &'a str) -> Result<Vec<Vec<&'a str>>, AllocError>
         ensures { IfOk result (λ requests. map (λ request. words_of request.items) requests.items
             ≡ map (request_of name.now (parted_of self.now).kept) (singles (parted_of self.now).files)) }
@@ -181,7 +186,7 @@ impl<'a> Parts<'a> {
         Ok(requests)
     }
 
-    /// The words for a scenario and a chronicle each.
+    /// Returns the words of a request for each pair of a scenario and a chronicle.
     fn pairs(&self, alloc: Global, name: &'a str) -> Result<Vec<Vec<&'a str>>, AllocError>
         ensures { IfOk result (λ requests. map (λ request. words_of request.items) requests.items
             ≡ map (request_of name.now (parted_of self.now).kept) (pairs (parted_of self.now).files)) }

@@ -1,3 +1,4 @@
+//! Reads the values of options: generals, orders, counts, seeds and depths.
 ghost use Rattle.std.specs.Prelude.{◌≡◌, ◌≢◌, Ok, Err, IfOk, IfErr, Some, None, is_some, true};
 ghost use Rattle.cli_words.specs.Generals.{count_in, depth_in, general_in, generals_in, order_in, seed_in};
 ghost use Rattle.cli_words.specs.declared.generals.GeneralsError.TheVariants.{NoGeneral, Memory};
@@ -5,13 +6,14 @@ ghost use Rattle.cli_words.specs.declared.generals.GeneralsError.TheVariants.{No
 use std::alloc::{AllocError, Global};
 use text::{Stop, decimal, piece};
 
+/// The stop between the numbers of generals.
 const COMMA: Stop = Stop::Byte(b',');
 
-/// Why a word names no generals.
+/// Why a word does not list generals.
 pub(crate) enum GeneralsError {
-    /// A part of it is no number of a general.
+    /// A part of the word is not the number of a general.
     NoGeneral,
-    /// Want of memory.
+    /// There was not enough memory.
     Memory,
 }
 
@@ -23,11 +25,12 @@ impl From<AllocError> for GeneralsError {
     }
 }
 
-/// The generals of `G,H`.
+/// Returns the generals that a word of the form `G,H` lists.
 ///
 /// # Errors
 ///
-/// `NoGeneral` where a part of the word names none, which is told without memory; else `Memory`.
+/// `NoGeneral` if a part of the word is not the number of a general. This is found out without memory. `Memory` if
+/// there is not enough memory for the list.
 pub(crate) fn generals(alloc: Global, word: &str) -> Result<Vec<u8>, GeneralsError>
     ensures named { IfOk result (λ generals. generals_in word.now ≡ Some generals.items) }
     ensures none { IfErr result (λ e. e ≢ Memory → generals_in word.now ≡ None) }
@@ -39,7 +42,7 @@ pub(crate) fn generals(alloc: Global, word: &str) -> Result<Vec<u8>, GeneralsErr
     Ok(named_in(alloc, word)?)
 }
 
-/// Whether each part of the word names a general.
+/// Checks whether each part of the word is the number of a general.
 #[tactic(auto, unfolding(crate::specs::Generals::generals_in), using(crate::proofs::GeneralLemmas::behind_any))]
 fn names_generals(word: &str) -> bool
     ensures { result ≡ is_some (generals_in word.now) }
@@ -55,7 +58,7 @@ fn names_generals(word: &str) -> bool
     true
 }
 
-/// The generals whom the parts of the word name.
+/// Returns the generals that the parts of the word name.
 #[tactic(auto, unfolding(crate::specs::Generals::generals_in))]
 fn named_in(alloc: Global, word: &str) -> Result<Vec<u8>, AllocError>
     requires { is_some (generals_in word.now) ≡ true }
@@ -74,7 +77,7 @@ fn named_in(alloc: Global, word: &str) -> Result<Vec<u8>, AllocError>
     Ok(generals)
 }
 
-/// The number of a general.
+/// Reads the number of a general, 0 to 12. Returns `None` for any other word.
 #[tactic(auto, unfolding(crate::specs::Generals::general_in))]
 pub(crate) fn general(word: &[u8]) -> Option<u8>
     ensures { result ≡ general_in word.now }
@@ -87,7 +90,7 @@ pub(crate) fn general(word: &[u8]) -> Option<u8>
     }
 }
 
-/// An order.
+/// Reads an order, 0 to 4294967295. Returns `None` for any other word.
 #[tactic(auto, unfolding(crate::specs::Generals::order_in))]
 pub(crate) fn order(word: &[u8]) -> Option<u32>
     ensures { result ≡ order_in word.now }
@@ -100,7 +103,7 @@ pub(crate) fn order(word: &[u8]) -> Option<u32>
     }
 }
 
-/// A number of something, which is some.
+/// Reads a count, 1 to 18446744073709551615. Returns `None` for any other word.
 #[tactic(auto, unfolding(crate::specs::Generals::count_in))]
 pub(crate) fn count(word: &[u8]) -> Option<u64>
     ensures { result ≡ count_in word.now }
@@ -113,7 +116,7 @@ pub(crate) fn count(word: &[u8]) -> Option<u64>
     }
 }
 
-/// The seed of a random schedule.
+/// Reads the seed of a random schedule, 0 to 18446744073709551615. Returns `None` for any other word.
 #[tactic(auto, unfolding(crate::specs::Generals::seed_in))]
 pub(crate) fn seed(word: &[u8]) -> Option<u64>
     ensures { result ≡ seed_in word.now }
@@ -126,7 +129,7 @@ pub(crate) fn seed(word: &[u8]) -> Option<u64>
     }
 }
 
-/// A number of levels of a tree.
+/// Reads a number of levels of a tree, 0 to 4. Returns `None` for any other word.
 #[tactic(auto, unfolding(crate::specs::Generals::depth_in))]
 pub(crate) fn depth(word: &[u8]) -> Option<u8>
     ensures { result ≡ depth_in word.now }

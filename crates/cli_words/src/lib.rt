@@ -1,4 +1,4 @@
-//! The command line: which subcommand the words name, and its files.
+//! Parses the words of the command line into a task: a subcommand, the names of its files, and what its flags say.
 #![tactic(auto)]
 
 mod command;

@@ -1,3 +1,4 @@
+//! Turns the words that `clap` parsed into a task, or finds why they name none.
 ghost use Rattle.std.specs.Prelude.{◌≡◌, ◌≢◌, if◌then◌else◌, IfOk, IfErr, IsSome, None, Some, [], ◌∷◌, codes, is_some, option_map, string_bytes, true, false};
 ghost use Rattle.clap.specs.Words.{subcommand_rows_of};
 ghost use Rattle.cli_words.specs.Lab.{is_given, task_met};
@@ -15,7 +16,7 @@ use clap::ArgMatches;
 use clap::parser::ValueSource;
 use std::alloc::{AllocError, Global};
 
-/// A subcommand that was met, and what was met behind it.
+/// A subcommand that `clap` parsed, and the values of its places and flags.
 #[derive(Clone, Copy)]
 pub(crate) struct ParsedWords<'m, 'a> {
     name: &'a str,
@@ -23,7 +24,7 @@ pub(crate) struct ParsedWords<'m, 'a> {
 }
 
 impl<'m, 'a> ParsedWords<'m, 'a> {
-    /// The subcommand that was met.
+    /// Returns the subcommand that `clap` parsed.
     pub(crate) fn of(matches: &'m ArgMatches<'a>) -> ParsedWords<'m, 'a>
         requires { IsSome (subcommand_rows_of matches.now) }
         ensures { Some (told_by result) ≡ task_met (subcommand_rows_of matches.now) }
@@ -34,21 +35,22 @@ impl<'m, 'a> ParsedWords<'m, 'a> {
         ParsedWords { name, found }
     }
 
-    /// The word at the place of this name, the value of the option, `true` of the switch.
+    /// Returns the word at the place of this name, or the option's value, or `true` for a switch. Returns `None` if the
+    /// words do not have it.
     fn value(self, name: &str) -> Option<&'a str>
         ensures { word_of name.now (told_by self.entry) ≡ option_map (λ t. t.now) result }
     {
         given(self.found.value_source(name), self.found.get_str(name))
     }
 
-    /// Whether what has this name was met.
+    /// Checks whether the words have the place, option or switch of this name.
     fn has(self, name: &str) -> bool
         ensures { result ≡ has name.now (told_by self.entry) }
     {
         self.value(name).is_some()
     }
 
-    /// The word at the place of this name.
+    /// Returns a copy of the word at the place of this name.
     fn required(self, alloc: Global, name: &str) -> Result<String, AllocError>
         requires { has name.now (told_by self) ≡ true }
         ensures { IfOk result (λ own. word_of name.now (told_by self.entry) ≡ Some (string_bytes own)) }
@@ -59,7 +61,7 @@ impl<'m, 'a> ParsedWords<'m, 'a> {
         String::from_str(alloc, word)
     }
 
-    /// The value of the option of this name, where it was met.
+    /// Returns a copy of the value of this option, or `None` if the words do not have the option.
     fn optional(self, alloc: Global, name: &str) -> Result<Option<String>, AllocError>
         ensures { IfOk result (λ own. word_of name.now (told_by self.entry) ≡ option_map string_bytes own) }
     {
@@ -69,7 +71,7 @@ impl<'m, 'a> ParsedWords<'m, 'a> {
         })
     }
 
-    /// What is asked for.
+    /// Returns what the words ask for: a task, and how its answer is printed.
     pub(crate) fn request(self, alloc: Global) -> Result<TaskRequest, TaskError>
         requires { has_places (told_by self) ≡ true }
         ensures request { IfOk result (Asks (told_by self.entry)) }
@@ -82,7 +84,7 @@ impl<'m, 'a> ParsedWords<'m, 'a> {
         })
     }
 
-    /// The task of the subcommand.
+    /// Returns the task of the subcommand.
     fn task(self, alloc: Global) -> Result<Task, TaskError>
         requires { has_places (told_by self) ≡ true }
         ensures task { IfOk result (Says (told_by self.entry)) }
@@ -106,7 +108,7 @@ impl<'m, 'a> ParsedWords<'m, 'a> {
         }
     }
 
-    /// The task of `check`.
+    /// Returns the task of `check`.
     fn check(self, alloc: Global) -> Result<Task, TaskError>
         requires name { self.name.now ≡ codes "check" }
         requires file { has (codes "FILE") (told_by self) ≡ true }
@@ -122,7 +124,7 @@ impl<'m, 'a> ParsedWords<'m, 'a> {
         })
     }
 
-    /// The task of `asm`.
+    /// Returns the task of `asm`.
     fn assemble(self, alloc: Global) -> Result<Task, TaskError>
         requires name { self.name.now ≡ codes "asm" }
         requires file { has (codes "FILE") (told_by self) ≡ true }
@@ -140,7 +142,7 @@ impl<'m, 'a> ParsedWords<'m, 'a> {
         })
     }
 
-    /// The task of `asm --partial`.
+    /// Returns the task of `asm --partial`.
     fn assemble_partly(self, alloc: Global) -> Result<Task, TaskError>
         requires name { self.name.now ≡ codes "asm" }
         requires file { has (codes "FILE") (told_by self) ≡ true }
@@ -156,7 +158,7 @@ impl<'m, 'a> ParsedWords<'m, 'a> {
         })
     }
 
-    /// The task of `dis`.
+    /// Returns the task of `dis`.
     fn disassemble(self, alloc: Global) -> Result<Task, TaskError>
         requires name { self.name.now ≡ codes "dis" }
         requires file { has (codes "FILE") (told_by self) ≡ true }
@@ -174,7 +176,7 @@ impl<'m, 'a> ParsedWords<'m, 'a> {
         })
     }
 
-    /// The task of `dis --partial`.
+    /// Returns the task of `dis --partial`.
     fn disassemble_partly(self, alloc: Global) -> Result<Task, TaskError>
         requires name { self.name.now ≡ codes "dis" }
         requires file { has (codes "FILE") (told_by self) ≡ true }
@@ -193,7 +195,7 @@ impl<'m, 'a> ParsedWords<'m, 'a> {
         })
     }
 
-    /// The task of `book`: an explanation where its switch or its option is there.
+    /// Returns the task of `book`. It explains the decisions if `--explain` or `--traitors` is used.
     fn book(self, alloc: Global) -> Result<Task, TaskError>
         requires name { self.name.now ≡ codes "book" }
         requires file { has (codes "FILE") (told_by self) ≡ true }
@@ -220,7 +222,7 @@ impl<'m, 'a> ParsedWords<'m, 'a> {
         }
     }
 
-    /// The task of `table`.
+    /// Returns the task of `table`.
     fn form(self, alloc: Global) -> Result<Task, TaskError>
         requires name { self.name.now ≡ codes "table" }
         requires generals { has (codes "GENERALS") (told_by self) ≡ true }
@@ -237,7 +239,7 @@ impl<'m, 'a> ParsedWords<'m, 'a> {
         })
     }
 
-    /// The task of `play`.
+    /// Returns the task of `play`.
     fn play(self, alloc: Global) -> Result<Task, TaskError>
         requires name { self.name.now ≡ codes "play" }
         requires scenario { has (codes "SCENARIO") (told_by self) ≡ true }
@@ -252,7 +254,7 @@ impl<'m, 'a> ParsedWords<'m, 'a> {
         })
     }
 
-    /// By which schedule a campaign is played.
+    /// Returns the schedule by which a campaign is played.
     fn turns(self, alloc: Global) -> Result<Turns, TaskError>
         requires { is_of (codes "play" ∷ []) (told_by self) ≡ true }
         ensures turns { IfOk result (AreTurns (told_by self.entry)) }
@@ -272,7 +274,7 @@ impl<'m, 'a> ParsedWords<'m, 'a> {
         Ok(Turns::OfSeed { seed, target })
     }
 
-    /// Of which seed the schedule is, where it is a random one.
+    /// Returns the seed of the random schedule, or `None` if the schedule is not random.
     fn seed(self, alloc: Global) -> Result<Option<u64>, TaskError>
         requires { is_of (codes "play" ∷ []) (told_by self) ≡ true }
         ensures named { IfOk result (NamesSeed (told_by self.entry)) }
@@ -288,7 +290,7 @@ impl<'m, 'a> ParsedWords<'m, 'a> {
         }
     }
 
-    /// The task of `muster`.
+    /// Returns the task of `muster`.
     fn muster(self, alloc: Global) -> Result<Task, TaskError>
         requires name { self.name.now ≡ codes "muster" }
         requires scenario { has (codes "SCENARIO") (told_by self) ≡ true }
@@ -301,7 +303,7 @@ impl<'m, 'a> ParsedWords<'m, 'a> {
         })
     }
 
-    /// The task of `audit`.
+    /// Returns the task of `audit`.
     fn audit(self, alloc: Global) -> Result<Task, TaskError>
         requires name { self.name.now ≡ codes "audit" }
         requires scenario { has (codes "SCENARIO") (told_by self) ≡ true }
@@ -316,7 +318,7 @@ impl<'m, 'a> ParsedWords<'m, 'a> {
         })
     }
 
-    /// The task of `explore`.
+    /// Returns the task of `explore`.
     fn explore(self, alloc: Global) -> Result<Task, TaskError>
         requires name { self.name.now ≡ codes "explore" }
         requires scenario { has (codes "SCENARIO") (told_by self) ≡ true }
@@ -330,7 +332,7 @@ impl<'m, 'a> ParsedWords<'m, 'a> {
         })
     }
 
-    /// In how many orders a campaign is played at most.
+    /// Returns the greatest number of orders in which a campaign is played, or `None` if the words set no limit.
     fn most(self, alloc: Global) -> Result<Option<u64>, TaskError>
         requires { is_of (codes "explore" ∷ []) (told_by self) ≡ true }
         ensures named { IfOk result (NamesCount (codes "most") (told_by self.entry)) }
@@ -345,7 +347,7 @@ impl<'m, 'a> ParsedWords<'m, 'a> {
         }
     }
 
-    /// The task of `tree`.
+    /// Returns the task of `tree`.
     fn tree(self, alloc: Global) -> Result<Task, TaskError>
         requires name { self.name.now ≡ codes "tree" }
         requires file { has (codes "FILE") (told_by self) ≡ true }
@@ -362,7 +364,7 @@ impl<'m, 'a> ParsedWords<'m, 'a> {
         })
     }
 
-    /// Whose tree is drawn.
+    /// Returns the lieutenant whose tree is drawn.
     fn whose(self, alloc: Global) -> Result<u8, TaskError>
         requires { is_of (codes "tree" ∷ []) (told_by self) ≡ true }
         ensures named { IfOk result (λ g. NamesGeneral (codes "of") (told_by self.entry) (Some g)) }
@@ -378,7 +380,7 @@ impl<'m, 'a> ParsedWords<'m, 'a> {
         }
     }
 
-    /// Whose lies are marked.
+    /// Returns the generals whose lies are marked.
     fn traitors(self, alloc: Global) -> Result<Vec<u8>, TaskError>
         requires { is_of (codes "tree" ∷ []) (told_by self) ≡ true }
         ensures named { IfOk result
@@ -398,7 +400,7 @@ impl<'m, 'a> ParsedWords<'m, 'a> {
         }
     }
 
-    /// How a tree is drawn.
+    /// Returns how a tree is drawn.
     fn drawing(self) -> Result<Drawing, TaskError>
         requires { is_of (codes "tree" ∷ []) (told_by self) ≡ true }
         ensures drawing { IfOk result (IsDrawing (told_by self.entry)) }
@@ -418,7 +420,7 @@ impl<'m, 'a> ParsedWords<'m, 'a> {
         }
     }
 
-    /// How many levels of a tree are drawn.
+    /// Returns how many levels of a tree are drawn below the commander's, 0 to 4. Without the option, it is 4.
     fn depth(self, alloc: Global) -> Result<u8, TaskError>
         requires { is_of (codes "tree" ∷ []) (told_by self) ≡ true }
         ensures levels { IfOk result (λ depth. levels_in (word_of (codes "depth") (told_by self.entry)) ≡ Some depth) }
@@ -433,7 +435,7 @@ impl<'m, 'a> ParsedWords<'m, 'a> {
         }
     }
 
-    /// The task of `draw`.
+    /// Returns the task of `draw`.
     fn draw(self, alloc: Global) -> Result<Task, TaskError>
         requires name { self.name.now ≡ codes "draw" }
         requires scenario { has (codes "SCENARIO") (told_by self) ≡ true }
@@ -446,7 +448,7 @@ impl<'m, 'a> ParsedWords<'m, 'a> {
         })
     }
 
-    /// The task of `page`.
+    /// Returns the task of `page`.
     fn page(self, alloc: Global) -> Result<Task, TaskError>
         requires name { self.name.now ≡ codes "page" }
         requires scenario { has (codes "SCENARIO") (told_by self) ≡ true }
@@ -460,7 +462,7 @@ impl<'m, 'a> ParsedWords<'m, 'a> {
         })
     }
 
-    /// Which course a campaign takes.
+    /// Returns the course that a campaign takes.
     fn course(self, alloc: Global) -> Result<Course, TaskError>
         requires { is_of coursed (told_by self) ≡ true }
         ensures course { IfOk result (IsCourse (told_by self.entry)) }
@@ -476,7 +478,7 @@ impl<'m, 'a> ParsedWords<'m, 'a> {
         Ok(Course::Recorded(chronicle))
     }
 
-    /// The task of `schedule`.
+    /// Returns the task of `schedule`.
     fn retrace(self, alloc: Global) -> Result<Task, TaskError>
         requires name { self.name.now ≡ codes "schedule" }
         requires scenario { has (codes "SCENARIO") (told_by self) ≡ true }
@@ -496,7 +498,7 @@ impl<'m, 'a> ParsedWords<'m, 'a> {
         })
     }
 
-    /// How the program is written.
+    /// Returns how the program is written.
     fn notation(self, alloc: Global) -> Result<Notation, TaskError>
         requires { is_of programs (told_by self) ≡ true }
         ensures notation { IfOk result (IsNotation (told_by self.entry)) }
@@ -518,7 +520,7 @@ impl<'m, 'a> ParsedWords<'m, 'a> {
         Ok(Notation::Bytecode)
     }
 
-    /// How bytecode is written.
+    /// Returns how bytecode is written.
     fn spelling(self) -> Spelling
         ensures { has (codes "raw") (told_by self.entry) ≡ is_raw result }
     {
@@ -529,7 +531,7 @@ impl<'m, 'a> ParsedWords<'m, 'a> {
         }
     }
 
-    /// How a campaign is told.
+    /// Returns whether a campaign is printed as its chronicle or as its message table.
     fn account(self) -> Account
         ensures { has (codes "table") (told_by self.entry) ≡ is_table result }
     {
@@ -540,7 +542,7 @@ impl<'m, 'a> ParsedWords<'m, 'a> {
         }
     }
 
-    /// Whose decisions are explained.
+    /// Returns the lieutenants whose decisions are explained, or `None` if no explanation is asked for.
     fn lieutenants(self, alloc: Global) -> Result<Option<Lieutenants>, TaskError>
         requires { is_of campaigns (told_by self) ≡ true }
         ensures explained { IfOk result (AreExplained (told_by self.entry)) }
@@ -563,7 +565,7 @@ impl<'m, 'a> ParsedWords<'m, 'a> {
         }
     }
 
-    /// How a table is filled in.
+    /// Returns how a table is filled in, or `None` if it is printed to be filled in.
     fn filling(self, alloc: Global) -> Result<Option<Filling>, TaskError>
         requires { is_of (codes "table" ∷ []) (told_by self) ≡ true }
         ensures filling { IfOk result (IsFilling (told_by self.entry)) }
@@ -585,7 +587,7 @@ impl<'m, 'a> ParsedWords<'m, 'a> {
         }))
     }
 
-    /// The general whose lines of a table are left to be edited.
+    /// Returns the general whose lines of a table are left to be edited, if there is one.
     fn liar(self, alloc: Global) -> Result<Option<u8>, TaskError>
         requires { is_of (codes "table" ∷ []) (told_by self) ≡ true }
         ensures named { IfOk result (NamesGeneral (codes "lie") (told_by self.entry)) }
@@ -601,7 +603,7 @@ impl<'m, 'a> ParsedWords<'m, 'a> {
     }
 }
 
-/// The text of what the words gave, and not a default.
+/// Returns the text if it comes from the words, and `None` if it is a default.
 fn given<'a>(source: Option<ValueSource>, text: Option<&'a str>) -> Option<&'a str>
     ensures { option_map (λ t. t.now) result ≡ (if is_given source then option_map (λ t. t.now) text.entry else None) }
 {

@@ -1,3 +1,4 @@
+//! Reads the words of the command line as a request for a task.
 ghost use Rattle.std.specs.Prelude.{◌≡◌, ◌≢◌, IfOk, IfErr, IsSomeAnd, None};
 ghost use Rattle.clap.specs.Words.{IsAmong, fault_of, kind_of};
 ghost use Rattle.cli_words.specs.Asked.{asked, spelt, words_of};
@@ -12,7 +13,7 @@ use clap::Error;
 use clap::error::ErrorKind;
 use std::alloc::Global;
 
-/// What is told of words that `clap` refused so.
+/// Returns the error of the command line for an error of `clap`.
 fn refused(error: Error) -> TaskError
     ensures { IsToldBy error result }
 {
@@ -22,12 +23,17 @@ fn refused(error: Error) -> TaskError
     TaskError::Words(error)
 }
 
-/// Reads the words behind the program's name.
+/// Reads the words after the program's name.
+///
+/// # Errors
+///
+/// `Words` if `clap` rejects the words or they ask for help. `Misuse` if `clap` accepts the words but they name no
+/// task. `Memory` if there is not enough memory.
 pub fn request(alloc: Global, words: &[&str]) -> Result<TaskRequest, TaskError>
     ensures found { IfOk result (λ request. IsSomeAnd (asked (words_of words.now)) (λ told. Asks told request)) }
     ensures refused { IfErr result (λ error. IfRefused error (asked (words_of words.now) ≡ None)) }
 
-    // Which kind of error it is, and so its exit status.
+    // The kind of `clap`'s error determines the exit status.
     ensures kind { IfErr result (λ error. IfWords error (λ refusal.
         IsAmong (kind_of refusal) (fault_of lab_app (words_of words.now)))) }
     ensures not_memory { IfErr result (λ error. IfWords error (λ refusal.

@@ -1,3 +1,4 @@
+//! Describes how a subcommand is used, and turns the description into a command for `clap`.
 ghost use Rattle.std.specs.Prelude.{◌≡◌, IfOk, Some, false};
 ghost use Rattle.clap.specs.Words.{rule_of, shape_of};
 ghost use Rattle.clap.specs.declared.builder.command.Command.TheViews.{out-Command};
@@ -7,7 +8,7 @@ ghost use Rattle.cli_words.specs.Subcommand.{help_of, rule_for, shape_for};
 use clap::{Arg, ArgAction, Command};
 use std::alloc::{AllocError, Global};
 
-/// How a subcommand is used, and what help says of it.
+/// A subcommand: its name, its description in help, its places and its flags.
 #[derive(Clone, Copy)]
 pub(crate) struct Subcommand<'a> {
     pub(crate) name: &'a str,
@@ -16,28 +17,28 @@ pub(crate) struct Subcommand<'a> {
     pub(crate) flags: &'a [Flag<'a>],
 }
 
-/// A place, which a word has to fill.
+/// A place: a positional argument, which is required.
 #[derive(Clone, Copy)]
 pub(crate) struct Place<'a> {
     pub(crate) name: &'a str,
     pub(crate) help: &'a str,
 }
 
-/// A flag, which may stand once.
+/// A flag, which may be used once.
 #[derive(Clone, Copy)]
 pub(crate) enum Flag<'a> {
-    /// `--NAME`.
+    /// A switch, which has no value: `--NAME`.
     Switch {
         name: &'a str,
         help: &'a str,
     },
-    /// `--NAME VALUE`.
+    /// An option with a value: `--NAME VALUE`.
     Option {
         name: &'a str,
         value: &'a str,
         help: &'a str,
     },
-    /// `-L VALUE`.
+    /// An option that is written by its letter: `-L VALUE`.
     Letter {
         name: &'a str,
         letter: char,
@@ -47,7 +48,7 @@ pub(crate) enum Flag<'a> {
 }
 
 impl<'a> Subcommand<'a> {
-    /// The subcommand as `clap` is told of it.
+    /// Returns the command of this subcommand for `clap`.
     pub(crate) fn command(&self, alloc: Global) -> Result<Command<'a>, AllocError>
         ensures shape { IfOk result (λ c. shape_of c ≡ shape_for self.now) }
         ensures about { IfOk result (λ c. (out-Command c).about ≡ Some self.now.about) }
@@ -65,7 +66,7 @@ impl<'a> Subcommand<'a> {
 }
 
 impl<'a> Place<'a> {
-    /// The place as `clap` is told of it.
+    /// Returns the argument of this place for `clap`.
     fn argument(&self, alloc: Global) -> Arg<'a>
         ensures rule { rule_of result ≡ place_rule self.now.name.now }
         ensures help { result.help ≡ Some self.now.help }
@@ -79,7 +80,7 @@ impl<'a> Place<'a> {
 }
 
 impl<'a> Flag<'a> {
-    /// The flag as `clap` is told of it.
+    /// Returns the argument of this flag for `clap`.
     #[tactic(auto, unfolding(crate::specs::Subcommand::rule_for))]
     fn argument(&self, alloc: Global) -> Arg<'a>
         ensures rule { rule_of result ≡ rule_for self.now }

@@ -1,4 +1,4 @@
-//! The subcommands, a row each.
+//! Lists the subcommands, with their places, their flags and the texts of their help.
 ghost use Rattle.std.specs.Prelude.{◌≡◌, map};
 ghost use Rattle.cli_words.specs.Asked.{words_of};
 ghost use Rattle.cli_words.specs.Lab.{named_in, usages_for};
@@ -8,57 +8,71 @@ ghost use Rattle.cli_words.specs.Usages.{usages};
 use crate::subcommand::{Flag, Place, Subcommand};
 use std::slice;
 
+/// The help of `--explain` for a program.
 const EXPLAIN: &str =
     "Tells what is known of the registers that are read, and what a refused instruction misses";
 
+/// The help of `--explain` for a campaign.
 const EXPLAIN_DECISIONS: &str = "Tells how each decision comes about, or why a file is refused";
 
+/// The help of `--entry`.
 const ENTRY: &str = "The function of the object; without it, its only global one";
 
+/// The help of `--json`.
 const JSON: &str = "Prints JSON Lines, an object for each line, and what is refused as one too";
 
+/// The help of `--verdicts`.
 const VERDICTS: &str = "Prints one line for each file, and takes several";
 
+/// The help of `--of` for a campaign.
 const OF: &str = "Explains this lieutenant's decision alone";
 
+/// The place of a program.
 const BYTECODE: Place<'static> = Place {
     name: "FILE",
     help: "The program, as raw bytecode",
 };
 
+/// The place of a message table.
 const TOLD: Place<'static> = Place {
     name: "FILE",
     help: "The message table: who told whom what",
 };
 
+/// The place of a scenario.
 const SCENARIO: Place<'static> = Place {
     name: "SCENARIO",
     help: "The campaign, as TOML: the generals, the order, the traitors' programs",
 };
 
+/// The place of a chronicle.
 const CHRONICLE: Place<'static> = Place {
     name: "CHRONICLE",
     help: "What `play` or `muster` has printed of this campaign",
 };
 
+/// The place of a chronicle, or of a list of accesses.
 const ACCESSES: Place<'static> = Place {
     name: "CHRONICLE",
     help: "What `play` or `muster` has printed of this campaign; with --accesses the accesses themselves, \
            as '5 4 / 4 5'",
 };
 
+/// The option `--schedule`.
 const SCHEDULED: Flag<'static> = Flag::Option {
     name: "schedule",
     value: "FILE",
     help: "The order of the turns; without it each round is punctual",
 };
 
+/// The option `--chronicle` of `page`.
 const RECORDED: Flag<'static> = Flag::Option {
     name: "chronicle",
     value: "FILE",
     help: "Tells what this chronicle tells",
 };
 
+/// The option `-o` of `page`.
 const PAGE_TARGET: Flag<'static> = Flag::Letter {
     name: "target",
     letter: 'o',
@@ -399,7 +413,7 @@ const SCHEDULE: Subcommand<'static> = Subcommand {
     }],
 };
 
-/// All subcommands, as help lists them.
+/// Returns all subcommands, in the order in which help lists them.
 pub(crate) fn subcommands() -> &'static [Subcommand<'static>]
     ensures { map usage_of result.now ≡ usages }
 {
@@ -408,7 +422,7 @@ pub(crate) fn subcommands() -> &'static [Subcommand<'static>]
     ]
 }
 
-/// The subcommand that the first word names, and else all.
+/// Returns the subcommand that the first word names, or all subcommands if the first word names none.
 pub(crate) fn subcommands_for(words: &[&str]) -> &'static [Subcommand<'static>]
     ensures { map usage_of result.now ≡ usages_for (words_of words.now) }
 {
@@ -418,7 +432,7 @@ pub(crate) fn subcommands_for(words: &[&str]) -> &'static [Subcommand<'static>]
     named_among(name, subcommands())
 }
 
-/// The subcommand of this name alone, and else all of these.
+/// Returns only the subcommand of this name, or all of them if none has the name.
 fn named_among(
     name: &str,
     subcommands: &'static [Subcommand<'static>],

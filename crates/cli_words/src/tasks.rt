@@ -1,18 +1,20 @@
+//! Defines the tasks that the command line can ask for: the subcommands with their files and flags.
+
 /// What the words ask for: a task, and how its answer is printed.
 #[derive(Drop)]
 pub struct TaskRequest {
     pub task: Task,
-    /// As JSON Lines, an object for each line.
+    /// Whether the answer is printed as JSON Lines, with an object for each line.
     pub json: bool,
-    /// By one line alone, behind the file's name.
+    /// Whether the answer is printed as one line only, after the file's name.
     pub verdicts: bool,
 }
 
-/// A subcommand with the names of its files, and what its flags say.
+/// A task: a subcommand with the names of its files, and what its flags say.
 #[derive(Drop)]
 pub enum Task {
-    /// Verify a program and run it, in the context that a second file tells where one is named. Where it is asked for,
-    /// each step of the run is told, and the program explained.
+    /// Verify a program and run it, in the context that the file `context` describes if there is one. If `explained`,
+    /// the program is explained, and if `traced`, each step of the run is printed.
     Check {
         program: String,
         notation: Notation,
@@ -20,28 +22,29 @@ pub enum Task {
         explained: bool,
         traced: bool,
     },
-    /// Translate assembly into bytecode, and write it in this spelling to another file where one is named.
+    /// Translate assembly into bytecode in this spelling, and write it to the file `target` if there is one.
     Assemble {
         text: String,
         spelling: Spelling,
         target: Option<String>,
         explained: bool,
     },
-    /// The same of a text that has units as bytes, line by line, where names stand for nothing.
+    /// Translate assembly in which some units are written as bytes, line by line. A jump to a name of another line is a
+    /// fault.
     AssemblePartly {
         text: String,
         spelling: Spelling,
         target: Option<String>,
         explained: bool,
     },
-    /// Translate a program into assembly, with the unit before each instruction where `units` is set.
+    /// Translate a program into assembly. If `units`, the unit is printed before each instruction.
     Disassemble {
         program: String,
         notation: Notation,
         units: bool,
         explained: bool,
     },
-    /// Translate what of it can be decoded, and the other units as bytes.
+    /// Translate a program into assembly as far as it can be decoded, with the other units as bytes.
     DisassemblePartly {
         program: String,
         notation: Notation,
@@ -49,12 +52,12 @@ pub enum Task {
     },
     /// Compute the decisions of a message table.
     Book(String),
-    /// Tell how they come about, where these generals are named as traitors.
+    /// Compute and explain the decisions of a message table, with these generals named as traitors.
     ExplainDecisions {
         table: String,
         traitors: Vec<u8>,
     },
-    /// Print a message table for these numbers of a campaign: to fill in, or filled in.
+    /// Print a message table for these numbers of a campaign, filled in or to be filled in.
     Form {
         generals: String,
         bound: String,
@@ -79,16 +82,16 @@ pub enum Task {
         chronicle: String,
         explained: Option<Lieutenants>,
     },
-    /// Play a campaign in each order of its accesses, or in this many, 1 or more, where there are more, and keep what
-    /// comes out in a folder where one is named.
+    /// Play a campaign in each order of its accesses, or in `most` orders, 1 or more, if there are more. The outcomes
+    /// are written to the folder `folder` if there is one.
     Explore {
         scenario: String,
         most: Option<u64>,
         folder: Option<String>,
     },
-    /// Draw what this general was told by a message table or in a campaign, so many levels below the commander's, 0 to
-    /// 4, with the lies of these marked, and without what is below a label where all tell the same, if it is to be
-    /// folded.
+    /// Draw what this general received, by a message table or in a campaign. The drawing has `depth` levels below the
+    /// commander's, 0 to 4, and marks the lies of `traitors`. If `folded`, it omits what is below a label if the same
+    /// was received for all of it.
     Tree {
         file: String,
         general: u8,
@@ -102,7 +105,8 @@ pub enum Task {
         scenario: String,
         course: Course,
     },
-    /// Tell a campaign that takes this course as a page of HTML, and write it to another file where one is named.
+    /// Print a campaign that takes this course as a page of HTML, or write the page to the file `target` if there is
+    /// one.
     Page {
         scenario: String,
         course: Course,
@@ -118,24 +122,25 @@ pub enum Task {
 /// How a program is written.
 #[derive(Drop)]
 pub enum Notation {
-    /// As raw bytecode.
+    /// The file is raw bytecode.
     Bytecode,
-    /// As assembly text.
+    /// The file is assembly text.
     Assembly,
-    /// As an ELF object: its function of this name or, where none is named, its only one.
+    /// The file is an ELF object. The program is its function with this name or, without a name, its only global
+    /// function.
     Object { entry: Option<String> },
 }
 
 /// How bytecode is written.
 #[derive(Clone, Copy, PartialEq, Eq)]
 pub enum Spelling {
-    /// In hex, on a line.
+    /// The bytecode is written in hex digits, on one line.
     Hex,
-    /// As its bytes.
+    /// The bytecode is written as its bytes.
     Raw,
 }
 
-/// How a message table is filled in: as loyal generals would, behind this order of the commander.
+/// How a message table is filled in: as loyal generals would, after this order of the commander.
 #[derive(Clone, Copy)]
 pub struct Filling {
     pub order: u32,
@@ -146,58 +151,58 @@ pub struct Filling {
 /// How a tree is drawn.
 #[derive(Clone, Copy, PartialEq, Eq)]
 pub enum Drawing {
-    /// As lines of text, by box-drawing characters.
+    /// Lines of text with box-drawing characters.
     Boxes,
-    /// As lines of text, by characters of ASCII.
+    /// Lines of text with ASCII characters.
     Ascii,
-    /// As a graph, for Graphviz.
+    /// A graph for Graphviz.
     Graph,
-    /// In SVG.
+    /// A picture in SVG.
     Svg,
 }
 
-/// Which course a campaign takes.
+/// The course that a campaign takes.
 #[derive(Drop)]
 pub enum Course {
-    /// That of the schedule of this file or, where none is named, of the empty one.
+    /// The campaign follows the schedule in this file or, without a file, the empty schedule.
     Scheduled(Option<String>),
-    /// That which the chronicle of this file tells.
+    /// The campaign takes the course that the chronicle in this file describes.
     Recorded(String),
 }
 
-/// By which schedule a campaign is played.
+/// The schedule by which a campaign is played.
 #[derive(Drop)]
 pub enum Turns {
-    /// By that of this file or, where none is named, by the empty one.
+    /// The schedule in this file or, without a file, the empty schedule.
     OfFile(Option<String>),
-    /// By the random one of this seed, which is written to another file where one is named.
+    /// The random schedule of this seed, which is written to the file `target` if there is one.
     OfSeed { seed: u64, target: Option<String> },
 }
 
-/// Which generals come to the board, and in which order.
+/// The accesses of a campaign: which generals use the board, and in which order.
 #[derive(Drop)]
 pub enum Accesses {
-    /// Those of the chronicle of this file.
+    /// The accesses in the chronicle in this file.
     OfChronicle(String),
-    /// Those of this text.
+    /// The accesses that this text lists.
     Listed(String),
 }
 
-/// How a campaign that is played is told.
+/// How a campaign that is played is printed.
 #[derive(Clone, Copy, PartialEq, Eq)]
 pub enum Account {
-    /// By its chronicle.
+    /// The chronicle of the campaign is printed.
     Chronicle,
-    /// By its message table.
+    /// The message table of the campaign is printed.
     Table,
 }
 
-/// Whose decisions of a campaign are explained.
+/// The lieutenants whose decisions in a campaign are explained.
 #[derive(Clone, Copy)]
 pub enum Lieutenants {
-    /// Those of all lieutenants.
+    /// All lieutenants.
     All,
-    /// That of this one.
+    /// Only this lieutenant.
     One(u8),
 }
 
@@ -205,7 +210,7 @@ impl Course {
     ghost use Rattle.std.specs.Prelude.{◌≡◌, option_map};
     ghost use Rattle.cli_words.specs.Tasks.{course_file};
 
-    /// The name of the file that tells the course, where there is one.
+    /// Returns the name of the file with the course, if there is one.
     fn file(&self) -> Option<&str>
         ensures { option_map (λ file. file.now) result ≡ course_file self.now }
     {
@@ -220,7 +225,7 @@ impl Turns {
     ghost use Rattle.std.specs.Prelude.{◌≡◌, option_map};
     ghost use Rattle.cli_words.specs.Tasks.{seed_target, turns_file, turns_seed};
 
-    /// The name of the file that the schedule stands in, where there is one.
+    /// Returns the name of the file with the schedule, if there is one.
     fn file(&self) -> Option<&str>
         ensures { option_map (λ file. file.now) result ≡ turns_file self.now }
     {
@@ -230,7 +235,7 @@ impl Turns {
         }
     }
 
-    /// The seed of the schedule, where it is a random one.
+    /// Returns the seed of the schedule, or `None` if it is not random.
     fn seed(&self) -> Option<u64>
         ensures { result ≡ turns_seed self.now }
     {
@@ -240,7 +245,7 @@ impl Turns {
         }
     }
 
-    /// The name of the file that the random schedule is written to, where one is named.
+    /// Returns the name of the file to which the random schedule is written, if there is one.
     fn target(&self) -> Option<&str>
         ensures { option_map (λ file. file.now) result ≡ seed_target self.now }
     {
@@ -255,7 +260,7 @@ impl Accesses {
     ghost use Rattle.std.specs.Prelude.{◌≡◌, option_map};
     ghost use Rattle.cli_words.specs.Tasks.{accesses_file};
 
-    /// The name of the file that tells the accesses, where there is one.
+    /// Returns the name of the file with the accesses, if there is one.
     fn file(&self) -> Option<&str>
         ensures { option_map (λ file. file.now) result ≡ accesses_file self.now }
     {
@@ -270,7 +275,7 @@ impl Task {
     ghost use Rattle.std.specs.Prelude.{◌≡◌, option_map};
     ghost use Rattle.cli_words.specs.Tasks.{file_of, schedule_target_of, second_of, seed_of, target_of};
 
-    /// The name of the only file, or of the first; none where the task reads no file.
+    /// Returns the name of the only file or of the first one, or `None` if the task reads no file.
     pub fn file(&self) -> Option<&str>
         ensures { option_map (λ file. file.now) result ≡ file_of self.now }
     {
@@ -294,7 +299,7 @@ impl Task {
         }
     }
 
-    /// The name of the second file, where there is one.
+    /// Returns the name of the second file, if there is one.
     pub fn second(&self) -> Option<&str>
         ensures { option_map (λ file. file.now) result ≡ second_of self.now }
     {
@@ -308,7 +313,7 @@ impl Task {
         }
     }
 
-    /// The name of the file that the answer is written to, where it is not to be printed.
+    /// Returns the name of the file to which the answer is written, or `None` if the answer is printed.
     pub fn target(&self) -> Option<&str>
         ensures { option_map (λ file. file.now) result ≡ target_of self.now }
     {
@@ -320,7 +325,7 @@ impl Task {
         }
     }
 
-    /// The seed of the schedule that a campaign is played by, where it is a random one.
+    /// Returns the seed of the schedule by which a campaign is played, or `None` if it is not random.
     pub fn seed(&self) -> Option<u64>
         ensures { result ≡ seed_of self.now }
     {
@@ -330,7 +335,7 @@ impl Task {
         }
     }
 
-    /// The name of the file that the schedule of the seed is written to, where one is named.
+    /// Returns the name of the file to which the random schedule is written, if there is one.
     pub fn schedule_target(&self) -> Option<&str>
         ensures { option_map (λ file. file.now) result ≡ schedule_target_of self.now }
     {
