@@ -8,8 +8,8 @@ use Rattle.campaign_orders.specs.Listing.{AreDifferent, Has}
 use Rattle.campaign_orders.specs.Outcomes.{oral_outcome}
 use Rattle.campaign_orders.specs.Places.{IsPlaceOf, IsNowhere}
 
--- States that the outcome of a state was found before. Its count grows by the ways of the state, and its example
--- becomes the lesser of the two orders.
+-- States that the outcome of a state was found before. Its count grows by the state's number of beginnings, and its
+-- example becomes the lesser of the two orders.
 pub record IsCountedOn (findings : List Finding) (t : State) (new : List Finding) : Type 0 where
   pub place : ℕ
   pub was : Finding
@@ -46,12 +46,12 @@ pub record IsShown (findings : List Finding) (t : State) : Type 0 where
   pub decisions : f.decisions ≡ oral_outcome t.world
   pub least : is_gt (order_cmp f.example t.rows) ≡ false
 
--- Returns the sum of a number of decisions over all findings, each multiplied by its count.
+-- Returns the sum of `b` over the decisions of the findings, each multiplied by its finding's count.
 abbrev pub tallied : (List ℕ → ℕ) → List Finding → ℕ
 tallied b findings = sum_by (λ (f : Finding). f.count * b f.decisions) findings
 
--- States that these are the findings of the states. No two have the same outcome. Up to 2 ^ 64 - 1, the counts are the
--- sums of the states' ways. The examples are the least of the states' orders.
+-- States that these are the findings of the states. No two have the same outcome. Each count is the sum of its states'
+-- numbers of beginnings, up to 2 ^ 64 - 1, and each example is the least of their orders.
 pub record AreGathered (states : List State) (findings : List Finding) : Type 0 where
   pub of_states : All (IsOfState states) findings
   pub different : AreDifferent (outcomes_of findings)

@@ -14,55 +14,57 @@ use Rattle.campaign_orders.specs.Listing.{Has, AreShort, askers, round_orders, m
 use Rattle.campaign_orders.specs.Merging.{AreAlike}
 use Rattle.campaign_orders.specs.Walks.{IsWalk}
 
--- A state: a world, in how many ways it or an alike world is reached, and the least of these ways. A way is the
--- generals who made the accesses of the closed rounds, and of the open one.
+-- A state: a world, how many beginnings of orders lead to it or to an alike world, and the least of these beginnings. A
+-- beginning lists the generals who made the accesses of the closed rounds, and of the open one.
 pub record State : Type 0 where
   pub world : World
   pub ways : ℕ
   pub rows : List (List ℕ)
   pub names : List ℕ
 
--- Returns a number of ways as it is stored, which is 2 ^ 64 - 1 if it is greater.
+-- Returns the number of beginnings as it is stored: a number above 2 ^ 64 - 1 is stored as 2 ^ 64 - 1.
 abbrev pub kept : ℕ → ℕ
 kept n = min n (2 ^ 64 - 1)
 
--- States that two numbers of ways are stored as the same.
+-- States that two numbers of beginnings are stored as the same number.
 abbrev pub AsKept : ℕ → ℕ → Type 0
 AsKept a b = kept a ≡ kept b
 
--- Returns the world after rounds in which these generals make their accesses.
+-- Returns the world after further rounds, in which the generals in these lists make their accesses.
 abbrev pub behind_all : World → List (List ℕ) → World
 behind_all w [] = w
 behind_all w (row ∷ rows) = behind_all (behind oral_kind w row) rows
 
--- Returns the world after rounds in which the generals in `rows` make their accesses, and then these accesses of the
--- next round.
+-- Returns the world after further rounds, in which the generals in `rows` make their accesses, and after the accesses
+-- of the generals in `names` in the next round.
 abbrev pub reached : World → List (List ℕ) → List ℕ → World
 reached w rows names = run oral_kind (behind_all w rows) (names_events oral_kind (behind_all w rows) names)
 
--- States that each of these lists has all accesses of its round.
+-- States that the generals in each list make all accesses of its round, one after another.
 abbrev pub AreRounds : World → List (List ℕ) → Type 0
 AreRounds w [] = Unit {0}
 AreRounds w (row ∷ rows) = IsRoundFrom oral_kind w row × AreRounds (behind oral_kind w row) rows
 
--- States that the way of a state leads to its world, with activations run on, and that `k` rounds are closed then.
+-- States that the beginning of a state leads to its world, with activations run on, and that `k` rounds are closed
+-- there.
 pub record IsStateOf (s : Scenario) (k : ℕ) (t : State) : Type 0 where
   pub rounds : AreRounds (opening oral_kind s) t.rows
   pub count : length t.rows ≡ k
   pub walk : IsWalk oral_kind (behind_all (opening oral_kind s) t.rows) t.names
   pub world : IsRunOn (reached (opening oral_kind s) t.rows t.names) t.world
 
--- States that each state's way leads to its world, with activations run on, and that `k` rounds are closed then.
+-- States that the beginning of each state leads to its world, with activations run on, and that `k` rounds are closed
+-- there.
 abbrev pub AreStatesOf : Scenario → ℕ → List State → Type 0
 AreStatesOf s k states = All (IsStateOf s k) states
 
--- States that a state is one in which a round has just begun after `k` closed rounds, with no activation run on.
+-- States that a round has just begun in a state, after `k` closed rounds, and that no activation is run on.
 pub record IsFreshOf (s : Scenario) (k : ℕ) (t : State) : Type 0 where
   pub state : IsStateOf s k t
   pub fresh : t.names ≡ []
   pub begins : t.world ≡ behind_all (opening oral_kind s) t.rows
 
--- States that in each state a round has just begun after `k` closed rounds, with no activation run on.
+-- States that a round has just begun in each state, after `k` closed rounds, and that no activation is run on.
 abbrev pub AreFreshOf : Scenario → ℕ → List State → Type 0
 AreFreshOf s k states = All (IsFreshOf s k) states
 
@@ -72,7 +74,7 @@ IsAlikeAt states t place =
     (place < length states) × ((d : State) → (slice_index_or states place d).world.scenario ≡ t.world.scenario →
     AreAlike (slice_index_or states place d).world t.world)
 
--- Returns the beginning of an order that is the way of a state.
+-- Returns the beginning of a state.
 abbrev pub beginning_of : State → Beginning
 beginning_of t = (t.rows, t.names)
 
@@ -84,7 +86,7 @@ begins_cmp t u = beginning_cmp (beginning_of t) (beginning_of u)
 abbrev pub earlier : State → State → State
 earlier t u = cond (is_lt (begins_cmp u t)) u t
 
--- Returns the state with the lesser beginning, and with the ways of both states.
+-- Returns the state with the lesser beginning. Its number of beginnings is the sum of both.
 abbrev pub joined : State → State → State
 joined t u = record (earlier t u) { ways = kept (t.ways + u.ways) }
 
@@ -101,15 +103,16 @@ pub record IsJoined (states : List State) (t : State) (new : List State) : Type 
 abbrev pub IsEntered : List State → State → List State → Type 0
 IsEntered states t new = IsJoined states t new ⊎ (new ≡ states ++ t ∷ [])
 
--- States that this is the state of a world whose activations are run on, with these ways and this beginning.
+-- States that this is the state of the world `w`, with its activations run on, this number of beginnings and this
+-- beginning.
 pub record IsAhead (w : World) (count : ℕ) (before : List (List ℕ)) (made : List ℕ) (t : State) : Type 0 where
   pub world : IsRunOn w t.world
   pub ways : t.ways ≡ count
   pub rows : t.rows ≡ before
   pub names : t.names ≡ made
 
--- States that this is the state after a general has made his next access in the world `w`, or that there is none
--- because he makes no further access.
+-- States that this is the state after a general has made his next access in the world `w`, or that he makes no further
+-- access there.
 abbrev pub IsPastOf : World → State → ℕ → Option State → Type 0
 IsPastOf w t g None = will_ask (slice_get w.parts g) ≡ false
 IsPastOf w t g (Some next) =
@@ -120,15 +123,15 @@ abbrev pub IsAsked : World → State → ℕ → List State → Bool → List St
 IsAsked w t g states true new = (next : State) × IsPastOf w t g (Some next) × IsEntered states next new
 IsAsked w t g states false new = IsPastOf w t g None × (new ≡ states)
 
--- States that a number is the same for alike worlds.
+-- States that the function `f` has the same value for alike worlds.
 abbrev pub IsCommon : (World → ℕ) → Type 0
 IsCommon f = (w v : World) → AreAlike w v → f w ≡ f v
 
--- States that running activations on does not change a number of a world.
+-- States that running activations on does not change the value of the function `f`.
 abbrev pub IsSteady : (World → ℕ) → Type 0
 IsSteady f = (w v : World) → IsScenario w.scenario → IsReached oral_kind w → IsRunOn w v → f v ≡ f w
 
--- Returns the sum of a number over the states' worlds, each multiplied by the ways of its state.
+-- Returns the sum of `f` over the states' worlds, each multiplied by its state's number of beginnings.
 abbrev pub weighed : (World → ℕ) → List State → ℕ
 weighed f states = sum_by (λ (t : State). t.ways * f t.world) states
 
@@ -153,12 +156,13 @@ over_rounds most zero h w = h w
 over_rounds most (suc k) h w = over_round most (over_rounds most k h) w
 
 -- Returns the sum of `f` over the states of one layer plus the sum of `h` over those of another, each multiplied by its
--- ways.
+-- number of beginnings.
 abbrev pub weighed_both : (World → ℕ) → (World → ℕ) → List State → List State → ℕ
 weighed_both f h next done = weighed f next + weighed h done
 
 -- States that one of these states represents the beginning with these rounds and accesses. Its own beginning is no
--- greater. The two worlds agree in every number that alike worlds share and that running on does not change.
+-- greater. Its world has the same value under each function that is the same for alike worlds and that running on does
+-- not change.
 pub record StandsFor (s : Scenario) (states : List State) (rows : List (List ℕ)) (names : List ℕ) : Type 0 where
   pub t : State
   pub has : Has states t
@@ -174,7 +178,8 @@ StandsOn s states new =
 abbrev pub AreMade : ℕ → List State → Type 0
 AreMade n states = All (λ (t : State). length t.names ≡ n) states
 
--- States that a state is replaced by the states that can come next, with no other change in any sum.
+-- States that a state is replaced by the states that can follow it, and that the sums over the states change only by
+-- that.
 pub record IsExpanded (s : Scenario) (t : State) (next done next_new done_new : List State) : Type 0 where
   pub states : (k : ℕ) → IsStateOf s k t → AreStatesOf s k next → AreStatesOf s k next_new
   pub fresh : (k : ℕ) → IsStateOf s k t → AreFreshOf s (suc k) done → AreFreshOf s (suc k) done_new
@@ -189,7 +194,8 @@ pub record IsExpanded (s : Scenario) (t : State) (next done next_new done_new : 
   pub closes : (k : ℕ) → IsStateOf s k t → AreFreshOf s (suc k) done → askers t.world ≡ [] →
       StandsFor s done_new (t.rows ++ t.names ∷ []) []
 
--- States that all states of a layer are replaced by the states that can come next, with no other change in any sum.
+-- States that all states of a layer are replaced by the states that can follow them, and that the sums over the states
+-- change only by that.
 pub record IsStep (s : Scenario) (layer next done done_new : List State) : Type 0 where
   pub states : (k : ℕ) → AreStatesOf s k layer → AreStatesOf s k next
   pub fresh : (k : ℕ) → AreStatesOf s k layer → AreFreshOf s (suc k) done → AreFreshOf s (suc k) done_new

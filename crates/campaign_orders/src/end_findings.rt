@@ -7,8 +7,8 @@ use crate::finding::DecisionGroup;
 use crate::state::State;
 use std::alloc::{AllocError, Global};
 
-/// Enters the outcome of a state among the findings. If it was found before, the ways of the state are added to its
-/// count.
+/// Enters the outcome of a state among the findings. If it was found before, the state's number of beginnings is added
+/// to its count.
 fn find(alloc: Global, findings: &mut Vec<DecisionGroup>, state: &State) -> Result<(), AllocError>
     ensures { OnOk result (IsFound findings.old.items state.now findings.new.items) }
 {

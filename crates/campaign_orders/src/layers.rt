@@ -16,8 +16,8 @@ use round::Scenario;
 use std::alloc::{AllocError, Global};
 use world::{PlayableWorld, Progress, World, named_round, play_names, wind_up};
 
-/// Plays a campaign again up to a world. `rows` lists the generals who made the accesses of the closed rounds, and
-/// `names` those of the open round.
+/// Plays a campaign from its start and returns its world after these accesses. `rows` lists the generals who made the
+/// accesses of the closed rounds, and `names` those of the open round.
 fn again(
     alloc: Global,
     scenario: &Scenario,
@@ -190,9 +190,9 @@ fn either(one: bool, other: bool) -> bool
     one || other
 }
 
-/// Enters the states that can come next. For each general who has accesses left, that is the state after his next
-/// access. If nobody has, it is the state at the start of the next round. The campaign is played again for each of
-/// these generals except the last, for whom the state's own world is used.
+/// Enters the states that can follow a state. If some generals have accesses left, these are the states after the next
+/// access of each of them. Otherwise it is the state at the start of the next round, which is entered in `done`. The
+/// campaign is played again for each acting general except the last, for whom the state's own world is used.
 fn expand(
     alloc: Global,
     scenario: &Scenario,
@@ -234,8 +234,8 @@ fn expand(
     Ok(())
 }
 
-/// Returns the layer after a layer. States in which nobody has accesses left are entered in `done`, as states of the
-/// next round.
+/// Returns the layer after a layer. If nobody has accesses left in a state, the state at the start of the next round is
+/// entered in `done`.
 fn step(
     alloc: Global,
     scenario: &Scenario,
@@ -254,7 +254,7 @@ fn step(
     Ok(next.into_states())
 }
 
-/// Returns the states after a round that has at most `most` accesses.
+/// Returns the states after a round that begins in the states `first` and has at most `most` accesses.
 fn whole_round(
     alloc: Global,
     scenario: &Scenario,

@@ -18,12 +18,12 @@ use std::alloc::{AllocError, Global};
 use std::marker::Model;
 use world::{PlayableWorld, Progress, World};
 
-/// A state: a world, in how many ways it or an alike world is reached, and the least of these ways.
+/// A state: a world, how many beginnings of orders lead to it or to an alike world, and the least of these beginnings.
 #[derive(Drop)]
 pub(crate) struct State {
     /// The world, in which each activation may have been run on to its next request or its end.
     pub(crate) world: World,
-    /// The number of ways, at most 2^64 - 1. Further ones are not counted.
+    /// How many beginnings of orders lead here, at most 2^64 - 1. Further ones are not counted.
     pub(crate) ways: u64,
     /// The generals who made the accesses of the closed rounds, by round.
     pub(crate) rows: Vec<Vec<u8>>,
@@ -87,8 +87,8 @@ impl State {
         Ok(State::new(world, 1, Vec::new(alloc), Vec::new(alloc)))
     }
 
-    /// Joins this state with one whose world is alike. The ways are added, and the world and the beginning are those of
-    /// the state with the lesser beginning.
+    /// Joins this state with one whose world is alike. Their numbers of beginnings are added. The world and the
+    /// beginning are those of the state with the lesser beginning.
     pub(crate) fn join(&mut self, other: State)
         ensures { self.new ≡ joined self.old other }
     {
@@ -101,8 +101,8 @@ impl State {
     }
 }
 
-/// Returns the state of this world after `general` has made an access following these rounds and accesses. Each
-/// activation of the world is run on.
+/// Returns the state of `world`, whose last access is that of `general` after these rounds and accesses. Its
+/// activations are run on.
 pub(crate) fn with_access(
     alloc: Global,
     world: World,

@@ -34,8 +34,8 @@ fn never(rows: &[Vec<u8>], round: usize, place: usize) -> AccessFault
 ///
 /// # Errors
 ///
-/// Returns the first part of the text that is not the number of a general, without needing memory. Otherwise it returns
-/// the first access that cannot come, or `Memory` if it runs out of memory.
+/// Returns the fault of the first part that is not the number of a general, or of a sixth round, without needing
+/// memory. Otherwise it returns the fault of the first access that cannot come, or `Memory` if it runs out of memory.
 pub fn arranged(alloc: Global, scenario: &Scenario, text: &str) -> Result<String, AccessesError>
     ensures arranged { IfOk result (λ lines. IsArranged scenario.now text.now (string_bytes lines)) }
     ensures unarranged { IfErr result (λ e. IfFault e (IsUnarranged scenario.now text.now)) }

@@ -142,8 +142,8 @@ fn add_rows(
 ///
 /// # Errors
 ///
-/// Returns the first line that is none of these. The lines after it are not read. Fails with `Memory` if it runs out of
-/// memory.
+/// Returns the first line that is none of these. The results of the lines before it are kept, and the lines after it
+/// are not read. Fails with `Memory` if it runs out of memory.
 pub fn read_part(
     alloc: Global,
     parts: &mut Parts,
