@@ -75,7 +75,8 @@ pub record IsCappedFinding (K : Kind) (D : Outcome) (s : Scenario) (f : Finding)
   pub count : f.count ≡ min (ways_to K D s f.decisions) (2 ^ 64 - 1)
 
 -- States that these are the findings of an exploration of 2 ^ 64 - 1 orders or more, where counts stop. Each is real,
--- no two have the same outcome, and every complete run has one of these outcomes.
+-- with a count that is exact up to 2 ^ 64 - 1. No two have the same outcome, and every complete run has one of these
+-- outcomes.
 pub record IsExploredBeyond (K : Kind) (D : Outcome) (s : Scenario) (findings : List Finding) : Type 0 where
   pub each : All (IsCappedFinding K D s) findings
   pub different : AreDifferent (outcomes_of findings)

@@ -38,7 +38,7 @@ pub record IsUnforged (s : Scenario) (sent : Sent) (r g : ℕ) (ch : Chain) : Ty
   pub own : (u : List ℕ) (h : ℕ) (v : List ℕ) → ch.signers ≡ u ++ h ∷ v →
       IsSentBy sent h r (record { order = ch.order; signers = u ++ h ∷ [] })
 
--- States that all chains are unforged, whatever events happen and whatever traitors do.
+-- States that in every world all chains are unforged, whatever events happen and whatever traitors do.
 abbrev pub ChainsAreUnforged : Type 0
 ChainsAreUnforged = (s : Scenario) (events : List Event) (r g : ℕ) (ch : Chain) → IsScenario s →
     Among ch (chains_in (sent_by (sent_after s events) r g)) → IsUnforged s (sent_after s events) r g ch
@@ -55,8 +55,8 @@ pub record ChainsAreFew : Type 0 where
       length (sent_by (sent_after s events) r g) ≤ most_entries
 
 -- States the agreement theorem for signed worlds (TOPLAS 1982, Theorem 2). In a finished world with at most m traitors
--- the loyal lieutenants accept the same orders and decide alike, and they obey a loyal commander. The same holds after
--- every punctual list of events that closes all rounds.
+-- among at least m + 2 generals the loyal lieutenants accept the same orders and decide alike, and they obey a loyal
+-- commander. The same holds after every punctual list of events that closes all rounds.
 pub record SignedWorldsAgree : Type 0 where
   pub full : (s : Scenario) (events : List Event) → IsPunctual signed_kind s events → (played s events).full ≡ true
   pub agree : (s : Scenario) (events : List Event) → IsScenario s → IsSignedBound s.generals s.bound (is_traitor s) →
@@ -76,9 +76,9 @@ pub record HeldChainsAreFew : Type 0 where
       4 * length (signed_context_numbers s.generals s.bound s.commander g round (held_in s (played s events).closed g))
       ≤ context_size
 
--- States that the machine, which knows only the signers of the chains held, accepts an entry exactly if it has a chain.
--- An acting general has at most eight entries, and each has a chain. When the round is closed, he has sent the chains
--- of all his entries.
+-- States that the machine, which knows only the signers of the chains held, accepts an entry exactly if `chain_of` has
+-- a chain for it. An acting general has at most eight entries, and each has a chain. When the round is closed, he has
+-- sent the chains of all his entries.
 pub record SignedEntriesAreSent : Type 0 where
   pub agree : (s : Scenario) (events : List Event) (g : ℕ) (a : Activation) (e : Entry) → IsScenario s →
       slice_get (played s events).parts g ≡ Some (Acting a) →

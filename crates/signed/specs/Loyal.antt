@@ -10,8 +10,8 @@ abbrev pub bits_but : ℕ → List ℕ → ℕ
 bits_but n signers = sum_by (λ g. 2 ^ g) (others n signers)
 
 -- Returns the entries by which general `g` passes on chains of round `k`, each to all generals who are not on it then.
--- He passes on the first chain that counts for each order that is not in `seen`. The index of the first chain is
--- `place`.
+-- He passes on the first chain that counts for each order that is not in `seen`. `place` is the index of the first of
+-- these chains among those that he holds.
 abbrev pub passes : ℕ → ℕ → ℕ → ℕ → List ℕ → List Chain → List Entry
 passes n k g place seen [] = []
 passes n k g place seen (ch ∷ xs) =

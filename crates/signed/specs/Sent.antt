@@ -34,7 +34,7 @@ sends s sent g (Some l) = dispatched s.generals s.commander g (held_behind s.gen
 abbrev pub round_sent : Scenario → Sent → List Letter → List (List Dispatch)
 round_sent s sent row = map (λ g. sends s sent g (letter_of row g)) (generals s.generals)
 
--- Returns what was sent, extended by the letters of further rounds.
+-- Returns what was sent, extended by what the letters of further rounds send.
 abbrev pub sent_along : Scenario → Sent → List (List Letter) → Sent
 sent_along s sent [] = sent
 sent_along s sent (row ∷ rows) = sent_along s (sent ++ round_sent s sent row ∷ []) rows

@@ -12,8 +12,8 @@ use crate::signer::Signer;
 use label::Label;
 use std::marker::Model;
 
-/// A chain: an order and the 1 to 13 distinct generals who signed it, the first signature first. Only a signer can make
-/// or extend a chain.
+/// A chain: an order and the 1 to 13 distinct generals who signed it, the first signature first. To make or extend a
+/// chain one needs a signer.
 #[derive(Drop)]
 pub struct Chain {
     order: u32,

@@ -50,7 +50,8 @@ better None second = second
 better (Some a) None = Some a
 better (Some a) (Some b) = cond (is_before b a) (Some b) (Some a)
 
--- States that this is the least of the reduced campaigns of the seeds from `first` up to but not including `end`.
+-- States that this is the least of the reduced campaigns of the seeds from `first` up to but not including `end`, or
+-- that none of them is broken.
 pub record IsLeastBreach (plots : ℕ → Plot) (first end : ℕ) (found : Option Breach) : Type 0 where
   pub all : List (Option Breach)
   pub shrunk : AllZip (IsShrunk plots) (nat_range first end) all
@@ -74,8 +75,8 @@ pub record IsSameAs (a b : Adversary) : Type 0 where
 abbrev pub AreAllSound : (ℕ → Plot) → ℕ → ℕ → Type 0
 AreAllSound plots first end = (seed : ℕ) → first ≤ seed → seed < end → ComesWell (plots seed)
 
--- States that this is the least of the reduced campaigns with this number of traitors. With fewer traitors of the range
--- no campaign of these seeds is broken.
+-- States that agreement breaks with this number of traitors, which is in the range, and that this is the least of the
+-- reduced campaigns with it. With fewer traitors of the range no campaign of these seeds is broken.
 pub record IsBreaking (f : Family) (n m : ℕ) (span : CountRange) (first end : ℕ) (b : Breaking) : Type 0 where
   pub within : span.low ≤ b.traitors
   pub inside : b.traitors ≤ span.high
