@@ -22,7 +22,8 @@ pub fn orders_are_whole()
     ensures { OrdersAreWhole oral_kind }
 {}
 
-/// Does nothing. Its contract says that each order is the order of a schedule.
+/// Does nothing. Its contract says that each order is the order of a schedule, and that each complete run is repeated
+/// by the schedule of its order.
 pub fn orders_are_schedules()
     ensures { OrdersAreSchedules oral_kind }
 {}

@@ -63,7 +63,7 @@ fn line_of<W: PlayableWorld>(world: &mut W, alloc: Global, names: &[u8]) -> Resu
 
 /// Returns the schedule by which these generals make their accesses in this order, from a world in which a round
 /// begins. `names` lists the generals by round. The schedule has one entry for each access. If some general makes no
-/// access then, the first such place is returned.
+/// access then, the first such round and index are returned.
 ///
 /// # Errors
 ///

@@ -85,7 +85,7 @@ abbrev pub start_of : ℕ → Group → Bool → List ℕ
 start_of row g true = label row g
 start_of row g false = []
 
--- Writes the background of a cell if its campaigns have bounds that hold.
+-- Writes the background of a cell if the bound holds in some of its campaigns.
 unfoldable pub kept : ℕ → Group → List ℕ
 kept row g =
     cond (g.sums.kept.count == 0) []

@@ -139,9 +139,10 @@ pub fn least_breach<R: Threads + Sync>(
     Ok(least(breaches(rt, alloc, family, first, end)?))
 }
 
-/// Returns the least number of traitors in the range with which a campaign of these seeds breaks agreement, and the
-/// least of the reduced campaigns with that number. The seeds are those from `first` up to but not including `end`.
-/// Returns `None` if agreement is broken with no number of traitors in the range.
+/// Returns the least number of traitors in the range with which a campaign breaks agreement, and the least of the
+/// reduced campaigns with that number. The campaigns are those of the seeds from `first` up to but not including `end`,
+/// with this number of generals and this bound. Returns `None` if agreement is broken with no number of traitors in the
+/// range.
 ///
 /// # Errors
 ///

@@ -66,8 +66,8 @@ fn failed_in(findings: &[Finding]) -> u64
     count
 }
 
-/// Appends the group of the campaigns that have this number of traitors, if there are some. All given campaigns must
-/// have this number of generals and this bound.
+/// Appends the group of those of the given campaigns that have this number of traitors, if there are some. The given
+/// campaigns are those with this number of generals and this bound.
 fn push_group(
     alloc: Global,
     groups: &mut Vec<Group>,
@@ -92,8 +92,8 @@ fn push_group(
     Ok(())
 }
 
-/// Appends the groups of these campaigns by their numbers of traitors. All of them have this number of generals and
-/// this bound.
+/// Appends the groups of the given campaigns by their numbers of traitors. The given campaigns are those with this
+/// number of generals and this bound.
 #[tactic(auto, unfolding(crate::specs::Groups::groups_in))]
 fn push_groups(
     alloc: Global,
@@ -110,7 +110,8 @@ fn push_groups(
     Ok(())
 }
 
-/// Appends the groups of the campaigns that have this bound. All given campaigns must have this number of generals.
+/// Appends the groups of those of the given campaigns that have this bound. The given campaigns are those with this
+/// number of generals.
 fn push_bound(
     alloc: Global,
     groups: &mut Vec<Group>,
@@ -125,8 +126,8 @@ fn push_bound(
     push_groups(alloc, groups, some.as_slice(), generals, bound)
 }
 
-/// Appends the groups of these campaigns by their bounds and numbers of traitors. All of them have this number of
-/// generals.
+/// Appends the groups of the given campaigns by their bounds and numbers of traitors. The given campaigns are those
+/// with this number of generals.
 #[tactic(auto, unfolding(crate::specs::Groups::groups_by_bound))]
 fn push_bounds(
     alloc: Global,

@@ -158,7 +158,7 @@ fn share_of(whole: u64, group: &Group) -> u128
     u128::from(group.failed) * u128::from(whole) / campaigns
 }
 
-/// Appends the background of a cell if its campaigns have bounds that hold.
+/// Appends the background of a cell if the bound holds in some of its campaigns.
 #[tactic(auto, unfolding(crate::specs::Pictures::kept))]
 fn put_kept(out: &mut String, row: u64, group: &Group) -> Result<(), AllocError>
     ensures { OnOk result (string_bytes out.new ≡ string_bytes out.old ++ kept row group.now) }
