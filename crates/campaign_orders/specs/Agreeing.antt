@@ -1,4 +1,4 @@
--- That what is found agrees (TOPLAS 1982, Theorem 1).
+-- Agreement in the outcomes that an exploration finds (TOPLAS 1982, Theorem 1).
 use Rattle.std.specs.Prelude.{ℕ, All}
 use Rattle.round.specs.Scenario.{Scenario, IsScenario}
 use Rattle.world.specs.Promises.{AgreeUnderBound}
@@ -6,8 +6,8 @@ use Rattle.world.specs.World.{oral_kind}
 use Rattle.campaign_orders.specs.Outcomes.{oral_outcome}
 use Rattle.campaign_orders.specs.Exploring.{Finding, Exploration, IsExploration}
 
--- of an oral campaign whose bound holds, in each outcome the loyal lieutenants decide alike, and the order of a loyal
--- commander
+-- States that, in each outcome found of an oral campaign whose bound holds, the loyal lieutenants decide alike and obey
+-- a loyal commander.
 abbrev pub FindingsAgree : Type 0
 FindingsAgree =
     (s : Scenario) (most : ℕ) (e : Exploration) → IsScenario s → IsExploration oral_kind oral_outcome s most e →

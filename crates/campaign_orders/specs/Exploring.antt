@@ -1,4 +1,4 @@
--- What an exploration of a campaign's orders answers (own).
+-- The result of an exploration of a campaign's orders (own).
 use Rattle.std.specs.Prelude.{ℕ, ◌≡◌, ◌≢◌, ◌<◌, ◌≤◌, ◌-◌, ◌^◌, min, List, All, length, map, take, find, sum_by, count_by, bytes_eq, Option, Some}
 use Rattle.round.specs.Scenario.{Scenario}
 use Rattle.world.specs.declared.event.Event.{Event}
@@ -10,56 +10,58 @@ use Rattle.campaign_orders.specs.Orders.{IsOrder}
 use Rattle.campaign_orders.specs.Listing.{orders, Has, AreDifferent}
 use Rattle.campaign_orders.specs.Outcomes.{Outcome, outcome_in, outcome_of}
 
--- in how many of these orders a campaign comes to these decisions
+-- Returns how many of these orders lead to these decisions.
 abbrev pub ways_among : Kind → Outcome → Scenario → List (List (List ℕ)) → List ℕ → ℕ
 ways_among K D s visited ds = count_by (λ order. bytes_eq (outcome_of K D s order) ds) visited
 
--- and in how many of all
+-- Returns how many of all orders lead to these decisions.
 abbrev pub ways_to : Kind → Outcome → Scenario → List ℕ → ℕ
 ways_to K D s ds = ways_among K D s (orders K s) ds
 
--- the first of these orders that leads there
+-- Returns the first of these orders that leads to these decisions, if there is one.
 abbrev pub first_to : Kind → Outcome → Scenario → List (List (List ℕ)) → List ℕ → Option (List (List ℕ))
 first_to K D s visited ds = find (λ order. bytes_eq (outcome_of K D s order) ds) visited
 
--- decisions, in how many orders they come about, and one of these
+-- A finding: decisions, how many orders lead to them, and one of these orders.
 pub record Finding : Type 0 where
   pub decisions : List ℕ
   pub count : ℕ
   pub example : List (List ℕ)
 
+-- Returns the decisions of these findings.
 abbrev pub outcomes_of : List Finding → List (List ℕ)
 outcomes_of findings = map (λ (f : Finding). f.decisions) findings
 
+-- Returns how many orders these findings count in all.
 abbrev pub counted_in : List Finding → ℕ
 counted_in findings = sum_by (λ (f : Finding). f.count) findings
 
--- its example is an order that leads there
+-- States that a finding's example is an order that leads to its decisions, and that its count is not 0.
 pub record IsReal (K : Kind) (D : Outcome) (s : Scenario) (f : Finding) : Type 0 where
   pub example : IsOrder K s f.example
   pub outcome : outcome_of K D s f.example ≡ f.decisions
   pub some : 0 < f.count
 
--- and so many orders lead there
+-- States that a finding is real and that its count is the number of orders that lead to its decisions.
 pub record IsFinding (K : Kind) (D : Outcome) (s : Scenario) (f : Finding) : Type 0 where
   pub real : IsReal K D s f
   pub count : f.count ≡ ways_to K D s f.decisions
 
--- or at least so many
+-- States that a finding is real and that at least as many orders as its count lead to its decisions.
 pub record IsLowerFinding (K : Kind) (D : Outcome) (s : Scenario) (f : Finding) : Type 0 where
   pub real : IsReal K D s f
   pub count : f.count ≤ ways_to K D s f.decisions
 
--- the findings of an exploration that met no limit: each is one, no two are of one outcome, no complete run comes to
--- another, and together they count all orders
+-- States that these are the findings of an exploration that met no limit. Each is a finding with its exact count, no
+-- two have the same outcome, every complete run has one of these outcomes, and together they count all orders.
 pub record IsExplored (K : Kind) (D : Outcome) (s : Scenario) (findings : List Finding) : Type 0 where
   pub each : All (IsFinding K D s) findings
   pub different : AreDifferent (outcomes_of findings)
   pub whole : (events : List Event) → IsComplete K s events → Has (outcomes_of findings) (outcome_in K D s events)
   pub total : counted_in findings ≡ length (orders K s)
 
--- and of one that was to count no more than so many orders and met that limit: there are more, and it counted the least
--- ones
+-- States that these are the findings of an exploration that met its limit of `most` orders. There are more orders, and
+-- it counted the `most` least ones. The counts are lower bounds.
 pub record IsExploredInPart (K : Kind) (D : Outcome) (s : Scenario) (most : ℕ) (findings : List Finding) : Type 0 where
   pub each : All (IsLowerFinding K D s) findings
   pub different : AreDifferent (outcomes_of findings)
@@ -67,26 +69,28 @@ pub record IsExploredInPart (K : Kind) (D : Outcome) (s : Scenario) (most : ℕ)
   pub more : most < length (orders K s)
   pub counts : All (λ (f : Finding). f.count ≡ ways_among K D s (take most (orders K s)) f.decisions) findings
 
--- and its count stops at 2 ^ 64 - 1
+-- States that a finding is real and that its count is exact, or 2 ^ 64 - 1 if it is greater.
 pub record IsCappedFinding (K : Kind) (D : Outcome) (s : Scenario) (f : Finding) : Type 0 where
   pub real : IsReal K D s f
   pub count : f.count ≡ min (ways_to K D s f.decisions) (2 ^ 64 - 1)
 
--- the findings of an exploration of so many orders that counts stop: each is one, no two are of one outcome, no
--- complete run comes to another, and there are at least 2 ^ 64 - 1 orders
+-- States that these are the findings of an exploration of 2 ^ 64 - 1 orders or more, where counts stop. Each is real,
+-- with a count that is exact up to 2 ^ 64 - 1. No two have the same outcome, and every complete run has one of these
+-- outcomes.
 pub record IsExploredBeyond (K : Kind) (D : Outcome) (s : Scenario) (findings : List Finding) : Type 0 where
   pub each : All (IsCappedFinding K D s) findings
   pub different : AreDifferent (outcomes_of findings)
   pub whole : (events : List Event) → IsComplete K s events → Has (outcomes_of findings) (outcome_in K D s events)
   pub many : 2 ^ 64 - 1 ≤ length (orders K s)
 
--- findings, and how far they reach
+-- An exploration: its findings, and how many orders they cover.
 pub record Exploration : Type 0 where
   pub findings : List Finding
   pub reach : Reach
 
--- of all orders, counted or, where nothing limits their number, too many for that, or of so many where there are more;
--- each example is the least order that leads there; 2 ^ 64 - 1 is no limit
+-- States that this is a result of exploring a scenario with the limit `most`, where 2 ^ 64 - 1 means no limit. The
+-- findings cover all orders, or the `most` least ones if there are more. With no limit there may be too many orders to
+-- count. Each example is the least order that leads to its decisions.
 pub record IsExploration (K : Kind) (D : Outcome) (s : Scenario) (most : ℕ) (e : Exploration) : Type 0 where
   pub few : e.reach ≢ Beyond → counted_in e.findings ≤ most
   pub all : e.reach ≡ Whole → IsExplored K D s e.findings

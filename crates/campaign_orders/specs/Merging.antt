@@ -1,5 +1,5 @@
--- Worlds of oral campaigns that go on alike: they differ in what was accessed and in how many steps, and in nothing
--- that is told or that decides (own).
+-- Worlds of oral campaigns that go on alike: they may differ in past accesses and steps, but not in anything that is
+-- sent or that later events depend on (own).
 use Rattle.std.specs.Prelude.{ℕ, ◌≡◌, List, [], ◌∷◌}
 use Rattle.round.specs.Letters.{Letter}
 use Rattle.world.specs.declared.event.Event.{Event}
@@ -10,25 +10,28 @@ use Rattle.campaign_orders.specs.Orders.{IsRoundFrom, IsFrom}
 use Rattle.campaign_orders.specs.Listing.{round_orders, orders_from}
 use Rattle.campaign_orders.specs.Outcomes.{oral_outcome}
 
--- letters of the same generals that tell the same, one by one
+-- States that the letters of two lists are pairwise of the same general and send the same.
 abbrev pub TellAlike : List Letter → List Letter → Type 0
 TellAlike [] [] = Unit {0}
 TellAlike (l ∷ letters) (m ∷ others) = (l.general ≡ m.general) × (l.outbox ≡ m.outbox) × TellAlike letters others
 TellAlike _ _ = ⊥
 
+-- States that the letters of two lists of rounds are pairwise of the same general and send the same.
 abbrev pub RoundsAlike : List (List Letter) → List (List Letter) → Type 0
 RoundsAlike [] [] = Unit {0}
 RoundsAlike (row ∷ rounds) (other ∷ others) = TellAlike row other × RoundsAlike rounds others
 RoundsAlike _ _ = ⊥
 
--- the words and the activations are the same, and the closed rounds have told the same
+-- States that two worlds are alike: their scenario, words and parts are the same, and the letters of their closed
+-- rounds send the same.
 pub record AreAlike (w v : World) : Type 0 where
   pub scenario : w.scenario ≡ v.scenario
   pub words : w.words ≡ v.words
   pub parts : w.parts ≡ v.parts
   pub closed : RoundsAlike w.closed v.closed
 
--- alike worlds stay alike; what can come from them, and what is decided then, is the same
+-- States that alike worlds stay alike after the same events, that the same orders can follow in them, and that the
+-- lieutenants then decide the same.
 pub record AlikeWorldsGoOnAlike : Type 0 where
   pub runs : (events : List Event) (w v : World) → AreAlike w v → AreAlike (run w events) (run v events)
   pub rounds : (names : List ℕ) (w v : World) → AreAlike w v → IsRoundFrom oral_kind w names →
@@ -38,7 +41,8 @@ pub record AlikeWorldsGoOnAlike : Type 0 where
   pub outcomes : (k : ℕ) (order : List (List ℕ)) (w v : World) → AreAlike w v →
       oral_outcome (run w (replayed_rounds w k order)) ≡ oral_outcome (run v (replayed_rounds v k order))
 
--- the same can come behind alike worlds: so a state stands for all that are alike
+-- States that the lists of the orders that can follow in alike worlds are the same, so that one state can represent
+-- both worlds.
 pub record AlikeWorldsHaveOneList : Type 0 where
   pub round : (most : ℕ) (w v : World) → AreAlike w v → round_orders oral_kind most w ≡ round_orders oral_kind most v
   pub all : (most k : ℕ) (w v : World) → AreAlike w v → orders_from oral_kind most w k ≡ orders_from oral_kind most v k

@@ -1,4 +1,4 @@
--- What a campaign comes to, by its kind (own).
+-- The outcome of a campaign, by its kind (own).
 use Rattle.std.specs.Prelude.{ℕ, List}
 use Rattle.round.specs.Scenario.{Scenario}
 use Rattle.round.specs.Letters.{messages}
@@ -7,17 +7,18 @@ use Rattle.world.specs.Chronicle.{decisions}
 use Rattle.world.specs.Kind.{Kind, World, opening, run}
 use Rattle.world.specs.KindLists.{replayed}
 
--- what is made of a campaign's world
+-- How an outcome is computed from the world of a finished campaign.
 abbrev pub Outcome : Type 0
 Outcome = World → List ℕ
 
--- of an oral one, what its lieutenants decide, ascending
+-- Returns the outcome of an oral campaign: what its lieutenants decide, ascending.
 abbrev pub oral_outcome : Outcome
 oral_outcome w = decisions w.scenario (messages w.closed)
 
--- the outcome of a run, and of that in which the accesses come in this order
+-- Returns the outcome of the run with these events.
 abbrev pub outcome_in : Kind → Outcome → Scenario → List Event → List ℕ
 outcome_in K D s events = D (run K (opening K s) events)
 
+-- Returns the outcome of the replay of this order of accesses.
 abbrev pub outcome_of : Kind → Outcome → Scenario → List (List ℕ) → List ℕ
 outcome_of K D s order = outcome_in K D s (replayed K s order)

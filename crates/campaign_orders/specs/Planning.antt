@@ -1,4 +1,4 @@
--- What becomes of names that are to make their accesses in their order (own).
+-- The result of making a schedule from names that must make their accesses in a given order (own).
 use Rattle.std.specs.Prelude.{ℕ, ◌≡◌, true, false, List, length, slice_get, Option, None, Some}
 use Rattle.round.specs.Scenario.{Scenario}
 use Rattle.world.specs.Kind.{Kind, World, opening, run}
@@ -13,35 +13,39 @@ use Rattle.campaign_orders.specs.Orders.{will_ask, past, order_of}
 use Rattle.campaign_orders.specs.Walks.{IsWalk, AreWalks, IsStuckAt, IsStuckIn, IsCompletion}
 use Rattle.campaign_orders.specs.Schedules.{entries_from, schedule_from}
 
--- so many steps of a general, with which he has made one more access; or none, where he is to make none
+-- States that a general makes his next access in this number of steps, after which the world is `v`, or that he makes
+-- no further access.
 abbrev pub IsStepTo : Kind → World → ℕ → World → Option ℕ → Type 0
 IsStepTo K w g v None = will_ask (slice_get w.parts g) ≡ false
 IsStepTo K w g v (Some steps) =
     (will_ask (slice_get w.parts g) ≡ true) × (steps ≡ length (ticks_named g (slice_get w.parts g))) × (v ≡ past K w g)
 
--- the entries of a round, with which these have made their accesses; or the first place where that cannot be
+-- States that these are the schedule entries of a round by which these generals have made their accesses, or that this
+-- is the first index at which that is impossible.
 abbrev pub IsLineOf : Kind → World → List ℕ → World → Line → Type 0
 IsLineOf K w names v (Made entries) =
     IsWalk K w names × (entries ≡ entries_from K w names) × (v ≡ run K w (names_events K w names))
 IsLineOf K w names v (Stuck place) = IsStuckAt K w names place
 
--- the schedule from here on, or the first round and place
+-- States that this is the schedule from the world `w` on by which these generals make their accesses, or that this is
+-- the first round and index at which that is impossible.
 abbrev pub IsScheduleOf : Kind → World → List (List ℕ) → Scheduled → Type 0
 IsScheduleOf K w names (By schedule) = AreWalks K w names × (schedule ≡ schedule_from K w names)
 IsScheduleOf K w names (Never round place) = IsStuckIn K w names round place
 
--- played by it, these make their accesses first in each round; there is none only where these cannot do so
+-- States that by this schedule these generals make their accesses first in each round. There is no schedule only if
+-- they cannot do so.
 abbrev pub IsPlan : Kind → Scenario → List (List ℕ) → Scheduled → Type 0
 IsPlan K s names (By schedule) = (listed s (lines_by schedule) ≡ replayed K s names)
     × IsCompletion names (order_of K s (listed s (lines_by schedule)))
 IsPlan K s names (Never round place) = AreWalks K (opening K s) names → ⊥
 
--- played by it, the campaign is that run
+-- States that the campaign that is played by the schedule is the run with these events.
 abbrev pub ComesAgain : Kind → Scenario → List Event → Scheduled → Type 0
 ComesAgain K s events (By schedule) = run K (opening K s) (listed s (lines_by schedule)) ≡ run K (opening K s) events
 ComesAgain K s events (Never round place) = ⊥
 
--- where the names are who made the accesses of a complete run, that run comes again
+-- States that, if the names are those of the accesses of a complete run, the schedule repeats that run.
 abbrev pub BringsBack : Kind → Scenario → List (List ℕ) → Scheduled → Type 0
 BringsBack K s names scheduled =
     (events : List Event) → IsComplete K s events → names ≡ order_of K s events → ComesAgain K s events scheduled

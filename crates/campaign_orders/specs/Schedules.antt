@@ -1,4 +1,4 @@
--- Schedules under which the accesses come in an order (own).
+-- Schedules under which the accesses come in a given order (own).
 use Rattle.std.specs.Prelude.{ℕ, ◌≡◌, List, [], ◌∷◌, length, slice_get}
 use Rattle.round.specs.Scenario.{Scenario, IsScenario}
 use Rattle.world.specs.declared.event.Event.{Event}
@@ -9,20 +9,21 @@ use Rattle.world.specs.Schedules.{lines_by}
 use Rattle.campaign_orders.specs.Orders.{past, behind, order_of, IsOrder}
 use Rattle.campaign_orders.specs.Walks.{AreWalks, IsCompletion}
 
--- the entries of a round: one for each access, with as many steps of the general as it takes until he has made it
+-- Returns the schedule entries of a round. There is one for each access, with the number of steps after which the
+-- general has made it.
 abbrev pub entries_from : Kind → World → List ℕ → List Repeat
 entries_from K w [] = []
 entries_from K w (g ∷ names) =
     record { general = g; times = length (ticks_named g (slice_get w.parts g)) } ∷ entries_from K (past K w g) names
 
--- round by round
+-- Returns the schedule by which these generals make their accesses, round by round.
 abbrev pub schedule_from : Kind → World → List (List ℕ) → List (List Repeat)
 schedule_from K w [] = []
 schedule_from K w (names ∷ order) = entries_from K w names ∷ schedule_from K (behind K w names) order
 
--- played by that schedule, the campaign is the replay of these names, which make their accesses first, and then the
--- others by number;
--- so every order has a schedule, and every complete run comes again
+-- States that a campaign that is played by the schedule of these names is their replay. These generals make their
+-- accesses first in each round, and then the others in ascending order. So every order has a schedule, and every
+-- complete run can be repeated.
 pub record OrdersAreSchedules (K : Kind) : Type 0 where
   pub played : (s : Scenario) (names : List (List ℕ)) → IsScenario s → AreWalks K (opening K s) names →
       listed s (lines_by (schedule_from K (opening K s) names)) ≡ replayed K s names

@@ -1,42 +1,43 @@
--- Names that can make their accesses in their order, and the order that then comes (own).
+-- Names that can make their accesses in the given order, and the order of the campaign in which they do (own).
 use Rattle.std.specs.Prelude.{ℕ, zero, suc, ◌≡◌, ◌≤◌, true, false, List, [], ◌∷◌, ◌++◌, slice_get}
 use Rattle.world.specs.Kind.{Kind, World}
 use Rattle.world.specs.KindLists.{first_line, later_lines}
 use Rattle.campaign_orders.specs.Orders.{will_ask, past, behind}
 use Rattle.campaign_orders.specs.Listing.{Has}
 
--- each of these is still to make an access as his turn comes
+-- States that these generals can make their next accesses one after another.
 abbrev pub IsWalk : Kind → World → List ℕ → Type 0
 IsWalk K w [] = Unit {0}
 IsWalk K w (g ∷ names) = (will_ask (slice_get w.parts g) ≡ true) × IsWalk K (past K w g) names
 
--- round by round
+-- States that, round by round, these generals can make their next accesses one after another.
 abbrev pub AreWalks : Kind → World → List (List ℕ) → Type 0
 AreWalks K w [] = Unit {0}
 AreWalks K w (names ∷ order) = IsWalk K w names × AreWalks K (behind K w names) order
 
--- the one at this place, from 0, is to make none, and he is the first
+-- States that the general at this index is the first who has no access left at his turn. Indices are counted from 0.
 abbrev pub IsStuckAt : Kind → World → List ℕ → ℕ → Type 0
 IsStuckAt K w [] place = ⊥
 IsStuckAt K w (g ∷ names) zero = will_ask (slice_get w.parts g) ≡ false
 IsStuckAt K w (g ∷ names) (suc place) = (will_ask (slice_get w.parts g) ≡ true) × IsStuckAt K (past K w g) names place
 
--- so it is in this round, from 0
+-- States that the general at this round and index is the first who has no access left at his turn. Both are counted
+-- from 0.
 abbrev pub IsStuckIn : Kind → World → List (List ℕ) → ℕ → ℕ → Type 0
 IsStuckIn K w [] round place = ⊥
 IsStuckIn K w (names ∷ order) zero place = IsStuckAt K w names place
 IsStuckIn K w (names ∷ order) (suc round) place = IsWalk K w names × IsStuckIn K (behind K w names) order round place
 
--- none is below one before it
+-- States that no element of the list is less than one before it.
 abbrev pub IsAscending : List ℕ → Type 0
 IsAscending [] = Unit {0}
 IsAscending (x ∷ xs) = ((y : ℕ) → Has xs y → x ≤ y) × IsAscending xs
 
--- these, and then others by number
+-- States that the row has these names and then others in ascending order.
 abbrev pub Continues : List ℕ → List ℕ → Type 0
 Continues names row = (others : List ℕ) × (row ≡ names ++ others) × IsAscending others
 
--- round by round
+-- States that, round by round, the row has these names and then others in ascending order.
 abbrev pub IsCompletion : List (List ℕ) → List (List ℕ) → Type 0
 IsCompletion names [] = Unit {0}
 IsCompletion names (row ∷ rows) = Continues (first_line names) row × IsCompletion (later_lines names) rows

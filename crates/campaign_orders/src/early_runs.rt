@@ -1,10 +1,10 @@
-//! Activations that are run on before their time.
+//! Runs activations on to their next requests, so that worlds that go on alike become equal.
 ghost use Rattle.campaign_orders.specs.Ahead.{IsRunOn};
 
 use world::{PlayableWorld, World, parts};
 
-/// Runs each activation on to its next access or its end. Nothing that comes of the world depends on when these turns
-/// are taken, and what a program drops on its way there tells worlds apart no longer.
+/// Runs each activation on to its next request or its end. What can follow does not depend on when these turns are
+/// taken. Worlds that differ only in what a program discards on the way become equal.
 pub(crate) fn run_on(world: &mut World)
     ensures { IsRunOn world.old world.new }
 {
@@ -13,7 +13,7 @@ pub(crate) fn run_on(world: &mut World)
     }
 }
 
-/// Runs the activation of one general on.
+/// Runs the activation of one general on to its next request or its end.
 fn run_one_on(world: &mut World, general: u32)
     ensures { IsRunOn world.old world.new }
 {

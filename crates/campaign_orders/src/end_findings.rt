@@ -1,4 +1,4 @@
-//! The findings of the states in which a campaign can end.
+//! Gathers the outcomes of the states in which a campaign can end.
 ghost use Rattle.std.specs.Prelude.{◌≡◌, IfOk, OnOk};
 ghost use Rattle.campaign_orders.specs.Gathering.{AreGathered, IsFound};
 
@@ -7,7 +7,8 @@ use crate::finding::DecisionGroup;
 use crate::state::State;
 use std::alloc::{AllocError, Global};
 
-/// Enters the outcome of a state: it comes about in so many ways more, or for the first time.
+/// Enters the outcome of a state among the findings. If it was found before, the state's number of beginnings is added
+/// to its count.
 fn find(alloc: Global, findings: &mut Vec<DecisionGroup>, state: &State) -> Result<(), AllocError>
     ensures { OnOk result (IsFound findings.old.items state.now findings.new.items) }
 {
@@ -22,11 +23,7 @@ fn find(alloc: Global, findings: &mut Vec<DecisionGroup>, state: &State) -> Resu
     }
 }
 
-/// The outcomes of all states.
-///
-/// # Errors
-///
-/// `AllocError` where memory is refused.
+/// Returns the outcomes of all states, with their counts and least examples.
 pub(crate) fn gather(alloc: Global, states: &[State]) -> Result<Vec<DecisionGroup>, AllocError>
     ensures { IfOk result (λ findings. AreGathered states.now findings.items) }
 {

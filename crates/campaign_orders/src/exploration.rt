@@ -1,21 +1,21 @@
-//! What an exploration answers.
+//! The result of an exploration: the outcomes found, and how many orders they cover.
 ghost use Rattle.std.specs.Prelude.{◌≡◌};
 
 use crate::finding::DecisionGroup;
 use std::marker::Model;
 
-/// Of how many orders an exploration tells.
+/// How many orders an exploration covers.
 #[derive(Clone, Copy)]
 pub enum Reach {
-    /// Of all, less than 2^64 - 1: there is no other outcome, and the counts are those of all orders.
+    /// All orders, fewer than 2^64 - 1. There is no other outcome, and the counts are exact.
     Whole,
-    /// Of all, 2^64 - 1 or more: there is no other outcome, and a count of 2^64 - 1 stands for that or more.
+    /// All orders, 2^64 - 1 or more. There is no other outcome, and a count of 2^64 - 1 means that number or more.
     Beyond,
-    /// Of some: the outcomes are real, and the counts lower bounds.
+    /// Some orders. The outcomes are real, and the counts are lower bounds.
     InPart,
 }
 
-/// The outcomes that were found, in the order in which they were found, and of how many orders they tell.
+/// The outcomes that were found, in the order in which they were found, and how many orders they cover.
 #[derive(Drop)]
 pub struct Exploration {
     pub(crate) findings: Vec<DecisionGroup>,
@@ -31,14 +31,14 @@ impl Model for Exploration {
 }
 
 impl Exploration {
-    /// The outcomes, each with its count and an example.
+    /// Returns the outcomes, each with its count and an example.
     pub fn findings(&self) -> &[DecisionGroup]
         ensures { result.now ≡ self.now.findings }
     {
         self.findings.as_slice()
     }
 
-    /// Of how many orders they tell.
+    /// Returns how many orders the outcomes cover.
     pub fn reach(&self) -> Reach
         ensures { result ≡ self.now.reach }
     {

@@ -1,4 +1,5 @@
-//! All orders of a campaign, one after another, each played from the start.
+//! Explores the orders of a campaign: all of them by layers of states, or the least ones by playing each from the
+//! start.
 ghost use Rattle.std.specs.Prelude.{◌≡◌, ◌↔◌, IsTrue, ◌<◌, ◌+◌, ◌-◌, ◌^◌, ℕ, All, IfOk, OnOk, MatchOption, true, false, length, slice_index_or, option_map, bytes_eq};
 ghost use Rattle.campaign_orders.specs.Entering.{entered};
 ghost use Rattle.campaign_orders.specs.Exploring.{Finding as Found, IsExploration, counted_in};
@@ -21,13 +22,14 @@ use round::Scenario;
 use std::alloc::{AllocError, Global};
 use world::replay;
 
-/// The outcomes of all orders in which the traitors of an oral campaign can come to the board, where these are no more
-/// than `most`; else those of the `most` least orders, and that there are more. `u64::MAX` is no limit: then all orders
-/// are counted, however many there are, in time and memory that grow as the number of worlds that are not alike.
+/// Returns the outcomes of all orders in which the traitors of an oral campaign can access the board, if there are at
+/// most `most` orders. Otherwise it returns the outcomes of the `most` least orders and says that there are more. If
+/// `most` is `u64::MAX`, all orders are counted, however many there are. Time and memory then grow with the number of
+/// worlds that are not alike.
 ///
 /// # Errors
 ///
-/// `AllocError` where memory is refused.
+/// Fails with `AllocError` if it runs out of memory.
 pub fn explore(alloc: Global, scenario: &Scenario, most: u64) -> Result<Exploration, AllocError>
     ensures { IfOk result (λ exploration. IsExploration oral_kind oral_outcome scenario.now most exploration) }
 {
@@ -37,14 +39,14 @@ pub fn explore(alloc: Global, scenario: &Scenario, most: u64) -> Result<Explorat
     explore_least(alloc, scenario, most)
 }
 
-/// Whether it is the greatest number.
+/// Checks whether the count is the greatest number, 2^64 - 1.
 fn is_full(count: u64) -> bool
     ensures { IsTrue result ↔ (count ≡ 2 ^ 64 - 1) }
 {
     count == u64::MAX
 }
 
-/// The outcomes of all orders, which are gone through layer by layer.
+/// Returns the outcomes of all orders, found layer by layer.
 fn explore_all(alloc: Global, scenario: &Scenario) -> Result<Exploration, AllocError>
     ensures { IfOk result (λ exploration. IsExploration oral_kind oral_outcome scenario.now (2 ^ 64 - 1) exploration) }
 {
@@ -64,7 +66,7 @@ fn explore_all(alloc: Global, scenario: &Scenario) -> Result<Exploration, AllocE
     })
 }
 
-/// How many orders were counted; 2^64 - 1 stands for that or more.
+/// Returns how many orders were counted, where 2^64 - 1 means that number or more.
 fn most_counted(findings: &[DecisionGroup]) -> u64
     ensures { result ≡ kept (counted_in findings.now) }
 {
@@ -75,7 +77,7 @@ fn most_counted(findings: &[DecisionGroup]) -> u64
     count
 }
 
-/// The outcomes of the `most` least orders, each of which is played.
+/// Returns the outcomes of the `most` least orders. Each of these orders is played.
 fn explore_least(alloc: Global, scenario: &Scenario, most: u64) -> Result<Exploration, AllocError>
     requires { most < 2 ^ 64 - 1 }
     ensures { IfOk result (λ exploration. IsExploration oral_kind oral_outcome scenario.now most exploration) }
@@ -101,8 +103,9 @@ fn explore_least(alloc: Global, scenario: &Scenario, most: u64) -> Result<Explor
     })
 }
 
-/// The campaign in which these make their accesses first in each round, and then the others by number: its outcome is
-/// entered. What comes next are the names of the order that follows on its order; none behind the last.
+/// Plays the campaign in which the generals in `names` make their accesses first in each round, and then the others in
+/// ascending order. Enters its outcome among the findings. Returns how the next order begins, or `None` after the last
+/// order.
 fn visit(
     alloc: Global,
     scenario: &Scenario,
@@ -125,7 +128,7 @@ fn visit(
     next_order(order)
 }
 
-/// One order more, which leads to these decisions.
+/// Counts an order that leads to these decisions. If they are new, they are appended with the order as their example.
 fn enter(
     alloc: Global,
     findings: &mut Vec<DecisionGroup>,
@@ -147,7 +150,7 @@ fn enter(
     }
 }
 
-/// Where these decisions were found first.
+/// Returns the index of the first finding with these decisions, if there is one.
 pub(crate) fn place_of(findings: &[DecisionGroup], decisions: &[u32]) -> Option<usize>
     ensures { MatchOption result (IsNowhere findings.now decisions.now)
         (λ place. IsPlaceOf findings.now decisions.now place) }

@@ -1,4 +1,4 @@
-//! What explorations find.
+//! An outcome that an exploration finds, with its count and an example.
 ghost use Rattle.std.specs.Prelude.{◌≡◌, ◌+◌, ◌<◌, ◌^◌, IfOk, OnOk};
 ghost use Rattle.campaign_orders.specs.Layers.{kept};
 ghost use Rattle.campaign_orders.specs.Least.{lesser};
@@ -8,7 +8,8 @@ use crate::order::{compared, copied};
 use std::alloc::{AllocError, Global};
 use std::marker::Model;
 
-/// Decisions of a campaign's lieutenants, in how many orders of accesses they come about, and the least of these.
+/// A finding: the decisions of a campaign's lieutenants, how many orders of accesses lead to them, and the least of
+/// these orders.
 #[derive(Drop)]
 pub struct DecisionGroup {
     decisions: Vec<u32>,
@@ -26,11 +27,7 @@ impl Model for DecisionGroup {
 }
 
 impl DecisionGroup {
-    /// Decisions that come about in one order so far, which is the example.
-    ///
-    /// # Errors
-    ///
-    /// `AllocError` where memory is refused.
+    /// Returns a finding whose decisions come from one order so far, which is the example.
     pub(crate) fn first(
         alloc: Global,
         decisions: &[u32],
@@ -49,11 +46,7 @@ impl DecisionGroup {
         })
     }
 
-    /// Decisions that come about in so many orders so far, of which this is one.
-    ///
-    /// # Errors
-    ///
-    /// `AllocError` where memory is refused.
+    /// Returns a finding whose decisions come from `count` orders so far, of which the example is given.
     pub(crate) fn of(
         alloc: Global,
         decisions: &[u32],
@@ -73,11 +66,7 @@ impl DecisionGroup {
         })
     }
 
-    /// They come about in so many orders more, of which this is the least; more than 2^64 - 1 are not counted.
-    ///
-    /// # Errors
-    ///
-    /// `AllocError` where memory is refused.
+    /// Adds `ways` orders that lead to these decisions, of which the least is given. The count stops at 2^64 - 1.
     pub(crate) fn count_more(
         &mut self,
         alloc: Global,
@@ -96,7 +85,7 @@ impl DecisionGroup {
         Ok(())
     }
 
-    /// They come about in one order more.
+    /// Adds one order to the count.
     pub(crate) fn count_again(&mut self)
         requires { self.old.count + 1 < 2 ^ 64 }
         ensures { self.new ≡ record self.old { count = self.old.count + 1 } }
@@ -104,21 +93,21 @@ impl DecisionGroup {
         self.count += 1;
     }
 
-    /// The decision of each lieutenant, ascending by number.
+    /// Returns the decisions of the lieutenants, in ascending order of the lieutenants.
     pub fn decisions(&self) -> &[u32]
         ensures { result.now ≡ self.now.decisions }
     {
         self.decisions.as_slice()
     }
 
-    /// In how many orders they come about.
+    /// Returns how many orders lead to these decisions.
     pub fn count(&self) -> u64
         ensures { result ≡ self.now.count }
     {
         self.count
     }
 
-    /// The least of these orders: for each round the generals who make the accesses, one after another.
+    /// Returns the example: for each round the generals who make the accesses, one after another.
     pub fn example(&self) -> &[Vec<u8>]
         ensures { lists_in result.now ≡ self.now.example }
     {

@@ -1,11 +1,11 @@
-//! A call that does nothing but look: it recalls, for the proof of its caller, what the type of its argument keeps.
+//! A function that does nothing. Its contract gives the caller a fact that the type of its argument guarantees.
 ghost use Rattle.std.specs.Prelude.{◌≡◌, ◌≤◌, ℕ, List, Some, length};
 ghost use Rattle.insn.specs.declared.insn.Insn.{Insn};
 ghost use Rattle.round.specs.Scenario.{program_of};
 
 use round::Scenario;
 
-/// Does nothing. No program of a scenario has more than 4,096 instructions.
+/// Does nothing. Its contract says that no program of a scenario has more than 4,096 instructions.
 pub fn recall_short(scenario: &Scenario)
     ensures { (g : ℕ) (program : List Insn) → program_of scenario.now g ≡ Some program → length program ≤ 4096 }
 {

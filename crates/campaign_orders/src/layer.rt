@@ -1,4 +1,4 @@
-//! States of which each stands for all that are alike, found by their marks.
+//! A layer of states, in which alike worlds are one state. States are found by their marks.
 ghost use Rattle.std.specs.Prelude.{◌≡◌, ◌++◌, ◌∷◌, [], IfSome, OnOk};
 ghost use Rattle.campaign_orders.specs.Layers.{IsAlikeAt, IsEntered};
 
@@ -7,12 +7,12 @@ use std::alloc::{AllocError, Global};
 use std::collections::HashMap;
 use std::marker::Model;
 
-/// States, in the order in which they were entered.
+/// A layer: states, in the order in which they were entered.
 #[derive(Drop)]
 pub(crate) struct Layer {
     states: Vec<State>,
-    /// By mark where the state stands that was entered last with it: a hint for the search, of which nothing is
-    /// claimed.
+    /// For each mark the index of the state that was entered last with it. The search uses it only as a hint, and
+    /// nothing is promised of it.
     newest: HashMap<u64, usize>,
 }
 
@@ -26,7 +26,7 @@ impl Model for Layer {
 }
 
 impl Layer {
-    /// No state.
+    /// Returns a layer without states.
     pub(crate) fn new(alloc: Global) -> Layer
         ensures { result ≡ [] }
     {
@@ -36,7 +36,7 @@ impl Layer {
         }
     }
 
-    /// The states.
+    /// Returns the states of the layer.
     pub(crate) fn into_states(self) -> Vec<State>
         ensures { result.items ≡ self }
     {
@@ -44,11 +44,7 @@ impl Layer {
         states
     }
 
-    /// Enters a state: it is joined with a state with an alike world, else it stands behind all.
-    ///
-    /// # Errors
-    ///
-    /// `AllocError` where memory is refused.
+    /// Enters a state. If a state has an alike world, they are joined. Otherwise the new state is appended.
     pub(crate) fn enter(&mut self, state: State) -> Result<(), AllocError>
         ensures { OnOk result (IsEntered self.old state self.new) }
     {
@@ -61,7 +57,7 @@ impl Layer {
         }
     }
 
-    /// Where a state with an alike world stands.
+    /// Returns the index of a state whose world is alike, if one is found.
     fn place_of(&self, state: &State) -> Option<usize>
         ensures { IfSome result (λ place. IsAlikeAt self.now state.now place) }
     {
@@ -82,7 +78,7 @@ impl Layer {
         None
     }
 
-    /// A state behind all.
+    /// Appends a state.
     fn push(&mut self, state: State) -> Result<(), AllocError>
         ensures { OnOk result (self.new ≡ self.old ++ state ∷ []) }
     {

@@ -1,4 +1,4 @@
-//! Orders layer by layer: each layer has one access more, and alike worlds of a layer are one state.
+//! Explores orders layer by layer. Each layer has one access more, and alike worlds of a layer are one state.
 ghost use Rattle.std.specs.Prelude.{◌≡◌, ◌<◌, ◌≤◌, ◌*◌, ◌++◌, ◌∷◌, ◌||◌, ℕ, [], suc, IfOk, None, OnOk, slice_get};
 ghost use Rattle.campaign_orders.specs.Ahead.{IsRunOn};
 ghost use Rattle.campaign_orders.specs.Layers.{AreLayers, AreStatesOf, IsAsked, IsExpanded, IsPastOf, IsRoundOn, IsStep, reached};
@@ -16,7 +16,8 @@ use round::Scenario;
 use std::alloc::{AllocError, Global};
 use world::{PlayableWorld, Progress, World, named_round, play_names, wind_up};
 
-/// The world in which these made the accesses of the closed rounds, and these those of the open one.
+/// Plays a campaign from its start and returns its world after these accesses. `rows` lists the generals who made the
+/// accesses of the closed rounds, and `names` those of the open round.
 fn again(
     alloc: Global,
     scenario: &Scenario,
@@ -34,7 +35,8 @@ fn again(
     Ok(world)
 }
 
-/// A state as a general has made his next access, in a world that is played again; none where he is to make none.
+/// Returns the state after a general has made his next access, in a world that is played again. Returns `None` if he
+/// makes no further access in the open round.
 fn past(
     alloc: Global,
     scenario: &Scenario,
@@ -55,7 +57,8 @@ fn past(
     }
 }
 
-/// [`past`] of a traitor, whose campaign is played again.
+/// Returns the state after a traitor has made his next access, in a world that is played again. Returns `None` if he
+/// makes no further access in the open round.
 fn played_past(
     alloc: Global,
     scenario: &Scenario,
@@ -89,7 +92,8 @@ fn played_past(
     }
 }
 
-/// The state behind these rounds in which nobody had an access left behind these accesses, as the next round begins.
+/// Returns the state at the start of the next round, if no general has accesses left in the open round after these
+/// rounds and accesses.
 fn closed(
     alloc: Global,
     scenario: &Scenario,
@@ -111,7 +115,8 @@ fn closed(
     Ok(State::new(world, ways, rows, Vec::new(alloc)))
 }
 
-/// Enters a state as a general has made his next access, where he is to make one.
+/// Enters the state after a general has made his next access, in a world that is played again. Returns whether he has a
+/// next access in the open round.
 fn ask(
     alloc: Global,
     scenario: &Scenario,
@@ -133,7 +138,8 @@ fn ask(
     }
 }
 
-/// [`ask`] of a state whose own world goes on, so that nothing is played again.
+/// Enters the state after a general has made his next access, in the state's own world, so that nothing is played
+/// again. Returns whether he has a next access in the open round.
 fn ask_last(
     alloc: Global,
     world: World,
@@ -162,7 +168,7 @@ fn ask_last(
     }
 }
 
-/// The last general who acts in the open round, the first of all where nobody does.
+/// Returns the last general who acts in the open round, or 0 if nobody does.
 fn last_acting(standing: &[Progress], generals: u8) -> u8
     requires { 0 < generals }
     ensures inside { result < generals }
@@ -177,16 +183,16 @@ fn last_acting(standing: &[Progress], generals: u8) -> u8
     last
 }
 
-/// Whether one of both is so.
+/// Checks whether at least one of two conditions is true.
 fn either(one: bool, other: bool) -> bool
     ensures { result ≡ (one || other) }
 {
     one || other
 }
 
-/// Enters what can come next of a state: it as each of those who have accesses left has made one; where nobody has,
-/// it as the next round begins. The campaign is played again for each of them but the last, who goes on in the state's
-/// world.
+/// Enters the states that can follow a state. If some generals have accesses left, these are the states after the next
+/// access of each of them. Otherwise it is the state at the start of the next round, which is entered in `done`. The
+/// campaign is played again for each acting general except the last, for whom the state's own world is used.
 fn expand(
     alloc: Global,
     scenario: &Scenario,
@@ -228,7 +234,8 @@ fn expand(
     Ok(())
 }
 
-/// The layer behind one; states in which nobody has an access left are entered among those of the next round.
+/// Returns the layer after a layer. If nobody has accesses left in a state, the state at the start of the next round is
+/// entered in `done`.
 fn step(
     alloc: Global,
     scenario: &Scenario,
@@ -247,7 +254,7 @@ fn step(
     Ok(next.into_states())
 }
 
-/// The states behind a round with at most so many accesses.
+/// Returns the states after a round that begins in the states `first` and has at most `most` accesses.
 fn whole_round(
     alloc: Global,
     scenario: &Scenario,
@@ -269,7 +276,8 @@ fn whole_round(
     Ok(done.into_states())
 }
 
-/// How many accesses a round has at most: each general's program has so many instructions.
+/// Returns an upper bound of the accesses in a round: the number of generals times the number of instructions of all
+/// programs.
 fn most_in_round(scenario: &Scenario) -> u32
     ensures { result ≡ most_in_round scenario.now }
 {
@@ -280,7 +288,7 @@ fn most_in_round(scenario: &Scenario) -> u32
     product(u32::from(scenario.generals()), sum)
 }
 
-/// So many times a number.
+/// Returns the product of two numbers.
 fn product(times: u32, number: u32) -> u32
     requires times { times ≤ 13 }
     requires number { number ≤ 53248 }
@@ -289,7 +297,7 @@ fn product(times: u32, number: u32) -> u32
     times * number
 }
 
-/// How many instructions a general's program has; 0 where he has none.
+/// Returns how many instructions a general's program has, or 0 if he has none.
 fn instructions_of(scenario: &Scenario, general: u8) -> u32
     requires { general < scenario.now.generals }
     ensures count { result ≡ instructions (program_of scenario.now general) }
@@ -301,11 +309,7 @@ fn instructions_of(scenario: &Scenario, general: u8) -> u32
     }
 }
 
-/// The states in which a campaign can end.
-///
-/// # Errors
-///
-/// `AllocError` where memory is refused.
+/// Returns the states in which a campaign can end.
 pub(crate) fn last_states(alloc: Global, scenario: &Scenario) -> Result<Vec<State>, AllocError>
     ensures { IfOk result (λ states. AreLayers scenario.now (suc scenario.now.bound) states.items) }
 {

@@ -1,11 +1,11 @@
-//! Whether worlds go on alike.
+//! Checks whether two worlds go on alike, so that their states can be merged.
 ghost use Rattle.std.specs.Prelude.{◌≡◌, ◌↔◌, IsTrue};
 ghost use Rattle.campaign_orders.specs.Merging.{AreAlike, RoundsAlike, TellAlike};
 
 use round::{Letter, Round};
 use world::{PlayableWorld, Progress, World};
 
-/// Whether the letters are of one general and tell the same.
+/// Checks whether two letters are of the same general and send the same.
 fn tells_alike(letter: &Letter, other: &Letter) -> bool
     ensures general { IsTrue result → letter.now.general ≡ other.now.general }
     ensures outbox { IsTrue result → letter.now.outbox ≡ other.now.outbox }
@@ -13,7 +13,7 @@ fn tells_alike(letter: &Letter, other: &Letter) -> bool
     letter.general == other.general && letter.outbox.same(&other.outbox)
 }
 
-/// Whether the letters tell the same, one by one.
+/// Checks whether the letters of two lists are pairwise of the same general and send the same.
 fn tell_alike(letters: &[Letter], others: &[Letter]) -> bool
     ensures { IsTrue result → TellAlike letters.now others.now }
 {
@@ -28,7 +28,7 @@ fn tell_alike(letters: &[Letter], others: &[Letter]) -> bool
     true
 }
 
-/// Whether the rounds have told the same.
+/// Checks whether the letters of two lists of rounds are pairwise of the same general and send the same.
 fn rounds_alike(rounds: &[Round], others: &[Round]) -> bool
     ensures { IsTrue result → RoundsAlike rounds.now others.now }
 {
@@ -43,7 +43,7 @@ fn rounds_alike(rounds: &[Round], others: &[Round]) -> bool
     true
 }
 
-/// Whether both stand alike in the open round.
+/// Checks whether two parts in the open round are the same.
 fn same_part(part: &Progress, other: &Progress) -> bool
     ensures { IsTrue result ↔ (part.now ≡ other.now) }
 {
@@ -63,7 +63,7 @@ fn same_part(part: &Progress, other: &Progress) -> bool
     }
 }
 
-/// Whether all stand alike in the open round.
+/// Checks whether two lists of parts in the open round are the same.
 fn same_parts(parts: &[Progress], others: &[Progress]) -> bool
     ensures { IsTrue result ↔ (parts.now ≡ others.now) }
 {
@@ -78,15 +78,15 @@ fn same_parts(parts: &[Progress], others: &[Progress]) -> bool
     true
 }
 
-/// Whether the words are the same.
+/// Checks whether the words of two boards are the same.
 fn same_words(words: &[u64; 64], others: &[u64; 64]) -> bool
     ensures { IsTrue result ↔ (words.now ≡ others.now) }
 {
     words.as_slice() == others.as_slice()
 }
 
-/// Whether the worlds, of one scenario, have the same words and activations, and their closed rounds have told the
-/// same.
+/// Checks whether two worlds of one scenario have the same words and the same parts, and whether the letters of their
+/// closed rounds send the same.
 pub(crate) fn are_alike(world: &World, other: &World) -> bool
     ensures { IsTrue result → world.now.scenario ≡ other.now.scenario → AreAlike world.now other.now }
 {

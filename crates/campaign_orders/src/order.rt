@@ -8,11 +8,12 @@ use board::Access;
 use std::alloc::{AllocError, Global};
 use std::cmp::Ordering;
 
-/// Who made the accesses of so many rounds, in each in the ledger's order.
+/// Returns the generals who made the accesses of the first `rounds` rounds. They are listed by round, and within a
+/// round in the ledger's order.
 ///
 /// # Errors
 ///
-/// `AllocError` where memory is refused.
+/// Fails with `AllocError` if it runs out of memory.
 pub fn order_in(alloc: Global, accesses: &[Access], rounds: u8) -> Result<Vec<Vec<u8>>, AllocError>
     requires { All (λ a. a.general < 256) accesses.now }
     ensures { IfOk result (λ order. lists_in order.items ≡ names_in 1 accesses.now rounds) }
@@ -24,7 +25,7 @@ pub fn order_in(alloc: Global, accesses: &[Access], rounds: u8) -> Result<Vec<Ve
     Ok(order)
 }
 
-/// Who made the accesses of a round.
+/// Returns the generals who made the accesses of a round, in the ledger's order.
 fn names_of(alloc: Global, accesses: &[Access], round: u32) -> Result<Vec<u8>, AllocError>
     requires { All (λ a. a.general < 256) accesses.now }
     ensures { IfOk result (λ names. names.items ≡ map (λ a. a.general) (filter (λ a. a.round == round) accesses.now)) }
@@ -38,14 +39,14 @@ fn names_of(alloc: Global, accesses: &[Access], round: u32) -> Result<Vec<u8>, A
     Ok(names)
 }
 
-/// Which order is less: that of the lesser general at the first access in which they differ.
+/// Compares two orders. The lesser one has the lesser general at the first access in which they differ.
 pub(crate) fn compared(order: &[Vec<u8>], other: &[Vec<u8>]) -> Ordering
     ensures { result ≡ order_cmp (lists_in order.now) (lists_in other.now) }
 {
     order.cmp(&other)
 }
 
-/// The same order.
+/// Returns a copy of an order.
 pub(crate) fn copied(alloc: Global, order: &[Vec<u8>]) -> Result<Vec<Vec<u8>>, AllocError>
     ensures { IfOk result (λ copy. lists_in copy.items ≡ lists_in order.now) }
 {

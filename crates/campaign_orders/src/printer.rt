@@ -1,4 +1,4 @@
-//! What is printed of an exploration.
+//! Prints an exploration: the number of orders, the outcomes, and the schedules of the examples.
 ghost use Rattle.std.specs.Prelude.{◌≡◌, ◌≢◌, ◌≤◌, ◌<◌, ◌+◌, ◌^◌, ◌++◌, All, IfOk, OnOk, codes, decimal, flat_map, map, string_bytes};
 ghost use Rattle.campaign_orders.specs.declared.exploration.Reach.TheVariants.{Whole, Beyond, InPart};
 ghost use Rattle.campaign_orders.specs.Exploring.{Exploration as Explored, IsExploration, counted_in};
@@ -22,7 +22,7 @@ use std::alloc::{AllocError, Global};
 use world::judgement::{alike, loyal_decisions, obeyed};
 use world::{Repeat, Schedule, ScheduleLine};
 
-/// A number behind a space.
+/// Writes a number after a space.
 fn put_further(out: &mut String, number: u64) -> Result<(), AllocError>
     ensures { OnOk result (string_bytes out.new ≡ string_bytes out.old ++ further number) }
 {
@@ -32,7 +32,7 @@ fn put_further(out: &mut String, number: u64) -> Result<(), AllocError>
     Ok(())
 }
 
-/// An entry of a schedule.
+/// Writes an entry of a schedule.
 fn put_repeat(out: &mut String, repeat: Repeat) -> Result<(), AllocError>
     ensures { OnOk result (string_bytes out.new ≡ string_bytes out.old ++ decimal repeat.general ++ codes "*"
         ++ decimal repeat.times) }
@@ -44,7 +44,7 @@ fn put_repeat(out: &mut String, repeat: Repeat) -> Result<(), AllocError>
     Ok(())
 }
 
-/// An entry of a schedule behind a space.
+/// Writes an entry of a schedule after a space.
 fn put_entry(out: &mut String, repeat: Repeat) -> Result<(), AllocError>
     ensures { OnOk result (string_bytes out.new ≡ string_bytes out.old ++ entry_text repeat) }
 {
@@ -52,7 +52,7 @@ fn put_entry(out: &mut String, repeat: Repeat) -> Result<(), AllocError>
     put_repeat(out, repeat)
 }
 
-/// ScheduleLine, each behind a space.
+/// Writes entries of a schedule, each after a space.
 fn put_entries(out: &mut String, repeats: &[Repeat]) -> Result<(), AllocError>
     ensures { OnOk result (string_bytes out.new ≡ string_bytes out.old ++ flat_map entry_text repeats.now) }
 {
@@ -62,7 +62,7 @@ fn put_entries(out: &mut String, repeats: &[Repeat]) -> Result<(), AllocError>
     Ok(())
 }
 
-/// A line of a schedule's text.
+/// Writes a line of a schedule's text.
 fn put_line(out: &mut String, repeats: &[Repeat]) -> Result<(), AllocError>
     ensures { OnOk result (string_bytes out.new ≡ string_bytes out.old ++ line_text repeats.now) }
 {
@@ -74,11 +74,11 @@ fn put_line(out: &mut String, repeats: &[Repeat]) -> Result<(), AllocError>
     Ok(())
 }
 
-/// The text of a schedule, a line for each round.
+/// Returns the text of a schedule, with a line for each round.
 ///
 /// # Errors
 ///
-/// `AllocError` where memory is refused.
+/// Fails with `AllocError` if it runs out of memory.
 pub fn schedule_text(alloc: Global, schedule: &Schedule) -> Result<String, AllocError>
     ensures { IfOk result (λ text. string_bytes text ≡ schedule_text schedule.now) }
 {
@@ -89,7 +89,7 @@ pub fn schedule_text(alloc: Global, schedule: &Schedule) -> Result<String, Alloc
     Ok(out)
 }
 
-/// The line of a round.
+/// Writes the line of a round: its number and its entries.
 fn put_round(out: &mut String, round: u64, repeats: &[Repeat]) -> Result<(), AllocError>
     ensures { OnOk result (string_bytes out.new ≡ string_bytes out.old ++ round_text round repeats.now) }
 {
@@ -100,7 +100,7 @@ fn put_round(out: &mut String, round: u64, repeats: &[Repeat]) -> Result<(), All
     Ok(())
 }
 
-/// The lines of a schedule, from round 1.
+/// Writes the lines of a schedule. The first line is that of round 1.
 fn put_rounds(out: &mut String, lines: &[ScheduleLine]) -> Result<(), AllocError>
     ensures { OnOk result (string_bytes out.new ≡ string_bytes out.old ++ rounds_text 1 lines.now) }
 {
@@ -110,7 +110,7 @@ fn put_rounds(out: &mut String, lines: &[ScheduleLine]) -> Result<(), AllocError
     Ok(())
 }
 
-/// Numbers, each behind a space.
+/// Writes numbers, each after a space.
 fn put_numbers(out: &mut String, numbers: &[u32]) -> Result<(), AllocError>
     ensures { OnOk result (string_bytes out.new ≡ string_bytes out.old ++ flat_map further numbers.now) }
 {
@@ -120,7 +120,7 @@ fn put_numbers(out: &mut String, numbers: &[u32]) -> Result<(), AllocError>
     Ok(())
 }
 
-/// Yes or no, or a hyphen where nothing is said.
+/// Writes `yes` or `no`, or a hyphen if there is no answer.
 fn put_answer(out: &mut String, answer: Option<bool>) -> Result<(), AllocError>
     ensures { OnOk result (string_bytes out.new ≡ string_bytes out.old ++ yes_no_none answer) }
 {
@@ -132,7 +132,8 @@ fn put_answer(out: &mut String, answer: Option<bool>) -> Result<(), AllocError>
     Ok(())
 }
 
-/// In how many orders an outcome comes about; where counting has stopped, in more than one less.
+/// Writes after a space how many orders lead to an outcome. A count of 2^64 - 1 is written as more than
+/// 18446744073709551614.
 #[tactic(auto, unfolding(crate::specs::Text::count_text))]
 fn put_ways(out: &mut String, count: u64) -> Result<(), AllocError>
     ensures { OnOk result (string_bytes out.new ≡ string_bytes out.old ++ count_text count) }
@@ -144,7 +145,7 @@ fn put_ways(out: &mut String, count: u64) -> Result<(), AllocError>
     Ok(())
 }
 
-/// The line of an outcome, but its decisions.
+/// Writes the line of an outcome up to its decisions.
 fn put_verdict(
     out: &mut String,
     count: u64,
@@ -162,7 +163,7 @@ fn put_verdict(
     put_answer(out, obeyed)
 }
 
-/// The line of an outcome.
+/// Writes the line of an outcome.
 fn put_outcome(
     out: &mut String,
     scenario: &Scenario,
@@ -182,7 +183,7 @@ fn put_outcome(
     Ok(())
 }
 
-/// The lines of a finding: its outcome, and the schedule of its example.
+/// Writes the lines of a finding: its outcome, and the schedule of its example.
 fn put_finding(
     alloc: Global,
     out: &mut String,
@@ -200,7 +201,7 @@ fn put_finding(
     }
 }
 
-/// How many orders were counted.
+/// Returns how many orders were counted.
 fn counted(findings: &[DecisionGroup]) -> u64
     requires { counted_in findings.now < 2 ^ 64 }
     ensures { result ≡ counted_in findings.now }
@@ -208,7 +209,7 @@ fn counted(findings: &[DecisionGroup]) -> u64
     findings.iter().map(|finding| finding.count()).sum()
 }
 
-/// How many orders there are, to the end of the line.
+/// Writes how many orders were counted, and ends the line.
 fn put_count(out: &mut String, findings: &[DecisionGroup]) -> Result<(), AllocError>
     requires { counted_in findings.now < 2 ^ 64 }
     ensures { OnOk result (string_bytes out.new ≡ string_bytes out.old ++ further (counted_in findings.now)
@@ -219,7 +220,7 @@ fn put_count(out: &mut String, findings: &[DecisionGroup]) -> Result<(), AllocEr
     Ok(())
 }
 
-/// The first line.
+/// Writes the first line, which says how many orders there are.
 fn put_head(out: &mut String, reach: Reach, findings: &[DecisionGroup]) -> Result<(), AllocError>
     requires { reach ≢ Beyond → counted_in findings.now < 2 ^ 64 }
     ensures { OnOk result (string_bytes out.new ≡ string_bytes out.old ++ head_text reach (counted_in findings.now)) }
@@ -240,7 +241,7 @@ fn put_head(out: &mut String, reach: Reach, findings: &[DecisionGroup]) -> Resul
     }
 }
 
-/// The lines of all findings.
+/// Writes the lines of all findings.
 fn put_findings(
     alloc: Global,
     out: &mut String,
@@ -257,7 +258,7 @@ fn put_findings(
     Ok(())
 }
 
-/// The text of an exploration.
+/// Returns the text of an exploration.
 fn exploration_text(
     alloc: Global,
     scenario: &Scenario,
@@ -273,7 +274,7 @@ fn exploration_text(
     Ok(out)
 }
 
-/// The text of the schedule of a finding's example.
+/// Returns the text of the schedule of a finding's example.
 fn example_text(
     alloc: Global,
     scenario: &Scenario,
@@ -288,7 +289,7 @@ fn example_text(
     }
 }
 
-/// The texts of the schedules of the findings' examples.
+/// Returns the texts of the schedules of the findings' examples.
 fn example_texts(
     alloc: Global,
     scenario: &Scenario,
@@ -306,12 +307,13 @@ fn example_texts(
     Ok(texts)
 }
 
-/// What is printed of all orders, as by [`explored`], and for each outcome, in the same order, the text of a schedule
-/// by which the campaign comes to it, of no more bytes than a schedule may have.
+/// Returns the text of an exploration, as [`explored`] does, and the text of a schedule for each outcome, in the same
+/// order. By its schedule the campaign reaches the outcome. No such text has more than 1,048,576 bytes, the limit for
+/// schedules.
 ///
 /// # Errors
 ///
-/// `AllocError` where memory is refused.
+/// Fails with `AllocError` if it runs out of memory.
 pub fn explored_with_schedules(
     alloc: Global,
     scenario: &Scenario,
@@ -327,12 +329,12 @@ pub fn explored_with_schedules(
     Ok((text, schedules))
 }
 
-/// What is printed of all orders of an oral campaign, or of the `most` least ones where there are more: `u64::MAX` is
-/// no limit.
+/// Returns the text of an exploration of all orders of an oral campaign, or of the `most` least orders if there are
+/// more. If `most` is `u64::MAX`, all orders are explored.
 ///
 /// # Errors
 ///
-/// `AllocError` where memory is refused.
+/// Fails with `AllocError` if it runs out of memory.
 pub fn explored(alloc: Global, scenario: &Scenario, most: u64) -> Result<String, AllocError>
     ensures { IfOk result (λ text. (e : Explored) × IsExploration oral_kind oral_outcome scenario.now most e
         × (string_bytes text ≡ exploration_text oral_kind scenario.now e)) }

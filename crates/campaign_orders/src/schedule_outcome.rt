@@ -1,20 +1,20 @@
-//! What becomes of names that are to make their accesses in their order.
+//! The result of making a schedule from names: the schedule, or the access that cannot be made.
 use world::{Schedule, ScheduleLine};
 
-/// The entries of a round, or why there are none.
+/// The schedule entries of a round, or why there are none.
 #[derive(Drop)]
 pub enum Line {
     /// One entry for each access.
     Made(ScheduleLine),
-    /// The general who is named at this place, from 0, makes no access then.
+    /// The general at this index makes no access then. Indices are counted from 0.
     Stuck(usize),
 }
 
 /// A schedule, or why there is none.
 #[derive(Drop)]
 pub enum Scheduled {
-    /// By this schedule the accesses come in this order.
+    /// The schedule by which the accesses come in this order.
     By(Schedule),
-    /// In this round, from 0, the general who is named at this place, from 0, makes no access then.
+    /// The round and the index of a general who makes no access then. Both are counted from 0.
     Never(usize, usize),
 }

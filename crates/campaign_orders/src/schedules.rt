@@ -1,4 +1,4 @@
-//! Schedules under which generals make their accesses in an order.
+//! Makes the schedule under which generals make their accesses in a given order.
 ghost use Rattle.std.specs.Prelude.{◌≡◌, ◌≤◌, IfOk, IfSome, slice_get};
 ghost use Rattle.campaign_orders.specs.Planning.{BringsBack, IsLineOf, IsPlan, IsScheduleOf, IsStepTo};
 ghost use Rattle.world.specs.Kind.{opening};
@@ -10,7 +10,7 @@ use round::Scenario;
 use std::alloc::{AllocError, Global};
 use world::{PlayableWorld, Progress, Repeat, Schedule, ScheduleLine, World, parts, wind_up};
 
-/// How many instructions the program of an acting general has, 1 to 4,096; none where nobody acts.
+/// Returns how many instructions the program of an acting general has, 1 to 4,096. Returns `None` if he is not acting.
 pub(crate) fn instructions(standing: &[Progress], general: u8) -> Option<u16>
     ensures same { result ≡ program_length (slice_get standing.now general) }
     ensures few { IfSome result (λ most. most ≤ 4096) }
@@ -23,7 +23,8 @@ pub(crate) fn instructions(standing: &[Progress], general: u8) -> Option<u16>
     }
 }
 
-/// A general's steps until he has made one more access; none where he is to make none.
+/// Takes the steps of a general until he has made one more access, and returns how many they are. Returns `None` if he
+/// makes no further access in the open round.
 pub(crate) fn steps_to_access<W: PlayableWorld>(
     world: &mut W,
     general: u8,
@@ -42,7 +43,8 @@ pub(crate) fn steps_to_access<W: PlayableWorld>(
     Ok(Some(ahead as u16 + 1))
 }
 
-/// The entries of a round in which these make their accesses in this order; the world is then as they have made them.
+/// Returns the schedule entries of a round in which these generals make their accesses in this order. The world is left
+/// after these accesses.
 fn line_of<W: PlayableWorld>(world: &mut W, alloc: Global, names: &[u8]) -> Result<Line, AllocError>
     ensures { IfOk result (λ line. IsLineOf W.kind (W.seen world.old) names.now (W.seen world.new) line) }
 {
@@ -59,12 +61,13 @@ fn line_of<W: PlayableWorld>(world: &mut W, alloc: Global, names: &[u8]) -> Resu
     Ok(Line::Made(ScheduleLine { repeats }))
 }
 
-/// The schedule by which these, round by round, make their accesses in this order, from a world where a round begins:
-/// one entry for each access. Else the first of them that makes none then.
+/// Returns the schedule by which these generals make their accesses in this order, from a world in which a round
+/// begins. `names` lists the generals by round. The schedule has one entry for each access. If some general makes no
+/// access then, the first such round and index are returned.
 ///
 /// # Errors
 ///
-/// `AllocError` where memory is refused.
+/// Fails with `AllocError` if it runs out of memory.
 pub fn schedule_from<W: PlayableWorld + Drop>(
     mut world: W,
     alloc: Global,
@@ -85,13 +88,13 @@ pub fn schedule_from<W: PlayableWorld + Drop>(
     Ok(Scheduled::By(Schedule { lines }))
 }
 
-/// The schedule by which these, round by round, make their accesses in this order in an oral campaign, before all
-/// others. Where they are those who made the accesses of a campaign of this scenario, however it was played, the
-/// schedule brings that campaign back.
+/// Returns the schedule by which these generals make their accesses in this order in an oral campaign, before all
+/// others. `names` lists the generals by round. If they are the generals who made the accesses of a complete run of
+/// this scenario, the schedule repeats that run.
 ///
 /// # Errors
 ///
-/// `AllocError` where memory is refused.
+/// Fails with `AllocError` if it runs out of memory.
 pub fn schedule_names(
     alloc: Global,
     scenario: Scenario,

@@ -1,4 +1,4 @@
-//! Worlds to which many beginnings of orders lead.
+//! States of an exploration: a world with the beginnings of orders that lead to it.
 ghost use Rattle.std.specs.Prelude.{◌≡◌, ◌++◌, ◌∷◌, [], IfOk, IsTrue};
 ghost use Rattle.std.specs.Ordering.{is_lt};
 ghost use Rattle.campaign_orders.specs.Layers.{IsAhead, State as StateSeen, begins_cmp, joined};
@@ -18,19 +18,20 @@ use std::alloc::{AllocError, Global};
 use std::marker::Model;
 use world::{PlayableWorld, Progress, World};
 
-/// A world, in how many ways it or an alike one comes about, and the least of these ways.
+/// A state: a world, how many beginnings of orders lead to it or to an alike world, and the least of these beginnings.
 #[derive(Drop)]
 pub(crate) struct State {
+    /// The world, in which each activation may have been run on to its next request or its end.
     pub(crate) world: World,
-    /// At most 2^64 - 1: more are not counted.
+    /// How many beginnings of orders lead here, at most 2^64 - 1. Further ones are not counted.
     pub(crate) ways: u64,
-    /// Who made the accesses of the closed rounds.
+    /// The generals who made the accesses of the closed rounds, by round.
     pub(crate) rows: Vec<Vec<u8>>,
-    /// Who made those of the open one.
+    /// The generals who made the accesses of the open round.
     pub(crate) names: Vec<u8>,
-    /// Alike worlds have the same, others seldom.
+    /// A hash of the world. Alike worlds have the same mark, and other worlds seldom do.
     pub(crate) mark: u64,
-    /// In a layer where the state of the same mark stands that was entered before.
+    /// In a layer, the index of the state with the same mark that was entered last before this one.
     pub(crate) before: Option<usize>,
 }
 
@@ -49,7 +50,7 @@ impl Model for State {
 }
 
 impl State {
-    /// With its mark.
+    /// Returns a state with its mark computed from the world.
     pub(crate) fn new(world: World, ways: u64, rows: Vec<Vec<u8>>, names: Vec<u8>) -> State
         ensures { result ≡ record { world = world; ways = ways; rows = lists_in rows.items; names = names.items } }
     {
@@ -64,7 +65,7 @@ impl State {
         }
     }
 
-    /// The same, with that place of one before.
+    /// Returns the same state with another index in the field `before`.
     pub(crate) fn behind(self, before: Option<usize>) -> State
         ensures { result ≡ self }
     {
@@ -73,11 +74,7 @@ impl State {
         state
     }
 
-    /// The one state before the first access.
-    ///
-    /// # Errors
-    ///
-    /// `AllocError` where memory is refused.
+    /// Returns the one state before the first access.
     pub(crate) fn opening(alloc: Global, scenario: &Scenario) -> Result<State, AllocError>
         ensures { IfOk result (λ state. state ≡ record {
           world = opening oral_kind scenario.now;
@@ -90,7 +87,8 @@ impl State {
         Ok(State::new(world, 1, Vec::new(alloc), Vec::new(alloc)))
     }
 
-    /// It comes about as the other, alike one does too: in the ways of both, and in the lesser of their beginnings.
+    /// Joins this state with one whose world is alike. Their numbers of beginnings are added. The world and the
+    /// beginning are those of the state with the lesser beginning.
     pub(crate) fn join(&mut self, other: State)
         ensures { self.new ≡ joined self.old other }
     {
@@ -103,12 +101,8 @@ impl State {
     }
 }
 
-/// The state of this world, to which the general has made an access behind these rounds and accesses: each activation
-/// is run on from there.
-///
-/// # Errors
-///
-/// `AllocError` where memory is refused.
+/// Returns the state of `world`, whose last access is that of `general` after these rounds and accesses. Its
+/// activations are run on.
 pub(crate) fn with_access(
     alloc: Global,
     world: World,
@@ -127,13 +121,14 @@ pub(crate) fn with_access(
     Ok(State::new(world, ways, rows, names))
 }
 
-/// A number mixed into a mark.
+/// Mixes a number into a mark.
 fn mixed(mark: u64, number: u64) -> u64 {
     let product = (mark ^ number).wrapping_mul(0x9E37_79B9_7F4A_7C15);
     product ^ (product >> 32)
 }
 
-/// The mark of a world: its words, and of each activation its steps and what its registers hold, mixed.
+/// Returns the mark of a world. It is computed from the board's words and, for each activation, its steps and
+/// registers.
 fn mark_of(world: &World) -> u64 {
     let mut mark = 0;
     for word in world.words().as_slice() {
@@ -149,7 +144,7 @@ fn mark_of(world: &World) -> u64 {
     mark
 }
 
-/// An activation mixed into a mark.
+/// Mixes the steps and the registers of an activation into a mark.
 fn mixed_activation(mark: u64, activation: &Machine) -> u64 {
     let mut mark = mixed(mark, u64::from(activation.steps()));
     for number in 0..10u8 {
@@ -160,7 +155,7 @@ fn mixed_activation(mark: u64, activation: &Machine) -> u64 {
     mark
 }
 
-/// A number for what a register holds.
+/// Returns a number for what a register holds.
 fn word_of(value: Value) -> u64 {
     match value {
         Value::Unset => 0,
@@ -169,7 +164,7 @@ fn word_of(value: Value) -> u64 {
     }
 }
 
-/// Whether its beginning is less than that of the other.
+/// Checks whether the beginning of a state is less than that of another state.
 fn begins_before(state: &State, other: &State) -> bool
     ensures { result ≡ is_lt (begins_cmp state.now other.now) }
 {
@@ -177,7 +172,7 @@ fn begins_before(state: &State, other: &State) -> bool
     rounds.then(state.names.cmp(&other.names)).is_lt()
 }
 
-/// Whether their worlds are found to be alike.
+/// Checks whether the worlds of two states are found to be alike.
 pub(crate) fn is_like(state: &State, other: &State) -> bool
     ensures { IsTrue result → state.now.world.scenario ≡ other.now.world.scenario →
         AreAlike state.now.world other.now.world }

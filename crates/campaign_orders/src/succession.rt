@@ -1,11 +1,12 @@
-//! Which order comes next.
+//! The order of accesses that comes next in the list of a campaign's orders.
 ghost use Rattle.std.specs.Prelude.{◌≡◌, IfOk, option_map};
 ghost use Rattle.campaign_orders.specs.Succession.{least_above, nearer, next_names, next_order};
 ghost use Rattle.world.specs.Playing.{lists_in};
 
 use std::alloc::AllocError;
 
-/// The lesser of the least so far and one more, where that is above the general.
+/// Returns the lesser of `least` and `other` if `other` is greater than `general`, and otherwise `least`. `None` is
+/// greater than every general.
 fn nearer(general: u8, other: u8, least: Option<u8>) -> Option<u8>
     ensures { result ≡ nearer general other least }
 {
@@ -18,7 +19,7 @@ fn nearer(general: u8, other: u8, least: Option<u8>) -> Option<u8>
     }
 }
 
-/// The least of the names that is above the general.
+/// Returns the least of the names that is greater than `general`, if there is one.
 fn least_above(general: u8, names: &[u8]) -> Option<u8>
     ensures { result ≡ least_above general names.now }
 {
@@ -31,8 +32,8 @@ fn least_above(general: u8, names: &[u8]) -> Option<u8>
     least
 }
 
-/// The beginning of the order that comes behind this one in a round: up to the last place where a greater name still
-/// comes, and the least such name there; none where there is no such place.
+/// Returns how the next order of a round begins. It is the same up to the last index at which a greater name still
+/// follows. At that index it has the least such name. Returns `None` if there is no such index.
 fn next_names(mut names: Vec<u8>) -> Option<Vec<u8>>
     ensures { option_map (λ next. next.items) result ≡ next_names names.items }
 {
@@ -48,11 +49,7 @@ fn next_names(mut names: Vec<u8>) -> Option<Vec<u8>>
     None
 }
 
-/// The beginning of the order that comes behind this one, round by round; none behind the last.
-///
-/// # Errors
-///
-/// `AllocError` where memory is refused.
+/// Returns how the order after this one begins, by round, or `None` if this order is the last.
 pub(crate) fn next_order(mut order: Vec<Vec<u8>>) -> Result<Option<Vec<Vec<u8>>>, AllocError>
     ensures { IfOk result (λ next. option_map (λ names. lists_in names.items) next
         ≡ next_order (lists_in order.items)) }

@@ -17,33 +17,35 @@ use Rattle.campaign_schedules.specs.declared.fault.AccessesError.{AccessesError}
 use Rattle.campaign_schedules.specs.declared.fault.AccessesError.TheVariants.{At, Memory}
 use Rattle.campaign_schedules.specs.Accesses.{accesses_told}
 
--- the rounds before one, and of it the accesses before a place, both from 0
+-- Returns the rounds before a round, and that round's accesses before a place. Both are counted from 0.
 abbrev pub until : List (List ℕ) → ℕ → ℕ → List (List ℕ)
 until [] round place = []
 until (names ∷ rows) zero place = take place names ∷ []
 until (names ∷ rows) (suc round) place = names ∷ until rows round place
 
--- who is listed there
+-- Returns the general who is listed at a round and place, if there is one.
 abbrev pub listed_at : List (List ℕ) → ℕ → ℕ → Option ℕ
 listed_at rows round place = option_and_then (λ row. slice_get row place) (slice_get rows round)
 
--- an order has in each round before this one the listed accesses and then the others' by number, and begins this one
--- with the listed accesses up to this place
+-- States that the order has, in each round before this one, the listed accesses and then those of others in ascending
+-- order. In this round it begins with the listed accesses up to and including this place.
 abbrev pub BeginsSo : List (List ℕ) → ℕ → ℕ → List (List ℕ) → Type 0
 BeginsSo (names ∷ rows) zero place (row ∷ order) = (rest : List ℕ) × (row ≡ take (suc place) names ++ rest)
 BeginsSo (names ∷ rows) (suc round) place (row ∷ order) = Continues names row × BeginsSo rows round place order
 BeginsSo _ _ _ _ = ⊥
 
--- the accesses before this one can come, and behind them, in each earlier round with the others' by number, he is to
--- make none; so no complete run that begins with them goes on with this one
+-- States that the access at this round and place is the first that cannot come. The accesses before it can come, and
+-- after them, with those of others in ascending order in each earlier round, its general makes no further access. So no
+-- complete run has these accesses and then this one.
 pub record IsFirstThatCannot (s : Scenario) (rows : List (List ℕ)) (round place : ℕ) : Type 0 where
   pub stuck : IsStuckIn oral_kind (opening oral_kind s) rows round place
   pub before : IsCompletion (until rows round place)
       (order_of oral_kind s (replayed oral_kind s (until rows round place)))
   pub never : (order : List (List ℕ)) → IsOrder oral_kind s order → BeginsSo rows round place order → ⊥
 
--- the accesses can come, so none is listed past the last round; and the lines are the text of a schedule by which they
--- come in this order in each round, and behind them the others' by number: it has one entry for each that is listed
+-- States that the listed accesses can come, and that the lines are the text of a schedule by which they do. In each
+-- round they come in this order, and then those of others in ascending order. The schedule has one entry for each
+-- listed access.
 pub record IsArrangement (s : Scenario) (rows : List (List ℕ)) (lines : List ℕ) : Type 0 where
   pub walks : AreWalks oral_kind (opening oral_kind s) rows
   pub schedule : List (List Repeat)
@@ -52,25 +54,26 @@ pub record IsArrangement (s : Scenario) (rows : List (List ℕ)) (lines : List �
   pub read : IsReadAs lines schedule
   pub comes : IsCompletion rows (order_of oral_kind s (listed s (lines_by schedule)))
 
+-- States that the text lists accesses, and that the lines are the text of a schedule by which they come.
 abbrev pub IsArranged : Scenario → List ℕ → List ℕ → Type 0
 IsArranged s text lines = (rows : List (List ℕ)) × (accesses_told text ≡ Ok rows) × IsArrangement s rows lines
 
+-- States that some general is listed at this round and place.
 abbrev pub IsListedAt : List (List ℕ) → ℕ → ℕ → Type 0
 IsListedAt rows round place = (general : ℕ) × (listed_at rows round place ≡ Some general)
 
--- the fault of the access at this place of this round, both from 0
+-- States that this is the fault of the access at this round and place, which are counted from 0.
 abbrev pub IsNever : List (List ℕ) → ℕ → ℕ → AccessFault → Type 0
 IsNever rows r p (Text round place) = ⊥
 IsNever rows r p (Never round place general) = (round ≡ suc r) × (place ≡ suc p) × (listed_at rows r p ≡ Some general)
 
--- the text lists no accesses, by this first fault, or this is the first that cannot come: the round and the place from
--- 1
+-- States that this is the first fault of the list, or that it is the fault of the first access that cannot come.
 abbrev pub IsUnarranged : Scenario → List ℕ → AccessFault → Type 0
 IsUnarranged s text (Text round place) = accesses_told text ≡ Err (Text round place)
 IsUnarranged s text (Never round place general) = (rows : List (List ℕ)) × (accesses_told text ≡ Ok rows)
     × ((r : ℕ) × ((p : ℕ) × IsNever rows r p (Never round place general) × IsFirstThatCannot s rows r p))
 
--- the error is such a fault, or want of memory
+-- States that, if the error has a fault, `P` holds of the fault.
 abbrev pub IfFault : AccessesError → (AccessFault → Type 0) → Type 0
 IfFault (At fault) P = P fault
 IfFault Memory P = Unit {0}

@@ -5,20 +5,20 @@ use Rattle.world.specs.declared.schedule.Repeat.{Repeat}
 use Rattle.campaign_orders.specs.Text.{schedule_text}
 use Rattle.trace.specs.Schedules.{schedule_told}
 
--- a general's number, and how often he acts
+-- States that an entry has the number of a general, 0 to 12, and 1 to 4,096 turns.
 pub record IsEntry (r : Repeat) : Type 0 where
   pub general : r.general ≤ 12
   pub least : 1 ≤ r.times
   pub most : r.times ≤ 4096
 
--- the text of a schedule of such entries, of at most five lines and so many bytes as a schedule may have, is read as
--- that schedule
+-- States that the text of a schedule is read as that schedule. The schedule has at most five lines, and its text at
+-- most 1,048,576 bytes.
 abbrev pub SchedulesAreRead : Type 0
 SchedulesAreRead =
     (lines : List (List Repeat)) → AllByRecursion (AllByRecursion IsEntry) lines → length lines ≤ 5 →
     length (schedule_text lines) ≤ 1048576 →
     schedule_told (schedule_text lines) ≡ Ok lines
 
--- a text is read as this schedule
+-- States that the text is read as this schedule.
 abbrev pub IsReadAs : List ℕ → List (List Repeat) → Type 0
 IsReadAs text schedule = schedule_told text ≡ Ok schedule

@@ -1,4 +1,4 @@
--- Schedules by which a campaign comes again (own).
+-- Schedules that repeat a campaign (own).
 use Rattle.std.specs.Prelude.{ℕ, suc, ◌≡◌, List}
 use Rattle.board.specs.Board.{Access}
 use Rattle.round.specs.Scenario.{Scenario}
@@ -13,18 +13,18 @@ use Rattle.campaign_orders.specs.Text.{schedule_text}
 use Rattle.trace.specs.Names.{chronicle_told}
 use Rattle.campaign_schedules.specs.Reading.{IsReadAs}
 
--- the accesses of a complete run
+-- States that these are the accesses of a complete run.
 abbrev pub IsLedgerOfRun : Scenario → List Access → Type 0
 IsLedgerOfRun s accesses = (events : List Event) × IsComplete s events × ((run (opening s) events).ledger ≡ accesses)
 
--- played by the schedule, each complete run with these accesses comes again
+-- States that a campaign played by the schedule is each complete run with these accesses.
 abbrev pub ComesAgain : Scenario → List Access → List (List Repeat) → Type 0
 ComesAgain s accesses schedule =
     (events : List Event) → IsComplete s events → (run (opening s) events).ledger ≡ accesses →
     run (opening s) (listed s (lines_by schedule)) ≡ run (opening s) events
 
--- the lines are the text of a schedule by which the campaign has the chronicle that a text tells: it has one entry for
--- each access, in their order
+-- States that the lines are the text of a schedule by which the campaign has the chronicle that the text contains. The
+-- schedule has one entry for each access, in their order.
 pub record IsRetraced (s : Scenario) (text lines : List ℕ) : Type 0 where
   pub schedule : List (List Repeat)
   pub entries : schedule ≡ schedule_from oral_kind (opening s)

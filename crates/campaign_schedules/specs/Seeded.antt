@@ -4,29 +4,31 @@ use Rattle.rand_chacha.specs.ChaCha.{ChaCha, next_word, of_seed}
 use Rattle.rand_core.specs.Pcg32Seed.{pcg32_seed}
 use Rattle.world.specs.declared.schedule.Repeat.{Repeat}
 
--- so many words of ChaCha with 8 rounds, and the generator behind them
+-- Returns the next words of ChaCha with 8 rounds, as many as the first argument says.
 abbrev pub words : ℕ → ChaCha → List ℕ
 words zero generator = []
 words (suc n) generator = (next_word 4 generator).0 ∷ words n (next_word 4 generator).1
 
+-- Returns the generator after the given number of words.
 abbrev pub after : ℕ → ChaCha → ChaCha
 after zero generator = generator
 after (suc n) generator = after n (next_word 4 generator).1
 
--- how often less one: below 4 or, by a bit, below 256, so that short and long programs are interleaved
+-- Returns how many further turns an entry gives: 0 to 3, or 0 to 255 if it is long. So short and long runs of programs
+-- are interleaved.
 abbrev pub more_times : Bool → ℕ → ℕ
 more_times true x = x % 256
 more_times false x = x % 4
 
--- one of 13 generals, 1 to 256 times
+-- Returns the schedule entry for a word: one of 13 generals, with 1 to 256 turns.
 abbrev pub entry_of : ℕ → Repeat
 entry_of word = record { general = word % 13; times = more_times (word / 4096 % 2 == 1) (word / 65536) + 1 }
 
--- so many lines of 128 entries
+-- Returns schedule lines of 128 entries each, as many as the first argument says.
 abbrev pub lines_from : ℕ → ChaCha → List (List Repeat)
 lines_from zero generator = []
 lines_from (suc n) generator = map entry_of (words 128 generator) ∷ lines_from n (after 128 generator)
 
--- the schedule of a seed: five lines
+-- Returns the schedule of a seed, which has five lines.
 unfoldable pub seeded : ℕ → List (List Repeat)
 seeded seed = lines_from 5 (of_seed (pcg32_seed 32 seed))

@@ -1,4 +1,5 @@
-//! Which accesses a text lists. Whether it lists any is told without memory.
+//! Parses a list of accesses: for each round the generals who make them. Whether the text is valid is decided without
+//! memory.
 ghost use Rattle.std.specs.Prelude.{◌≡◌, ◌+◌, ◌∷◌, ◌<◌, ◌≤◌, ◌^◌, ℕ, List, [], Err, Ok, Some, IfErr, IfOk, OnOk, MatchResult, vec_len};
 ghost use Rattle.std.specs.Result.{result_err};
 ghost use Rattle.campaign_schedules.specs.Accesses.{accesses_told, general_of, row_fault, row_told, slash};
@@ -17,10 +18,10 @@ const SLASH: Stop = Stop::Byte(b'/');
 
 const SPACE: Stop = Stop::Byte(b' ');
 
-/// As many rounds as a schedule may have.
+/// The largest number of rounds in a schedule.
 const MOST_ROUNDS: u64 = 5;
 
-/// The number of a general.
+/// Returns the general whose number the part is, 0 to 12, if it is one.
 #[tactic(auto, unfolding(crate::specs::Accesses::general_of))]
 fn general_of(part: &[u8]) -> Option<u8>
     ensures { result ≡ general_of part.now }
@@ -33,11 +34,11 @@ fn general_of(part: &[u8]) -> Option<u8>
     }
 }
 
-/// The place behind a part of this round at this place: an empty one takes none.
+/// Returns the place after a part. An empty part takes no place.
 ///
 /// # Errors
 ///
-/// That the part is no number of a general.
+/// Returns the fault `Text` if the part is not the number of a general.
 fn place_behind(round: u64, place: u64, part: &[u8]) -> Result<u64, AccessFault>
     requires { place + 1 < 2 ^ 64 }
     ensures behind { (parts : List (List ℕ)) → MatchResult result
@@ -54,7 +55,7 @@ fn place_behind(round: u64, place: u64, part: &[u8]) -> Result<u64, AccessFault>
     }
 }
 
-/// The first part of this round that is no number of a general, if there is one.
+/// Returns the fault of the first part in this round that is not the number of a general, if there is one.
 fn row_fault(round: u64, text: &[u8]) -> Option<AccessFault>
     ensures { result ≡ row_fault round 1 (pieces space text.now) }
 {
@@ -71,7 +72,8 @@ fn row_fault(round: u64, text: &[u8]) -> Option<AccessFault>
     None
 }
 
-/// Why a text lists no accesses: the first part that is no number of a general, or a sixth round.
+/// Returns why the text is not a list of accesses, if it is not: the first part that is not the number of a general, or
+/// a sixth round.
 #[tactic(auto, unfolding(crate::specs::Accesses::accesses_told), using(crate::proofs::Listed::told_fault))]
 fn fault_of(text: &str) -> Option<AccessFault>
     ensures { result ≡ result_err (accesses_told text.now) }
@@ -92,7 +94,7 @@ fn fault_of(text: &str) -> Option<AccessFault>
     None
 }
 
-/// Takes in the general whom a part names, if it names one.
+/// Appends the general whom a part names, if it names one.
 #[tactic(auto, using(crate::proofs::Listed::taken_in, crate::proofs::Listed::passed_by))]
 fn take_in(row: &mut Vec<u8>, part: &[u8]) -> Result<(), AllocError>
     ensures { OnOk result ((round : ℕ) (told : List ℕ) (parts : List (List ℕ)) →
@@ -105,7 +107,7 @@ fn take_in(row: &mut Vec<u8>, part: &[u8]) -> Result<(), AllocError>
     Ok(())
 }
 
-/// The generals of a round.
+/// Returns the generals whom the text of one round names.
 fn row_of(alloc: Global, text: &[u8]) -> Result<Vec<u8>, AllocError>
     ensures { IfOk result (λ row. (round : ℕ) (told : List ℕ) →
         row_told round [] (pieces space text.now) ≡ Ok told → told ≡ row.items) }
@@ -120,7 +122,7 @@ fn row_of(alloc: Global, text: &[u8]) -> Result<Vec<u8>, AllocError>
     Ok(row)
 }
 
-/// The generals of each round.
+/// Returns the generals whom each round of the text names.
 #[tactic(auto, unfolding(crate::specs::Accesses::accesses_told), using(crate::proofs::Listed::row_taken))]
 fn rows_of(alloc: Global, text: &str) -> Result<Vec<Vec<u8>>, AllocError>
     ensures { IfOk result (λ rows. (told : List (List ℕ)) →
@@ -136,11 +138,12 @@ fn rows_of(alloc: Global, text: &str) -> Result<Vec<Vec<u8>>, AllocError>
     Ok(rows)
 }
 
-/// The generals of each round.
+/// Returns the generals whom each round of the text names, in at most 5 rounds.
 ///
 /// # Errors
 ///
-/// Why the text lists no accesses, which is told without memory; else want of memory.
+/// Returns the first fault if the text is not a list of accesses, without needing memory. Otherwise it fails only with
+/// `Memory`, if it runs out of memory.
 #[tactic(auto, using(crate::proofs::Listed::listed, crate::proofs::Listed::faulty))]
 pub(crate) fn accesses_of(alloc: Global, text: &str) -> Result<Vec<Vec<u8>>, AccessesError>
     ensures told { IfOk result (λ rows. accesses_told text.now ≡ Ok (lists_in rows.items)) }

@@ -1,4 +1,4 @@
-//! Schedules by which generals come to the board in an order that is listed.
+//! Makes the schedule by which generals access the board in a listed order.
 ghost use Rattle.std.specs.Prelude.{◌≡◌, Err, IfErr, IfOk, string_bytes};
 ghost use Rattle.campaign_schedules.specs.Accesses.{accesses_told};
 ghost use Rattle.campaign_schedules.specs.Arranged.{IfFault, IsArranged, IsListedAt, IsNever, IsUnarranged};
@@ -12,7 +12,8 @@ use campaign_orders::{Scheduled, recall_short, schedule_names, schedule_text};
 use round::Scenario;
 use std::alloc::Global;
 
-/// That the access at this place of this round, both from 0, cannot come.
+/// Returns the fault that the access at this round and index cannot come. Both arguments are counted from 0, and the
+/// numbers of the fault from 1.
 fn never(rows: &[Vec<u8>], round: usize, place: usize) -> AccessFault
     requires { IsListedAt (lists_in rows.now) round place }
     ensures { IsNever (lists_in rows.now) round place result }
@@ -26,14 +27,15 @@ fn never(rows: &[Vec<u8>], round: usize, place: usize) -> AccessFault
     }
 }
 
-/// The text of a schedule, one entry for each access, by which the generals come to the board in the order that this
-/// text lists: in each round the listed ones make their accesses first, and then all go to their ends. Rounds are
-/// parted by slashes, and the generals of a round by spaces. The text is read as its schedule.
+/// Returns the text of a schedule by which the generals access the board in the order that `text` lists. In each round
+/// the listed generals make their accesses first, and then all generals go to their ends. The schedule has one entry
+/// for each listed access. In `text`, slashes separate the rounds, and spaces separate the generals of a round. The
+/// returned text is read as the same schedule.
 ///
 /// # Errors
 ///
-/// The first part of the text that is no number of a general, whatever memory there is; then the first access that
-/// cannot come there, or want of memory.
+/// Returns the fault of the first part that is not the number of a general, or of a sixth round, without needing
+/// memory. Otherwise it returns the fault of the first access that cannot come, or `Memory` if it runs out of memory.
 pub fn arranged(alloc: Global, scenario: &Scenario, text: &str) -> Result<String, AccessesError>
     ensures arranged { IfOk result (λ lines. IsArranged scenario.now text.now (string_bytes lines)) }
     ensures unarranged { IfErr result (λ e. IfFault e (IsUnarranged scenario.now text.now)) }

@@ -1,3 +1,4 @@
+//! Errors of listed accesses: what is wrong with the list, and why there is no schedule.
 ghost use Rattle.std.specs.Prelude.{◌≡◌};
 ghost use Rattle.campaign_schedules.specs.declared.fault.AccessesError.TheVariants.{Memory};
 
@@ -5,13 +6,14 @@ use std::alloc::{AllocError, AllocFailed};
 use std::error::Error;
 use std::fmt;
 
-/// What is wrong with a text that lists accesses.
+/// What is wrong with a list of accesses.
 #[derive(Clone, Copy, Debug, PartialEq, Eq, Drop)]
 pub enum AccessFault {
-    /// In this round the part at this place is no number of a general, 0 to 12; or it is a sixth round. Both count from
-    /// 1.
+    /// The part at this round and place is not the number of a general, 0 to 12, or the round is a sixth one. Round and
+    /// place are counted from 1.
     Text(u64, u64),
-    /// In this round the access at this place, of this general, is the first that cannot come there. Both count from 1.
+    /// The access at this round and place, by this general, is the first that cannot come. Round and place are counted
+    /// from 1.
     Never(u64, u64, u8),
 }
 

@@ -1,4 +1,4 @@
-//! Schedules: that of a chronicle, that of listed accesses, and that of a seed.
+//! Makes schedules: from a chronicle, from listed accesses, or from a seed.
 #![tactic(auto)]
 
 mod access_list;

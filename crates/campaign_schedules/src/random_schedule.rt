@@ -1,4 +1,4 @@
-//! The random schedule of a seed.
+//! Makes the random schedule of a seed.
 ghost use Rattle.std.specs.Prelude.{◌≡◌, ◌<◌, IfOk, Ok, map, string_bytes};
 ghost use Rattle.campaign_schedules.specs.Seeded.{after, entry_of, more_times, seeded, words};
 ghost use Rattle.campaign_orders.specs.Text.{schedule_text};
@@ -12,13 +12,13 @@ use rand_core::utils::NextWord;
 use std::alloc::{AllocError, Global};
 use world::{Repeat, Schedule, ScheduleLine};
 
-/// As many lines as a schedule may have: one for each round.
+/// The number of lines, which is the largest that a schedule may have: one for each round.
 const LINES: u8 = 5;
 
-/// The entries of each line.
+/// The number of entries in each line.
 const ENTRIES: u8 = 128;
 
-/// How often less one: below 4 or, where it is to be long, below 256.
+/// Returns how many further turns an entry gives a general: 0 to 3, or 0 to 255 if the entry is long.
 fn more_times(is_long: bool, number: u32) -> u16
     ensures times { result ≡ more_times is_long number }
     ensures few { result < 256 }
@@ -30,7 +30,7 @@ fn more_times(is_long: bool, number: u32) -> u16
     }
 }
 
-/// The entry that a word of the generator gives: one of 13 generals, 1 to 256 times.
+/// Returns the schedule entry for a word of the generator: one of 13 generals, with 1 to 256 turns.
 fn entry_of(word: u32) -> Repeat
     ensures { result ≡ entry_of word }
 {
@@ -40,7 +40,7 @@ fn entry_of(word: u32) -> Repeat
     }
 }
 
-/// The entries that the next words of the generator give.
+/// Returns the 128 entries for the next words of the generator.
 fn line(alloc: Global, generator: &mut ChaCha8Rng) -> Result<ScheduleLine, AllocError>
     ensures entries { IfOk result (λ line. line ≡ map entry_of (words 128 generator.old)) }
     ensures after { IfOk result (λ _. generator.new ≡ after 128 generator.old) }
@@ -54,7 +54,7 @@ fn line(alloc: Global, generator: &mut ChaCha8Rng) -> Result<ScheduleLine, Alloc
     Ok(ScheduleLine { repeats })
 }
 
-/// The random schedule of this seed.
+/// Returns the random schedule of a seed.
 fn seeded_schedule(alloc: Global, seed: u64) -> Result<Schedule, AllocError>
     ensures { IfOk result (λ schedule. schedule ≡ seeded seed) }
 {
@@ -68,11 +68,12 @@ fn seeded_schedule(alloc: Global, seed: u64) -> Result<Schedule, AllocError>
     Ok(Schedule { lines })
 }
 
-/// The text of the random schedule of this seed: five lines, each of 128 entries, by the words of ChaCha with 8 rounds.
+/// Returns the text of the random schedule of a seed: five lines of 128 entries each, drawn from the words of ChaCha
+/// with 8 rounds.
 ///
 /// # Errors
 ///
-/// `AllocError` where memory is refused.
+/// Fails with `AllocError` if it runs out of memory.
 pub fn seeded(alloc: Global, seed: u64) -> Result<String, AllocError>
     ensures text { IfOk result (λ text. string_bytes text ≡ schedule_text (seeded seed)) }
     ensures read { IfOk result (λ text. schedule_told (string_bytes text) ≡ Ok (seeded seed)) }

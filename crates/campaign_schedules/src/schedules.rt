@@ -1,4 +1,4 @@
-//! Schedules by which campaigns come again.
+//! Makes the schedule that repeats a campaign, from its chronicle or from its accesses.
 ghost use Rattle.std.specs.Prelude.{◌≡◌, ◌≢◌, suc, IfOk, IfErr, string_bytes};
 ghost use Rattle.campaign_orders.specs.Schedules.{schedule_from};
 ghost use Rattle.campaign_orders.specs.Text.{schedule_text};
@@ -18,13 +18,13 @@ use std::alloc::{AllocError, Global};
 use trace::{TraceError, sound_chronicle};
 use world::Schedule;
 
-/// The text of a schedule, one entry for each access, by which the scenario's campaign has the chronicle that this text
-/// tells: in each round the generals make their accesses in its order, and then all go to their ends. It is read as
-/// that schedule.
+/// Returns the text of a schedule by which the scenario's campaign has the chronicle that `text` contains. The schedule
+/// has one entry for each access. In each round the generals make their accesses in the order of the chronicle, and
+/// then all go to their ends. The returned text is read as the same schedule.
 ///
 /// # Errors
 ///
-/// As `trace::sound_chronicle`: the text is no chronicle of the scenario's, or memory is refused.
+/// Fails as `trace::sound_chronicle` does: if the text is not a chronicle of the scenario, or if it runs out of memory.
 pub fn retraced(alloc: Global, scenario: &Scenario, text: &str) -> Result<String, TraceError>
     ensures sound { IfOk result (λ _. IsSoundText scenario.now text.now) }
     ensures retraced { IfOk result (λ lines. IsRetraced scenario.now text.now (string_bytes lines)) }
@@ -37,11 +37,11 @@ pub fn retraced(alloc: Global, scenario: &Scenario, text: &str) -> Result<String
     Ok(schedule_text(alloc, &schedule)?)
 }
 
-/// The schedule, one entry for each access, by which the scenario's campaign of these accesses comes again.
+/// Returns the schedule, with one entry for each access, by which the scenario's campaign has these accesses again.
 ///
 /// # Errors
 ///
-/// `AllocError` where memory is refused.
+/// Fails with `AllocError` if it runs out of memory.
 pub fn schedule_of(
     alloc: Global,
     scenario: &Scenario,

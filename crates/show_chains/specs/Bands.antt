@@ -17,15 +17,15 @@ stroke_line n top x =
     let end = top + 16 + 16 * n + 6 * min st.row 8 in
     stroke_at (kind st) (min st.labels 5) (column st.teller) top (column st.receiver) end (stroke_words x)
 
--- The row of a stroke in its receiver's list.
+-- The row of a signed campaign's stroke in its receiver's list.
 abbrev pub row : ℕ → Drawn → List ℕ
 row top x =
     let st = x.stroke in
     group_at (column st.receiver) (top + 12 + 18 * st.row)
     (title (stroke_words x) ++ mark (kind st) (outline st) ++ text_at (codes "small") 12 4 (row_words x))
 
--- The line and the row of a stroke, if it belongs to this round. The strokes begin at the height `top`, and the lists
--- at `below`.
+-- The line and the row of a signed campaign's stroke, if it belongs to this round. The strokes begin at the height
+-- `top`, and the lists at `below`.
 abbrev pub drawn_at : ℕ → ℕ → ℕ → ℕ → Drawn → List ℕ
 drawn_at n top below round x = if x.stroke.round == round then stroke_line n top x ++ row below x else []
 

@@ -28,7 +28,7 @@ key_start =
     ++ codes "stands in the column of the receiver what he was sent: the order, and who signed it, the commander "
     ++ codes "first and the sender last."
 
--- The meaning of each mark of strokes that occurs in the diagram.
+-- The meaning of each mark of strokes that occurs in a signed campaign's diagram.
 abbrev pub stroke_key : DiagramMarks → List ℕ
 stroke_key marks =
     said_if marks.circle (codes " Circle and plain line: a loyal general in place of the sender would send so.")
@@ -50,7 +50,7 @@ abbrev pub head : Scenario → List Drawn → List Access → DiagramMarks → B
 head s strokes accesses marks cut =
     title (signed_words s) ++ description strokes accesses marks cut ++ look ++ headline s
 
--- The diagram with these strokes, of which only those in `drawn` are drawn.
+-- The diagram of a signed campaign with these strokes, of which only those in `drawn` are drawn.
 abbrev pub svg_with : List Drawn → List Drawn → Chronicle → List ℕ
 svg_with strokes drawn c =
     let s = c.scenario in

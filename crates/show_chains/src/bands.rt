@@ -38,7 +38,7 @@ pub(crate) fn put_bands(
     Ok(())
 }
 
-/// Appends the band of the round that follows the first `before` rounds.
+/// Appends the band of the round that follows the first `before` rounds of a signed campaign.
 fn put_band(
     out: &mut String,
     generals: u8,
@@ -60,7 +60,7 @@ fn put_band(
     Ok(())
 }
 
-/// Appends the contents of a round's band.
+/// Appends the contents of a round's band in a signed campaign's diagram.
 fn put_inside(
     out: &mut String,
     generals: u8,
@@ -80,7 +80,7 @@ fn put_inside(
     put_strokes(out, generals, strokes, accesses, round)
 }
 
-/// Appends the strokes of a round.
+/// Appends the strokes of a round of a signed campaign.
 fn put_strokes(
     out: &mut String,
     generals: u8,
@@ -99,8 +99,8 @@ fn put_strokes(
     Ok(())
 }
 
-/// Appends a stroke and its row in the receiver's list, if it belongs to this round. The strokes begin at the height
-/// `top`, and the lists at `below`.
+/// Appends a stroke of a signed campaign and its row in the receiver's list, if it belongs to this round. The strokes
+/// begin at the height `top`, and the lists at `below`.
 fn put_drawn(
     out: &mut String,
     generals: u8,
@@ -145,7 +145,7 @@ fn put_stroke(
     put_stroke_end(out)
 }
 
-/// Appends the title of a stroke, which a reader sees by pointing at it.
+/// Appends the title of a signed campaign's stroke, which a reader sees by pointing at it.
 fn put_stroke_title(out: &mut String, stroke: &ChainStroke) -> Result<(), AllocError>
     ensures { OnOk result (string_bytes out.new ≡ string_bytes out.old ++ title (stroke_words stroke.now)) }
 {
@@ -154,7 +154,7 @@ fn put_stroke_title(out: &mut String, stroke: &ChainStroke) -> Result<(), AllocE
     put_title_end(out)
 }
 
-/// Appends the text of a stroke's row in the receiver's list.
+/// Appends the text of a signed campaign's stroke in the receiver's list.
 fn put_row_text(out: &mut String, stroke: &ChainStroke) -> Result<(), AllocError>
     ensures { OnOk result (string_bytes out.new ≡ string_bytes out.old
         ++ text_at (codes "small") 12 4 (row_words stroke.now)) }
@@ -164,7 +164,7 @@ fn put_row_text(out: &mut String, stroke: &ChainStroke) -> Result<(), AllocError
     put_text_end(out)
 }
 
-/// Appends the row of a stroke in the receiver's list, which begins at the height `top`.
+/// Appends the row of a signed campaign's stroke in the receiver's list, which begins at the height `top`.
 fn put_row(out: &mut String, top: u128, stroke: &ChainStroke) -> Result<(), AllocError>
     requires { top < 2 ^ 100 }
     ensures { OnOk result (string_bytes out.new ≡ string_bytes out.old ++ row top stroke.now) }

@@ -12,7 +12,8 @@ use signed::SignedChronicle;
 use std::alloc::AllocError;
 use world::Verdict;
 
-/// Appends the decisions, the verdict and the meanings of these marks. The foot begins at the height `top`.
+/// Appends the foot of a signed campaign's diagram: the decisions, the verdict and the meanings of these marks. The
+/// foot begins at the height `top`.
 pub(crate) fn put_foot(
     out: &mut String,
     chronicle: &SignedChronicle,
@@ -32,7 +33,7 @@ pub(crate) fn put_foot(
     put_group_end(out)
 }
 
-/// Appends the verdict, with a line for each of its parts.
+/// Appends the verdict on a signed campaign, with a line for each of its parts.
 fn put_verdict(out: &mut String, verdict: Verdict) -> Result<(), AllocError>
     ensures { OnOk result (string_bytes out.new ≡ string_bytes out.old ++ verdict_lines verdict) }
 {

@@ -18,8 +18,9 @@ pub fn strokes_are_exact()
     ensures { StrokesAreExact }
 {}
 
-/// States that the rows of a list are numbered from 0, and that the first rows are drawn. No honest row is drawn while
-/// a lie is left out, and each liar has a row. The rows that are counted as left out are the others.
+/// States, for diagrams of signed campaigns, that the rows of a list are numbered from 0, and that the first rows are
+/// drawn. No honest row is drawn while a lie is left out, and each liar has a row. The rows that are counted as left
+/// out are the others.
 pub fn rows_are_exact()
     ensures { RowsAreExact }
 {}

@@ -44,7 +44,8 @@ fn missing_meaning() -> &'static str
     "not sent, and a loyal general would send it"
 }
 
-/// Returns the meaning of the width of a line.
+/// Returns the legend's words about the width of a line in a signed campaign's diagram, which is the stroke's number of
+/// chains, up to 5.
 #[tactic(auto, unfolding(crate::specs::Legend::wide_meaning))]
 fn wide_meaning() -> &'static str
     ensures { result.now ≡ wide_meaning }

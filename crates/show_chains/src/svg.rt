@@ -73,7 +73,8 @@ pub fn signed_campaign_svg(alloc: Global, chronicle: &SignedChronicle) -> Result
     Ok(text)
 }
 
-/// Appends what comes before the columns: the title, the description, the style sheet and the headline.
+/// Appends what comes before the columns of a signed campaign's diagram: the title, the description, the style sheet
+/// and the headline.
 fn put_head(
     out: &mut String,
     scenario: &Scenario,
@@ -92,7 +93,7 @@ fn put_head(
     Ok(())
 }
 
-/// Appends the title of the diagram, which describes the campaign.
+/// Appends the title of a signed campaign's diagram, which describes the campaign.
 fn put_title_of(out: &mut String, scenario: &Scenario) -> Result<(), AllocError>
     ensures { OnOk result (string_bytes out.new ≡ string_bytes out.old ++ title (signed_words scenario.now)) }
 {
@@ -159,7 +160,7 @@ fn put_description(
     put_key_end(out)
 }
 
-/// Returns the start of a description, which explains columns, bands and lines.
+/// Returns the start of the description of a signed campaign's diagram, which explains columns, bands and lines.
 #[tactic(auto, unfolding(crate::specs::Svg::key_start))]
 fn key_start() -> &'static str
     ensures { result.now ≡ key_start }
@@ -169,7 +170,7 @@ fn key_start() -> &'static str
      the receiver what he was sent: the order, and who signed it, the commander first and the sender last."
 }
 
-/// Appends the meanings of the marks of strokes.
+/// Appends the meanings of the marks of strokes in a signed campaign's diagram.
 fn put_stroke_key(out: &mut String, marks: DiagramMarks) -> Result<(), AllocError>
     ensures { OnOk result (string_bytes out.new ≡ string_bytes out.old ++ stroke_key marks) }
 {

@@ -49,14 +49,14 @@ stroke_line n top st =
     stroke_at (kind st) (min st.labels 5) (column st.teller) top (column st.receiver)
     (top + 16 + 16 * n + 6 * min st.row 8) (stroke_words st)
 
--- The row of a stroke in its receiver's list.
+-- The row of an oral campaign's stroke in its receiver's list.
 abbrev pub row : ℕ → Stroke → List ℕ
 row top st =
     group_at (column st.receiver) (top + 12 + 18 * st.row)
     (title (stroke_words st) ++ mark (kind st) (outline st) ++ text_at (codes "small") 12 4 (row_words st))
 
--- The line and the row of a stroke, if it belongs to this round. The strokes begin at the height `top`, and the lists
--- at `below`.
+-- The line and the row of an oral campaign's stroke, if it belongs to this round. The strokes begin at the height
+-- `top`, and the lists at `below`.
 abbrev pub drawn_at : ℕ → ℕ → ℕ → ℕ → Stroke → List ℕ
 drawn_at n top below round st = if st.round == round then stroke_line n top st ++ row below st else []
 

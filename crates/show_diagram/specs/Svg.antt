@@ -41,7 +41,7 @@ key_start =
     ++ codes "who tells something to whom he tells it, as wide as he tells it of labels, up to 5, and below stands "
     ++ codes "in the column of the receiver what he was told."
 
--- The meaning of each mark of strokes that occurs in the diagram.
+-- The meaning of each mark of strokes that occurs in an oral campaign's diagram.
 abbrev pub stroke_key : DiagramMarks → List ℕ
 stroke_key marks =
     said_if marks.circle (codes " Circle and plain line: as an honest relay tells it.")
@@ -99,7 +99,7 @@ heads s accesses = board_head s.generals accesses ++ flat_map (head_of s) (range
 abbrev pub picture : ℕ → ℕ → List ℕ → List ℕ
 picture w h inside = start ++ box_words w h ++ inside ++ codes "</svg>\n"
 
--- The diagram with these strokes, of which only those in `drawn` are drawn.
+-- The diagram of an oral campaign with these strokes, of which only those in `drawn` are drawn.
 abbrev pub svg_with : List Stroke → List Stroke → Chronicle → List ℕ
 svg_with strokes drawn c =
     let s = c.scenario in

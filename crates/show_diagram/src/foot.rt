@@ -14,7 +14,8 @@ use round::Scenario;
 use std::alloc::AllocError;
 use world::{Chronicle, Verdict};
 
-/// Appends the decisions, the verdict and the meanings of these marks. The foot begins at the height `top`.
+/// Appends the foot of an oral campaign's diagram: the decisions, the verdict and the meanings of these marks. The foot
+/// begins at the height `top`.
 pub(crate) fn put_foot(
     out: &mut String,
     chronicle: &Chronicle,
@@ -108,7 +109,7 @@ fn put_decides(out: &mut String, order: u32) -> Result<(), AllocError>
     write!(out, "decides {order}")
 }
 
-/// Appends the verdict, with a line for each of its parts.
+/// Appends the verdict on an oral campaign, with a line for each of its parts.
 fn put_verdict(out: &mut String, verdict: Verdict) -> Result<(), AllocError>
     ensures { OnOk result (string_bytes out.new ≡ string_bytes out.old ++ verdict_lines verdict) }
 {

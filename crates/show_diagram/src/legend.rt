@@ -321,7 +321,8 @@ fn missing_meaning() -> &'static str
     "nothing told, where something was to be told"
 }
 
-/// Returns the meaning of the width of a line.
+/// Returns the legend's words about the width of a line in an oral campaign's diagram, which is the stroke's number of
+/// labels, up to 5.
 #[tactic(auto, unfolding(crate::specs::Legend::wide_meaning))]
 fn wide_meaning() -> &'static str
     ensures { result.now ≡ wide_meaning }

@@ -96,7 +96,8 @@ pub fn put_box(out: &mut String, width: u128, height: u128) -> Result<(), AllocE
     )
 }
 
-/// Appends what comes before the columns: the title, the description, the style sheet and the headline.
+/// Appends what comes before the columns of an oral campaign's diagram: the title, the description, the style sheet and
+/// the headline.
 fn put_head(
     out: &mut String,
     scenario: &Scenario,
@@ -114,7 +115,7 @@ fn put_head(
     Ok(())
 }
 
-/// Appends the title of the diagram, which describes the campaign.
+/// Appends the title of an oral campaign's diagram, which describes the campaign.
 fn put_title_of(out: &mut String, scenario: &Scenario) -> Result<(), AllocError>
     ensures { OnOk result (string_bytes out.new ≡ string_bytes out.old
         ++ title (campaign_words scenario.now.generals scenario.now.bound scenario.now.commander scenario.now.order)) }
@@ -189,7 +190,7 @@ pub fn put_key_end(out: &mut String) -> Result<(), AllocError>
     out.push_str("</desc>\n")
 }
 
-/// Returns the start of a description, which explains columns, bands and lines.
+/// Returns the start of the description of an oral campaign's diagram, which explains columns, bands and lines.
 #[tactic(auto, unfolding(crate::specs::Svg::key_start))]
 fn key_start() -> &'static str
     ensures { result.now ≡ key_start }
@@ -199,7 +200,7 @@ fn key_start() -> &'static str
      of the receiver what he was told."
 }
 
-/// Appends the meanings of the marks of strokes.
+/// Appends the meanings of the marks of strokes in an oral campaign's diagram.
 fn put_stroke_key(out: &mut String, marks: DiagramMarks) -> Result<(), AllocError>
     ensures { OnOk result (string_bytes out.new ≡ string_bytes out.old ++ stroke_key marks) }
 {

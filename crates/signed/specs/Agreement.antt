@@ -1,16 +1,17 @@
--- The agreement theorem of signed messages (TOPLAS 1982, Theorem 2), over whatever chains are sent.
+-- The agreement theorem of signed messages (TOPLAS 1982, Theorem 2), whatever chains the traitors send.
 use Rattle.std.specs.Prelude.{ℕ, suc, ◌≡◌, ◌+◌, ◌<◌, ◌≤◌, Bool, true, false, not, List, [], ◌∷◌, filter, count_by, ◌⊎◌}
 use Rattle.label.specs.Labels.{on, generals}
 use Rattle.label.specs.Oral.{IsLoyalLieutenant}
 use Rattle.signed.specs.Chains.{Chain, Among, signed_also}
 use Rattle.signed.specs.Accepted.{Deliveries, accepted, decided, loyal_chains}
 
--- a loyal general sends what he signs to all who are not on it
+-- States that general `g` follows the protocol: he sends each chain that he signs to all generals who have not signed
+-- it.
 abbrev pub IsLoyal : ℕ → ℕ → ℕ → ℕ → Deliveries → ℕ → Type 0
 IsLoyal n c m order S g =
     (r q : ℕ) → q < n → S r g q ≡ filter (λ ch. not (on ch.signers q)) (loyal_chains n c m order S r g)
 
--- a chain that came to g in an earlier round
+-- States that general `g` received the chain in an earlier round.
 pub record IsHeld (n : ℕ) (S : Deliveries) (r g : ℕ) (ch : Chain) : Type 0 where
   pub round : ℕ
   pub sender : ℕ
@@ -18,25 +19,25 @@ pub record IsHeld (n : ℕ) (S : Deliveries) (r g : ℕ) (ch : Chain) : Type 0 w
   pub general : sender < n
   pub came : Among ch (S round sender g)
 
--- a chain that g held, on which he did not stand, with his signature
+-- States that the chain is one that general `g` held and had not signed, extended by his signature.
 pub record IsPassedOn (n : ℕ) (S : Deliveries) (r g : ℕ) (ch : Chain) : Type 0 where
   pub held : Chain
   pub there : IsHeld n S r g held
   pub once : on held.signers g ≡ false
   pub signed : ch ≡ signed_also held g
 
--- whatever a general does, he signs with his own signature (assumption A4): an order if he is the commander, or a chain
--- that he holds
+-- States that general `g` signs only with his own signature (assumption A4). Each chain that he sends has only his
+-- signature, if he is the commander, or extends a chain that he holds.
 abbrev pub SignsForHimself : ℕ → ℕ → Deliveries → ℕ → Type 0
 SignsForHimself n c S g =
     (r p : ℕ) (ch : Chain) → p < n → Among ch (S r g p) → ((g ≡ c) × (ch.signers ≡ g ∷ [])) ⊎ IsPassedOn n S r g ch
 
--- at most m traitors, and two generals more
+-- States that at most m generals are traitors, and that there are at least m + 2 generals.
 pub record IsSignedBound (n m : ℕ) (traitor : ℕ → Bool) : Type 0 where
   pub enough : m + 2 ≤ n
   pub few : count_by traitor (generals n) ≤ m
 
--- all loyal lieutenants accept the same orders and decide alike, and on the order of a loyal commander
+-- States that all loyal lieutenants accept the same orders and decide alike, and that they obey a loyal commander.
 pub record SignedAgree (n c order : ℕ) (traitor : ℕ → Bool) (accepts : ℕ → List ℕ) : Type 0 where
   pub same : (p q v : ℕ) → IsLoyalLieutenant n c traitor p → IsLoyalLieutenant n c traitor q →
       on (accepts p) v ≡ on (accepts q) v
@@ -44,7 +45,8 @@ pub record SignedAgree (n c order : ℕ) (traitor : ℕ → Bool) (accepts : ℕ
       decided (accepts p) ≡ decided (accepts q)
   pub obeyed : traitor c ≡ false → (p : ℕ) → IsLoyalLieutenant n c traitor p → decided (accepts p) ≡ order
 
--- with at most m traitors, whatever they sign and whomever they send it
+-- States the agreement theorem: with at most m traitors among at least m + 2 generals the loyal lieutenants agree,
+-- whatever chains the traitors sign and to whom they send them.
 abbrev pub SignedAgreementHolds : Type 0
 SignedAgreementHolds = (n c m order : ℕ) (traitor : ℕ → Bool) (S : Deliveries) → c < n → IsSignedBound n m traitor →
     ((g : ℕ) → g < n → traitor g ≡ true → SignsForHimself n c S g) →

@@ -1,4 +1,4 @@
--- What is told of a signed campaign (own; TOPLAS 1982, conditions IC1 and IC2, for the verdict).
+-- The chronicle of a signed campaign (own; TOPLAS 1982, conditions IC1 and IC2, for the verdict).
 use Rattle.std.specs.Prelude.{ℕ, ◌==◌, nat_le, cond, List, map, count_by, None, Some}
 use Rattle.std.specs.List.{list_all}
 use Rattle.label.specs.Labels.{generals}
@@ -12,12 +12,12 @@ use Rattle.world.specs.Chronicle.{Chronicle, of_loyal}
 use Rattle.signed.specs.Accepted.{decided}
 use Rattle.signed.specs.Kind.{accepted_in}
 
--- what the lieutenants decide by the letters of these rounds, ascending
+-- Returns what the lieutenants decide from the letters of these rounds, in ascending order of the lieutenants.
 unfoldable pub signed_decisions : Scenario → List (List Letter) → List ℕ
 signed_decisions s closed = map (λ p. decided (accepted_in s closed p)) (lieutenants s.generals s.commander)
 
--- whether the loyal lieutenants decide alike; whether they obey a loyal commander (of a traitor nothing is said);
--- whether there are at most m traitors
+-- Returns the verdict on the decisions. It says whether the loyal lieutenants decide alike, and whether they obey a
+-- loyal commander, but nothing about the obedience to a traitor. It also says whether there are at most m traitors.
 abbrev pub signed_verdict_of : Scenario → List ℕ → Verdict
 signed_verdict_of s ds =
     let loyal = of_loyal s (lieutenants s.generals s.commander) ds in
@@ -27,7 +27,8 @@ signed_verdict_of s ds =
       bound = nat_le (count_by (is_traitor s) (generals s.generals)) s.bound;
     }
 
--- the chronicle of a world: its letters, its accesses, what each lieutenant decides, and the verdict
+-- Returns the chronicle of a world: its letters, its accesses, what each lieutenant decides from the chains, and the
+-- verdict.
 abbrev pub signed_chronicle_of : World → Chronicle
 signed_chronicle_of w = record {
   scenario = w.scenario;

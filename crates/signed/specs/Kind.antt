@@ -13,36 +13,38 @@ use Rattle.signed.specs.Entries.{Entry}
 use Rattle.signed.specs.Loyal.{loyal_entries}
 use Rattle.signed.specs.Sent.{Sent, delivered, held_behind, sent_in}
 
--- the chains that a general holds in the round behind these
+-- Returns the chains that general `g` holds in the round after these closed rounds.
 abbrev pub held_in : Scenario → List (List Letter) → ℕ → List Chain
 held_in s closed g = held_behind s.generals (sent_in s closed) g
 
--- what he is told then
+-- Returns the context of general `g` in the round after these closed rounds.
 abbrev pub signed_context : Scenario → List (List Letter) → ℕ → List ℕ
 signed_context s closed g =
     context_bytes (signed_context_numbers s.generals s.bound s.commander g (suc (length closed)) (held_in s closed g))
 
--- whom he relays to, with the signers of each chain that he holds
+-- Returns the relay of general `g` in the round after these closed rounds. It has the signers of each chain that he
+-- holds.
 abbrev pub signed_relay : Scenario → List (List Letter) → ℕ → Relay
 signed_relay s closed g = signed (shape_of s g (suc (length closed))) (map signer_bits (held_in s closed g))
 
--- what he enters where he is loyal
+-- Returns the entries of general `g` in the round after these closed rounds, if he is loyal.
 abbrev pub signed_entries : Scenario → List (List Letter) → ℕ → List Entry
 signed_entries s closed g =
     loyal_entries s.generals s.commander s.bound s.order (delivered (sent_in s closed)) (suc (length closed)) g
 
+-- The kind of signed campaigns. Outboxes have entries and no rows.
 abbrev pub signed_kind : Kind
 signed_kind =
     record { context = signed_context; relay = signed_relay; rows = λ s closed g. []; entries = signed_entries }
 
--- the world of a signed campaign after these events
+-- Returns the world of a signed campaign after these events.
 abbrev pub played : Scenario → List Event → World
 played s events = run signed_kind (opening signed_kind s) events
 
--- what was sent in its closed rounds
+-- Returns the chains that were sent in the closed rounds of a signed campaign after these events.
 abbrev pub sent_after : Scenario → List Event → Sent
 sent_after s events = sent_in s (played s events).closed
 
--- the orders that a general accepts of the chains of these rounds
+-- Returns the orders that general `p` accepts from the chains of these rounds.
 abbrev pub accepted_in : Scenario → List (List Letter) → ℕ → List ℕ
 accepted_in s closed p = accepted s.generals (delivered (sent_in s closed)) (suc s.bound) p

@@ -15,32 +15,34 @@ use Rattle.world.specs.declared.part.Progress.TheVariants.{Acting}
 use Rattle.signed.specs.Agreement.{IsSignedBound}
 use Rattle.signed.specs.Kind.{signed_kind, played}
 
--- with at most m traitors among m + 2 generals or more the loyal lieutenants' decisions agree, and are the order of a
--- loyal commander
+-- States that the decisions of the loyal lieutenants agree, and obey a loyal commander, if there are at most m traitors
+-- among at least m + 2 generals.
 abbrev pub AgreeUnderSignedBound : Scenario → List ℕ → Type 0
 AgreeUnderSignedBound s ds =
     IsSignedBound s.generals s.bound (is_traitor s) → AgreeInList s.generals s.commander s.order (is_traitor s) ds
 
--- the verdict says whether this bound holds, whether the loyal lieutenants decide alike, and whether they decide the
--- order of a loyal commander; of that nothing exactly where he is a traitor
+-- States what the fields of a verdict mean: whether there are at most m traitors among at least m + 2 generals, whether
+-- the loyal lieutenants decide alike, and whether they obey a loyal commander. The verdict says nothing about obedience
+-- exactly if the commander is a traitor.
 pub record IsSignedVerdictOn (s : Scenario) (ds : List ℕ) (v : Verdict) : Type 0 where
   pub bound : (v.bound ≡ true) ↔ IsSignedBound s.generals s.bound (is_traitor s)
   pub alike : (v.alike ≡ true) ↔ AreAlike s ds
   pub obeyed : is_traitor s s.commander ≡ false → (v.obeyed ≡ Some true) ↔ AreObedient s ds
   pub none : (v.obeyed ≡ None) ↔ (is_traitor s s.commander ≡ true)
 
--- the next step of the activation is no trap, and it takes no more steps than its program has instructions
+-- States that the next step of an activation that has not ended is no trap, and that it has taken at most as many steps
+-- as its program has instructions.
 pub record IsSafe (a : Activation) : Type 0 where
   pub untrapped : (cause : Cause) → has_ended a ≡ false → step a.program a.context a.relay a.state ≢ Trap cause
   pub fewer : a.state.steps ≤ length a.program
 
--- so it is with each, wherever these events lead through
+-- States that every activation is safe in every world that these events lead through.
 abbrev pub AreSafeThroughout : Scenario → List Event → Type 0
 AreSafeThroughout s events = (before after : List Event) (g : ℕ) (a : Activation) → before ++ after ≡ events →
     slice_get (played s before).parts g ≡ Some (Acting a) → IsSafe a
 
--- the accesses are a legal history of the board, and each letter is complete: a traitor's the run of his program to its
--- end, with these accesses of his, a loyal general's what he has to enter
+-- States that the accesses are a legal history of the board, and that each letter is complete. A traitor's letter is
+-- the run of his program to its end, with his accesses. A loyal general's letter has the entries that he has to make.
 pub record AreWhole (s : Scenario) (accesses : List Access) (letters : List (List Letter)) : Type 0 where
   pub legal : IsLegal s.board accesses
   pub accounted : AreAccounted signed_kind s [] accesses letters

@@ -1,6 +1,5 @@
--- How code holds what was sent (own). No claim rests on this but what `SignedChronicle::sent` lends (`named`,
--- `dispatch_of`):
--- what is sent, Entries.antt and Sent.antt say.
+-- How the code stores the chains that were sent (own). Only the promise of `SignedChronicle::sent` depends on this file
+-- (`named`, `dispatch_of`). Entries.antt and Sent.antt define which chains are sent.
 use Rattle.std.specs.Prelude.{ℕ, suc, ◌≡◌, ◌==◌, ◌-◌, nat_lt, cond, Bool, List, [], ◌∷◌, ◌++◌, map, filter, flat_map, take, All, length, Option, Some, None, slice_get}
 use Rattle.std.specs.Borrow.{Bor}
 use Rattle.std.specs.Int.{bit_at}
@@ -30,68 +29,71 @@ use Rattle.signed.specs.Loyal.{loyal_entries}
 use Rattle.signed.specs.Sent.{Sent, delivered, held_behind, sent_in}
 use Rattle.signed.specs.Signers.{Signature}
 
--- the numbers of the bits that are set: of all of a word of 16 bits, so nothing beside generals is named there
+-- Returns the generals whose bits are set in a word of 16 bits, ascending.
 abbrev pub named : ℕ → List ℕ
 named bits = filter (λ g. bit_at bits g == 1) (generals 16)
 
--- a chain with its receivers, which are kept as bits
+-- Returns the dispatch of a chain whose receivers are stored as bits.
 abbrev pub dispatch_of : Chain × ℕ → Dispatch
 dispatch_of x = record { chain = x.0; receivers = named x.1 }
 
--- the chains of a round that came to p
+-- Returns the chains of a round that general `p` received, by sender.
 abbrev pub received_in : ℕ → List (List Dispatch) → List Chain
 received_in p row = flat_map (received p) row
 
--- each round has a list for each of so many generals
+-- States that each round has a list of dispatches for each of `n` generals.
 abbrev pub AreRows : ℕ → Sent → Type 0
 AreRows n sent = All (λ row. length row ≡ n) sent
 
--- lent chains
+-- Returns the chains that these references point to.
 abbrev pub lent : List (Bor Chain) → List Chain
 lent chains = map (λ c. c.now) chains
 
+-- Returns the chain that a reference points to, if there is one.
 abbrev pub chain_in : Option (Bor Chain) → Option Chain
 chain_in None = None
 chain_in (Some c) = Some c.now
 
--- the chains that a general holds, and how many of them came before the last round
+-- The chains that a general holds, and how many of them he received before the last round.
 pub record HeldChains : Type 0 where
   pub chains : List Chain
   pub earlier : ℕ
 
+-- Returns the chains that general `g` holds after the sent rounds.
 abbrev pub held_of : ℕ → Sent → HeldChains
 held_of g sent = record {
   chains = flat_map (received_in g) sent;
   earlier = length (flat_map (received_in g) (take (length sent - 1) sent));
 }
 
--- the orders with one more, where it was not among them
+-- Returns the orders with an order appended, unless it is among them.
 abbrev pub added_also : List ℕ → ℕ → List ℕ
 added_also seen order = cond (on seen order) seen (seen ++ order ∷ [])
 
--- the orders with those that these chains bring p in round k
+-- Returns the orders with those appended that these chains bring general `p` in round `k`.
 abbrev pub added_by : ℕ → ℕ → List ℕ → List Chain → List ℕ
 added_by k p seen [] = seen
 added_by k p seen (ch ∷ xs) = added_by k p (cond (counts k p ch) (added_also seen ch.order) seen) xs
 
--- these orders are the first eight of those
+-- States that `kept` are the first eight of the orders.
 abbrev pub AreFirst : List ℕ → List ℕ → Type 0
 AreFirst kept orders = kept ≡ take 8 orders
 
--- the entries behind these, one after another
+-- Returns the entries after attempts to enter further ones, one after another.
 abbrev pub entered_all : Relay → List Entry → List Entry → List Entry
 entered_all relay entries [] = entries
 entered_all relay entries (e ∷ es) = entered_all relay (entered relay entries e) es
 
--- what a general is told in the round behind these, and his relay, from what was sent
+-- Returns the context of general `g` in the round after the sent rounds.
 abbrev pub context_behind : Scenario → Sent → ℕ → List ℕ
 context_behind s sent g = context_bytes
     (signed_context_numbers s.generals s.bound s.commander g (suc (length sent)) (held_behind s.generals sent g))
 
+-- Returns the relay of general `g` in the round after the sent rounds.
 abbrev pub relay_behind : Scenario → Sent → ℕ → Relay
 relay_behind s sent g = signed (shape_of s g (suc (length sent))) (map signer_bits (held_behind s.generals sent g))
 
--- a loyal general's letter in the round behind these
+-- Returns the letter of a loyal general `g` in the round after the sent rounds.
 abbrev pub letter_behind : Scenario → Sent → ℕ → Letter
 letter_behind s sent g =
     faithful_letter_with g (suc (length sent)) (context_behind s sent g)
@@ -101,57 +103,61 @@ letter_behind s sent g =
       entries = loyal_entries s.generals s.commander s.bound s.order (delivered sent) (suc (length sent)) g;
     })
 
--- how the generals begin it
+-- Returns the part of general `g` at the start of the round after the sent rounds.
 abbrev pub begins_behind : Scenario → Sent → ℕ → Option (List Insn) → Progress
 begins_behind s sent g None = Silent
 begins_behind s sent g (Some program) =
     Acting (started s.patience program (context_behind s sent g) (relay_behind s sent g))
 
+-- Returns the parts of all generals at the start of the round after the sent rounds, or none if no round is left.
 abbrev pub beginnings_behind : Scenario → Sent → List Progress
 beginnings_behind s sent =
     cond (nat_lt (length sent) (suc s.bound)) (each s.generals (λ g. begins_behind s sent g (program_of s g) ∷ [])) []
 
--- of a traitor's letter his accesses, a loyal general's letter, or none
+-- Returns the draft of a general's letter from his part: a traitor's accesses, a loyal general's whole letter, or that
+-- there is no letter.
 abbrev pub draft_behind : Scenario → Sent → List Access → ℕ → Option Progress → LetterDraft
 draft_behind s sent accesses g (Some (Acting a)) = Begun (accesses_of g accesses)
 draft_behind s sent accesses g (Some Silent) = Missing
 draft_behind s sent accesses g (Some Posted) = Whole (letter_behind s sent g)
 draft_behind s sent accesses g None = Missing
 
+-- Returns the drafts of all generals' letters from their parts.
 abbrev pub drafts_behind : Scenario → Sent → List Access → List Progress → List LetterDraft
 drafts_behind s sent accesses parts = each s.generals (λ g. draft_behind s sent accesses g (slice_get parts g) ∷ [])
 
--- lent drafts and parts
+-- Returns the draft that a reference points to, if there is one.
 abbrev pub draft_in : Option (Bor LetterDraft) → Option LetterDraft
 draft_in None = None
 draft_in (Some d) = Some d.now
 
+-- Returns the part that a reference points to, if there is one.
 abbrev pub part_in : Option (Bor Progress) → Option Progress
 part_in None = None
 part_in (Some p) = Some p.now
 
--- what a general has entered, by the draft of his letter or by his activation
+-- Returns the entries of a general, from the draft of his letter or from his activation.
 abbrev pub entries_drafted : Option LetterDraft → Option Progress → List Entry
 entries_drafted (Some (Begun transcript)) (Some (Acting a)) = a.state.entries
 entries_drafted (Some (Whole letter)) part = letter.outbox.entries
 entries_drafted _ _ = []
 
--- what the generals send by it
+-- Returns what the generals send in the round after the sent rounds, from the drafts of their letters and their parts.
 abbrev pub sent_drafted : Scenario → Sent → List LetterDraft → List Progress → List (List Dispatch)
 sent_drafted s sent drafts parts =
     map (λ g. dispatched s.generals s.commander g (held_behind s.generals sent g)
     (entries_drafted (slice_get drafts g) (slice_get parts g))) (generals s.generals)
 
--- some list of events leads to what was sent
+-- States that some list of events leads to what was sent.
 abbrev pub IsSent : Scenario → Sent → Type 0
 IsSent s sent = (events : List Event) × (sent ≡ sent_after s events)
 
--- a signer for each general
+-- Returns a signer for each general.
 abbrev pub signatures : ℕ → ℕ → List Signature
 signatures n c = map (λ g. record { general = g; commander = c }) (generals n)
 
--- what is kept of a signed world: some list of events leads here, its board opened as the scenario says, what was sent
--- is kept, and there is a signer for each general
+-- States what the code guarantees about a signed world. Some list of events leads to it, and its board opened with the
+-- scenario's words. What was sent is stored, and there is a signer for each general.
 pub record IsSignedHeld (s : Scenario) (closed : List (List Letter)) (board : RecordedBoard) (opened : ℕ)
     (parts : List Progress) (full : Bool) (sent : Sent) (signers : List Signature) : Type 0 where
   pub reached : (events : List Event) × (played s events ≡ world_of s closed board opened parts full)

@@ -1,5 +1,5 @@
--- Whatever letters the traitors of a signed campaign write (own; TOPLAS 1982, section 4). The last statement is the
--- contract of a function of this crate.
+-- What holds whatever letters the traitors of a signed campaign write (own; TOPLAS 1982, section 4). The last statement
+-- is the contract of a function of this crate.
 use Rattle.std.specs.Prelude.{ℕ, suc, ◌≡◌, ◌≢◌, ◌+◌, ◌*◌, ◌<◌, ◌≤◌, true, false, List, length, take, slice_get, Some}
 use Rattle.semantics.specs.Limits.{context_size, most_held}
 use Rattle.label.specs.Labels.{on}
@@ -17,24 +17,25 @@ use Rattle.signed.specs.Kind.{signed_kind, played, held_in, accepted_in}
 use Rattle.signed.specs.Chronicle.{signed_decisions, signed_verdict_of}
 use Rattle.signed.specs.Laws.{chains_in, IsUnforged}
 
--- a letter of the round behind these: a loyal general's is the one that he owes; a traitor's is any that has no more
--- entries than an activation makes, whether or not some program would make them
+-- States that the letter is possible in the round after these closed rounds. A loyal general's letter is the one that
+-- he has to write. A traitor's letter may be any with at most eight entries, whether or not a program would write it.
 pub record IsAnyLetter (s : Scenario) (before : List (List Letter)) (g : ℕ) (l : Letter) : Type 0 where
   pub loyal : is_traitor s g ≡ false → l ≡ loyal_letter signed_kind s before g
   pub few : is_traitor s g ≡ true → length l.outbox.entries ≤ most_entries
 
--- each letter that is there is one
+-- States that each letter is possible in its round.
 abbrev pub AreAnyLetters : Scenario → List (List Letter) → Type 0
 AreAnyLetters s closed = (k g : ℕ) (row : List Letter) (l : Letter) → slice_get closed k ≡ Some row → g < s.generals →
     letter_of row g ≡ Some l → IsAnyLetter s (take k closed) g l
 
--- and no loyal general's is missing
+-- States that no loyal general's letter is missing.
 abbrev pub HaveLoyalLetters : Scenario → List (List Letter) → Type 0
 HaveLoyalLetters s closed = (k g : ℕ) (row : List Letter) → slice_get closed k ≡ Some row → g < s.generals →
     is_traitor s g ≡ false → letter_of row g ≡ Some (loyal_letter signed_kind s (take k closed) g)
 
--- the letters of every world are such; and of such letters, as far as their rounds go, all chains are unforged, chains,
--- accepted orders and chains held are few, and after the last round the loyal lieutenants agree, as the verdict says
+-- States what follows from possible letters, and that the letters of every world are possible. All chains are unforged,
+-- and accepted orders, chains sent and chains held are few. After the last round the loyal lieutenants agree, as the
+-- verdict says, if there are at most m traitors among at least m + 2 generals.
 pub record WhateverTraitorsWrite : Type 0 where
   pub written : (s : Scenario) (events : List Event) → IsScenario s → AreAnyLetters s (played s events).closed
   pub unforged : (s : Scenario) (closed : List (List Letter)) (r g : ℕ) (ch : Chain) → s.commander < s.generals →

@@ -1,5 +1,5 @@
--- What the verdict on a signed campaign means (TOPLAS 1982, IC1, IC2 and Theorem 2). The last is the contract of a
--- function of this crate.
+-- What the verdict on a signed campaign means (TOPLAS 1982, IC1, IC2 and Theorem 2). The last statement is the contract
+-- of a function of this crate.
 use Rattle.std.specs.Prelude.{ℕ, ◌≤◌, ◌≡◌, ◌≢◌, ◌↔◌, true, false, List, length, count_by, Some, None}
 use Rattle.label.specs.Labels.{generals}
 use Rattle.label.specs.Lieutenants.{lieutenants, AgreeInList}
@@ -10,8 +10,8 @@ use Rattle.signed.specs.Agreement.{IsSignedBound}
 use Rattle.signed.specs.Kind.{played}
 use Rattle.signed.specs.Chronicle.{signed_decisions, signed_verdict_of, signed_chronicle_of}
 
--- the verdict means what it says, of obedience nothing exactly where the commander is a traitor; in a finished world
--- with at most m traitors the list of decisions agrees, and the verdict says so
+-- States what the fields of a verdict mean. The verdict says nothing about obedience exactly if the commander is a
+-- traitor. In a finished world with at most m traitors the decisions agree, and the verdict says so.
 pub record SignedVerdictsMean : Type 0 where
   pub bound : (s : Scenario) (ds : List ℕ) →
       ((signed_verdict_of s ds).bound ≡ true) ↔ (count_by (is_traitor s) (generals s.generals) ≤ s.bound)

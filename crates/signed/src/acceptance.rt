@@ -1,4 +1,4 @@
-//! The orders that a general accepts.
+//! The orders that a lieutenant accepts by SM(m), and what he decides from them.
 ghost use Rattle.std.specs.Prelude.{◌≡◌, ◌≤◌, ◌<◌, ℕ, List, suc, length};
 ghost use Rattle.label.specs.Labels.{on};
 ghost use Rattle.signed.specs.Accepted.{accepted, decided};
@@ -10,7 +10,8 @@ use crate::sent_chains::{Sending, SentRound};
 use crate::sets::has;
 use arrayvec::ArrayVec;
 
-/// The orders that a general accepted in so many of these rounds, the first 8 of them. Takes no memory.
+/// Returns the orders that a general accepts in the first `rounds` of the sent rounds, but at most the first 8.
+/// Allocates no memory.
 pub(crate) fn accepted(sent: &[SentRound], rounds: usize, general: u8) -> ArrayVec<u32, 8>
     requires rounds { rounds ≤ length sent.now }
     requires general { general < 13 }
@@ -23,7 +24,8 @@ pub(crate) fn accepted(sent: &[SentRound], rounds: usize, general: u8) -> ArrayV
     orders
 }
 
-/// With the orders that a round brings.
+/// Appends the orders that a general accepts from the chains of one round, up to 8 orders in all. `number` is the
+/// round's number, counted from 1.
 fn add_round(orders: &mut ArrayVec<u32, 8>, round: &SentRound, number: usize, general: u8)
     requires { general < 13 }
     ensures { (seen : List ℕ) → AreFirst orders.old.items seen →
@@ -34,7 +36,8 @@ fn add_round(orders: &mut ArrayVec<u32, 8>, round: &SentRound, number: usize, ge
     }
 }
 
-/// With the orders that one sender's chains bring.
+/// Appends the orders that a general accepts from the chains of one sender in a round, up to 8 orders in all. `number`
+/// is the round's number, counted from 1.
 fn add_sending(orders: &mut ArrayVec<u32, 8>, sending: &Sending, number: usize, general: u8)
     requires { general < 13 }
     ensures { (seen : List ℕ) → AreFirst orders.old.items seen →
@@ -47,7 +50,7 @@ fn add_sending(orders: &mut ArrayVec<u32, 8>, sending: &Sending, number: usize, 
     }
 }
 
-/// With one order more, where it is not among them, and they are not 8 already.
+/// Appends an order if the list has fewer than 8 orders and does not contain it.
 pub(crate) fn add(orders: &mut ArrayVec<u32, 8>, order: u32)
     ensures { (seen : List ℕ) → AreFirst orders.old.items seen → AreFirst orders.new.items (added_also seen order) }
 {
@@ -56,14 +59,15 @@ pub(crate) fn add(orders: &mut ArrayVec<u32, 8>, order: u32)
     }
 }
 
-/// Whether the order is among these.
+/// Checks whether the list contains the order.
 pub(crate) fn is_among(orders: &[u32], order: u32) -> bool
     ensures { result ≡ on orders.now order }
 {
     orders.iter().any(|x| *x == order)
 }
 
-/// What is decided of these orders: the one, of none or of several RETREAT.
+/// Returns what is decided from a list of accepted orders: the order if there is exactly one, and otherwise 0
+/// (RETREAT).
 pub(crate) fn decided(orders: &[u32]) -> u32
     ensures { result ≡ decided orders.now }
 {

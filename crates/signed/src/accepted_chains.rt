@@ -1,4 +1,4 @@
-//! The chains that bring a lieutenant the orders that he accepts.
+//! The chains by which a lieutenant accepts his orders: for each order the first chain that counts.
 ghost use Rattle.std.specs.Prelude.{◌≡◌, ◌<◌, suc, map, IfOk, OnOk};
 ghost use Rattle.label.specs.Labels.{on};
 ghost use Rattle.signed.specs.Accepted.{came};
@@ -14,7 +14,7 @@ use crate::chronicle::SignedChronicle;
 use crate::sets::has;
 use std::alloc::{AllocError, Global};
 
-/// Whether one of the chains brings the order.
+/// Checks whether one of the chains carries the order.
 #[tactic(auto, using(crate::proofs::Gathering::one_brings, crate::proofs::Gathering::none_brings))]
 fn bring(chains: &[&Chain], order: u32) -> bool
     ensures { result ≡ on (orders (lent chains.now)) order }
@@ -27,7 +27,7 @@ fn bring(chains: &[&Chain], order: u32) -> bool
     false
 }
 
-/// With one chain more, where none of them brings its order.
+/// Appends a chain if none of the chains carries its order.
 #[tactic(auto, using(crate::proofs::Gathering::also_pushed, crate::proofs::Gathering::also_kept))]
 fn add<'a>(chains: &mut Vec<&'a Chain>, chain: &'a Chain) -> Result<(), AllocError>
     ensures { OnOk result (lent chains.new.items ≡ gathered_also (lent chains.old.items) chain.now) }
@@ -38,7 +38,7 @@ fn add<'a>(chains: &mut Vec<&'a Chain>, chain: &'a Chain) -> Result<(), AllocErr
     Ok(())
 }
 
-/// With those that one sender's chains of a round add.
+/// Appends the chains of one sender in a round that count for a general and carry an order that no chain carries yet.
 fn add_sending<'a>(
     chains: &mut Vec<&'a Chain>,
     sending: &'a [(Chain, u16)],
@@ -57,7 +57,7 @@ fn add_sending<'a>(
     Ok(())
 }
 
-/// With those that a round adds.
+/// Appends the chains of a round that count for a general and carry an order that no chain carries yet.
 fn add_round<'a>(
     chains: &mut Vec<&'a Chain>,
     chronicle: &'a SignedChronicle,
@@ -76,12 +76,12 @@ fn add_round<'a>(
     Ok(())
 }
 
-/// The chains that bring a general the orders that he accepts in the first so many rounds, in the order in which he
+/// Returns the chains by which a general accepts his orders in the first `rounds` rounds, in the order in which he
 /// accepts them.
 ///
 /// # Errors
 ///
-/// `AllocError` where memory is refused.
+/// Fails with `AllocError` if it runs out of memory.
 pub fn bringing_in(
     alloc: Global,
     chronicle: &SignedChronicle,
@@ -100,11 +100,8 @@ pub fn bringing_in(
     Ok(chains)
 }
 
-/// Those of the whole campaign.
-///
-/// # Errors
-///
-/// `AllocError` where memory is refused.
+/// Returns the chains by which a general accepts his orders in the whole campaign, in the order in which he accepts
+/// them.
 pub(crate) fn bringing(
     alloc: Global,
     chronicle: &SignedChronicle,

@@ -1,4 +1,4 @@
-//! What a general is told as a round begins, and his outbox of it.
+//! The context and the empty outbox that a general has at the start of a round.
 ghost use Rattle.std.specs.Prelude.{◌≡◌, ◌≤◌, ◌<◌, [], length, IfOk};
 ghost use Rattle.signed.specs.Sending.{context_behind, held_of, relay_behind, AreRows};
 
@@ -9,14 +9,10 @@ use outbox::Outbox;
 use round::Scenario;
 use std::alloc::{AllocError, Global};
 
-/// The number at byte 28 of a context where orders are signed.
+/// The number at byte 28 of a context in a signed campaign.
 const SIGNED: u32 = 1;
 
-/// What a general is told as the round behind these begins, of the chains that he holds then.
-///
-/// # Errors
-///
-/// `AllocError` where memory is refused.
+/// Returns the context of a general in the round after the sent rounds. It contains the chains that he holds then.
 pub(crate) fn context(
     alloc: Global,
     scenario: &Scenario,
@@ -46,11 +42,7 @@ pub(crate) fn context(
     context_telling(alloc, &header, numbers.as_slice())
 }
 
-/// His outbox of that round, in which nothing is entered.
-///
-/// # Errors
-///
-/// `AllocError` where memory is refused.
+/// Returns the outbox of a general at the start of the round after the sent rounds. It has no entries.
 pub(crate) fn outbox(
     alloc: Global,
     scenario: &Scenario,

@@ -1,4 +1,4 @@
-//! Campaigns of signed messages from a scenario to their chronicle.
+//! Plays a signed campaign from its scenario to its chronicle, by a schedule or as a replay.
 ghost use Rattle.std.specs.Prelude.{◌≡◌, IfOk};
 ghost use Rattle.signed.specs.Chronicle.{signed_chronicle_of, signed_decisions};
 ghost use Rattle.signed.specs.Kind.{signed_kind, played};
@@ -15,12 +15,13 @@ use round::Scenario;
 use std::alloc::{AllocError, Global};
 use world::{Schedule, play_listed, play_named};
 
-/// The chronicle of the scenario's campaign of signed messages by a schedule: in each round its entries one by one,
-/// then the letters of all loyal generals and what is left of the traitors' instructions, ascending by number.
+/// Plays the signed campaign of a scenario by a schedule and returns its chronicle. In each round the schedule's
+/// entries come first, one by one. Then come the letters of all loyal generals and the remaining instructions of the
+/// traitors, in ascending order of the generals.
 ///
 /// # Errors
 ///
-/// `AllocError` where memory is refused.
+/// Fails with `AllocError` if it runs out of memory.
 pub fn play_signed(
     alloc: Global,
     scenario: Scenario,
@@ -44,12 +45,13 @@ pub fn play_signed(
     }
 }
 
-/// The chronicle of the scenario's campaign of signed messages in which these generals, by round, make their accesses
-/// in this order; a round without names has none, and names beyond the last round give nothing.
+/// Plays the signed campaign of a scenario so that the named generals make their accesses in the given order, and
+/// returns its chronicle. `names` lists the generals by round. A round without a list has no names, and lists beyond
+/// the last round are ignored.
 ///
 /// # Errors
 ///
-/// `AllocError` where memory is refused.
+/// Fails with `AllocError` if it runs out of memory.
 pub fn replay_signed(
     alloc: Global,
     scenario: Scenario,
@@ -75,7 +77,7 @@ pub fn replay_signed(
     }
 }
 
-/// The scenario's campaign by a schedule, to its end.
+/// Returns the world of a signed campaign after the last round, played by a schedule.
 fn played_listed(
     alloc: Global,
     scenario: Scenario,
@@ -90,7 +92,8 @@ fn played_listed(
     Ok(world)
 }
 
-/// The scenario's campaign in which these generals, by round, make their accesses in this order, to its end.
+/// Returns the world of a signed campaign after the last round, in which the generals that `names` lists by round make
+/// their accesses in that order.
 fn played_named(
     alloc: Global,
     scenario: Scenario,

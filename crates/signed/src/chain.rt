@@ -1,3 +1,4 @@
+//! Chains of signatures: an order and the generals who signed it.
 ghost use Rattle.std.specs.Prelude.{◌≡◌, ℕ, cond, length};
 ghost use Rattle.std.specs.Int.{bit_at};
 ghost use Rattle.label.specs.Labels.{on};
@@ -11,7 +12,8 @@ use crate::signer::Signer;
 use label::Label;
 use std::marker::Model;
 
-/// An order, and 1 to 13 different generals who signed it, the first signature first. It is made by signatures alone.
+/// A chain: an order and the 1 to 13 distinct generals who signed it, the first signature first. To make or extend a
+/// chain one needs a signer.
 #[derive(Drop)]
 pub struct Chain {
     order: u32,
@@ -30,7 +32,7 @@ impl Model for Chain {
 }
 
 impl Chain {
-    /// The order with this signature alone, or none where the signer is not the commander.
+    /// Returns the order with the signature of `signer` as its only one, or `None` if he is not the commander.
     pub fn begin(signer: &Signer, order: u32) -> Option<Chain>
         ensures { result ≡ begin signer.now.commander signer.now.general order }
     {
@@ -43,7 +45,7 @@ impl Chain {
         })
     }
 
-    /// The chain with this signature at its end, or none where the signer stands on it.
+    /// Returns the chain extended by the signature of `signer`, or `None` if he has already signed it.
     pub fn prolong(&self, signer: &Signer) -> Option<Chain>
         ensures { result ≡ prolong self.now signer.now.general }
     {
@@ -57,14 +59,14 @@ impl Chain {
         })
     }
 
-    /// The order that was signed.
+    /// Returns the order that was signed.
     pub fn order(&self) -> u32
         ensures { result ≡ self.now.order }
     {
         self.order
     }
 
-    /// Who signed it, bit g for general g.
+    /// Returns the set of the generals who signed the chain, with bit `g` for general `g`.
     pub(crate) fn bits(&self) -> u16
         ensures same { result ≡ signer_bits self.now }
         ensures each { (g : ℕ) → bit_at result g ≡ cond (on self.now.signers g) 1 0 }
@@ -72,7 +74,7 @@ impl Chain {
         sets::of(self.signers.generals())
     }
 
-    /// Who signed it, the first signature first.
+    /// Returns the generals who signed the chain, the first signature first.
     pub fn signers(&self) -> &[u8]
         ensures value { result.now ≡ self.now.signers }
         ensures kind { IsGenerals self.now.signers }
@@ -80,7 +82,8 @@ impl Chain {
         self.signers.generals()
     }
 
-    /// Whether it counts for the general in this round: it has as many signatures, and none is his.
+    /// Checks whether the chain counts for a general in round `round`: it has exactly `round` signatures, and none is
+    /// his.
     pub(crate) fn counts(&self, round: usize, general: u8) -> bool
         ensures { result ≡ counts round general self.now }
     {

@@ -1,4 +1,4 @@
-//! What is told of a finished campaign of signed messages.
+//! The chronicle of a finished signed campaign: letters, chains, accesses, decisions and verdict.
 ghost use Rattle.std.specs.Prelude.{◌≡◌, ◌≤◌, ◌<◌, map};
 ghost use Rattle.signed.specs.Sending.{dispatch_of};
 ghost use Rattle.signed.specs.Sent.{sent_by, sent_in};
@@ -11,8 +11,8 @@ use round::{Round, Scenario};
 use std::marker::Model;
 use world::Verdict;
 
-/// What is told of a finished campaign of signed messages: its letters and the chains that they sent, its accesses, the
-/// lieutenants' decisions and the verdict on them.
+/// The chronicle of a finished signed campaign: its letters and the chains that they sent, its accesses, the decisions
+/// of the lieutenants, and the verdict on them.
 #[derive(Drop)]
 pub struct SignedChronicle {
     pub(crate) scenario: Scenario,
@@ -42,43 +42,44 @@ impl Model for SignedChronicle {
 }
 
 impl SignedChronicle {
-    /// Its campaign.
+    /// Returns the scenario of the campaign.
     pub fn scenario(&self) -> &Scenario
         ensures { result.now ≡ self.now.scenario }
     {
         &self.scenario
     }
 
-    /// The letters, by round from the first, and in a round by general.
+    /// Returns the letters by round, from the first round on, and within a round by general.
     pub fn letters(&self) -> &[Round]
         ensures { result.now ≡ self.now.letters }
     {
         self.letters.as_slice()
     }
 
-    /// The accesses, in the board's order.
+    /// Returns the accesses in the board's order.
     pub fn accesses(&self) -> &[Access]
         ensures { result.now ≡ self.now.accesses }
     {
         self.accesses.as_slice()
     }
 
-    /// The decision of each lieutenant, ascending by number.
+    /// Returns the decisions of the lieutenants, in ascending order of the lieutenants.
     pub fn decisions(&self) -> &[u32]
         ensures { result.now ≡ self.now.decisions }
     {
         self.decisions.as_slice()
     }
 
-    /// The verdict on the decisions.
+    /// Returns the verdict on the decisions.
     pub fn verdict(&self) -> Verdict
         ensures { result ≡ self.now.verdict }
     {
         self.verdict
     }
 
-    /// What a general sent in a round, from 1: each chain with its receivers, bit g for general g, in the order of his
-    /// entries.
+    /// Returns the chains that a general sent in a round, in the order of his entries. Each chain comes with its
+    /// receivers, with bit `g` for general `g`. Rounds are counted from 1. The result is empty if there is no such
+    /// round or general.
     pub fn sent(&self, general: u8, round: usize) -> &[(Chain, u16)]
         ensures { map dispatch_of result.now ≡ sent_by (sent_in self.now.scenario self.now.letters) round general }
     {

@@ -1,4 +1,4 @@
-//! What entries send.
+//! Turns the entries of a letter into the chains that it sends, each signed by the sender.
 ghost use Rattle.std.specs.Prelude.{◌≡◌, ◌≤◌, ◌+◌, ◌++◌, map, length, IfOk, OnOk, vec_len};
 ghost use Rattle.signed.specs.Entries.{bits_of, chain_of, dispatched, receivers_in, sent_by};
 ghost use Rattle.signed.specs.Sending.{dispatch_of, named};
@@ -11,12 +11,8 @@ use crate::signer::Signer;
 use semantics::Entry;
 use std::alloc::{AllocError, Global};
 
-/// What a general's entries send: each a chain that ends with his signature, to the receivers that the entry names, but
-/// for those who stand on it.
-///
-/// # Errors
-///
-/// `AllocError` where memory is refused.
+/// Returns the chains that the entries of a general send. Each chain ends with his signature. It goes to the receivers
+/// that the entry names and that have not signed it.
 pub(crate) fn dispatched(
     alloc: Global,
     signer: &Signer,
@@ -36,7 +32,7 @@ pub(crate) fn dispatched(
     Ok(Sending { chains })
 }
 
-/// An entry's chain behind those before, where it sends one.
+/// Appends the chain that an entry sends, with its receivers, if the entry sends one.
 fn send(
     chains: &mut Vec<(Chain, u16)>,
     signer: &Signer,
@@ -60,7 +56,8 @@ fn send(
     }
 }
 
-/// The chain that an entry sends, where there is one.
+/// Returns the chain that an entry sends. Returns `None` if the general may not sign it or holds no chain at the
+/// entry's index.
 fn chain_of(signer: &Signer, held: &Held, entry: Entry) -> Option<Chain>
     ensures { result ≡ chain_of signer.now.commander signer.now.general held.now.chains entry }
 {
@@ -73,7 +70,7 @@ fn chain_of(signer: &Signer, held: &Held, entry: Entry) -> Option<Chain>
     }
 }
 
-/// Whom an entry names, bit g for general g.
+/// Returns the set of the generals that an entry names as receivers, with bit `g` for general `g`.
 fn bits_of(entry: Entry) -> u16
     ensures { result ≡ bits_of entry }
 {
@@ -83,7 +80,8 @@ fn bits_of(entry: Entry) -> u16
     }
 }
 
-/// The generals among these, but for those on the chain.
+/// Returns the receivers of a chain: the generals below `generals` that are in the set `bits` and have not signed the
+/// chain.
 fn receivers(generals: u8, bits: u16, chain: &Chain) -> u16
     requires { generals ≤ 13 }
     ensures { named result ≡ receivers_in generals bits chain.now }

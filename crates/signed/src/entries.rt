@@ -1,4 +1,4 @@
-//! What a loyal general enters.
+//! The entries of a loyal general's letter: which chains he signs and passes on by SM(m).
 ghost use Rattle.std.specs.Prelude.{◌≡◌, ◌≤◌, ◌<◌, ◌++◌, ◌∷◌, [], ℕ, List, drop, length, suc};
 ghost use Rattle.label.specs.Generals.{IsGenerals};
 ghost use Rattle.signed.specs.Loyal.{bits_but, loyal_entries, passes};
@@ -14,9 +14,9 @@ use arrayvec::ArrayVec;
 use outbox::Outbox;
 use round::Scenario;
 
-/// Enters what a loyal general has to sign in the round behind these: the commander his order in the first; a
-/// lieutenant, in each round after one of the first m, the first chain that brought him each order that he added then.
-/// It takes no memory.
+/// Enters the chains that a loyal general has to sign in the round after the sent rounds. In round 1 the commander
+/// enters his order. In each later round a lieutenant enters, for each order that he accepted in the round before, the
+/// first chain that carried it. Allocates no memory.
 pub(crate) fn enter(
     outbox: &mut Outbox,
     scenario: &Scenario,
@@ -50,8 +50,8 @@ pub(crate) fn enter(
     }
 }
 
-/// Enters, for each of the chains of the last of so many rounds that counts and brings the general an order that is not
-/// among these, that chain with his signature, for all who are not on it then.
+/// Enters chains of round `rounds` for a general, with his signature and addressed to all generals who are not on the
+/// chain then. He enters the first chain that counts for each order that is not in `before`.
 fn pass_on(
     outbox: &mut Outbox,
     held: &Held,
@@ -81,7 +81,7 @@ fn pass_on(
     }
 }
 
-/// All who will not be on the chain once the general has signed it, bit g for general g.
+/// Returns the generals who are not on the chain once `general` has signed it, with bit `g` for general `g`.
 fn receivers(generals: u8, chain: &Chain, general: u8) -> u16
     requires size { generals ≤ 13 }
     requires inside { general < generals }
@@ -90,7 +90,7 @@ fn receivers(generals: u8, chain: &Chain, general: u8) -> u16
     sets::without(sets::below(generals), sets::with(chain.bits(), general))
 }
 
-/// All generals but these, bit g for general g.
+/// Returns the generals below `generals` that are not in `but`, with bit `g` for general `g`.
 fn others(generals: u8, but: &[u8]) -> u16
     requires size { generals ≤ 13 }
     requires but { IsGenerals but.now }

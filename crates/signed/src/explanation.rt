@@ -1,4 +1,4 @@
-//! How the lieutenants of a signed campaign come to their decisions, as a text.
+//! The text that explains how the lieutenants of a signed campaign decide: accepted orders, choices and the verdict.
 ghost use Rattle.std.specs.Prelude.{◌≡◌, ◌<◌, ◌++◌, ◌∷◌, IfOk, OnOk, codes, string_bytes};
 ghost use Rattle.std.specs.Fmt.{decimal};
 ghost use Rattle.std.specs.List.{flat_map};
@@ -18,7 +18,7 @@ use std::alloc::{AllocError, Global};
 use world::Verdict;
 use world::judgement::traitors;
 
-/// Adds the generals, each behind a dot.
+/// Writes each general after a dot.
 fn push_further(lines: &mut String, generals: &[u8]) -> Result<(), AllocError>
     ensures { OnOk result (string_bytes lines.new ≡ string_bytes lines.old
         ++ flat_map (λ g. codes "." ++ decimal g) generals.now) }
@@ -29,7 +29,7 @@ fn push_further(lines: &mut String, generals: &[u8]) -> Result<(), AllocError>
     Ok(())
 }
 
-/// Adds the generals, joined by dots.
+/// Writes the generals, joined by dots.
 fn push_signers(lines: &mut String, generals: &[u8]) -> Result<(), AllocError>
     ensures { OnOk result (string_bytes lines.new ≡ string_bytes lines.old ++ dotted generals.now) }
 {
@@ -42,7 +42,7 @@ fn push_signers(lines: &mut String, generals: &[u8]) -> Result<(), AllocError>
     }
 }
 
-/// Adds the line of an order that is accepted.
+/// Writes the line of an accepted order: the order and the signers of the chain that carried it.
 fn push_accepted(lines: &mut String, chain: &Chain) -> Result<(), AllocError>
     ensures { OnOk result (string_bytes lines.new ≡ string_bytes lines.old ++ accepted_line chain.now) }
 {
@@ -52,7 +52,7 @@ fn push_accepted(lines: &mut String, chain: &Chain) -> Result<(), AllocError>
     lines.push_str("\n")
 }
 
-/// Adds those of all these.
+/// Writes the lines of the orders that these chains carry, one line for each chain.
 fn push_all_accepted(lines: &mut String, chains: &[&Chain]) -> Result<(), AllocError>
     ensures { OnOk result (string_bytes lines.new ≡ string_bytes lines.old
         ++ flat_map accepted_line (lent chains.now)) }
@@ -63,7 +63,7 @@ fn push_all_accepted(lines: &mut String, chains: &[&Chain]) -> Result<(), AllocE
     Ok(())
 }
 
-/// What is decided of the orders that these chains bring.
+/// Returns the order if there is exactly one chain, and otherwise 0 (RETREAT).
 fn chosen(chains: &[&Chain]) -> u32
     ensures { result ≡ decided (orders (lent chains.now)) }
 {
@@ -73,7 +73,7 @@ fn chosen(chains: &[&Chain]) -> u32
     }
 }
 
-/// Of how many orders the choice was.
+/// Returns the words that say from how many orders the choice was made.
 fn choice_words(chains: &[&Chain]) -> &'static str
     ensures { result.now ≡ choice_words (orders (lent chains.now)) }
 {
@@ -84,14 +84,14 @@ fn choice_words(chains: &[&Chain]) -> &'static str
     }
 }
 
-/// What marks the decision of a traitor.
+/// Returns the words that mark the decision of a traitor, or a space for a loyal lieutenant.
 fn mark(is_traitor: bool) -> &'static str
     ensures { result.now ≡ mark is_traitor }
 {
     if is_traitor { " traitor " } else { " " }
 }
 
-/// Adds the line of a decision.
+/// Writes the line of a lieutenant's decision.
 fn push_choice(
     lines: &mut String,
     general: u8,
@@ -107,7 +107,7 @@ fn push_choice(
     write!(lines, "decision {general}{mark}{order}{words}")
 }
 
-/// Adds the lines of a lieutenant.
+/// Writes the part of a lieutenant: his number, the orders that he accepts, and his decision.
 fn push_lieutenant(
     alloc: Global,
     lines: &mut String,
@@ -129,7 +129,7 @@ fn push_lieutenant(
     )
 }
 
-/// Whether the bound holds, as a word.
+/// Returns `yes` or `no`.
 #[tactic(auto, unfolding(book::specs::Explained::yes_no))]
 fn yes_no(is_so: bool) -> &'static str
     ensures { result.now ≡ yes_no is_so }
@@ -137,7 +137,7 @@ fn yes_no(is_so: bool) -> &'static str
     if is_so { "yes" } else { "no" }
 }
 
-/// At most, or not.
+/// Returns the words that compare the number of traitors with the bound.
 #[tactic(auto, unfolding(book::specs::Explained::few_words))]
 fn few_words(is_so: bool) -> &'static str
     ensures { result.now ≡ few_words is_so }
@@ -145,7 +145,7 @@ fn few_words(is_so: bool) -> &'static str
     if is_so { "at most " } else { "more than " }
 }
 
-/// Adds whether there are few enough traitors.
+/// Writes the line of the bound: how many traitors there are, and whether they are at most the bound.
 fn push_traitors(lines: &mut String, scenario: &Scenario, holds: bool) -> Result<(), AllocError>
     ensures { OnOk result (string_bytes lines.new ≡ string_bytes lines.old ++ traitors_line scenario.now holds) }
 {
@@ -156,7 +156,7 @@ fn push_traitors(lines: &mut String, scenario: &Scenario, holds: bool) -> Result
     write!(lines, "bound {so}: {traitors} traitors, {few}{bound}\n")
 }
 
-/// Whether the loyal lieutenants decide alike.
+/// Returns the line of IC1, which says whether the loyal lieutenants decide alike.
 fn alike_line(alike: bool) -> &'static str
     ensures { result.now ≡ alike_line alike }
 {
@@ -167,7 +167,7 @@ fn alike_line(alike: bool) -> &'static str
     }
 }
 
-/// Adds whether a loyal commander is obeyed.
+/// Writes the line of IC2, which says whether the loyal lieutenants obey a loyal commander.
 fn push_obedience(lines: &mut String, order: u32, obeyed: Option<bool>) -> Result<(), AllocError>
     ensures { OnOk result (string_bytes lines.new ≡ string_bytes lines.old
         ++ obedience_line (obedience_of order obeyed)) }
@@ -189,7 +189,7 @@ fn push_obedience(lines: &mut String, order: u32, obeyed: Option<bool>) -> Resul
     }
 }
 
-/// Adds whether the bound and the conditions hold.
+/// Writes the lines of the bound, IC1 and IC2.
 #[tactic(auto, unfolding(crate::specs::Explained::verdict_lines))]
 fn push_verdict(lines: &mut String, scenario: &Scenario, verdict: Verdict) -> Result<(), AllocError>
     ensures { OnOk result (string_bytes lines.new ≡ string_bytes lines.old ++ verdict_lines scenario.now verdict) }
@@ -199,7 +199,7 @@ fn push_verdict(lines: &mut String, scenario: &Scenario, verdict: Verdict) -> Re
     push_obedience(lines, scenario.order(), verdict.obeyed)
 }
 
-/// The lines of all lieutenants, ascending.
+/// Returns the parts of all lieutenants, ascending.
 fn all_lieutenants(alloc: Global, chronicle: &SignedChronicle) -> Result<String, AllocError>
     ensures { IfOk result (λ lines. string_bytes lines
         ≡ flat_map (acceptance_lines chronicle.now)
@@ -215,12 +215,13 @@ fn all_lieutenants(alloc: Global, chronicle: &SignedChronicle) -> Result<String,
     Ok(lines)
 }
 
-/// How this general comes to his decision: the orders that he accepts, with the chain that brought him each first, and
-/// what he decides of them; nothing where he is no lieutenant.
+/// Returns the text that explains how a lieutenant of a signed campaign decides. It lists the orders that he accepts,
+/// each with the first chain that brought it to him, and ends with his decision. The text is empty if the general is
+/// not a lieutenant.
 ///
 /// # Errors
 ///
-/// `AllocError` where memory is refused.
+/// Fails with `AllocError` if it runs out of memory.
 pub fn explain_one_signed(
     alloc: Global,
     chronicle: &SignedChronicle,
@@ -236,13 +237,14 @@ pub fn explain_one_signed(
     Ok(lines)
 }
 
-/// How the lieutenants of a signed campaign come to their decisions, or this general alone to his: for each, ascending,
-/// the orders that he accepts, with the chain that brought him each first, and what he decides of them; then whether
-/// there are few enough traitors, and whether the conditions hold.
+/// Returns the text that explains how the lieutenants of a signed campaign decide. For each lieutenant, ascending, it
+/// lists the orders that he accepts, each with the first chain that brought it to him, and his decision. If a general
+/// is given, only his part is written. The last lines say whether the traitors are at most the bound, and whether IC1
+/// and IC2 hold.
 ///
 /// # Errors
 ///
-/// `AllocError` where memory is refused.
+/// Fails with `AllocError` if it runs out of memory.
 #[tactic(auto, unfolding(crate::specs::Explained::signed_explained))]
 pub fn explain_signed(
     alloc: Global,

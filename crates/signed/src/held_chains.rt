@@ -1,4 +1,4 @@
-//! The chains that a general holds.
+//! The chains that a general holds: those that he received in earlier rounds.
 ghost use Rattle.std.specs.Prelude.{◌≡◌, ◌≤◌, ◌<◌, ◌+◌, ◌*◌, ◌++◌, ◌∷◌, [], map, flat_map, length, slice_get, IfOk, OnOk, vec_len};
 ghost use Rattle.signed.specs.Contexts.{signer_bits};
 ghost use Rattle.signed.specs.Entries.{received};
@@ -10,12 +10,12 @@ use crate::sets::has;
 use std::alloc::{AllocError, Global};
 use std::marker::Model;
 
-/// The chains that came to a general in earlier rounds, by round, sender and entry, repeats too. They are lent from
-/// what was sent: a chain goes to up to twelve receivers, and there is no copy of one.
+/// The chains that a general received in earlier rounds, ordered by round, sender and entry, with repetitions. They are
+/// references to the chains that were sent, because one chain goes to up to twelve receivers.
 #[derive(Drop)]
 pub struct Held<'a> {
     chains: Vec<&'a Chain>,
-    /// How many of them came before the last round.
+    /// How many of the chains were received before the last round.
     earlier: usize,
 }
 
@@ -28,11 +28,7 @@ impl<'a> Model for Held<'a> {
 }
 
 impl<'a> Held<'a> {
-    /// What a general holds behind these rounds.
-    ///
-    /// # Errors
-    ///
-    /// `AllocError` where memory is refused.
+    /// Returns the chains that a general holds after the sent rounds.
     pub(crate) fn behind(
         alloc: Global,
         sent: &'a [SentRound],
@@ -51,21 +47,21 @@ impl<'a> Held<'a> {
         Ok(Held { chains, earlier })
     }
 
-    /// How many chains he holds.
+    /// Returns how many chains the general holds.
     pub fn len(&self) -> usize
         ensures { result ≡ length self.now.chains }
     {
         self.chains.len()
     }
 
-    /// How many of them came before the last round.
+    /// Returns how many of the chains were received before the last round.
     pub(crate) fn earlier(&self) -> usize
         ensures { result ≡ self.now.earlier }
     {
         self.earlier
     }
 
-    /// The chain at a place, where there is one.
+    /// Returns the chain at an index, if there is one.
     pub fn get(&self, place: usize) -> Option<&Chain>
         ensures { chain_in result ≡ slice_get self.now.chains place }
     {
@@ -75,7 +71,7 @@ impl<'a> Held<'a> {
         }
     }
 
-    /// Who signed each, bit g for general g.
+    /// Returns the signers of each chain, with bit `g` for general `g`.
     pub(crate) fn signers(&self, alloc: Global) -> Result<Vec<u16>, AllocError>
         ensures { IfOk result (λ signers. signers.items ≡ map signer_bits self.now.chains) }
     {
@@ -86,7 +82,7 @@ impl<'a> Held<'a> {
         Ok(signers)
     }
 
-    /// Of each its order and who signed it.
+    /// Returns two numbers for each chain: its order, and its signers with bit `g` for general `g`.
     pub(crate) fn numbers(&self, alloc: Global) -> Result<Vec<u32>, AllocError>
         ensures { IfOk result (λ numbers. numbers.items
             ≡ flat_map (λ ch. ch.order ∷ signer_bits ch ∷ []) self.now.chains) }
@@ -100,7 +96,7 @@ impl<'a> Held<'a> {
     }
 }
 
-/// The chains of a round that came to the general, behind those before.
+/// Appends the chains of a round that the general received.
 fn take_round<'a>(
     chains: &mut Vec<&'a Chain>,
     round: &'a SentRound,
@@ -116,7 +112,7 @@ fn take_round<'a>(
     Ok(())
 }
 
-/// The chains of one sender that came to the general, behind those before.
+/// Appends the chains of one sender in a round that the general received.
 fn take<'a>(
     chains: &mut Vec<&'a Chain>,
     sending: &'a Sending,

@@ -1,4 +1,4 @@
-//! What a campaign of signed messages has come to.
+//! Judges a signed campaign: the lieutenants' decisions, the verdict on them, and the chronicle.
 ghost use Rattle.std.specs.Prelude.{◌≡◌, ◌↔◌, IfSome, IsSome};
 ghost use Rattle.signed.specs.Chronicle.{signed_chronicle_of, signed_decisions, signed_verdict_of};
 ghost use Rattle.signed.specs.Promises.{AgreeUnderSignedBound};
@@ -13,10 +13,10 @@ use world::Verdict;
 use world::judgement::{alike, loyal_decisions, obeyed, traitors};
 
 impl SignedWorld {
-    /// What the lieutenants decide, ascending by number, of the chains so far: the one order that each accepted, of
-    /// none or of several RETREAT, as SM(m) has it, m the bound (TOPLAS 1982). Where all rounds are closed, every loyal
-    /// general has posted in each and at most m are traitors, the loyal ones decide alike, and the order of a loyal
-    /// commander. Takes no memory.
+    /// Returns the decisions of the lieutenants, in ascending order of the lieutenants, from the chains sent so far. By
+    /// SM(m), where m is the bound (TOPLAS 1982), a lieutenant decides on the order that he accepted if it is the only
+    /// one, and otherwise on RETREAT. If the world is finished, with at least m + 2 generals and at most m traitors,
+    /// the loyal lieutenants decide alike, and they obey a loyal commander. Allocates no memory.
     pub fn decisions(&self) -> ArrayVec<u32, 12>
         ensures values { result.items ≡ signed_decisions self.now.scenario self.now.closed }
         ensures agree { IsFinished self.now → AgreeUnderSignedBound self.now.scenario result.items }
@@ -32,7 +32,8 @@ impl SignedWorld {
         decisions
     }
 
-    /// Its chronicle; none where a round is open, or a loyal general had not posted in a closed one. Takes no memory.
+    /// Returns the chronicle of the campaign. Returns `None` if a round is still open, or if some loyal general had not
+    /// posted in a closed round. Allocates no memory.
     pub fn chronicle(self) -> Option<SignedChronicle>
         ensures finished { IsSome result ↔ IsFinished self }
         ensures told { IfSome result (λ chronicle. chronicle ≡ signed_chronicle_of self) }
@@ -60,7 +61,7 @@ impl SignedWorld {
     }
 }
 
-/// The verdict on these decisions of the lieutenants, ascending by number.
+/// Returns the verdict on the decisions of the lieutenants, which are in ascending order of the lieutenants.
 fn verdict(scenario: &Scenario, decisions: &[u32]) -> Verdict
     ensures { result ≡ signed_verdict_of scenario.now decisions.now }
 {

@@ -1,4 +1,4 @@
-//! Laws of signed messages: each function does nothing, and its contract is the law.
+//! Laws of signed campaigns. Each function does nothing, and its contract is the law.
 ghost use Rattle.signed.specs.Agreement.{SignedAgreementHolds};
 ghost use Rattle.signed.specs.Kind.{signed_kind};
 ghost use Rattle.signed.specs.Laws.{
@@ -24,101 +24,113 @@ ghost use Rattle.world.specs.Replay.{
 };
 ghost use Rattle.world.specs.Safety.{ActivationsAreSafe, PartsArePlaced};
 
-/// With at most m traitors, whatever they sign, all loyal lieutenants accept the same orders and decide alike, on a
-/// loyal commander's order (TOPLAS 1982, Theorem 2).
+/// Does nothing. Its contract says that, with at most m traitors among at least m + 2 generals, all loyal lieutenants
+/// accept the same orders and decide alike, whatever the traitors sign. They obey a loyal commander (TOPLAS 1982,
+/// Theorem 2).
 pub fn signed_agreement()
     ensures { SignedAgreementHolds }
 {}
 
-/// The chains that are told of a lieutenant bring the orders that he accepts, by which he decides.
+/// Does nothing. Its contract says that the chains listed for a lieutenant carry just the orders that he accepts.
 pub fn accepted_orders_decide()
     ensures { AcceptedOrdersDecide }
 {}
 
-/// So they do in every world where all rounds are closed and every loyal general had posted in each.
+/// Does nothing. Its contract says that the loyal lieutenants agree in every finished world with at least m + 2
+/// generals and at most m traitors. A world is finished if all rounds are closed and every loyal general had posted in
+/// each.
 pub fn signed_worlds_agree()
     ensures { SignedWorldsAgree }
 {}
 
-/// In every world all chains are unforged.
+/// Does nothing. Its contract says that in every world all chains are unforged.
 pub fn chains_are_unforged()
     ensures { ChainsAreUnforged }
 {}
 
-/// Nobody sends more than eight chains in a round, and only orders that the commander signed in the first are accepted.
+/// Does nothing. Its contract says that no general accepts more than eight orders or sends more than eight chains in a
+/// round, and that only orders that the commander signed in round 1 are accepted.
 pub fn chains_are_few()
     ensures { ChainsAreFew }
 {}
 
-/// Nobody holds more chains than a place names, and a context has room for them.
+/// Does nothing. Its contract says that no general holds more chains than an entry's index can name, and that a context
+/// has room for them.
 pub fn held_chains_are_few()
     ensures { HeldChainsAreFew }
 {}
 
-/// All this holds of whatever letters traitors write, also where no program would: chains are unforged and few, and
-/// with at most m traitors the loyal lieutenants agree.
+/// Does nothing. Its contract says that chains are unforged and few, whatever letters the traitors write, and that the
+/// loyal lieutenants agree if there are at least m + 2 generals and at most m traitors. The letters may be such as no
+/// program would write.
 pub fn whatever_traitors_write()
     ensures { WhateverTraitorsWrite }
 {}
 
-/// What a loyal general enters sends, to all others, just the chains that he has to sign.
+/// Does nothing. Its contract says that the entries of a loyal general send just the chains that he has to sign, to all
+/// generals who are not on them.
 pub fn loyal_entries_are_sent()
     ensures { LoyalEntriesAreSent }
 {}
 
-/// The machine lets an entry be sent exactly where the definition has a chain for it, and what a traitor's program has
-/// entered is all sent when the round closes.
+/// Does nothing. Its contract says that the machine accepts an entry exactly if the definition has a chain for it. It
+/// also says that all entries of a traitor's program are sent when the round is closed.
 pub fn signed_entries_are_sent()
     ensures { SignedEntriesAreSent }
 {}
 
-/// The verdict means what it says, and in a finished world with no more traitors than were provided for it says that
-/// all is well.
+/// Does nothing. Its contract says what the fields of a verdict mean. It also says that IC1 and IC2 hold in a finished
+/// world if the verdict says that the bound holds.
 pub fn signed_verdicts_mean()
     ensures { SignedVerdictsMean }
 {}
 
-/// A refused event leaves the world as it was, and so do a tick of an ended activation and a second post.
+/// Does nothing. Its contract says that a rejected event leaves the world as it was, and so do a tick of an ended
+/// activation and a second post.
 pub fn signed_refusals_change_nothing()
     ensures refused { RefusalsChangeNothing signed_kind }
     ensures idle { IdleEventsChangeNothing signed_kind }
 {}
 
-/// Whatever happens, no activation traps or takes more steps than its program has instructions, and each acting general
-/// has his program, the context and the relay of the open round, and the patience.
+/// Does nothing. Its contract says that no activation traps or takes more steps than its program has instructions. It
+/// also says that each acting general has his program, the context and the relay of the open round, and the patience.
 pub fn signed_activations_are_safe()
     ensures safe { ActivationsAreSafe signed_kind }
     ensures placed { PartsArePlaced signed_kind }
 {}
 
-/// Lists of events by a schedule and by names are punctual and complete.
+/// Does nothing. Its contract says that the events of a schedule and the events of a replay are punctual and complete.
 pub fn signed_lists_are_complete()
     ensures { ListsAreComplete signed_kind }
 {}
 
-/// From one beginning two worlds with one ledger, in which all have ended, are one; and a next request follows from the
-/// answers.
+/// Does nothing. Its contract says that two worlds in which all activations have ended are the same if moves reach them
+/// from the same world and their ledgers are the same. A general's next request is determined by the replies to his
+/// earlier ones.
 pub fn signed_ledgers_decide()
     ensures { LedgersDecide signed_kind }
 {}
 
-/// In every world the ledger is legal, leaves the board's words, and has accesses of traitors alone.
+/// Does nothing. Its contract says that the ledger of every world is legal, results in the board's words, and has
+/// accesses only of traitors.
 pub fn signed_ledgers_are_legal()
     ensures { LedgersAreLegal signed_kind }
 {}
 
-/// A complete run is the replay of its own accesses, and so is its chronicle.
+/// Does nothing. Its contract says that a complete run is the replay of its own accesses, and that its chronicle is the
+/// chronicle of the replay.
 pub fn signed_runs_are_replays()
     ensures worlds { RunsAreReplays signed_kind }
     ensures chronicles { SignedChroniclesAreReplays }
 {}
 
-/// Letters that a legal ledger accounts for are those of a complete run, the replay of that ledger.
+/// Does nothing. Its contract says that letters that a legal ledger accounts for are those of the replay of the ledger,
+/// which is a complete run.
 pub fn signed_accounts_are_runs()
     ensures { AccountsAreRuns signed_kind }
 {}
 
-/// A complete run's ledger is legal and accounts for its letters.
+/// Does nothing. Its contract says that the ledger of a complete run is legal and accounts for its letters.
 pub fn signed_runs_are_accounted()
     ensures { RunsAreAccounted signed_kind }
 {}

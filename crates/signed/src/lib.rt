@@ -1,4 +1,5 @@
-//! Signed messages. What is said of them stands in specs/.
+//! Plays campaigns with signed messages by SM(m): chains of signatures, decisions and chronicles. The definitions are
+//! in specs/.
 #![tactic(auto)]
 
 mod acceptance;

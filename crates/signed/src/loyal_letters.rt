@@ -1,4 +1,4 @@
-//! Loyal generals' letters.
+//! Makes a loyal general's letter of a round, with the chains that SM(m) has him sign.
 ghost use Rattle.std.specs.Prelude.{◌≡◌, ◌≤◌, ◌<◌, length, IfOk};
 ghost use Rattle.signed.specs.Sending.{letter_behind, IsSent};
 
@@ -9,11 +9,7 @@ use crate::sent_chains::SentRound;
 use round::{Letter, Player, Scenario};
 use std::alloc::{AllocError, Global};
 
-/// A loyal general's letter of the round behind these.
-///
-/// # Errors
-///
-/// `AllocError` where memory is refused.
+/// Returns the letter of a loyal general in the round after the sent rounds.
 pub(crate) fn loyal_letter(
     alloc: Global,
     scenario: &Scenario,

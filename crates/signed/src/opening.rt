@@ -1,4 +1,4 @@
-//! How a round begins.
+//! Opens a round of a signed campaign: makes the generals' parts and starts the traitors' activations.
 ghost use Rattle.std.specs.Prelude.{◌≡◌, ◌≤◌, ◌<◌, length, IfOk};
 ghost use Rattle.std.specs.Arc.{arc_value};
 ghost use Rattle.round.specs.Activation.{started};
@@ -14,11 +14,8 @@ use std::sync::Arc;
 use verify::Verified;
 use world::Progress;
 
-/// All generals' parts as the round behind these begins; none where no round is left.
-///
-/// # Errors
-///
-/// `AllocError` where memory is refused.
+/// Returns the parts of all generals at the start of the round after the sent rounds. The list is empty if no round is
+/// left.
 pub(crate) fn beginnings(
     alloc: Global,
     scenario: &Scenario,
@@ -37,7 +34,7 @@ pub(crate) fn beginnings(
     Ok(parts)
 }
 
-/// How one general begins it.
+/// Returns the part of one general at the start of the round after the sent rounds.
 fn beginning(
     alloc: Global,
     scenario: &Scenario,
@@ -56,7 +53,7 @@ fn beginning(
     }
 }
 
-/// A traitor's activation at its start.
+/// Returns a traitor's activation at the start of the round after the sent rounds.
 fn activation(
     alloc: Global,
     scenario: &Scenario,

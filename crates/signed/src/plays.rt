@@ -1,4 +1,4 @@
-//! How a signed world is played on: turn by turn, post by post and close by close.
+//! Implements the trait of playable worlds for signed campaigns.
 ghost use Rattle.signed.specs.Kind.{signed_kind};
 
 use crate::signed_world::SignedWorld;

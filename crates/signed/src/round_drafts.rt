@@ -1,4 +1,5 @@
-//! The letters of a round as far as they take memory, and the chains that they send.
+//! Drafts the letters of a round before it is closed, and makes the chains that they send. This is the part of a close
+//! that needs memory.
 ghost use Rattle.std.specs.Prelude.{◌≡◌, ◌≤◌, ◌<◌, length, IfOk, slice_get};
 ghost use Rattle.signed.specs.Entries.{dispatched};
 ghost use Rattle.signed.specs.Sending.{draft_behind, draft_in, drafts_behind, entries_drafted, part_in, sent_drafted, signatures, IsSent};
@@ -17,11 +18,7 @@ use world::Progress;
 use world::draft::LetterDraft;
 use world::letters::transcript;
 
-/// The drafts of all generals' letters, as they stand.
-///
-/// # Errors
-///
-/// `AllocError` where memory is refused.
+/// Returns the drafts of all generals' letters in the open round, from their current parts.
 pub(crate) fn drafts(
     alloc: Global,
     scenario: &Scenario,
@@ -40,7 +37,7 @@ pub(crate) fn drafts(
     Ok(drafts)
 }
 
-/// The draft of one general's letter.
+/// Returns the draft of one general's letter in the open round, from his current part.
 fn draft(
     alloc: Global,
     scenario: &Scenario,
@@ -69,11 +66,7 @@ fn draft(
     }
 }
 
-/// What the generals send in the round behind these, each with his own signature.
-///
-/// # Errors
-///
-/// `AllocError` where memory is refused.
+/// Returns the chains that the generals send in the round after the sent rounds, each signed by its sender.
 pub(crate) fn sendings(
     alloc: Global,
     scenario: &Scenario,
@@ -94,7 +87,7 @@ pub(crate) fn sendings(
     Ok(SentRound { sendings })
 }
 
-/// What one general sends, with his signature.
+/// Returns the chains that one general sends in the round after the sent rounds, each ending with his signature.
 fn sending(
     alloc: Global,
     scenario: &Scenario,
@@ -119,7 +112,7 @@ fn sending(
     dispatched(alloc, signer, scenario.generals(), &held, entries)
 }
 
-/// What a general has entered, by the draft of his letter or by his activation.
+/// Returns the entries of a general, from the draft of his letter or from his activation. There are at most 8.
 fn entries<'a>(draft: Option<&'a LetterDraft>, part: Option<&'a Progress>) -> &'a [Entry]
     ensures same { result.now ≡ entries_drafted (draft_in draft.entry) (part_in part.entry) }
     ensures few { length result.now ≤ 8 }

@@ -1,11 +1,12 @@
-//! What was sent, by general and by round.
+//! The chains that were sent in the closed rounds, by round and sender.
 ghost use Rattle.std.specs.Prelude.{◌≡◌, ◌≤◌, map, length};
 ghost use Rattle.signed.specs.Sending.{dispatch_of};
 
 use crate::chain::Chain;
 use std::marker::Model;
 
-/// What one general sent in a round: chains, in the order of his entries, each with its receivers, bit g for general g.
+/// The chains that one general sent in a round, at most 8, in the order of his entries. Each chain comes with its
+/// receivers, with bit `g` for general `g`.
 #[derive(Drop)]
 pub struct Sending {
     pub(crate) chains: Vec<(Chain, u16)>,
@@ -24,7 +25,7 @@ impl Model for Sending {
 }
 
 impl Sending {
-    /// The chains, each with its receivers.
+    /// Returns the chains, each with its receivers, with bit `g` for general `g`.
     pub fn chains(&self) -> &[(Chain, u16)]
         ensures same { map dispatch_of result.now ≡ self.now }
         ensures few { length result.now ≤ 8 }
@@ -33,7 +34,7 @@ impl Sending {
     }
 }
 
-/// What was sent in a round, by general: at most 13.
+/// The chains that were sent in a round, by sender. There are at most 13 senders.
 #[derive(Drop)]
 pub struct SentRound {
     pub(crate) sendings: Vec<Sending>,
@@ -51,7 +52,7 @@ impl Model for SentRound {
 }
 
 impl SentRound {
-    /// What each general sent.
+    /// Returns the chains of each sender, by sender.
     pub fn sendings(&self) -> &[Sending]
         ensures same { result.now ≡ self.now }
         ensures few { length result.now ≤ 13 }

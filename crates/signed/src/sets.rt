@@ -1,10 +1,10 @@
-//! Sets of generals as bits: bit g for general g.
+//! Sets of generals as bit masks, with bit `g` for general `g`.
 ghost use Rattle.std.specs.Prelude.{◌≡◌, ◌<◌, ◌≤◌, ◌==◌, ◌^◌, cond, ℕ, sum_by, nat_lt};
 ghost use Rattle.std.specs.Int.{bit_at};
 ghost use Rattle.label.specs.Generals.{IsGenerals};
 ghost use Rattle.label.specs.Labels.{on};
 
-/// Whether the general is in the set.
+/// Checks whether a general is in the set.
 pub(crate) fn has(bits: u16, general: u8) -> bool
     requires { general < 16 }
     ensures { result ≡ (bit_at bits general == 1) }
@@ -12,7 +12,7 @@ pub(crate) fn has(bits: u16, general: u8) -> bool
     (bits >> general) & 1 == 1
 }
 
-/// The set with that general.
+/// Returns the set with a general added.
 pub(crate) fn with(bits: u16, general: u8) -> u16
     requires { general < 16 }
     ensures { (g : ℕ) → bit_at result g ≡ cond (general == g) 1 (bit_at bits g) }
@@ -20,14 +20,14 @@ pub(crate) fn with(bits: u16, general: u8) -> u16
     bits | (1 << general)
 }
 
-/// The set without those in the other.
+/// Returns the set without the members of another set.
 pub(crate) fn without(bits: u16, others: u16) -> u16
     ensures { (g : ℕ) → bit_at result g ≡ cond (bit_at others g == 1) 0 (bit_at bits g) }
 {
     bits & !others
 }
 
-/// The generals below a number.
+/// Returns the set of the generals from 0 to `generals` - 1.
 pub(crate) fn below(generals: u8) -> u16
     requires { generals ≤ 13 }
     ensures { (g : ℕ) → bit_at result g ≡ cond (nat_lt g generals) 1 0 }
@@ -35,7 +35,7 @@ pub(crate) fn below(generals: u8) -> u16
     (1 << generals) - 1
 }
 
-/// These generals.
+/// Returns the set of these generals.
 pub(crate) fn of(generals: &[u8]) -> u16
     requires { IsGenerals generals.now }
     ensures same { result ≡ sum_by (λ g. 2 ^ g) generals.now }

@@ -1,4 +1,4 @@
-//! A campaign of signed messages as it stands, how it begins, and what an event does to it.
+//! The world of a signed campaign: its state, how it opens, and what an event does to it.
 ghost use Rattle.std.specs.Prelude.{◌≡◌, ◌≤◌, ◌<◌, suc, length, IfOk, OnOk, OnErr, IfErr, None, slice_get, replicate};
 ghost use Rattle.signed.specs.Kind.{signed_kind};
 ghost use Rattle.signed.specs.Sending.{signatures};
@@ -17,25 +17,26 @@ use std::marker::Model;
 use world::letters::{is_full, letters, since};
 use world::{Event, EventError, Progress, parts};
 
-/// A scenario's campaign of signed messages as events have left it.
+/// The state of a scenario's signed campaign after some events.
 #[derive(Drop)]
 pub struct SignedWorld {
-    /// Where its lists are kept.
+    /// The allocator of the world's lists.
     pub(crate) alloc: Global,
     pub(crate) scenario: Scenario,
     /// The letters of the closed rounds.
     pub(crate) closed: Vec<Round>,
-    /// The board's words and ledger.
+    /// The board with its words and its ledger.
     pub(crate) board: Board,
-    /// Where the open round's entries begin in the ledger.
+    /// The index at which the open round's accesses begin in the ledger.
     pub(crate) opened: usize,
-    /// By general the parts of the open round.
+    /// The generals' parts in the open round, by general.
     pub(crate) parts: Vec<Progress>,
-    /// Whether in each closed round all loyal generals had posted.
+    /// Whether all loyal generals had posted in each closed round.
     pub(crate) full: bool,
-    /// What the letters of the closed rounds have sent.
+    /// The chains that the letters of the closed rounds sent.
     pub(crate) sent: Vec<SentRound>,
-    /// By general his signature: there is no other, and each is lent to its general's close alone.
+    /// The generals' signers, by general. Each general has only one, and it is used only when his chains are made at a
+    /// close.
     pub(crate) signers: Vec<Signer>,
 }
 
@@ -53,11 +54,11 @@ impl Model for SignedWorld {
 }
 
 impl SignedWorld {
-    /// The scenario's world before any event.
+    /// Returns the scenario's signed world before any event.
     ///
     /// # Errors
     ///
-    /// `AllocError` where memory is refused.
+    /// Fails with `AllocError` if it runs out of memory.
     pub fn open(alloc: Global, scenario: Scenario) -> Result<SignedWorld, AllocError>
         ensures { IfOk result (λ world. world ≡ opening signed_kind scenario) }
     {
@@ -77,13 +78,13 @@ impl SignedWorld {
         })
     }
 
-    /// Does what the event says, where nothing stands against it.
+    /// Applies an event to the world, unless the event is rejected.
     ///
     /// # Errors
     ///
-    /// After an error the world is as it was. `NotOpen` where all rounds are closed; `NoGeneral` where there is no such
-    /// general, or he is not of the event's kind; `Memory` where neither is so and memory is refused
-    /// to a tick or a close: a post takes none.
+    /// After an error the world is as it was. The call fails with `NotOpen` if all rounds are closed. It fails with
+    /// `NoGeneral` if the general does not exist or is not of the event's kind. Otherwise it fails with `Memory` if
+    /// there is no memory for a tick or a close. A post needs no memory.
     pub fn apply(&mut self, event: Event) -> Result<(), EventError>
         ensures done { OnOk result (self.new ≡ happen signed_kind self.old event) }
         ensures undone { OnErr result (self.new ≡ self.old) }
@@ -106,21 +107,21 @@ impl SignedWorld {
         }
     }
 
-    /// Its campaign.
+    /// Returns the scenario of the campaign.
     pub fn scenario(&self) -> &Scenario
         ensures { result.now ≡ self.now.scenario }
     {
         &self.scenario
     }
 
-    /// By general where each stands in the open round.
+    /// Returns the parts of the generals in the open round, by general.
     pub fn parts(&self) -> &[Progress]
         ensures { result.now ≡ self.now.parts }
     {
         self.parts.as_slice()
     }
 
-    /// The number of the open round.
+    /// Returns the number of the open round, counted from 1.
     fn round(&self) -> u32
         ensures { result ≡ suc (length self.now.closed) }
     {
@@ -128,14 +129,14 @@ impl SignedWorld {
         self.closed.len() as u32 + 1
     }
 
-    /// Whether in each closed round every loyal general had posted.
+    /// Checks whether every loyal general had posted in each closed round.
     pub fn full(&self) -> bool
         ensures { result ≡ self.now.full }
     {
         self.full
     }
 
-    /// One turn of a traitor's activation; nothing where nobody acts.
+    /// Takes one turn of a traitor's activation. For any other general it does nothing.
     pub(crate) fn turn(&mut self, general: u32) -> Result<(), AllocError>
         ensures done { OnOk result (self.new ≡ happen signed_kind self.old (Tick general)) }
         ensures undone { OnErr result (self.new ≡ self.old) }
@@ -144,7 +145,8 @@ impl SignedWorld {
         parts::turn(&mut self.parts, &mut self.board, general, round)
     }
 
-    /// A traitor's turns up to so many steps in all, his next access or his end: how many there were.
+    /// Takes turns of a traitor's activation until it makes a request next, has ended, or has taken `limit` steps in
+    /// all. Returns how many turns it took, which is 0 for any other general.
     pub(crate) fn ahead(&mut self, general: u32, limit: u32) -> u32
         ensures same { self.new ≡ run signed_kind self.old (replicate result (Tick general)) }
         ensures far { AheadTo limit result self.old.parts general (slice_get self.old.parts general) self.new.parts }
@@ -152,17 +154,19 @@ impl SignedWorld {
         parts::ahead(&mut self.parts, general, limit)
     }
 
-    /// A loyal general has posted, which is a mark until the round is closed; nothing where no letter of his is
-    /// awaited.
+    /// Marks a loyal general as having posted, until the round is closed. If no letter of his is missing, it does
+    /// nothing.
     pub(crate) fn post(&mut self, general: u32)
         ensures { self.new ≡ happen signed_kind self.old (Post general) }
     {
         parts::mark_posted(&mut self.parts, general);
     }
 
-    /// The end of the round. All memory that it takes is taken before anything changes: the drafts of the letters, room
-    /// for their list, the chains that they send, and the next round's parts, which are told what these chains bring
-    /// them. Then the letters are moved from the parts into the list, which cannot fail.
+    /// Closes the open round.
+    ///
+    /// All memory is allocated before anything changes: the drafts of the letters, capacity for their list, the chains
+    /// that they send, and the parts of the next round, whose contexts contain these chains. Then the letters are moved
+    /// from the parts into the list, which cannot fail.
     pub(crate) fn close(&mut self) -> Result<(), AllocError>
         requires { length self.old.closed ≤ self.old.scenario.bound }
         ensures done { OnOk result (self.new ≡ happen signed_kind self.old Close) }
@@ -203,7 +207,7 @@ impl SignedWorld {
     }
 }
 
-/// A signer for each general.
+/// Returns a signer for each general.
 fn signers(alloc: Global, generals: u8, commander: u8) -> Result<Vec<Signer>, AllocError>
     requires size { generals ≤ 13 }
     requires commander { commander < 13 }

@@ -1,8 +1,9 @@
+//! Signers: the right to sign for one general.
 ghost use Rattle.std.specs.Prelude.{◌≡◌, ◌<◌};
 
 use std::marker::Model;
 
-/// Whoever holds it signs for one general of a campaign: it is no copy of another, and has no public maker.
+/// A signer: its owner can sign for one general of a campaign. It cannot be copied, and only this crate can make one.
 #[derive(Drop)]
 pub struct Signer {
     general: u8,
@@ -20,7 +21,7 @@ impl Model for Signer {
 }
 
 impl Signer {
-    /// The signer of this general under this commander, both below 13.
+    /// Returns the signer of a general under a commander. Both are below 13.
     pub(crate) fn of(general: u8, commander: u8) -> Signer
         requires general { general < 13 }
         requires commander { commander < 13 }
@@ -29,7 +30,7 @@ impl Signer {
         Signer { general, commander }
     }
 
-    /// Whose signature it is, below 13.
+    /// Returns the general whose signature it is, which is below 13.
     pub fn general(&self) -> u8
         ensures value { result ≡ self.now.general }
         ensures kind { self.now.general < 13 }
@@ -37,7 +38,7 @@ impl Signer {
         self.general
     }
 
-    /// Who commands in his campaign.
+    /// Returns the commander of the signer's campaign.
     pub fn commander(&self) -> u8
         ensures { result ≡ self.now.commander }
     {

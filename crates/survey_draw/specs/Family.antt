@@ -1,11 +1,11 @@
--- Families of campaigns (own).
+-- Families of campaigns, from which seeds draw (own).
 use Rattle.std.specs.Prelude.{ℕ, ◌≤◌, Option, IfSome}
 use Rattle.survey_draw.specs.declared.adversary.Adversary.{Adversary}
 use Rattle.survey_draw.specs.declared.span.CountRange.{CountRange}
 use Rattle.survey_draw.specs.declared.manner.Manner.{Manner}
 
--- how many generals, how many traitors they provide for, how many there are, how orders are sent, how long traitors are
--- waited for, what they do
+-- A family: the ranges of the number of generals, the bound and the number of traitors, how orders are sent, how many
+-- steps a traitor may take, and what traitors do.
 pub record Family : Type 0 where
   pub generals : CountRange
   pub bound : CountRange
@@ -14,7 +14,7 @@ pub record Family : Type 0 where
   pub patience : Option ℕ
   pub adversary : Adversary
 
--- the spans have numbers in them; 2 to 13 generals, and a patience of 1 to 4,096 steps
+-- States that no range is empty, that there are 2 to 13 generals, and that a patience is 1 to 4,096 steps.
 pub record IsFamily (f : Family) : Type 0 where
   pub some : f.generals.low ≤ f.generals.high
   pub least : 2 ≤ f.generals.low

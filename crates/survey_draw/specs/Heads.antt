@@ -1,5 +1,5 @@
--- The head of lines: the family whose campaigns they tell, an object of JSON (RFC 8259), its members by their names,
--- ascending.
+-- The head of a survey: a JSON object (RFC 8259) that describes the family of its campaigns, with its members in
+-- ascending order of their names.
 use Rattle.std.specs.Prelude.{ℕ, ◌≡◌, ◌<◌, ◌^◌, ◌==◌, not, true, Bool, IfSome, List, [], ◌∷◌, ◌++◌, take, decimal, bytes_eq, codes, Option, None, Some, string_bytes}
 use Rattle.std.specs.List.{list_all}
 use Rattle.combine.specs.Rule.{rule_name}
@@ -12,21 +12,24 @@ use Rattle.survey_draw.specs.Family.{Family}
 use Rattle.survey_draw.specs.Lines.{member}
 use Rattle.survey_draw.specs.Wording.{campaign_text}
 
--- what the traitors do; of a program its bytecode, in hex
+-- Writes what the traitors do. For a given program this is its bytecode in hex.
 abbrev pub adversary_word : Adversary → List ℕ
 adversary_word Lies = codes "\"lies\""
 adversary_word Silent = codes "\"silent\""
 adversary_word Collude = codes "\"collude\""
 adversary_word (Given hex) = codes "\"0x" ++ (string_bytes hex ++ codes "\"")
 
+-- Writes how orders are sent.
 abbrev pub manner_word : Manner → List ℕ
 manner_word (Oral rule) = codes "\"" ++ (rule_name rule ++ codes "\"")
 manner_word Signed = codes "\"signed\""
 
+-- Writes how many steps a traitor may take, or `null` if they are unlimited.
 abbrev pub patience_word : Option ℕ → List ℕ
 patience_word None = codes "null"
 patience_word (Some steps) = decimal steps
 
+-- Writes the head of a family.
 abbrev pub head_text : Family → List ℕ
 head_text f =
     member (codes "{\"adversary\"") (adversary_word f.adversary)
@@ -40,32 +43,35 @@ head_text f =
     (member (codes ",\"traitors_high\"") (decimal f.traitors.high)
     (member (codes ",\"traitors_low\"") (decimal f.traitors.low) (codes "}\n"))))))))))
 
--- in parts
+-- Writes the members of a head that describe the bound and the generals.
 abbrev pub head_front : CountRange → CountRange → List ℕ
 head_front bound generals =
     codes ",\"bound_high\":" ++ (decimal bound.high ++ (codes ",\"bound_low\":" ++ (decimal bound.low
     ++ (codes ",\"generals_high\":"
     ++ (decimal generals.high ++ (codes ",\"generals_low\":" ++ decimal generals.low))))))
 
+-- Writes the members of a head that describe how orders are sent and the patience.
 abbrev pub head_middle : List ℕ → List ℕ → List ℕ
 head_middle manner patience =
     codes ",\"line\":\"family\",\"manner\":" ++ (manner ++ (codes ",\"patience\":" ++ patience))
 
+-- Writes the members of a head that describe the traitors, and ends the line.
 abbrev pub head_end : CountRange → List ℕ
 head_end traitors = codes ",\"traitors_high\":"
     ++ (decimal traitors.high ++ (codes ",\"traitors_low\":" ++ (decimal traitors.low ++ codes "}\n")))
 
--- a line that begins as a head does
+-- Checks whether a line begins as a head does.
 abbrev pub is_head : List ℕ → Bool
 is_head line = bytes_eq (take 13 line) (codes "{\"adversary\":")
 
--- and is whole: it ends with a line feed
+-- States that the line begins as a head does and ends with a line feed.
 pub record IsHead (line : List ℕ) : Type 0 where
   pub begins : is_head line ≡ true
   pub front : List ℕ
   pub whole : line ≡ front ++ 10 ∷ []
 
--- its spans' numbers have 8 bits, and the bytecode is in hex: no comma stands in it
+-- States that the numbers of the ranges are below 256, that the patience is below 2 ^ 64, and that the bytecode
+-- contains no comma.
 pub record IsTold (f : Family) : Type 0 where
   pub bound : (f.bound.low < 256) × (f.bound.high < 256)
   pub generals : (f.generals.low < 256) × (f.generals.high < 256)
@@ -73,7 +79,8 @@ pub record IsTold (f : Family) : Type 0 where
   pub patience : IfSome f.patience (λ steps. steps < 2 ^ 64)
   pub adversary : list_all (λ c. not (c == 44)) (adversary_word f.adversary) ≡ true
 
--- families with the same head have the same campaigns: each seed gives the same text; and each family has a head
+-- States that families with the same head have the same campaigns, so that each seed gives the same text. It also
+-- states that each family has a head.
 pub record HeadsTellFamilies : Type 0 where
   pub campaigns : (f g : Family) (seed : ℕ) → IsTold f → IsTold g → head_text f ≡ head_text g →
       campaign_text f seed ≡ campaign_text g seed

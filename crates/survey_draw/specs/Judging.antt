@@ -1,4 +1,4 @@
--- What a campaign comes to: the verdict of the chronicle that `play` gives of it, with no schedule.
+-- The result of a surveyed campaign: the verdict of the chronicle that `play` gives of it without a schedule.
 use Rattle.std.specs.Prelude.{ℕ, ◌≡◌, ◌≢◌, ◌≤◌, ◌<◌, List, [], count_by, Err}
 use Rattle.std.specs.List.{range_with_len}
 use Rattle.toml.specs.Parse.{parse_document}
@@ -19,31 +19,34 @@ use Rattle.survey_draw.specs.declared.finding.Finding.{Finding}
 use Rattle.survey_draw.specs.Family.{Family}
 use Rattle.survey_draw.specs.Wording.{campaign_text}
 
--- the verdict on a campaign by the empty schedule
+-- Returns the verdict on a campaign that is played with the empty schedule.
 abbrev pub verdict_in : Campaign → Verdict
 verdict_in (Oral s) = (chronicle_of (run (opening s) (listed s []))).verdict
 verdict_in (Signed s) = (signed_chronicle_of (played s (listed s []))).verdict
 
--- the text tells a campaign, and this is the verdict on it; where its bound holds all is well
+-- States that the text is a campaign and that this is the verdict on it. If its bound holds, the verdict says that IC1
+-- and IC2 hold.
 pub record IsJudged (text : List ℕ) (v : Verdict) : Type 0 where
   pub campaign : Campaign
   pub told : TellsAny text campaign
   pub verdict : v ≡ verdict_in campaign
   pub well : IsWellUnderBound v
 
--- the text tells no campaign, and this is its first fault
+-- States that the text is not a campaign and that this is its first fault.
 abbrev pub IsRefused : List ℕ → ScenarioError → Type 0
 IsRefused text e = ReadsAny (parse_document text) (Err e)
 
+-- Returns the scenario of a campaign.
 abbrev pub scenario_in : Campaign → Scenario
 scenario_in (Oral s) = s
 scenario_in (Signed s) = s
 
+-- Returns how many traitors a scenario has.
 abbrev pub traitors_in : Scenario → ℕ
 traitors_in s = count_by (is_traitor s) (range_with_len 0 s.generals)
 
--- what is found by this seed of the campaign that a text tells: its numbers, and the verdict on it; where its bound
--- holds all is well
+-- States that this is the result of the campaign that the text describes, with this seed: its numbers and the verdict
+-- on it. If its bound holds, the verdict says that IC1 and IC2 hold.
 pub record IsFound (text : List ℕ) (by : ℕ) (found : Finding) : Type 0 where
   pub campaign : Campaign
   pub told : TellsAny text campaign
@@ -54,15 +57,15 @@ pub record IsFound (text : List ℕ) (by : ℕ) (found : Finding) : Type 0 where
   pub verdict : found.verdict ≡ verdict_in campaign
   pub well : IsWellUnderBound found.verdict
 
--- of the campaign of a family that the seed gives
+-- States that this is the result of the campaign that the seed draws from the family.
 abbrev pub IsFindingOf : Family → ℕ → Finding → Type 0
 IsFindingOf f seed found = IsFound (campaign_text f seed) seed found
 
--- its text is refused so, but for want of memory
+-- States that this is the first fault of the campaign that the seed draws from the family, unless memory ran out.
 abbrev pub IsRefusedBy : Family → ℕ → ScenarioError → Type 0
 IsRefusedBy f seed e = e ≢ Memory → IsRefused (campaign_text f seed) e
 
--- that of one of the seeds from the first up to the end, without that
+-- States that this is the first fault of a campaign whose seed is from `first` up to but not including `end`.
 pub record IsRefusedIn (f : Family) (first end : ℕ) (e : ScenarioError) : Type 0 where
   pub seed : ℕ
   pub behind : first ≤ seed

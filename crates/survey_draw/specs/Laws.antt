@@ -1,5 +1,5 @@
--- Laws of surveys: that kept bounds are kept (TOPLAS 1982, theorem 1, and theorem 2 for signed messages), and that what
--- is written is what is read (own).
+-- Laws of surveys: campaigns whose bound holds are sound (TOPLAS 1982, theorem 1, and theorem 2 for signed messages),
+-- and a survey that is written is read as it was (own).
 use Rattle.std.specs.Prelude.{ℕ, ◌≡◌, ◌&&◌, not, List, ◌++◌, count_by, flat_map}
 use Rattle.std.specs.List.{AllZip}
 use Rattle.survey_draw.specs.declared.finding.Finding.{Finding}
@@ -10,13 +10,13 @@ use Rattle.survey_draw.specs.Lines.{line_text}
 use Rattle.survey_draw.specs.Parts.{IsHeadLine, IsPart, IsUnfed}
 use Rattle.survey_draw.specs.Sums.{is_sound}
 
--- of the campaigns that seeds give none keeps the bound and is not sound
+-- States that no seed's campaign has a bound that holds and a verdict that is not sound.
 abbrev pub KeptAreSound : Type 0
 KeptAreSound = (f : Family) (seeds : List ℕ) (found : List Finding) → AllZip (IsFindingOf f) seeds found
     → count_by (λ (x : Finding). x.verdict.bound && not (is_sound x.verdict)) found ≡ 0
 
--- the head of a family whose bytecode has no line feed is a line; and a head with the lines of campaigns behind it is a
--- part that tells just these
+-- States that the head of a family whose bytecode has no line feed is a line. It also states that a head, with the
+-- lines of campaigns after it, is a part with just these campaigns.
 pub record WrittenAreParts : Type 0 where
   pub heads : (f : Family) → IsTold f → IsUnfed (adversary_word f.adversary) → IsHeadLine (head_text f)
   pub parts : (f : Family) (found : List Finding) → IsHeadLine (head_text f)

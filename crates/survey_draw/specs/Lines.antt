@@ -1,22 +1,25 @@
--- The line of what a campaign comes to: an object of JSON (RFC 8259), its members by their names, ascending.
+-- The line of a campaign in a survey: a JSON object (RFC 8259) with its members in ascending order of their names.
 use Rattle.std.specs.Prelude.{ℕ, ◌≡◌, ◌<◌, ◌^◌, ◌==◌, nat_lt, if◌then◌else◌, not, Bool, true, false, List, ◌∷◌, ◌++◌, decimal, codes, Option, None, Some}
 use Rattle.std.specs.List.{list_all}
 use Rattle.text.specs.Number.{decimal_of}
 use Rattle.text.specs.Options.{◌>>=◌}
 use Rattle.survey_draw.specs.declared.finding.Finding.{Finding}
 
+-- Writes `true` or `false`.
 abbrev pub flag_text : Bool → List ℕ
 flag_text true = codes "true"
 flag_text false = codes "false"
 
+-- Writes `true` or `false`, or `null` if there is no answer.
 abbrev pub answer_text : Option Bool → List ℕ
 answer_text None = codes "null"
 answer_text (Some b) = flag_text b
 
--- a front, a colon, a word, and what stands behind them
+-- Writes a member: the text before its colon, the colon, its word, and what follows.
 abbrev pub member : List ℕ → List ℕ → List ℕ → List ℕ
 member front word behind = front ++ 58 ∷ (word ++ behind)
 
+-- Writes the line of a campaign.
 abbrev pub line_text : Finding → List ℕ
 line_text f =
     member (codes "{\"alike\"") (flag_text f.verdict.alike)
@@ -28,25 +31,26 @@ line_text f =
     (member (codes ",\"seed\"") (decimal f.seed)
     (member (codes ",\"traitors\"") (decimal f.traitors) (codes "}\n"))))))))
 
--- its numbers have the sizes of their types
+-- States that the numbers of a campaign's result are within the ranges of their types.
 pub record AreNumbers (f : Finding) : Type 0 where
   pub seed : f.seed < 2 ^ 64
   pub generals : f.generals < 256
   pub bound : f.bound < 256
   pub traitors : f.traitors < 2 ^ 64
 
--- a text begins with a member: the first colon is its own, and its word ends at the first such byte behind
+-- States that the bytes begin with a member. Its colon is the first one, and its word ends before the first byte `ends`
+-- after that.
 pub record HasMember (ends : ℕ) (bytes word behind : List ℕ) : Type 0 where
   pub front : List ℕ
   pub plain : list_all (λ c. not (c == 58)) front ≡ true
   pub short : list_all (λ c. not (c == ends)) word ≡ true
   pub whole : bytes ≡ member front word (ends ∷ behind)
 
--- the number below a limit that a word says
+-- Returns the number below a limit that a word is, if it is one.
 abbrev pub number_told : ℕ → List ℕ → Option ℕ
 number_told limit word = decimal_of word >>= λ n. if nat_lt n limit then Some n else None
 
--- the words of a campaign's numbers, in the order of its line
+-- States that these are the words of a campaign's line, in the order of the line.
 pub record AreWords (f : Finding) (a m n k o s t : List ℕ) : Type 0 where
   pub alike : a ≡ flag_text f.verdict.alike
   pub bound : m ≡ decimal f.bound
@@ -56,12 +60,13 @@ pub record AreWords (f : Finding) (a m n k o s t : List ℕ) : Type 0 where
   pub seed : s ≡ decimal f.seed
   pub traitors : t ≡ decimal f.traitors
 
--- a line in two halves
+-- Writes the first half of a campaign's line.
 abbrev pub front_text : Finding → List ℕ
 front_text f =
     codes "{\"alike\":" ++ (flag_text f.verdict.alike ++ (codes ",\"bound\":" ++ (decimal f.bound
     ++ (codes ",\"generals\":" ++ (decimal f.generals ++ (codes ",\"kept\":" ++ flag_text f.verdict.bound))))))
 
+-- Writes the second half of a campaign's line.
 abbrev pub back_text : Finding → List ℕ
 back_text f =
     codes ",\"line\":\"campaign\",\"obeyed\":"

@@ -1,16 +1,16 @@
--- Campaigns whose traitors do what a grammar says (own).
+-- Drawn campaigns, whose traitors have programs made of statements (own).
 use Rattle.std.specs.Prelude.{ℕ, Bool, List, Option}
 use Rattle.survey_draw.specs.declared.lie.Lie.{Lie}
 use Rattle.survey_draw.specs.declared.manner.Manner.{Manner}
 
--- a traitor and what he says, in order; whether he counts on the board before
+-- A traitor: his statements in order, and whether he first increments a count on the board.
 pub record Traitor : Type 0 where
   pub general : ℕ
   pub counts : Bool
   pub lies : List Lie
 
--- a campaign of generals whom general 0 commands, the traitors ascending; in place of what they say the bytecode of
--- them all, in hex
+-- A campaign that a seed draws. General 0 is its commander, and its traitors are in ascending order. If bytecode is
+-- given, in hex, it replaces the statements of all traitors.
 pub record Plot : Type 0 where
   pub generals : ℕ
   pub bound : ℕ

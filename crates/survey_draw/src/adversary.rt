@@ -1,14 +1,15 @@
-//! What traitors do.
+//! What the traitors of a family do.
 
 /// What the traitors of a family do.
 #[derive(Drop)]
 pub enum Adversary {
-    /// Each tells the others by chance the truth, an order or nothing.
+    /// Each traitor sends each other general, by chance, the truth, an order, or nothing.
     Lies,
-    /// They tell nothing.
+    /// The traitors send nothing.
     Silent,
-    /// As `Lies`, but each order is the parity of a count on the board, which all of them raise.
+    /// The traitors act as with `Lies`, but each order is the parity of a count on the board, which all of them
+    /// increment.
     Collude,
-    /// Each has the program of this bytecode, in hex.
+    /// Each traitor has the program with this bytecode, in hex.
     Given(String),
 }

@@ -1,13 +1,13 @@
-//! The numbers that a seed gives.
+//! Draws pseudo-random numbers from a seed by SplitMix64.
 ghost use Rattle.std.specs.Prelude.{◌≡◌, ◌≤◌, ◌<◌, ◌^◌};
 ghost use Rattle.survey_draw.specs.Draws.{draw, folded, mixed, within};
 
 use crate::span::CountRange;
 
-/// By how much the generator's state grows from one number to the next.
+/// The number by which the generator's state grows from one number to the next.
 const STEP: u64 = 0x9e37_79b9_7f4a_7c15;
 
-/// A word with its high bits folded down by so many places, times a factor.
+/// Folds a word down by `places` bits, by exclusive or, and multiplies the result by a factor.
 fn folded(word: u64, places: u32, factor: u64) -> u64
     requires { places < 64 }
     ensures { result ≡ folded word places factor }
@@ -15,7 +15,7 @@ fn folded(word: u64, places: u32, factor: u64) -> u64
     (word ^ (word >> places)).wrapping_mul(factor)
 }
 
-/// A word whose bits are mixed.
+/// Returns a word with its bits mixed.
 #[tactic(auto, unfolding(crate::specs::Draws::mixed))]
 fn mixed(word: u64) -> u64
     ensures { result ≡ mixed word }
@@ -25,7 +25,7 @@ fn mixed(word: u64) -> u64
     twice ^ (twice >> 31)
 }
 
-/// The number at this place, from 0, of those that a seed gives.
+/// Returns the number at an index of those that a seed gives. Indices are counted from 0.
 #[tactic(auto, unfolding(crate::specs::Draws::draw))]
 pub(crate) fn draw(seed: u64, place: u16) -> u64
     ensures { result ≡ draw seed place }
@@ -33,7 +33,7 @@ pub(crate) fn draw(seed: u64, place: u16) -> u64
     mixed(seed.wrapping_add((u64::from(place) + 1).wrapping_mul(STEP)))
 }
 
-/// A number of the span, by one that was drawn.
+/// Returns the number of a range that a drawn number selects.
 pub(crate) fn within(span: CountRange, drawn: u64) -> u8
     requires { span.low ≤ span.high }
     ensures number { result ≡ within span drawn }

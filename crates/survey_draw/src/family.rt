@@ -1,4 +1,4 @@
-//! Families of campaigns.
+//! Families of campaigns: which campaigns a survey plays.
 ghost use Rattle.std.specs.Prelude.{◌≡◌, SomeIff, IfSome};
 
 use crate::adversary::Adversary;
@@ -6,7 +6,7 @@ use crate::manner::Manner;
 use crate::span::CountRange;
 use std::marker::Model;
 
-/// Which campaigns a survey plays.
+/// A family of campaigns: the ranges of generals, bounds and traitors, how orders are sent, and what traitors do.
 #[derive(Drop)]
 pub struct Family {
     generals: CountRange,
@@ -44,9 +44,10 @@ impl Model for Family {
 impl Family {
     ghost use Rattle.survey_draw.specs.Family.{Family as Seen, IsFamily};
 
-    /// The family of campaigns of so many generals, 2 to 13, who provide for so many traitors (more than 4, or than all
-    /// generals but 2, are cut to these) and have so many among them (more than all are cut to all), whose orders are
-    /// sent so, where a traitor is waited for this many steps, 1 to 4,096, or until he ends, and does this.
+    /// Returns a family of campaigns. A seed draws the number of generals, the bound and the number of traitors from
+    /// these ranges. The number of generals is 2 to 13. A bound above 4 or above the number of generals less 2 is cut
+    /// to that, and a number of traitors above the number of generals is cut to that. If `patience` is given, 1 to
+    /// 4,096, a traitor may take that many steps. Otherwise he runs to his end.
     pub fn new(
         generals: CountRange,
         bound: CountRange,
@@ -82,7 +83,7 @@ impl Family {
         }
     }
 
-    /// How many generals its campaigns have.
+    /// Returns the range of the number of generals.
     pub fn generals(&self) -> CountRange
         ensures same { result ≡ self.now.generals }
         ensures whole { IsFamily self.now }
@@ -90,7 +91,7 @@ impl Family {
         self.generals
     }
 
-    /// How many traitors they provide for.
+    /// Returns the range of the bound.
     pub fn bound(&self) -> CountRange
         ensures same { result ≡ self.now.bound }
         ensures whole { IsFamily self.now }
@@ -98,7 +99,7 @@ impl Family {
         self.bound
     }
 
-    /// How many traitors they have.
+    /// Returns the range of the number of traitors.
     pub fn traitors(&self) -> CountRange
         ensures same { result ≡ self.now.traitors }
         ensures whole { IsFamily self.now }
@@ -106,21 +107,21 @@ impl Family {
         self.traitors
     }
 
-    /// How orders are sent.
+    /// Returns how orders are sent.
     pub fn manner(&self) -> Manner
         ensures { result ≡ self.now.manner }
     {
         self.manner
     }
 
-    /// For how many steps of a traitor the others wait; none: until he ends.
+    /// Returns how many steps a traitor may take, or `None` if he runs to his end.
     pub fn patience(&self) -> Option<u32>
         ensures { result ≡ self.now.patience }
     {
         self.patience
     }
 
-    /// What the traitors do.
+    /// Returns what the traitors do.
     pub fn adversary(&self) -> &Adversary
         ensures { result.now ≡ self.now.adversary }
     {

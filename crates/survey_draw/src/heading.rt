@@ -1,4 +1,4 @@
-//! The head of lines: the family whose campaigns they tell.
+//! Writes the head of a survey, which describes the family of its campaigns as a JSON object.
 ghost use Rattle.std.specs.Prelude.{◌≡◌, ◌++◌, IfOk, OnOk, codes, string_bytes};
 ghost use Rattle.survey_draw.specs.Heads.{adversary_word, head_end, head_front, head_middle, head_text, is_head, manner_word, patience_word};
 
@@ -9,7 +9,7 @@ use crate::number_text::put_numbered;
 use crate::span::CountRange;
 use std::alloc::{AllocError, Global};
 
-/// What the traitors do.
+/// Returns the JSON word for what the traitors do.
 fn adversary_word(alloc: Global, adversary: &Adversary) -> Result<String, AllocError>
     ensures { IfOk result (λ word. string_bytes word ≡ adversary_word adversary.now) }
 {
@@ -21,7 +21,7 @@ fn adversary_word(alloc: Global, adversary: &Adversary) -> Result<String, AllocE
     }
 }
 
-/// How orders are sent.
+/// Returns the JSON word for how orders are sent.
 fn manner_word(alloc: Global, manner: Manner) -> Result<String, AllocError>
     ensures { IfOk result (λ word. string_bytes word ≡ manner_word manner) }
 {
@@ -31,14 +31,14 @@ fn manner_word(alloc: Global, manner: Manner) -> Result<String, AllocError>
     }
 }
 
-/// A word in quotation marks.
+/// Returns a word in quotation marks.
 fn quoted(alloc: Global, word: &str) -> Result<String, AllocError>
     ensures { IfOk result (λ text. string_bytes text ≡ codes "\"" ++ (word.now ++ codes "\"")) }
 {
     format!(in alloc; "\"{word}\"")
 }
 
-/// For how long traitors are waited for.
+/// Returns the JSON word for how many steps a traitor may take, or `null` if they are unlimited.
 fn patience_word(alloc: Global, patience: Option<u32>) -> Result<String, AllocError>
     ensures { IfOk result (λ word. string_bytes word ≡ patience_word patience) }
 {
@@ -48,7 +48,7 @@ fn patience_word(alloc: Global, patience: Option<u32>) -> Result<String, AllocEr
     }
 }
 
-/// Adds a word behind its name.
+/// Writes a word after its name.
 fn put_word(out: &mut String, name: &str, word: &str) -> Result<(), AllocError>
     ensures { OnOk result (string_bytes out.new ≡ string_bytes out.old ++ name.now ++ word.now) }
 {
@@ -56,7 +56,7 @@ fn put_word(out: &mut String, name: &str, word: &str) -> Result<(), AllocError>
     out.push_str(word)
 }
 
-/// Adds for how many traitors generals provide, and how many generals there are.
+/// Writes the ranges of the bound and of the number of generals.
 fn put_front(out: &mut String, bound: CountRange, generals: CountRange) -> Result<(), AllocError>
     ensures { OnOk result (string_bytes out.new ≡ string_bytes out.old ++ head_front bound generals) }
 {
@@ -67,7 +67,7 @@ fn put_front(out: &mut String, bound: CountRange, generals: CountRange) -> Resul
     Ok(())
 }
 
-/// Adds how orders are sent, and for how long traitors are waited for.
+/// Writes how orders are sent, and how many steps a traitor may take.
 fn put_middle(out: &mut String, manner: &str, patience: &str) -> Result<(), AllocError>
     ensures { OnOk result (string_bytes out.new ≡ string_bytes out.old ++ head_middle manner.now patience.now) }
 {
@@ -76,7 +76,7 @@ fn put_middle(out: &mut String, manner: &str, patience: &str) -> Result<(), Allo
     Ok(())
 }
 
-/// Adds how many traitors there are, and the end of the line.
+/// Writes the range of the number of traitors, and ends the line.
 fn put_end(out: &mut String, traitors: CountRange) -> Result<(), AllocError>
     ensures { OnOk result (string_bytes out.new ≡ string_bytes out.old ++ head_end traitors) }
 {
@@ -86,11 +86,11 @@ fn put_end(out: &mut String, traitors: CountRange) -> Result<(), AllocError>
     Ok(())
 }
 
-/// The head of lines that tell the family's campaigns: an object of JSON, and a line feed.
+/// Returns the head of a survey of this family: a JSON object and a line feed.
 ///
 /// # Errors
 ///
-/// `AllocError` where memory is refused.
+/// Fails with `AllocError` if it runs out of memory.
 pub fn head(alloc: Global, family: &Family) -> Result<String, AllocError>
     ensures { IfOk result (λ text. string_bytes text ≡ head_text family.now) }
 {
@@ -105,7 +105,7 @@ pub fn head(alloc: Global, family: &Family) -> Result<String, AllocError>
     Ok(out)
 }
 
-/// Whether a line begins as a head does.
+/// Checks whether a line begins as a head does.
 pub(crate) fn is_head(line: &[u8]) -> bool
     ensures { result ≡ is_head line.now }
 {

@@ -1,4 +1,4 @@
-//! What the campaign of a seed comes to.
+//! Plays the campaign of a text or a seed, and returns its verdict.
 ghost use Rattle.std.specs.Prelude.{◌≡◌, ◌≢◌, [], IfOk, IfErr};
 ghost use Rattle.scenario.specs.declared.messages.Campaign.TheVariants.{Oral, Signed};
 ghost use Rattle.scenario.specs.declared.fault.ScenarioError.TheVariants.{Memory};
@@ -15,7 +15,7 @@ use signed::play_signed;
 use std::alloc::{AllocError, Global};
 use world::{Schedule, Verdict, play};
 
-/// The schedule without entries.
+/// Returns the schedule without entries.
 fn unscheduled(alloc: Global) -> Schedule
     ensures { result ≡ [] }
 {
@@ -24,7 +24,7 @@ fn unscheduled(alloc: Global) -> Schedule
     }
 }
 
-/// The verdict on an oral campaign.
+/// Returns the verdict on an oral campaign that is played without a schedule.
 fn oral_verdict(alloc: Global, scenario: Scenario) -> Result<Verdict, AllocError>
     ensures same { IfOk result (λ v. v ≡ verdict_in (Oral scenario)) }
     ensures well { IfOk result IsWellUnderBound }
@@ -33,7 +33,7 @@ fn oral_verdict(alloc: Global, scenario: Scenario) -> Result<Verdict, AllocError
     Ok(chronicle.verdict())
 }
 
-/// The verdict on a signed one.
+/// Returns the verdict on a signed campaign that is played without a schedule.
 fn signed_verdict(alloc: Global, scenario: Scenario) -> Result<Verdict, AllocError>
     ensures same { IfOk result (λ v. v ≡ verdict_in (Signed scenario)) }
     ensures well { IfOk result IsWellUnderBound }
@@ -42,7 +42,7 @@ fn signed_verdict(alloc: Global, scenario: Scenario) -> Result<Verdict, AllocErr
     Ok(chronicle.verdict())
 }
 
-/// The verdict on a campaign.
+/// Returns the verdict on a campaign that is played without a schedule.
 fn verdict_in(alloc: Global, campaign: Campaign) -> Result<Verdict, AllocError>
     ensures same { IfOk result (λ v. v ≡ verdict_in campaign) }
     ensures well { IfOk result IsWellUnderBound }
@@ -53,11 +53,11 @@ fn verdict_in(alloc: Global, campaign: Campaign) -> Result<Verdict, AllocError>
     }
 }
 
-/// The verdict of the chronicle that the campaign of a text has with no schedule.
+/// Plays the campaign of a text without a schedule and returns the verdict of its chronicle.
 ///
 /// # Errors
 ///
-/// The first fault of the text, or want of memory.
+/// Returns the first fault of the text, or `Memory` if it runs out of memory.
 pub fn verdict_on(alloc: Global, text: &str) -> Result<Verdict, ScenarioError>
     ensures judged { IfOk result (IsJudged text.now) }
     ensures refused { IfErr result (λ e. e ≢ Memory → IsRefused text.now e) }
@@ -66,7 +66,7 @@ pub fn verdict_on(alloc: Global, text: &str) -> Result<Verdict, ScenarioError>
     Ok(verdict_in(alloc, campaign)?)
 }
 
-/// The scenario of a campaign.
+/// Returns the scenario of a campaign.
 fn scenario_in(campaign: &Campaign) -> &Scenario
     ensures { result.now ≡ scenario_in campaign.now }
 {
@@ -76,7 +76,7 @@ fn scenario_in(campaign: &Campaign) -> &Scenario
     }
 }
 
-/// How many traitors the scenario has.
+/// Returns how many traitors the scenario has.
 #[tactic(auto, using(crate::proofs::Ranges::count_range))]
 fn traitors_in(scenario: &Scenario) -> u64
     ensures { result ≡ traitors_in scenario.now }
@@ -90,11 +90,11 @@ fn traitors_in(scenario: &Scenario) -> u64
     count
 }
 
-/// What the campaign of a text comes to, which is said to be that of the seed.
+/// Plays the campaign of a text and returns its result, with `seed` as its seed.
 ///
 /// # Errors
 ///
-/// The first fault of the text, or want of memory.
+/// Returns the first fault of the text, or `Memory` if it runs out of memory.
 pub fn found(alloc: Global, text: &str, seed: u64) -> Result<Finding, ScenarioError>
     ensures found { IfOk result (IsFound text.now seed) }
     ensures refused { IfErr result (λ e. e ≢ Memory → IsRefused text.now e) }
@@ -113,11 +113,11 @@ pub fn found(alloc: Global, text: &str, seed: u64) -> Result<Finding, ScenarioEr
     })
 }
 
-/// What the campaign of the family comes to that the seed gives.
+/// Plays the campaign that a seed draws from a family and returns its result.
 ///
 /// # Errors
 ///
-/// The first fault of its text, or want of memory.
+/// Returns the first fault of the campaign's text, or `Memory` if it runs out of memory.
 pub fn judged(alloc: Global, family: &Family, seed: u64) -> Result<Finding, ScenarioError>
     ensures found { IfOk result (IsFindingOf family.now seed) }
     ensures refused { IfErr result (λ e. e ≢ Memory → IsRefused (campaign_text family.now seed) e) }

@@ -1,25 +1,26 @@
-//! Laws of surveys: each function does nothing, and its contract is the law.
+//! Laws of surveys. Each function does nothing, and its contract is the law.
 ghost use Rattle.survey_draw.specs.Heads.{HeadsTellFamilies};
 ghost use Rattle.survey_draw.specs.Laws.{KeptAreSound, WrittenAreParts};
 ghost use Rattle.survey_draw.specs.Sums.{SumsOfParts};
 
-/// The sums of two parts of a survey are those of the whole.
+/// Does nothing. Its contract says that the sums of two parts of a survey add up to those of the whole.
 pub fn sums_of_parts()
     ensures { SumsOfParts }
 {}
 
-/// In no campaign that a seed gives is the bound kept while the loyal lieutenants decide unlike, or not as a loyal
-/// commander has ordered.
+/// Does nothing. Its contract says that in each seed's campaign whose bound holds the loyal lieutenants decide alike
+/// and obey a loyal commander.
 pub fn kept_are_sound()
     ensures { KeptAreSound }
 {}
 
-/// Families whose lines have the same head have the same campaigns, seed by seed.
+/// Does nothing. Its contract says that families with the same head have the same campaigns, seed by seed.
 pub fn heads_tell_families()
     ensures { HeadsTellFamilies }
 {}
 
-/// What is written of a family's campaigns, its head and their lines, is a part that tells just these.
+/// Does nothing. Its contract says that the head of a family and the lines of campaigns after it are a part with just
+/// these campaigns.
 pub fn written_are_parts()
     ensures { WrittenAreParts }
 {}

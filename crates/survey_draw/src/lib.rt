@@ -1,4 +1,5 @@
-//! Surveys: many campaigns of a family, each given by a seed. What is said of them stands in specs/.
+//! Surveys: makes many campaigns of a family from seeds, plays them, and counts their outcomes. The definitions are in
+//! specs/.
 #![tactic(auto)]
 
 mod adversary;

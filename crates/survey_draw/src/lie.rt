@@ -1,23 +1,23 @@
-//! What a traitor says: the statements of the grammar.
+//! The statements of which a traitor's program is made.
 
-/// The order that a lie tells, or the place of the chain that it passes on.
+/// The order that a lie sends, or the index of the chain that it passes on.
 #[derive(Clone, Copy)]
 pub enum LieValue {
     /// This number.
     Number(u8),
-    /// The parity of what stood on the board when the traitor counted.
+    /// The parity of the board's count, as it was when the traitor incremented it.
     Parity,
 }
 
-/// One statement of a traitor's program.
+/// A statement of a traitor's program.
 #[derive(Clone, Copy)]
 pub enum Lie {
-    /// What he took for each label is told to this receiver.
+    /// Relays to this receiver, for each label, the order that the traitor took.
     Honest(u8),
-    /// This receiver is told one order for each label.
+    /// Sends this receiver the same order for each label.
     Sway(u8, LieValue),
-    /// The order is signed for these receivers, bit g for general g.
+    /// Signs the order for these receivers, with bit `g` for general `g`.
     Sign(LieValue, u16),
-    /// The chain held at this place is passed on to these receivers, bit g for general g.
+    /// Passes the held chain at this index on to these receivers, with bit `g` for general `g`.
     Pass(LieValue, u16),
 }

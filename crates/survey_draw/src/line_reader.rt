@@ -1,4 +1,4 @@
-//! Lines of what campaigns come to, read again.
+//! Reads the line of a campaign in a survey.
 ghost use Rattle.std.specs.Prelude.{◌≡◌, ◌^◌, ◌∷◌, ◌↔◌, ℕ, Bool, List, Option, IfOk, IfSome, IsTrue, Some};
 ghost use Rattle.survey_draw.specs.Lines.{AreNumbers, AreWords, HasMember, answer_text, flag_text, line_text, number_told};
 ghost use Rattle.survey_draw.specs.declared.finding.Finding.{Finding as Found};
@@ -9,7 +9,7 @@ use std::alloc::{AllocError, Global};
 use text::{Stop, cut, decimal};
 use world::Verdict;
 
-/// The word behind the first colon up to this byte, and what stands from there on.
+/// Returns the word after the first colon up to the byte `end`, and the bytes from there on.
 fn member(end: u8, bytes: &[u8]) -> (&[u8], &[u8])
     ensures word { (w behind : List ℕ) → HasMember end bytes.now w behind → result.0.now ≡ w }
     ensures rest { (w behind : List ℕ) → HasMember end bytes.now w behind → result.1.now ≡ end ∷ behind }
@@ -21,7 +21,7 @@ fn member(end: u8, bytes: &[u8]) -> (&[u8], &[u8])
     }
 }
 
-/// The flag that a word says.
+/// Returns the flag that a word is, if it is one.
 fn flag_told(word: &[u8]) -> Option<bool>
     ensures { (b : Bool) → word.now ≡ flag_text b → result ≡ Some b }
 {
@@ -34,7 +34,7 @@ fn flag_told(word: &[u8]) -> Option<bool>
     None
 }
 
-/// The answer that a word says.
+/// Returns the answer that a word is, if it is one. `null` is no answer.
 fn answer_told(word: &[u8]) -> Option<Option<bool>>
     ensures { (a : Option Bool) → word.now ≡ answer_text a → result ≡ Some a }
 {
@@ -44,7 +44,7 @@ fn answer_told(word: &[u8]) -> Option<Option<bool>>
     Some(Some(flag_told(word)?))
 }
 
-/// The number of 64 bits that a word says.
+/// Returns the number below 2^64 that a word is, if it is one.
 fn number_told(word: &[u8]) -> Option<u64>
     ensures { result ≡ number_told (2 ^ 64) word.now }
 {
@@ -56,7 +56,7 @@ fn number_told(word: &[u8]) -> Option<u64>
     }
 }
 
-/// The number of 8 bits that a word says.
+/// Returns the number below 256 that a word is, if it is one.
 fn small_told(word: &[u8]) -> Option<u8>
     ensures { result ≡ number_told 256 word.now }
 {
@@ -68,7 +68,7 @@ fn small_told(word: &[u8]) -> Option<u8>
     }
 }
 
-/// What is found by these words, in the order of the line.
+/// Returns the campaign's result that these words describe, in the order of the line, if each word is valid.
 fn found_by(
     alike: &[u8],
     bound: &[u8],
@@ -101,7 +101,7 @@ fn found_by(
     })
 }
 
-/// What is found by the words of a line, whatever stands around them.
+/// Returns the campaign's result that the words of a line describe, whatever bytes are between them.
 fn line_told(bytes: &[u8]) -> Option<Finding>
     ensures { (f : Found) → AreNumbers f → bytes.now ≡ line_text f → result ≡ Some f }
 {
@@ -116,7 +116,7 @@ fn line_told(bytes: &[u8]) -> Option<Finding>
     found_by(alike, bound, generals, kept, obeyed, seed, traitors)
 }
 
-/// Whether this is the line of what is found.
+/// Checks whether these bytes are the line of a campaign's result.
 fn is_line(alloc: Global, finding: &Finding, bytes: &[u8]) -> Result<bool, AllocError>
     ensures { IfOk result (λ same. IsTrue same ↔ (bytes.now ≡ line_text finding.now)) }
 {
@@ -124,7 +124,7 @@ fn is_line(alloc: Global, finding: &Finding, bytes: &[u8]) -> Result<bool, Alloc
     Ok(bytes == again.as_bytes())
 }
 
-/// What is found, where this is its line.
+/// Returns the campaign's result if these bytes are its line.
 fn if_line(alloc: Global, finding: Finding, bytes: &[u8]) -> Result<Option<Finding>, AllocError>
     ensures told { IfOk result (λ told. IfSome told (λ f. bytes.now ≡ line_text f)) }
     ensures kept { bytes.now ≡ line_text finding → IfOk result (λ told. told ≡ Some finding) }
@@ -136,11 +136,11 @@ fn if_line(alloc: Global, finding: Finding, bytes: &[u8]) -> Result<Option<Findi
     Ok(None)
 }
 
-/// What the line tells a campaign comes to; none where it is no such line.
+/// Returns the campaign's result that a line describes, or `None` if it is not such a line.
 ///
 /// # Errors
 ///
-/// `AllocError` where memory is refused.
+/// Fails with `AllocError` if it runs out of memory.
 pub fn read_line(alloc: Global, bytes: &[u8]) -> Result<Option<Finding>, AllocError>
     ensures told { IfOk result (λ told. IfSome told (λ f. bytes.now ≡ line_text f)) }
     ensures back { (f : Found) → AreNumbers f → bytes.now ≡ line_text f → IfOk result (λ told. told ≡ Some f) }

@@ -1,4 +1,4 @@
-//! The line of what a campaign comes to.
+//! Writes the line of a campaign in a survey, as a JSON object.
 ghost use Rattle.std.specs.Prelude.{◌≡◌, ◌++◌, IfOk, OnOk, string_bytes};
 ghost use Rattle.survey_draw.specs.Lines.{answer_text, back_text, flag_text, front_text, line_text};
 
@@ -6,14 +6,14 @@ use crate::finding::Finding;
 use crate::number_text::put_numbered;
 use std::alloc::{AllocError, Global};
 
-/// A flag's word.
+/// Returns `true` or `false`.
 fn flag_text(flag: bool) -> &'static str
     ensures { result.now ≡ flag_text flag }
 {
     if flag { "true" } else { "false" }
 }
 
-/// An answer's word.
+/// Returns `true` or `false`, or `null` if there is no answer.
 fn answer_text(answer: Option<bool>) -> &'static str
     ensures { result.now ≡ answer_text answer }
 {
@@ -23,7 +23,7 @@ fn answer_text(answer: Option<bool>) -> &'static str
     }
 }
 
-/// Adds a flag behind its name.
+/// Writes a flag after its name.
 fn put_flag(out: &mut String, name: &str, flag: bool) -> Result<(), AllocError>
     ensures { OnOk result (string_bytes out.new ≡ string_bytes out.old ++ name.now ++ flag_text flag) }
 {
@@ -31,7 +31,7 @@ fn put_flag(out: &mut String, name: &str, flag: bool) -> Result<(), AllocError>
     out.push_str(flag_text(flag))
 }
 
-/// Adds an answer behind its name.
+/// Writes an answer after its name.
 fn put_answer(out: &mut String, name: &str, answer: Option<bool>) -> Result<(), AllocError>
     ensures { OnOk result (string_bytes out.new ≡ string_bytes out.old ++ name.now ++ answer_text answer) }
 {
@@ -39,7 +39,7 @@ fn put_answer(out: &mut String, name: &str, answer: Option<bool>) -> Result<(), 
     out.push_str(answer_text(answer))
 }
 
-/// Adds the first half of a line.
+/// Writes the first half of a campaign's line.
 fn put_front(out: &mut String, finding: &Finding) -> Result<(), AllocError>
     ensures { OnOk result (string_bytes out.new ≡ string_bytes out.old ++ front_text finding.now) }
 {
@@ -50,7 +50,7 @@ fn put_front(out: &mut String, finding: &Finding) -> Result<(), AllocError>
     Ok(())
 }
 
-/// Adds the second half.
+/// Writes the second half of a campaign's line.
 fn put_back(out: &mut String, finding: &Finding) -> Result<(), AllocError>
     ensures { OnOk result (string_bytes out.new ≡ string_bytes out.old ++ back_text finding.now) }
 {
@@ -65,11 +65,11 @@ fn put_back(out: &mut String, finding: &Finding) -> Result<(), AllocError>
     Ok(())
 }
 
-/// Adds the line of what a campaign comes to: an object of JSON, and a line feed.
+/// Appends the line of a campaign: a JSON object and a line feed.
 ///
 /// # Errors
 ///
-/// `AllocError` where memory is refused.
+/// Fails with `AllocError` if it runs out of memory.
 pub fn put_line(out: &mut String, finding: &Finding) -> Result<(), AllocError>
     ensures { OnOk result (string_bytes out.new ≡ string_bytes out.old ++ line_text finding.now) }
 {
@@ -78,11 +78,11 @@ pub fn put_line(out: &mut String, finding: &Finding) -> Result<(), AllocError>
     Ok(())
 }
 
-/// The line of what a campaign comes to: an object of JSON, and a line feed.
+/// Returns the line of a campaign: a JSON object and a line feed.
 ///
 /// # Errors
 ///
-/// `AllocError` where memory is refused.
+/// Fails with `AllocError` if it runs out of memory.
 pub fn line(alloc: Global, finding: &Finding) -> Result<String, AllocError>
     ensures { IfOk result (λ text. string_bytes text ≡ line_text finding.now) }
 {

@@ -1,11 +1,11 @@
-//! How orders are sent.
+//! How the generals of a surveyed campaign send orders: orally or signed.
 use combine::Rule;
 
 /// How the generals of a campaign send orders.
 #[derive(Clone, Copy)]
 pub enum Manner {
-    /// By word of mouth, combined by this rule: OM(m).
+    /// As oral messages, by OM(m). Orders are combined by this rule.
     Oral(Rule),
-    /// Signed: SM(m).
+    /// As signed messages, by SM(m).
     Signed,
 }

@@ -1,4 +1,4 @@
-//! Parts of a survey, read line by line.
+//! Reads a part of a survey line by line.
 ghost use Rattle.std.specs.Prelude.{◌≡◌, ◌≢◌, ◌↔◌, ◌+◌, ◌<◌, ◌^◌, ◌++◌, ℕ, List, [], length, IfErr, IfNone, IfSome, IsTrue, MatchResult, OnOk, Some, true};
 ghost use Rattle.survey_draw.specs.declared.finding.Finding.{Finding as Found};
 ghost use Rattle.survey_draw.specs.Heads.{is_head};
@@ -11,7 +11,7 @@ use crate::parts::{PartError, Parts};
 use std::alloc::{AllocError, Global};
 use text::{Stop, find};
 
-/// The first line, with its line feed, and what stands behind it; none where no line feed is there.
+/// Returns the first line with its line feed, and the bytes after it. Returns `None` if there is no line feed.
 fn first_line(bytes: &[u8]) -> Option<(&[u8], &[u8])>
     ensures line { IfSome result (λ cut. IsLine cut.0.now) }
     ensures whole { IfSome result (λ cut. bytes.now ≡ cut.0.now ++ cut.1.now) }
@@ -24,7 +24,7 @@ fn first_line(bytes: &[u8]) -> Option<(&[u8], &[u8])>
     None
 }
 
-/// Takes the head of a part, which must be that of the parts before.
+/// Stores the head of a part. If there were parts before, it must be their head.
 fn take_head(head: &mut Vec<u8>, line: &[u8]) -> Result<(), PartError>
     ensures taken { OnOk result (head.new.items ≡ line.now) }
     ensures same { OnOk result (head.old.items ≢ [] → head.new.items ≡ head.old.items) }
@@ -43,7 +43,7 @@ fn take_head(head: &mut Vec<u8>, line: &[u8]) -> Result<(), PartError>
     Err(PartError::Family(1))
 }
 
-/// Whether a campaign has these numbers.
+/// Checks whether the numbers of a campaign's result are within their limits.
 fn is_sized(finding: &Finding) -> bool
     ensures { IsTrue result ↔ IsSized finding.now }
 {
@@ -53,11 +53,12 @@ fn is_sized(finding: &Finding) -> bool
         && finding.traitors <= u64::from(finding.generals)
 }
 
-/// The campaign that a line of this number tells, if it tells one, of one of the seeds from the first to the last.
+/// Returns the campaign's result that the line with this number describes, if its seed is in the range `seeds`, both
+/// ends included.
 ///
 /// # Errors
 ///
-/// That it tells none, or one of another seed.
+/// Returns `Line` if the line does not describe a campaign, and `Seed` if the campaign has another seed.
 fn taken(told: Option<Finding>, number: u64, seeds: (u64, u64)) -> Result<Finding, PartError>
     ensures taken { MatchResult result (λ f. (told ≡ Some f) × IsOf seeds.0 seeds.1 f)
         (IsUntaken seeds.0 seeds.1 number told) }
@@ -76,8 +77,8 @@ fn taken(told: Option<Finding>, number: u64, seeds: (u64, u64)) -> Result<Findin
     Ok(finding)
 }
 
-/// Adds the campaign that the line of this number tells, of one of the seeds from the first to the last, if it is not
-/// the head once more.
+/// Appends the campaign's result that the line with this number describes. A line that repeats the head is skipped. The
+/// seed must be in the range `seeds`, both ends included.
 fn add_row(
     alloc: Global,
     head: &[u8],
@@ -108,7 +109,7 @@ fn add_row(
     Ok(())
 }
 
-/// Adds the campaigns that lines behind a head tell, from the second line on.
+/// Appends the results that the lines after a head describe. The first of these lines has number 2.
 fn add_rows(
     alloc: Global,
     head: &[u8],
@@ -135,12 +136,14 @@ fn add_rows(
     Ok(())
 }
 
-/// Reads a part of a survey behind others: its first line is the head, which is theirs, and the other lines are those
-/// of campaigns of the seeds from the first to the last, or the head again. An empty text is a part too.
+/// Reads a part of a survey after others. Its first line is the head, which must be that of the earlier parts. The
+/// other lines are those of campaigns whose seeds are in the range `seeds`, both ends included, or repeat the head. An
+/// empty text is a part too.
 ///
 /// # Errors
 ///
-/// The first line that is none of these, behind whose lines the part is not read, or want of memory.
+/// Returns the first line that is none of these. The results of the lines before it are kept, and the lines after it
+/// are not read. Fails with `Memory` if it runs out of memory.
 pub fn read_part(
     alloc: Global,
     parts: &mut Parts,
@@ -151,7 +154,7 @@ pub fn read_part(
         parts.old.findings.items parts.new.findings.items) }
     ensures wrong { IfErr result (λ e. e ≢ PartError.Memory → IsFaulty parts.old.head.items parts.new.head.items
         bytes.now seeds.0 seeds.1 parts.old.findings.items parts.new.findings.items e) }
-    // each right part is taken, and as just the campaigns that it was written of
+    // A correct part is read without an error, and gives just the campaigns that it was written from.
     ensures taken { (head : List ℕ) (told : List Found) → IsFurther parts.old.head.items head bytes.now
         seeds.0 seeds.1 told → IfErr result (λ e. e ≡ PartError.Memory) }
     ensures told { (head : List ℕ) (told : List Found) → IsFurther parts.old.head.items head bytes.now

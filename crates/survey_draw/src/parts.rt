@@ -1,29 +1,29 @@
-//! Parts of a survey that were read.
+//! What was read from the parts of a survey, and why a part is rejected.
 ghost use Rattle.std.specs.Prelude.{◌≡◌};
 ghost use Rattle.survey_draw.specs.declared.parts.PartError.TheVariants.{Memory};
 
 use crate::finding::Finding;
 use std::alloc::{AllocError, AllocFailed};
 
-/// What parts of a survey tell, one behind the other.
+/// The contents of the parts of a survey, one after another.
 #[derive(Drop)]
 pub struct Parts {
-    /// The head of them all, with its line feed; empty where there is none yet.
+    /// The common head of the parts, with its line feed. It is empty if there is none yet.
     pub head: Vec<u8>,
-    /// The campaigns.
+    /// The results of the campaigns.
     pub findings: Vec<Finding>,
 }
 
-/// Why a text is no further part of a survey. Lines count from 1.
+/// Why a text is rejected as a further part of a survey. Lines are counted from 1.
 #[derive(Clone, Copy, Drop)]
 pub enum PartError {
-    /// This line is cut off, or is neither a head nor that of a campaign; or it is the first, and no head.
+    /// This line is cut off, or it is neither a head nor the line of a campaign. The first line must be a head.
     Line(u64),
-    /// This line is the head of another family than that of the parts before.
+    /// This line is the head of another family than that of the earlier parts.
     Family(u64),
-    /// This line tells the campaign of this seed, which is none of those that are asked for.
+    /// This line is that of a campaign whose seed is not among the requested ones.
     Seed(u64, u64),
-    /// Want of memory.
+    /// Out of memory.
     Memory,
 }
 

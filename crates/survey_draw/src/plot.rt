@@ -1,14 +1,14 @@
-//! Campaigns whose traitors do what a grammar says.
+//! Drawn campaigns: their numbers and what their traitors do.
 use crate::lie::Lie;
 use crate::manner::Manner;
 use std::marker::Model;
 
-/// A traitor and what he says.
+/// A traitor and the statements of his program.
 #[derive(Drop)]
 pub struct Traitor {
-    /// His number.
+    /// The traitor's number.
     pub general: u8,
-    /// Whether he raises a count on the board before.
+    /// Whether he first increments a count on the board.
     pub counts: bool,
     /// His statements, in their order.
     pub lies: Vec<Lie>,
@@ -22,20 +22,20 @@ impl Model for Traitor {
     ghost view = { λ t. record { general = t.general; counts = t.counts; lies = t.lies.items } };
 }
 
-/// A campaign of generals whom general 0 commands.
+/// A campaign that a seed draws. General 0 is its commander.
 #[derive(Drop)]
 pub struct Plot {
-    /// How many generals there are.
+    /// How many generals it has.
     pub generals: u8,
-    /// How many traitors they provide for.
+    /// How many traitors it must tolerate.
     pub bound: u8,
-    /// The order that the commander has.
+    /// The commander's order.
     pub order: u8,
     /// How orders are sent.
     pub manner: Manner,
-    /// For how many steps of a traitor the others wait; none: for all.
+    /// How many steps a traitor may take, or `None` if he runs to his end.
     pub patience: Option<u32>,
-    /// The bytecode of all traitors, in hex, in place of what they say.
+    /// The bytecode of all traitors in hex, if it replaces their statements.
     pub given: Option<String>,
     /// The traitors, ascending by number.
     pub traitors: Vec<Traitor>,

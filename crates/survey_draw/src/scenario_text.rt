@@ -1,4 +1,4 @@
-//! The text of a campaign.
+//! Writes a drawn campaign as a scenario in TOML.
 ghost use Rattle.std.specs.Prelude.{◌≡◌, ◌++◌, OnOk, IfOk, codes, decimal, flat_map, option_map, string_bytes};
 ghost use Rattle.survey_draw.specs.Wording.{call_text, campaign_text, counting_text, lie_text, manner_text, numbers_text, patience_text, plot_text, program_text, said_text, rule_text, source_text, traitor_text};
 
@@ -11,7 +11,7 @@ use crate::seeded_plots::plot_of;
 use combine::Rule;
 use std::alloc::{AllocError, Global};
 
-/// Adds an order, or the register that has it.
+/// Writes an order, or the register that contains it.
 fn put_said(out: &mut String, said: LieValue) -> Result<(), AllocError>
     ensures { OnOk result (string_bytes out.new ≡ string_bytes out.old ++ said_text said) }
 {
@@ -21,7 +21,7 @@ fn put_said(out: &mut String, said: LieValue) -> Result<(), AllocError>
     }
 }
 
-/// Adds a call whose first argument is a number.
+/// Writes a call of `sway`, with a receiver and an order.
 fn put_sway(out: &mut String, receiver: u8, said: LieValue) -> Result<(), AllocError>
     ensures { OnOk result (string_bytes out.new ≡ string_bytes out.old
         ++ call_text (decimal receiver) (said_text said) (codes "sway")) }
@@ -35,7 +35,7 @@ fn put_sway(out: &mut String, receiver: u8, said: LieValue) -> Result<(), AllocE
     out.push_str("\n")
 }
 
-/// Adds a call whose second argument is a number of receivers.
+/// Writes a call of a helper that sends a chain, with an order or index and a set of receivers.
 fn put_chain(
     out: &mut String,
     said: LieValue,
@@ -54,7 +54,7 @@ fn put_chain(
     out.push_str("\n")
 }
 
-/// Adds a call with one argument.
+/// Writes a call of `honest`, with a receiver.
 fn put_honest(out: &mut String, receiver: u8) -> Result<(), AllocError>
     ensures { OnOk result (string_bytes out.new ≡ string_bytes out.old ++ codes "mov r1, " ++ decimal receiver
         ++ codes "\ncall honest\n") }
@@ -64,7 +64,7 @@ fn put_honest(out: &mut String, receiver: u8) -> Result<(), AllocError>
     out.push_str("\ncall honest\n")
 }
 
-/// Adds a statement.
+/// Writes a statement.
 fn put_lie(out: &mut String, lie: Lie) -> Result<(), AllocError>
     ensures { OnOk result (string_bytes out.new ≡ string_bytes out.old ++ lie_text lie) }
 {
@@ -76,7 +76,7 @@ fn put_lie(out: &mut String, lie: Lie) -> Result<(), AllocError>
     }
 }
 
-/// Adds statements.
+/// Writes statements.
 fn put_lies(out: &mut String, lies: &[Lie]) -> Result<(), AllocError>
     ensures { OnOk result (string_bytes out.new ≡ string_bytes out.old ++ flat_map lie_text lies.now) }
 {
@@ -86,7 +86,7 @@ fn put_lies(out: &mut String, lies: &[Lie]) -> Result<(), AllocError>
     Ok(())
 }
 
-/// Adds that the traitor counts on the board, if he does.
+/// Writes instructions that increment the board's count, if the traitor counts.
 fn put_counting(out: &mut String, counts: bool) -> Result<(), AllocError>
     ensures { OnOk result (string_bytes out.new ≡ string_bytes out.old ++ counting_text counts) }
 {
@@ -96,7 +96,7 @@ fn put_counting(out: &mut String, counts: bool) -> Result<(), AllocError>
     out.push_str("mov r1, 0\nmov r2, 1\ncall board_add\nmov r6, r0\nand r6, 1\n")
 }
 
-/// Adds a traitor's program.
+/// Writes a traitor's program.
 #[tactic(auto, unfolding(crate::specs::Wording::program_text))]
 fn put_program(out: &mut String, traitor: &Traitor) -> Result<(), AllocError>
     ensures { OnOk result (string_bytes out.new ≡ string_bytes out.old ++ program_text traitor.now) }
@@ -107,7 +107,7 @@ fn put_program(out: &mut String, traitor: &Traitor) -> Result<(), AllocError>
     Ok(())
 }
 
-/// Adds what a traitor's program is read from.
+/// Writes the key that gives a traitor's program: `code` with its bytecode, or `asm` with its assembly.
 #[tactic(auto, unfolding(crate::specs::Wording::source_text))]
 fn put_source(out: &mut String, given: Option<&str>, traitor: &Traitor) -> Result<(), AllocError>
     ensures { OnOk result (string_bytes out.new ≡ string_bytes out.old
@@ -123,7 +123,7 @@ fn put_source(out: &mut String, given: Option<&str>, traitor: &Traitor) -> Resul
     out.push_str("\"\n")
 }
 
-/// Adds a traitor's table.
+/// Writes a traitor's table.
 #[tactic(auto, unfolding(crate::specs::Wording::traitor_text))]
 fn put_traitor(out: &mut String, given: Option<&str>, traitor: &Traitor) -> Result<(), AllocError>
     ensures { OnOk result (string_bytes out.new ≡ string_bytes out.old
@@ -134,7 +134,7 @@ fn put_traitor(out: &mut String, given: Option<&str>, traitor: &Traitor) -> Resu
     Ok(())
 }
 
-/// Adds the traitors' tables.
+/// Writes the traitors' tables.
 fn put_traitors(
     out: &mut String,
     given: Option<&str>,
@@ -149,7 +149,7 @@ fn put_traitors(
     Ok(())
 }
 
-/// Adds by which rule orders are combined, but for the one that is so where none is named.
+/// Writes the rule by which orders are combined, unless it is the default.
 fn put_rule(out: &mut String, rule: Rule) -> Result<(), AllocError>
     ensures { OnOk result (string_bytes out.new ≡ string_bytes out.old ++ rule_text rule) }
 {
@@ -161,7 +161,7 @@ fn put_rule(out: &mut String, rule: Rule) -> Result<(), AllocError>
     out.push_str("\"\n")
 }
 
-/// Adds how orders are sent.
+/// Writes how orders are sent.
 fn put_manner(out: &mut String, manner: Manner) -> Result<(), AllocError>
     ensures { OnOk result (string_bytes out.new ≡ string_bytes out.old ++ manner_text manner) }
 {
@@ -171,7 +171,7 @@ fn put_manner(out: &mut String, manner: Manner) -> Result<(), AllocError>
     }
 }
 
-/// Adds how long traitors are waited for.
+/// Writes how many steps a traitor may take, if they are limited.
 fn put_patience(out: &mut String, patience: Option<u32>) -> Result<(), AllocError>
     ensures { OnOk result (string_bytes out.new ≡ string_bytes out.old ++ patience_text patience) }
 {
@@ -183,7 +183,7 @@ fn put_patience(out: &mut String, patience: Option<u32>) -> Result<(), AllocErro
     out.push_str("\n")
 }
 
-/// Adds the numbers of a campaign.
+/// Writes the number of generals, the bound, the commander and his order.
 fn put_numbers(out: &mut String, plot: &Plot) -> Result<(), AllocError>
     ensures { OnOk result (string_bytes out.new ≡ string_bytes out.old ++ numbers_text plot.now) }
 {
@@ -194,11 +194,11 @@ fn put_numbers(out: &mut String, plot: &Plot) -> Result<(), AllocError>
     Ok(())
 }
 
-/// The text of the campaign.
+/// Returns the text of a campaign: a scenario in TOML.
 ///
 /// # Errors
 ///
-/// `AllocError` where memory is refused.
+/// Fails with `AllocError` if it runs out of memory.
 #[tactic(auto, unfolding(crate::specs::Wording::plot_text))]
 pub fn plot_text(alloc: Global, plot: &Plot) -> Result<String, AllocError>
     ensures { IfOk result (λ text. string_bytes text ≡ plot_text plot.now) }
@@ -211,11 +211,11 @@ pub fn plot_text(alloc: Global, plot: &Plot) -> Result<String, AllocError>
     Ok(out)
 }
 
-/// The text of the campaign of the family that the seed gives: a scenario in TOML.
+/// Returns the text of the campaign that a seed draws from a family: a scenario in TOML.
 ///
 /// # Errors
 ///
-/// `AllocError` where memory is refused.
+/// Fails with `AllocError` if it runs out of memory.
 pub fn campaign_text(alloc: Global, family: &Family, seed: u64) -> Result<String, AllocError>
     ensures { IfOk result (λ text. string_bytes text ≡ campaign_text family.now seed) }
 {

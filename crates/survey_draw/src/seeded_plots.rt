@@ -1,4 +1,4 @@
-//! The campaign of a family that a seed gives.
+//! Draws the campaign of a seed from a family: its numbers, its traitors and their statements.
 ghost use Rattle.std.specs.Prelude.{◌≡◌, ◌+◌, ◌-◌, ◌%◌, ◌<◌, ◌≤◌, ◌++◌, OnOk, IfOk, flat_map, map, nat_lt, option_map, string_bytes};
 ghost use Rattle.std.specs.List.{range_with_len};
 ghost use Rattle.survey_draw.specs.Draws.{draw};
@@ -12,14 +12,14 @@ use crate::manner::Manner;
 use crate::plot::{Plot, Traitor};
 use std::alloc::{AllocError, Global};
 
-/// The number at this place of those that a seed gives for a general.
+/// Returns the number at an index of those that a seed gives for a general. Each general has 32.
 fn drawn_for(seed: u64, general: u8, place: u8) -> u64
     ensures { result ≡ drawn_for seed general place }
 {
     draw(seed, 32 + 32 * u16::from(general) + u16::from(place))
 }
 
-/// How many generals the seed's campaign has.
+/// Returns how many generals the seed's campaign has.
 fn generals_of(family: &Family, seed: u64) -> u8
     ensures number { result ≡ generals_of family.now seed }
     ensures least { 2 ≤ result }
@@ -28,7 +28,7 @@ fn generals_of(family: &Family, seed: u64) -> u8
     within(family.generals(), draw(seed, 0))
 }
 
-/// How many traitors they provide for.
+/// Returns the bound of the seed's campaign.
 fn bound_of(family: &Family, seed: u64) -> u8
     ensures { result ≡ bound_of family.now seed }
 {
@@ -36,14 +36,14 @@ fn bound_of(family: &Family, seed: u64) -> u8
     within(family.bound(), draw(seed, 1)).min(greatest)
 }
 
-/// How many traitors there are.
+/// Returns how many traitors the seed's campaign has.
 fn count_of(family: &Family, seed: u64) -> u8
     ensures { result ≡ count_of family.now seed }
 {
     within(family.traitors(), draw(seed, 2)).min(generals_of(family, seed))
 }
 
-/// The order or place that was drawn.
+/// Returns the order or index that a number draws: 0 or 1, or the parity of the count if the traitor counts.
 fn said_by(counts: bool, drawn: u64) -> LieValue
     ensures { result ≡ said_by counts drawn }
 {
@@ -54,7 +54,7 @@ fn said_by(counts: bool, drawn: u64) -> LieValue
     }
 }
 
-/// Adds what a general says to a receiver.
+/// Appends what a general says to a receiver, if anything.
 fn push_oral(
     lies: &mut Vec<Lie>,
     counts: bool,
@@ -75,7 +75,7 @@ fn push_oral(
     Ok(())
 }
 
-/// Adds what a general signs or passes on.
+/// Appends what a general signs or passes on, if anything.
 fn push_signed(lies: &mut Vec<Lie>, counts: bool, general: u8, drawn: u64) -> Result<(), AllocError>
     ensures { OnOk result (lies.new.items ≡ lies.old.items ++ signed_lies counts general drawn) }
 {
@@ -91,7 +91,7 @@ fn push_signed(lies: &mut Vec<Lie>, counts: bool, general: u8, drawn: u64) -> Re
     Ok(())
 }
 
-/// What a general of so many says by word of mouth.
+/// Returns what a general says in an oral campaign with `generals` generals.
 fn oral_of(
     alloc: Global,
     counts: bool,
@@ -115,7 +115,7 @@ fn oral_of(
     Ok(lies)
 }
 
-/// What a general signs and passes on.
+/// Returns what a general signs and passes on in a signed campaign.
 fn signed_of(alloc: Global, counts: bool, seed: u64, general: u8) -> Result<Vec<Lie>, AllocError>
     ensures { IfOk result (λ lies. lies.items
         ≡ flat_map (λ r. signed_lies counts general (drawn_for seed general r)) (range_with_len 0 4)) }
@@ -127,7 +127,7 @@ fn signed_of(alloc: Global, counts: bool, seed: u64, general: u8) -> Result<Vec<
     Ok(lies)
 }
 
-/// All that a general of so many says.
+/// Returns all statements of a general in a campaign with `generals` generals.
 fn lies_in(
     alloc: Global,
     manner: Manner,
@@ -144,7 +144,7 @@ fn lies_in(
     }
 }
 
-/// What a traitor of the family says.
+/// Returns the statements of a traitor of the family.
 fn lies_by(
     alloc: Global,
     family: &Family,
@@ -162,7 +162,7 @@ fn lies_by(
     }
 }
 
-/// Whether traitors count on the board.
+/// Checks whether the traitors count on the board.
 fn do_count(adversary: &Adversary) -> bool
     ensures { result ≡ do_count adversary.now }
 {
@@ -172,7 +172,7 @@ fn do_count(adversary: &Adversary) -> bool
     }
 }
 
-/// The bytecode that traitors have in place of what they say.
+/// Returns the bytecode of the traitors in hex, if it replaces their statements.
 fn given_in(alloc: Global, adversary: &Adversary) -> Result<Option<String>, AllocError>
     ensures { IfOk result (λ given. option_map string_bytes given ≡ given_in adversary.now) }
 {
@@ -182,7 +182,7 @@ fn given_in(alloc: Global, adversary: &Adversary) -> Result<Option<String>, Allo
     }
 }
 
-/// A traitor of the family, with what he says.
+/// Returns a traitor of the family, with his statements.
 fn traitor_of(
     alloc: Global,
     family: &Family,
@@ -199,7 +199,8 @@ fn traitor_of(
     })
 }
 
-/// Whether a general is chosen, where so many are left, he among them, of whom so many are needed.
+/// Checks whether a general is chosen as a traitor, if `needed` of `left` generals are still to be chosen. He is one of
+/// those left.
 fn is_chosen(seed: u64, general: u8, left: u8, needed: u8) -> bool
     requires { 0 < left }
     ensures { result ≡ nat_lt (draw seed (4 + general) % left) needed }
@@ -207,7 +208,7 @@ fn is_chosen(seed: u64, general: u8, left: u8, needed: u8) -> bool
     draw(seed, 4 + u16::from(general)) % u64::from(left) < u64::from(needed)
 }
 
-/// The traitors, ascending.
+/// Returns the traitors of the seed's campaign, ascending.
 fn traitors_of(
     alloc: Global,
     family: &Family,
@@ -229,11 +230,11 @@ fn traitors_of(
     Ok(traitors)
 }
 
-/// The campaign of the family that the seed gives.
+/// Returns the campaign that a seed draws from a family.
 ///
 /// # Errors
 ///
-/// `AllocError` where memory is refused.
+/// Fails with `AllocError` if it runs out of memory.
 #[tactic(auto, unfolding(crate::specs::Plotting::plot_of))]
 pub fn plot_of(alloc: Global, family: &Family, seed: u64) -> Result<Plot, AllocError>
     ensures { IfOk result (λ plot. plot ≡ plot_of family.now seed) }

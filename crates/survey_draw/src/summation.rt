@@ -1,4 +1,4 @@
-//! Sums of what campaigns come to, counted.
+//! Counts the outcomes of surveyed campaigns.
 ghost use Rattle.std.specs.Prelude.{◌≡◌, count_by};
 ghost use Rattle.survey_draw.specs.Sums.{has, is_denied, is_sound, least, lesser, sums_of, tally_of};
 
@@ -6,7 +6,7 @@ use crate::finding::Finding;
 use crate::sums::{CampaignOutcome, Sums, Tally};
 use world::Verdict;
 
-/// Whether the campaign has the outcome.
+/// Checks whether a campaign has the outcome.
 pub fn has(outcome: CampaignOutcome, finding: &Finding) -> bool
     ensures { result ≡ has outcome finding.now }
 {
@@ -18,7 +18,7 @@ pub fn has(outcome: CampaignOutcome, finding: &Finding) -> bool
     }
 }
 
-/// Whether it is said, and no.
+/// Checks whether there is an answer and it is no.
 fn is_denied(answer: Option<bool>) -> bool
     ensures { result ≡ is_denied answer }
 {
@@ -28,14 +28,14 @@ fn is_denied(answer: Option<bool>) -> bool
     }
 }
 
-/// Whether the loyal lieutenants decide alike, and as a loyal commander has ordered.
+/// Checks whether the loyal lieutenants decide alike and obey a loyal commander.
 pub fn is_sound(verdict: Verdict) -> bool
     ensures { result ≡ is_sound verdict }
 {
     verdict.alike && !is_denied(verdict.obeyed)
 }
 
-/// How many of the campaigns have the outcome.
+/// Returns how many of the campaigns have the outcome.
 fn count(outcome: CampaignOutcome, findings: &[Finding]) -> u64
     ensures { result ≡ count_by (has outcome) findings.now }
 {
@@ -48,7 +48,7 @@ fn count(outcome: CampaignOutcome, findings: &[Finding]) -> u64
     count
 }
 
-/// The lesser of the least so far and one more.
+/// Returns the lesser of a seed and the least seed so far, if there is one.
 fn lesser(least: Option<u64>, seed: u64) -> u64
     ensures { lesser least (Some seed) ≡ Some result }
 {
@@ -58,7 +58,7 @@ fn lesser(least: Option<u64>, seed: u64) -> u64
     }
 }
 
-/// The least seed that gives a campaign with the outcome.
+/// Returns the least seed of a campaign with the outcome, if there is one.
 fn least(outcome: CampaignOutcome, findings: &[Finding]) -> Option<u64>
     ensures { result ≡ least outcome findings.now }
 {
@@ -71,7 +71,7 @@ fn least(outcome: CampaignOutcome, findings: &[Finding]) -> Option<u64>
     least
 }
 
-/// How many of the campaigns have the outcome, and the least seed that gives one.
+/// Returns how many of the campaigns have the outcome, and the least seed of one.
 pub fn tally_of(outcome: CampaignOutcome, findings: &[Finding]) -> Tally
     ensures { result ≡ tally_of outcome findings.now }
 {
@@ -81,7 +81,7 @@ pub fn tally_of(outcome: CampaignOutcome, findings: &[Finding]) -> Tally
     }
 }
 
-/// How many campaigns there are, and how many of them have each outcome.
+/// Returns how many campaigns there are, and how many of them have each outcome.
 pub fn sums_of(findings: &[Finding]) -> Sums
     ensures { result ≡ sums_of findings.now }
 {

@@ -1,17 +1,17 @@
-//! Sums of what campaigns come to.
+//! Counts of outcomes: what is counted in a survey.
 
-/// What is counted of campaigns.
+/// An outcome that is counted in a survey.
 #[derive(Clone, Copy, PartialEq, Eq)]
 pub enum CampaignOutcome {
     /// The bound holds.
     Kept,
-    /// Loyal lieutenants decide unlike.
+    /// The loyal lieutenants do not decide alike.
     Broken,
-    /// A loyal commander's order is not decided by all loyal lieutenants.
+    /// Not all loyal lieutenants obey a loyal commander.
     Disobeyed,
 }
 
-/// How many campaigns have an outcome, and the least seed that gives one.
+/// How many campaigns have an outcome, and the least seed of one.
 #[derive(Clone, Copy)]
 pub struct Tally {
     pub count: u64,

@@ -1,4 +1,4 @@
-//! The campaigns of many seeds.
+//! Plays the campaigns of many seeds in parallel.
 ghost use Rattle.std.specs.Prelude.{◌≢◌, IfErr, IfOk};
 ghost use Rattle.std.specs.List.{AllZip};
 ghost use Rattle.rayon.specs.Numbers.{nat_range};
@@ -13,7 +13,7 @@ use scenario::ScenarioError;
 use std::alloc::{AllocError, Global};
 use std::thread::Threads;
 
-/// How many campaigns are worth a thread of their own: one of them takes 8 us to some milliseconds.
+/// The least number of campaigns for which a thread is worth its cost. One campaign takes 8 us to some milliseconds.
 const LEAST_PIECE: usize = 32;
 
 /// Returns what is found of the campaign of each seed from `first` up to but not including `end`, or the fault of one

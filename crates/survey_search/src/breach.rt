@@ -1,20 +1,21 @@
-//! Campaigns in which agreement is broken.
+//! Campaigns that break agreement, reduced as far as they stay broken.
 use survey_draw::Plot;
 
-/// What is left of a seed's campaign of which nothing more can be taken out while agreement stays broken.
+/// A broken campaign of a seed, reduced as far as possible: without any one of its traitors or statements it is not
+/// broken.
 #[derive(Drop)]
 pub struct Breach {
     /// The seed.
     pub seed: u64,
-    /// The campaign that is left.
+    /// The reduced campaign.
     pub plot: Plot,
 }
 
-/// The least number of traitors by whom agreement is broken, and a campaign in which they break it.
+/// The least number of traitors that break agreement, and a reduced campaign in which they do.
 #[derive(Drop)]
 pub struct Breaking {
-    /// How many traitors the seed's campaign had.
+    /// How many traitors the seed's campaign had before it was reduced.
     pub traitors: u8,
-    /// What is left of it.
+    /// The reduced campaign.
     pub breach: Breach,
 }

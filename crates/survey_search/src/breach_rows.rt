@@ -1,4 +1,4 @@
-//! What breaks agreement, as rows of a table or as scenarios.
+//! Writes reduced broken campaigns as rows of a table or as scenarios.
 ghost use Rattle.std.specs.Prelude.{◌≡◌, ◌++◌, IfOk, OnOk, codes, option_map, string_bytes};
 ghost use Rattle.survey_search.specs.Breakings.{breaking_head, breaking_row, breaking_text, left_text, numbers_text, seed_left, statements_left, traitors_left};
 ghost use Rattle.survey_search.specs.Tables.{number_text, padded};
@@ -9,7 +9,7 @@ use crate::cells::put_padded;
 use std::alloc::{AllocError, Global};
 use survey_draw::plot_text;
 
-/// The word for a number, if there is one.
+/// Returns a number in decimal, or `-` if there is none.
 fn number_text(alloc: Global, number: Option<u128>) -> Result<String, AllocError>
     ensures { IfOk result (λ text. string_bytes text ≡ number_text number) }
 {
@@ -19,7 +19,7 @@ fn number_text(alloc: Global, number: Option<u128>) -> Result<String, AllocError
     }
 }
 
-/// How many traitors are left.
+/// Returns how many traitors the reduced campaign has, if there is one.
 fn traitors_left(found: Option<&Breaking>) -> Option<u128>
     ensures { result ≡ traitors_left (option_map (λ b. b.now) found.entry) }
 {
@@ -29,7 +29,7 @@ fn traitors_left(found: Option<&Breaking>) -> Option<u128>
     }
 }
 
-/// How many statements they have.
+/// Returns how many statements the reduced campaign has, if there is one.
 fn statements_left(found: Option<&Breaking>) -> Option<u128>
     ensures { result ≡ statements_left (option_map (λ b. b.now) found.entry) }
 {
@@ -39,7 +39,7 @@ fn statements_left(found: Option<&Breaking>) -> Option<u128>
     }
 }
 
-/// The seed that gave the campaign.
+/// Returns the seed of the reduced campaign, if there is one.
 fn seed_left(found: Option<&Breaking>) -> Option<u128>
     ensures { result ≡ seed_left (option_map (λ b. b.now) found.entry) }
 {
@@ -49,7 +49,7 @@ fn seed_left(found: Option<&Breaking>) -> Option<u128>
     }
 }
 
-/// Adds a cell that is no first one.
+/// Appends a cell that is not the first of its row.
 fn put_next(out: &mut String, width: usize, text: &str) -> Result<(), AllocError>
     ensures { OnOk result (string_bytes out.new ≡ string_bytes out.old ++ (codes " " ++ padded width text.now)) }
 {
@@ -57,7 +57,7 @@ fn put_next(out: &mut String, width: usize, text: &str) -> Result<(), AllocError
     put_padded(out, width, text)
 }
 
-/// The row of these words.
+/// Returns the table row with these words.
 fn breaking_row(
     alloc: Global,
     generals: &str,
@@ -79,7 +79,7 @@ fn breaking_row(
     Ok(out)
 }
 
-/// The comment of these words.
+/// Returns the comment line with these words.
 fn breaking_head(
     alloc: Global,
     generals: &str,
@@ -96,7 +96,7 @@ fn breaking_head(
     )
 }
 
-/// The row or the comment of these words.
+/// Returns the table row or the comment line with these words.
 fn words_text(
     alloc: Global,
     is_table: bool,
@@ -116,7 +116,7 @@ fn words_text(
     }
 }
 
-/// The row or the comment.
+/// Returns the numbers of the reduced campaign as a table row or a comment line.
 fn numbers_text(
     alloc: Global,
     is_table: bool,
@@ -145,7 +145,7 @@ fn numbers_text(
     )
 }
 
-/// What is left, as a scenario; in a table it is left out.
+/// Returns the reduced campaign as a scenario, or an empty text in a table.
 fn left_text(alloc: Global, is_table: bool, found: Option<&Breaking>) -> Result<String, AllocError>
     ensures { IfOk result (λ text. string_bytes text
         ≡ left_text is_table (option_map (λ b. b.now) found.entry)) }
@@ -159,12 +159,13 @@ fn left_text(alloc: Global, is_table: bool, found: Option<&Breaking>) -> Result<
     }
 }
 
-/// What breaks agreement of so many generals who provide for so many traitors, if something does: the numbers of what
-/// is left of a campaign, as the row of a table, or as a comment before that campaign.
+/// Returns the text of a search with this number of generals and this bound. In a table it is a row with the numbers of
+/// the reduced campaign. Otherwise it is a comment line with these numbers, and then the reduced campaign as a
+/// scenario, if there is one.
 ///
 /// # Errors
 ///
-/// `AllocError` where memory is refused.
+/// Fails with `AllocError` if it runs out of memory.
 pub fn breaking_text(
     alloc: Global,
     is_table: bool,

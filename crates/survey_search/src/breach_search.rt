@@ -1,4 +1,4 @@
-//! The least of many broken campaigns.
+//! Searches the campaigns of many seeds for the least one that breaks agreement.
 ghost use Rattle.std.specs.Prelude.{◌≡◌, ◌≢◌, ◌≤◌, IfErr, IfOk, IfSome, IfNone, Ok, map};
 ghost use Rattle.std.specs.List.{AllZip};
 ghost use Rattle.rayon.specs.Numbers.{nat_range};
@@ -16,11 +16,12 @@ use std::alloc::{AllocError, Global};
 use std::thread::Threads;
 use survey_draw::{CountRange, Family, plot_of};
 
-/// What is left of the seed's campaign, if agreement is broken in it.
+/// Returns the seed's campaign, reduced, if agreement is broken in it.
 ///
 /// # Errors
 ///
-/// The first fault of a text, or want of memory; so of every function here.
+/// Returns the first fault of the text of the seed's campaign or of a reduction of it. Fails with `Memory` if it runs
+/// out of memory.
 pub fn breach_of(alloc: Global, family: &Family, seed: u64) -> Result<Option<Breach>, ScenarioError>
     ensures shrunk { IfOk result (IsShrunk (plot_of family.now) seed) }
     ensures refused { IfErr result (IsRefusedBy (plot_of family.now) seed) }
@@ -32,7 +33,8 @@ pub fn breach_of(alloc: Global, family: &Family, seed: u64) -> Result<Option<Bre
     }
 }
 
-/// The same of each seed from `first` up to `end`, without that, by as many threads as there are processors.
+/// Returns the reduced campaign of each seed from `first` up to but not including `end`, if it is broken, or its error.
+/// The search uses as many threads as there are processors.
 fn gathered<R: Threads + Sync>(
     rt: &R,
     alloc: Global,
@@ -53,10 +55,10 @@ fn gathered<R: Threads + Sync>(
         .collect(rt, alloc)
 }
 
-/// How many campaigns are worth a thread of their own.
+/// The least number of campaigns for which a thread is worth its cost.
 const LEAST_PIECE: usize = 8;
 
-/// What all the answers give, or the first error among them.
+/// Returns the results of all answers, or the first error among them.
 fn all_of(
     alloc: Global,
     answers: Vec<Result<Option<Breach>, ScenarioError>>,
@@ -71,7 +73,12 @@ fn all_of(
     Ok(found)
 }
 
-/// What is left of the campaign of each seed from `first` up to `end`, without that.
+/// Returns the reduced campaign of each seed from `first` up to but not including `end`, if it is broken.
+///
+/// # Errors
+///
+/// Returns the fault of the first seed whose campaign, or a reduction of it, has a faulty text. Fails with `Memory` if
+/// it runs out of memory.
 pub fn breaches<R: Threads + Sync>(
     rt: &R,
     alloc: Global,
@@ -86,7 +93,7 @@ pub fn breaches<R: Threads + Sync>(
     all_of(alloc, answers)
 }
 
-/// The first of the two, unless the second is less.
+/// Returns the first of two reduced campaigns, unless the second is less. If there is only one, it is returned.
 pub fn better(first: Option<Breach>, second: Option<Breach>) -> Option<Breach>
     ensures { result ≡ better first second }
 {
@@ -101,7 +108,7 @@ pub fn better(first: Option<Breach>, second: Option<Breach>) -> Option<Breach>
     }
 }
 
-/// The least of them.
+/// Returns the least of the reduced campaigns, if there is one.
 pub fn least(found: Vec<Option<Breach>>) -> Option<Breach>
     ensures { IsLeastOf found.items result }
 {
@@ -112,8 +119,13 @@ pub fn least(found: Vec<Option<Breach>>) -> Option<Breach>
     least
 }
 
-/// The least of what is left of the seeds' campaigns from `first` up to `end`, without that; none where agreement is
-/// broken in none of them.
+/// Returns the least of the reduced campaigns of the seeds from `first` up to but not including `end`. Returns `None`
+/// if agreement is broken in none of them.
+///
+/// # Errors
+///
+/// Returns the fault of the first seed whose campaign, or a reduction of it, has a faulty text. Fails with `Memory` if
+/// it runs out of memory.
 pub fn least_breach<R: Threads + Sync>(
     rt: &R,
     alloc: Global,
@@ -127,8 +139,15 @@ pub fn least_breach<R: Threads + Sync>(
     Ok(least(breaches(rt, alloc, family, first, end)?))
 }
 
-/// With the fewest traitors of the span by whom agreement is broken in a campaign of these seeds, the least of what is
-/// left of the campaigns in which so many break it; none where no number of them breaks it.
+/// Returns the least number of traitors in the range with which a campaign breaks agreement, and the least of the
+/// reduced campaigns with that number. The campaigns are those of the seeds from `first` up to but not including `end`,
+/// with this number of generals and this bound. Returns `None` if agreement is broken with no number of traitors in the
+/// range.
+///
+/// # Errors
+///
+/// Returns the fault of the first seed whose campaign, or a reduction of it, has a faulty text. Fails with `Memory` if
+/// it runs out of memory.
 pub fn breaking<R: Threads + Sync>(
     rt: &R,
     alloc: Global,

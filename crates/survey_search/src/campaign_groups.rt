@@ -1,4 +1,4 @@
-//! The campaigns of a survey, by their numbers.
+//! Groups the campaigns of a survey by their numbers of generals, bounds and numbers of traitors.
 ghost use Rattle.std.specs.Prelude.{◌≡◌, ◌++◌, IfOk, OnOk};
 ghost use Rattle.survey_search.specs.Groups.{failed_in, group_of, groups_by_bound, groups_in, groups_of, of_bound, of_generals, of_traitors};
 
@@ -6,7 +6,7 @@ use crate::group::Group;
 use std::alloc::{AllocError, Global};
 use survey_draw::{Finding, is_sound, sums_of};
 
-/// The campaigns of so many generals.
+/// Returns the campaigns with this number of generals.
 fn of_generals(
     alloc: Global,
     findings: &[Finding],
@@ -23,7 +23,7 @@ fn of_generals(
     Ok(some)
 }
 
-/// The campaigns whose generals provide for so many traitors.
+/// Returns the campaigns with this bound.
 fn of_bound(alloc: Global, findings: &[Finding], bound: u8) -> Result<Vec<Finding>, AllocError>
     ensures { IfOk result (λ some. some.items ≡ of_bound bound findings.now) }
 {
@@ -36,7 +36,7 @@ fn of_bound(alloc: Global, findings: &[Finding], bound: u8) -> Result<Vec<Findin
     Ok(some)
 }
 
-/// The campaigns that have so many.
+/// Returns the campaigns with this number of traitors.
 fn of_traitors(
     alloc: Global,
     findings: &[Finding],
@@ -53,7 +53,7 @@ fn of_traitors(
     Ok(some)
 }
 
-/// In how many of the campaigns the loyal lieutenants decide unlike, or not as a loyal commander has ordered.
+/// Returns in how many of the campaigns the loyal lieutenants do not decide alike or do not obey a loyal commander.
 fn failed_in(findings: &[Finding]) -> u64
     ensures { result ≡ failed_in findings.now }
 {
@@ -66,8 +66,8 @@ fn failed_in(findings: &[Finding]) -> u64
     count
 }
 
-/// Adds the group of those campaigns that have so many traitors, of generals who provide for so many, if there are
-/// some.
+/// Appends the group of those of the given campaigns that have this number of traitors, if there are some. The given
+/// campaigns are those with this number of generals and this bound.
 fn push_group(
     alloc: Global,
     groups: &mut Vec<Group>,
@@ -92,8 +92,8 @@ fn push_group(
     Ok(())
 }
 
-/// Adds the groups of campaigns of so many generals who provide for so many traitors, which these are, by their
-/// traitors.
+/// Appends the groups of the given campaigns by their numbers of traitors. The given campaigns are those with this
+/// number of generals and this bound.
 #[tactic(auto, unfolding(crate::specs::Groups::groups_in))]
 fn push_groups(
     alloc: Global,
@@ -110,7 +110,8 @@ fn push_groups(
     Ok(())
 }
 
-/// Adds the groups of those campaigns whose generals, so many, provide for so many traitors.
+/// Appends the groups of those of the given campaigns that have this bound. The given campaigns are those with this
+/// number of generals.
 fn push_bound(
     alloc: Global,
     groups: &mut Vec<Group>,
@@ -125,7 +126,8 @@ fn push_bound(
     push_groups(alloc, groups, some.as_slice(), generals, bound)
 }
 
-/// Adds the groups of campaigns of so many generals, which these are, by their bounds and traitors.
+/// Appends the groups of the given campaigns by their bounds and numbers of traitors. The given campaigns are those
+/// with this number of generals.
 #[tactic(auto, unfolding(crate::specs::Groups::groups_by_bound))]
 fn push_bounds(
     alloc: Global,
@@ -141,7 +143,7 @@ fn push_bounds(
     Ok(())
 }
 
-/// Adds the groups of those campaigns that have so many generals.
+/// Appends the groups of the campaigns that have this number of generals.
 fn push_generals(
     alloc: Global,
     groups: &mut Vec<Group>,
@@ -155,12 +157,12 @@ fn push_generals(
     push_bounds(alloc, groups, some.as_slice(), generals)
 }
 
-/// The campaigns by their numbers of generals, bounds and traitors, each ascending; only numbers of which there are
-/// campaigns.
+/// Returns the campaigns in groups, by number of generals, bound and number of traitors, each ascending. There are no
+/// empty groups.
 ///
 /// # Errors
 ///
-/// `AllocError` where memory is refused.
+/// Fails with `AllocError` if it runs out of memory.
 #[tactic(auto, unfolding(crate::specs::Groups::groups_of))]
 pub fn groups(alloc: Global, findings: &[Finding]) -> Result<Vec<Group>, AllocError>
     ensures { IfOk result (λ groups. groups.items ≡ groups_of findings.now) }

@@ -1,11 +1,11 @@
-//! Which of two broken campaigns is less.
+//! Compares reduced broken campaigns: which of two is less.
 ghost use Rattle.std.specs.Prelude.{◌≡◌};
 ghost use Rattle.survey_search.specs.Breaches.{is_before, statements};
 
 use crate::breach::Breach;
 use survey_draw::Plot;
 
-/// How many statements the traitors of the campaign have.
+/// Returns how many statements the traitors of a campaign have.
 pub fn statements(plot: &Plot) -> u128
     ensures { result ≡ statements plot.now }
 {
@@ -16,7 +16,8 @@ pub fn statements(plot: &Plot) -> u128
     count
 }
 
-/// Whether the first has fewer traitors, or as many and fewer statements, or as many of both and the lesser seed.
+/// Checks whether the first campaign is less than the second: by the number of traitors, then by the number of
+/// statements, then by the seed.
 pub fn is_before(first: &Breach, second: &Breach) -> bool
     ensures { result ≡ is_before first.now second.now }
 {

@@ -1,4 +1,4 @@
-//! Numbers in a table.
+//! A cell of a table: a number and its column's width.
 
 /// A number, or none, in a column of this width.
 #[derive(Clone, Copy)]

@@ -1,4 +1,4 @@
-//! The cells of a table.
+//! Writes the cells of a table.
 ghost use Rattle.std.specs.Prelude.{◌≡◌, ◌++◌, OnOk, flat_map, string_bytes};
 ghost use Rattle.survey_search.specs.Tables.{cell_text, number_text, padded, row_text};
 
@@ -6,7 +6,7 @@ use crate::cell::NumberCell;
 use itoa::Buffer;
 use std::alloc::AllocError;
 
-/// Adds spaces, as many as a text of some length needs to have this width, and the text.
+/// Appends a text with spaces before it so that it has this width, or the text only if it is longer.
 pub(crate) fn put_padded(out: &mut String, width: usize, text: &str) -> Result<(), AllocError>
     ensures { OnOk result (string_bytes out.new ≡ string_bytes out.old ++ padded width text.now) }
 {
@@ -16,7 +16,7 @@ pub(crate) fn put_padded(out: &mut String, width: usize, text: &str) -> Result<(
     out.push_str(text)
 }
 
-/// Adds a cell.
+/// Appends a cell after a space.
 fn put_cell(out: &mut String, cell: NumberCell) -> Result<(), AllocError>
     ensures { OnOk result (string_bytes out.new ≡ string_bytes out.old ++ cell_text cell) }
 {
@@ -30,7 +30,7 @@ fn put_cell(out: &mut String, cell: NumberCell) -> Result<(), AllocError>
     }
 }
 
-/// Adds a row of these cells.
+/// Appends a row of these cells.
 pub(crate) fn put_row(out: &mut String, cells: &[NumberCell]) -> Result<(), AllocError>
     ensures { OnOk result (string_bytes out.new ≡ string_bytes out.old ++ row_text cells.now) }
 {

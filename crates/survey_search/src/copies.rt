@@ -1,11 +1,11 @@
-//! Campaigns, copied.
+//! Copies campaigns and adversaries.
 ghost use Rattle.std.specs.Prelude.{◌≡◌, IfOk, option_map, string_bytes};
 ghost use Rattle.survey_search.specs.Breaches.{IsSameAs};
 
 use std::alloc::{AllocError, Global};
 use survey_draw::{Adversary, Plot, Traitor};
 
-/// The same traitor.
+/// Returns a copy of a traitor.
 fn traitor_copied(alloc: Global, traitor: &Traitor) -> Result<Traitor, AllocError>
     ensures { IfOk result (λ copy. copy ≡ traitor.now) }
 {
@@ -16,7 +16,7 @@ fn traitor_copied(alloc: Global, traitor: &Traitor) -> Result<Traitor, AllocErro
     })
 }
 
-/// The same traitors.
+/// Returns copies of these traitors.
 fn traitors_copied(alloc: Global, traitors: &[Traitor]) -> Result<Vec<Traitor>, AllocError>
     ensures { IfOk result (λ copies. copies.items ≡ traitors.now) }
 {
@@ -27,7 +27,7 @@ fn traitors_copied(alloc: Global, traitors: &[Traitor]) -> Result<Vec<Traitor>, 
     Ok(copies)
 }
 
-/// The same bytecode, if there is some.
+/// Returns a copy of the bytecode, if there is some.
 fn given_copied(alloc: Global, given: Option<&str>) -> Result<Option<String>, AllocError>
     ensures { IfOk result (λ copy. option_map string_bytes copy ≡ option_map (λ hex. hex.now) given.entry) }
 {
@@ -37,7 +37,7 @@ fn given_copied(alloc: Global, given: Option<&str>) -> Result<Option<String>, Al
     }
 }
 
-/// The same campaign.
+/// Returns a copy of a campaign.
 pub(crate) fn copied(alloc: Global, plot: &Plot) -> Result<Plot, AllocError>
     ensures { IfOk result (λ copy. copy ≡ plot.now) }
 {
@@ -52,7 +52,7 @@ pub(crate) fn copied(alloc: Global, plot: &Plot) -> Result<Plot, AllocError>
     })
 }
 
-/// An adversary of whom the seeds give the same.
+/// Returns a copy of an adversary, from which seeds draw the same campaigns.
 pub(crate) fn adversary_copied(
     alloc: Global,
     adversary: &Adversary,

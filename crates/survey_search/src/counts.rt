@@ -1,4 +1,4 @@
-//! The sums of a survey as lines, and its lines.
+//! Writes the sums of a survey as lines, and the lines of its campaigns.
 ghost use Rattle.std.specs.Prelude.{◌≡◌, ◌++◌, IfOk, OnOk, flat_map, string_bytes};
 ghost use Rattle.survey_draw.specs.Lines.{line_text};
 ghost use Rattle.survey_draw.specs.Sums.{sums_of};
@@ -7,7 +7,7 @@ ghost use Rattle.survey_search.specs.Counts.{campaigns_text, sums_text, tally_te
 use std::alloc::{AllocError, Global};
 use survey_draw::{Finding, Tally, put_line, sums_of};
 
-/// Adds the line of an outcome.
+/// Appends the line of an outcome.
 fn put_tally(out: &mut String, name: &str, tally: Tally) -> Result<(), AllocError>
     ensures { OnOk result (string_bytes out.new ≡ string_bytes out.old ++ tally_text name.now tally) }
 {
@@ -18,18 +18,19 @@ fn put_tally(out: &mut String, name: &str, tally: Tally) -> Result<(), AllocErro
     }
 }
 
-/// Adds the line of the campaigns.
+/// Appends the line that says how many campaigns there are.
 fn put_campaigns(out: &mut String, campaigns: u64) -> Result<(), AllocError>
     ensures { OnOk result (string_bytes out.new ≡ string_bytes out.old ++ campaigns_text campaigns) }
 {
     writeln!(out, "campaigns {campaigns}")
 }
 
-/// A line for the campaigns and one for each outcome, with the least seed that gives it.
+/// Returns the sums of a survey: a line with the number of campaigns, and a line for each outcome with its count and
+/// the least seed.
 ///
 /// # Errors
 ///
-/// `AllocError` where memory is refused; so of every function here.
+/// Fails with `AllocError` if it runs out of memory.
 #[tactic(auto, unfolding(crate::specs::Counts::sums_text))]
 pub fn sums_text(alloc: Global, findings: &[Finding]) -> Result<String, AllocError>
     ensures { IfOk result (λ text. string_bytes text ≡ sums_text (sums_of findings.now)) }
@@ -43,7 +44,11 @@ pub fn sums_text(alloc: Global, findings: &[Finding]) -> Result<String, AllocErr
     Ok(out)
 }
 
-/// The lines of these campaigns.
+/// Returns the lines of these campaigns.
+///
+/// # Errors
+///
+/// Fails with `AllocError` if it runs out of memory.
 pub fn lines_text(alloc: Global, findings: &[Finding]) -> Result<String, AllocError>
     ensures { IfOk result (λ text. string_bytes text ≡ flat_map line_text findings.now) }
 {

@@ -1,4 +1,4 @@
-//! Which seeds lack in a survey, and which stand in it more than once.
+//! Finds the seeds that are missing in a survey, and those that occur more than once.
 ghost use Rattle.std.specs.Prelude.{◌≡◌, ◌++◌, IfOk, OnOk};
 ghost use Rattle.survey_search.specs.Covering.{AreApart, AreAscending, AreDoubles, AreHoles, gaps, repeated, seeds_in, stretch, stretches, stretches_from};
 
@@ -6,7 +6,7 @@ use crate::stretch::Stretch;
 use std::alloc::{AllocError, Global};
 use survey_draw::Finding;
 
-/// The seeds of these campaigns.
+/// Returns the seeds of these campaigns.
 fn seeds_in(alloc: Global, findings: &[Finding]) -> Result<Vec<u64>, AllocError>
     ensures { IfOk result (λ seeds. seeds.items ≡ seeds_in findings.now) }
 {
@@ -17,7 +17,7 @@ fn seeds_in(alloc: Global, findings: &[Finding]) -> Result<Vec<u64>, AllocError>
     Ok(seeds)
 }
 
-/// The seeds of these campaigns, ascending.
+/// Returns the seeds of these campaigns, ascending.
 fn ascending(alloc: Global, findings: &[Finding]) -> Result<Vec<u64>, AllocError>
     ensures { IfOk result (λ seeds. AreAscending (seeds_in findings.now) seeds.items) }
 {
@@ -26,7 +26,7 @@ fn ascending(alloc: Global, findings: &[Finding]) -> Result<Vec<u64>, AllocError
     Ok(seeds)
 }
 
-/// Adds the stretch from one seed to another, if it has seeds.
+/// Appends the range from one seed to another, if it is not empty.
 fn push_stretch(found: &mut Vec<Stretch>, first: u128, last: u64) -> Result<(), AllocError>
     ensures { OnOk result (found.new.items ≡ found.old.items ++ stretch first last) }
 {
@@ -39,7 +39,7 @@ fn push_stretch(found: &mut Vec<Stretch>, first: u128, last: u64) -> Result<(), 
     Ok(())
 }
 
-/// The stretches of the seeds from `next` to `last` that are none of these, which are ascending.
+/// Returns the ranges of the seeds from `next` to `last` that are not among these seeds, which are ascending.
 fn gaps(alloc: Global, next: u64, seeds: &[u64], last: u64) -> Result<Vec<Stretch>, AllocError>
     ensures { IfOk result (λ found. found.items ≡ gaps next seeds.now last) }
 {
@@ -55,11 +55,11 @@ fn gaps(alloc: Global, next: u64, seeds: &[u64], last: u64) -> Result<Vec<Stretc
     Ok(found)
 }
 
-/// The stretches of seeds from `first` to `last` of which there is no campaign: no two that touch.
+/// Returns the ranges of seeds from `first` to `last` for which there is no campaign. No two ranges touch.
 ///
 /// # Errors
 ///
-/// `AllocError` where memory is refused.
+/// Fails with `AllocError` if it runs out of memory.
 pub fn holes(
     alloc: Global,
     findings: &[Finding],
@@ -73,7 +73,7 @@ pub fn holes(
     gaps(alloc, first, seeds.as_slice(), last)
 }
 
-/// Those of the seeds, which are ascending, that stand there twice or more, each once.
+/// Returns the seeds, which are ascending, that repeat the seed before them.
 fn repeated(alloc: Global, seeds: &[u64]) -> Result<Vec<u64>, AllocError>
     ensures { IfOk result (λ found. found.items ≡ repeated seeds.now) }
 {
@@ -86,7 +86,7 @@ fn repeated(alloc: Global, seeds: &[u64]) -> Result<Vec<u64>, AllocError>
     Ok(found)
 }
 
-/// The stretches that these seeds, which are ascending, make with one that has come so far.
+/// Returns the ranges that these seeds, which are ascending, form with a range that has already begun.
 fn stretches_from(alloc: Global, begun: Stretch, seeds: &[u64]) -> Result<Vec<Stretch>, AllocError>
     ensures { IfOk result (λ found. found.items ≡ stretches_from begun.first begun.last seeds.now) }
 {
@@ -107,7 +107,7 @@ fn stretches_from(alloc: Global, begun: Stretch, seeds: &[u64]) -> Result<Vec<St
     Ok(found)
 }
 
-/// The stretches that these seeds, which are ascending, make.
+/// Returns the ranges that these seeds, which are ascending, form.
 fn stretches(alloc: Global, seeds: &[u64]) -> Result<Vec<Stretch>, AllocError>
     ensures { IfOk result (λ found. found.items ≡ stretches seeds.now) }
 {
@@ -124,11 +124,11 @@ fn stretches(alloc: Global, seeds: &[u64]) -> Result<Vec<Stretch>, AllocError>
     }
 }
 
-/// The stretches of seeds of which there is more than one campaign: no two that touch.
+/// Returns the ranges of seeds for which there is more than one campaign. No two ranges touch.
 ///
 /// # Errors
 ///
-/// `AllocError` where memory is refused.
+/// Fails with `AllocError` if it runs out of memory.
 pub fn doubles(alloc: Global, findings: &[Finding]) -> Result<Vec<Stretch>, AllocError>
     ensures doubles { IfOk result (λ found. AreDoubles (seeds_in findings.now) found.items) }
     ensures apart { IfOk result (λ found. AreApart found.items) }

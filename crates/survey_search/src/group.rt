@@ -1,13 +1,13 @@
-//! The campaigns of the same numbers.
+//! Groups of campaigns with the same numbers.
 use survey_draw::Sums;
 
-/// What the campaigns of so many generals come to who provide for so many traitors and have so many.
+/// The sums of the campaigns with this number of generals, this bound and this number of traitors.
 #[derive(Clone, Copy)]
 pub struct Group {
     pub generals: u8,
     pub bound: u8,
     pub traitors: u8,
     pub sums: Sums,
-    /// In how many of them the loyal lieutenants decide unlike, or not as a loyal commander has ordered.
+    /// In how many of them the loyal lieutenants do not decide alike or do not obey a loyal commander.
     pub failed: u64,
 }

@@ -1,4 +1,5 @@
-//! Searches among surveyed campaigns: the least campaign that breaks agreement, and tables of many campaigns.
+//! Searches a survey's campaigns: reduces broken ones to the least that is still broken, and tabulates and draws
+//! counts. The definitions are in specs/.
 #![tactic(auto)]
 
 mod breach;

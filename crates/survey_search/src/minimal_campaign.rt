@@ -1,4 +1,4 @@
-//! Campaigns of which nothing more can be taken out while they are broken.
+//! Reduces a broken campaign until nothing more can be removed.
 ghost use Rattle.std.specs.Prelude.{◌≢◌, IfErr, IfOk, IfSome, IfNone};
 ghost use Rattle.scenario.specs.declared.fault.ScenarioError.TheVariants.{Memory};
 ghost use Rattle.survey_search.specs.Shrinking.{ComesWell, IsBroken, IsLeast, IsPartOf, IsRefusedOf, IsWalked, ShrinksTo};
@@ -8,8 +8,8 @@ use scenario::ScenarioError;
 use std::alloc::Global;
 use survey_draw::Plot;
 
-/// The campaign after one walk over its traitors and one over their statements, on each of which what can be taken out
-/// is.
+/// Returns the campaign after one pass over its traitors and one over their statements. Each pass removes what can be
+/// removed.
 fn walked(alloc: Global, plot: Plot) -> Result<Plot, ScenarioError>
     requires { IsBroken plot }
     ensures broken { IfOk result IsBroken }
@@ -21,12 +21,14 @@ fn walked(alloc: Global, plot: Plot) -> Result<Plot, ScenarioError>
     fewest_lies(alloc, fewer)
 }
 
-/// What is left of the campaign where traitors and statements are taken out, one after the other, while it is broken:
-/// its loyal lieutenants decide unlike, or not as a loyal commander has ordered. None where it is not broken.
+/// Returns the campaign reduced as far as possible. Traitors and statements are removed one after another while the
+/// campaign stays broken, which means that its loyal lieutenants do not decide alike or do not obey a loyal commander.
+/// Returns `None` if the campaign is not broken.
 ///
 /// # Errors
 ///
-/// The first fault of a text, that of the campaign or of one that is left of it, or want of memory.
+/// Returns the first fault of the text of the campaign or of a reduction of it. Fails with `Memory` if it runs out of
+/// memory.
 pub fn shrunk(alloc: Global, plot: Plot) -> Result<Option<Plot>, ScenarioError>
     ensures least { IfOk result (λ left. IfSome left IsLeast) }
     ensures part { IfOk result (λ left. IfSome left (IsPartOf plot)) }

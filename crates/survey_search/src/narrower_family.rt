@@ -1,4 +1,4 @@
-//! Families with fewer campaigns.
+//! Narrows a family to fixed numbers of generals, bound and traitors.
 ghost use Rattle.std.specs.Prelude.{◌≡◌, ◌≤◌, IfOk};
 ghost use Rattle.survey_search.specs.Breaches.{narrowed, only};
 ghost use Rattle.survey_draw.specs.Plotting.{plot_of};
@@ -7,7 +7,7 @@ use crate::copies::adversary_copied;
 use std::alloc::{AllocError, Global};
 use survey_draw::{CountRange, Family};
 
-/// The span of one number.
+/// Returns the range of one number.
 fn only(number: u8) -> CountRange
     ensures { result ≡ only number }
 {
@@ -17,7 +17,8 @@ fn only(number: u8) -> CountRange
     }
 }
 
-/// The campaigns of a family of so many generals who provide for so many traitors and have so many.
+/// Returns the family whose campaigns have this number of generals, this bound and this number of traitors, and are
+/// otherwise those of `family`.
 pub(crate) fn narrowed(
     alloc: Global,
     family: &Family,

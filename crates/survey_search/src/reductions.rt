@@ -1,4 +1,4 @@
-//! Campaigns with a traitor or a statement less.
+//! Reduces a broken campaign by a traitor or a statement, if it stays broken.
 ghost use Rattle.std.specs.Prelude.{◌≡◌, ◌≢◌, ◌<◌, IfErr, IfOk, IfSome, IfNone, length};
 ghost use Rattle.scenario.specs.declared.fault.ScenarioError.TheVariants.{Memory};
 ghost use Rattle.survey_search.specs.Shrinking.{AllLiesAreNeeded, Comes, ComesWell, IsBroken, IsPartOf, IsRefusedOf, IsStillBroken, IsWithoutFirst, IsWithoutFirstLie, IsWithoutFirstLieOf, IsWithoutFirstTraitor, LieWalk, LieWalks, LiesAreNeeded, TraitorWalk, TraitorsAreNeeded, traitor_at, without_lie, without_traitor};
@@ -10,7 +10,7 @@ use scenario::ScenarioError;
 use std::alloc::{AllocError, Global};
 use survey_draw::{Plot, is_sound, plot_text, verdict_on};
 
-/// The campaign in which the traitor at this place is loyal.
+/// Returns the campaign in which the traitor at this index is loyal.
 fn without_traitor(alloc: Global, plot: &Plot, place: usize) -> Result<Plot, AllocError>
     requires { place < length plot.now.traitors }
     ensures { IfOk result (λ less. less ≡ without_traitor plot.now place) }
@@ -20,7 +20,7 @@ fn without_traitor(alloc: Global, plot: &Plot, place: usize) -> Result<Plot, All
     Ok(less)
 }
 
-/// The campaign in which he does not say one of his statements.
+/// Returns the campaign without one statement of the traitor at this index.
 fn without_lie(alloc: Global, plot: &Plot, place: usize, index: usize) -> Result<Plot, AllocError>
     requires place { place < length plot.now.traitors }
     requires index { index < length (traitor_at plot.now place).lies }
@@ -31,7 +31,7 @@ fn without_lie(alloc: Global, plot: &Plot, place: usize, index: usize) -> Result
     Ok(less)
 }
 
-/// Whether the loyal lieutenants of the campaign decide alike, and as a loyal commander has ordered.
+/// Plays a campaign, and checks whether its loyal lieutenants decide alike and obey a loyal commander.
 pub(crate) fn comes_well(alloc: Global, plot: &Plot) -> Result<bool, ScenarioError>
     ensures comes { IfOk result (λ well. Comes well plot.now) }
     ensures refused { IfErr result (λ e. e ≢ Memory → IsRefused (plot_text plot.now) e) }
@@ -41,7 +41,7 @@ pub(crate) fn comes_well(alloc: Global, plot: &Plot) -> Result<bool, ScenarioErr
     Ok(is_sound(verdict))
 }
 
-/// The campaign in which the traitor at this place is loyal, if it is still broken.
+/// Returns the campaign in which the traitor at this index is loyal, if it is still broken.
 fn less_traitor(alloc: Global, plot: &Plot, place: usize) -> Result<Option<Plot>, ScenarioError>
     requires { place < length plot.now.traitors }
     ensures some { IfOk result (λ less. IfSome less (IsStillBroken plot.now)) }
@@ -56,7 +56,7 @@ fn less_traitor(alloc: Global, plot: &Plot, place: usize) -> Result<Option<Plot>
     Ok(Some(less))
 }
 
-/// The campaign in which he does not say one of his statements, if it is still broken.
+/// Returns the campaign without one statement of the traitor at this index, if it is still broken.
 fn less_lie(
     alloc: Global,
     plot: &Plot,
@@ -77,7 +77,7 @@ fn less_lie(
     Ok(Some(less))
 }
 
-/// The campaign without the first traitor without whom it is still broken.
+/// Returns the campaign without the first traitor whose removal leaves it broken, if there is one.
 fn fewer_traitors(alloc: Global, plot: &Plot) -> Result<Option<Plot>, ScenarioError>
     ensures some { IfOk result (λ less. IfSome less (IsStillBroken plot.now)) }
     ensures first { IfOk result (λ less. IfSome less (IsWithoutFirstTraitor plot.now)) }
@@ -93,7 +93,8 @@ fn fewer_traitors(alloc: Global, plot: &Plot) -> Result<Option<Plot>, ScenarioEr
     Ok(None)
 }
 
-/// The campaign without the first statement of the traitor at this place without which it is still broken.
+/// Returns the campaign without the first statement of the traitor at this index whose removal leaves it broken, if
+/// there is one.
 fn fewer_lies_of(alloc: Global, plot: &Plot, place: usize) -> Result<Option<Plot>, ScenarioError>
     requires { place < length plot.now.traitors }
     ensures some { IfOk result (λ less. IfSome less (IsStillBroken plot.now)) }
@@ -110,7 +111,7 @@ fn fewer_lies_of(alloc: Global, plot: &Plot, place: usize) -> Result<Option<Plot
     Ok(None)
 }
 
-/// The campaign without the first statement without which it is still broken.
+/// Returns the campaign without the first statement whose removal leaves it broken, if there is one.
 fn fewer_lies(alloc: Global, plot: &Plot) -> Result<Option<Plot>, ScenarioError>
     ensures some { IfOk result (λ less. IfSome less (IsStillBroken plot.now)) }
     ensures first { IfOk result (λ less. IfSome less (IsWithoutFirstLie plot.now)) }
@@ -126,8 +127,8 @@ fn fewer_lies(alloc: Global, plot: &Plot) -> Result<Option<Plot>, ScenarioError>
     Ok(None)
 }
 
-/// The campaign without the first traitor without whom it is still broken; where all are needed, without the first
-/// such statement.
+/// Returns the campaign without the first traitor whose removal leaves it broken. If all traitors are needed, it
+/// returns the campaign without the first such statement, if there is one.
 pub(crate) fn less(alloc: Global, plot: &Plot) -> Result<Option<Plot>, ScenarioError>
     ensures some { IfOk result (λ less. IfSome less (IsStillBroken plot.now)) }
     ensures first { IfOk result (λ less. IfSome less (IsWithoutFirst plot.now)) }
@@ -142,7 +143,8 @@ pub(crate) fn less(alloc: Global, plot: &Plot) -> Result<Option<Plot>, ScenarioE
     fewer_lies(alloc, plot)
 }
 
-/// The campaign without each traitor without whom, the later ones being there, it is still broken.
+/// Returns the campaign after one pass over its traitors. The pass removes each traitor whose removal leaves the
+/// campaign broken while the later ones are still there.
 pub(crate) fn fewest_traitors(alloc: Global, plot: Plot) -> Result<Plot, ScenarioError>
     requires { IsBroken plot }
     ensures broken { IfOk result IsBroken }
@@ -161,8 +163,8 @@ pub(crate) fn fewest_traitors(alloc: Global, plot: Plot) -> Result<Plot, Scenari
     Ok(left)
 }
 
-/// The campaign without each statement of the traitor at this place without which, the later ones being said, it is
-/// still broken.
+/// Returns the campaign after one pass over the statements of the traitor at this index. The pass removes each
+/// statement whose removal leaves the campaign broken while the later ones are still there.
 fn fewest_lies_of(alloc: Global, plot: Plot, place: usize) -> Result<Plot, ScenarioError>
     requires place { place < length plot.traitors }
     requires broken { IsBroken plot }
@@ -182,7 +184,8 @@ fn fewest_lies_of(alloc: Global, plot: Plot, place: usize) -> Result<Plot, Scena
     Ok(left)
 }
 
-/// The campaign without each statement without which, the later ones being said, it is still broken.
+/// Returns the campaign after one pass over the statements of all traitors. The pass removes each statement whose
+/// removal leaves the campaign broken while the later ones are still there.
 pub(crate) fn fewest_lies(alloc: Global, plot: Plot) -> Result<Plot, ScenarioError>
     requires { IsBroken plot }
     ensures broken { IfOk result IsBroken }

@@ -1,6 +1,6 @@
-//! Stretches of seeds.
+//! Ranges of seeds.
 
-/// The seeds from `first` to `last`, both of them within.
+/// The seeds from `first` to `last`, both included.
 #[derive(Clone, Copy)]
 pub struct Stretch {
     pub first: u64,

@@ -1,4 +1,4 @@
-//! The sums of a survey as a picture in SVG: in how many campaigns the loyal fail, over the number of traitors.
+//! Draws the sums of a survey in SVG: in which share of the campaigns agreement fails, by the number of traitors.
 ghost use Rattle.std.specs.Prelude.{◌≡◌, ◌++◌, ◌<◌, IfOk, None, OnOk, string_bytes};
 ghost use Rattle.survey_search.specs.Groups.{groups_of};
 ghost use Rattle.survey_search.specs.Pictures.{bar, base, begins, cell, cells, column, columns, counts, grounds, head, kept, label, limit, name, percent, picture_text, place, rise, rows_of, share_of, side, size, stand, start, start_of};
@@ -8,7 +8,7 @@ use crate::group::Group;
 use std::alloc::{AllocError, Global};
 use survey_draw::Finding;
 
-/// What every picture begins with.
+/// Returns the start of every picture.
 #[tactic(auto, unfolding(crate::specs::Pictures::start))]
 fn start() -> &'static str
     ensures { result.now ≡ start }
@@ -16,7 +16,8 @@ fn start() -> &'static str
     "<svg xmlns=\"http://www.w3.org/2000/svg\" role=\"img\" width=\"840\""
 }
 
-/// What stands before the rows.
+/// Returns the part of a picture that comes before its columns and rows: the title, the description, the style sheet
+/// and the legend.
 #[tactic(auto, unfolding(crate::specs::Pictures::head))]
 fn head() -> &'static str
     ensures { result.now ≡ head }
@@ -41,7 +42,7 @@ fn head() -> &'static str
      <text x=\"10\" y=\"84\">traitors</text>\n"
 }
 
-/// Adds the number above a column.
+/// Appends the number above a column.
 #[tactic(auto, unfolding(crate::specs::Pictures::column))]
 fn put_column(out: &mut String, traitors: u64) -> Result<(), AllocError>
     requires { traitors < 14 }
@@ -54,7 +55,7 @@ fn put_column(out: &mut String, traitors: u64) -> Result<(), AllocError>
     )
 }
 
-/// Adds the numbers above the columns.
+/// Appends the numbers above the columns.
 fn put_columns(out: &mut String) -> Result<(), AllocError>
     ensures { OnOk result (string_bytes out.new ≡ string_bytes out.old ++ columns) }
 {
@@ -64,7 +65,8 @@ fn put_columns(out: &mut String) -> Result<(), AllocError>
     Ok(())
 }
 
-/// Whether the group begins a row: the one before it, if there is one, has other generals or another bound.
+/// Checks whether a group begins a row. It does if it is the first group, or if the group before it has another number
+/// of generals or another bound.
 fn begins(before: Option<Group>, group: &Group) -> bool
     ensures { result ≡ begins before group.now }
 {
@@ -74,7 +76,7 @@ fn begins(before: Option<Group>, group: &Group) -> bool
     }
 }
 
-/// How many rows the groups have.
+/// Returns how many rows the groups have.
 fn rows_of(groups: &[Group]) -> u64
     ensures { result ≡ rows_of groups.now }
 {
@@ -89,7 +91,7 @@ fn rows_of(groups: &[Group]) -> u64
     rows
 }
 
-/// Adds the size of a picture, and ends its first tag.
+/// Appends the size of a picture, and ends its first tag.
 #[tactic(auto, unfolding(crate::specs::Pictures::size))]
 fn put_size(out: &mut String, height: u128) -> Result<(), AllocError>
     ensures { OnOk result (string_bytes out.new ≡ string_bytes out.old ++ size height) }
@@ -97,7 +99,7 @@ fn put_size(out: &mut String, height: u128) -> Result<(), AllocError>
     write!(out, " height=\"{height}\" viewBox=\"0 0 840 {height}\">\n")
 }
 
-/// Adds where the numbers of a row stand.
+/// Appends the start of a row's label, at the height of the row.
 #[tactic(auto, unfolding(crate::specs::Pictures::stand))]
 fn put_stand(out: &mut String, row: u64) -> Result<(), AllocError>
     ensures { OnOk result (string_bytes out.new ≡ string_bytes out.old ++ stand row) }
@@ -106,7 +108,7 @@ fn put_stand(out: &mut String, row: u64) -> Result<(), AllocError>
     write!(out, "<text x=\"10\" y=\"{y}\">")
 }
 
-/// Adds the numbers of a row.
+/// Appends the text of a row's label: the number of generals and the bound.
 #[tactic(auto, unfolding(crate::specs::Pictures::name))]
 fn put_name(out: &mut String, group: &Group) -> Result<(), AllocError>
     ensures { OnOk result (string_bytes out.new ≡ string_bytes out.old ++ name group.now) }
@@ -115,7 +117,7 @@ fn put_name(out: &mut String, group: &Group) -> Result<(), AllocError>
     write!(out, "n = {generals}, m = {bound}</text>")
 }
 
-/// Adds the line on which the bars of a row stand.
+/// Appends the base line of a row's bars.
 #[tactic(auto, unfolding(crate::specs::Pictures::base))]
 fn put_base(out: &mut String, row: u64) -> Result<(), AllocError>
     ensures { OnOk result (string_bytes out.new ≡ string_bytes out.old ++ base row) }
@@ -124,7 +126,7 @@ fn put_base(out: &mut String, row: u64) -> Result<(), AllocError>
     write!(out, "<path class=\"base\" d=\"M120 {y}h700\"/>")
 }
 
-/// Adds the line n = 3m + 1 of a row.
+/// Appends the dashed line of a row. The columns left of it have fewer than a third of the generals as traitors.
 #[tactic(auto, unfolding(crate::specs::Pictures::limit))]
 fn put_limit(out: &mut String, row: u64, group: &Group) -> Result<(), AllocError>
     ensures { OnOk result (string_bytes out.new ≡ string_bytes out.old ++ limit row group.now) }
@@ -134,7 +136,7 @@ fn put_limit(out: &mut String, row: u64, group: &Group) -> Result<(), AllocError
     write!(out, "<path class=\"limit\" d=\"M{x} {y}v44\"/>\n")
 }
 
-/// Adds what a row begins with.
+/// Appends what a row begins with: its label, its base line and its dashed line.
 fn put_label(out: &mut String, row: u64, group: &Group) -> Result<(), AllocError>
     ensures { OnOk result (string_bytes out.new ≡ string_bytes out.old ++ label row group.now) }
 {
@@ -144,7 +146,8 @@ fn put_label(out: &mut String, row: u64, group: &Group) -> Result<(), AllocError
     put_limit(out, row, group)
 }
 
-/// How much of a whole the campaigns are that fail.
+/// Returns the share of `whole` that corresponds to the failed campaigns of a group. It is rounded down, and 0 if there
+/// are no campaigns.
 fn share_of(whole: u64, group: &Group) -> u128
     ensures { result ≡ share_of whole group.now }
 {
@@ -155,7 +158,7 @@ fn share_of(whole: u64, group: &Group) -> u128
     u128::from(group.failed) * u128::from(whole) / campaigns
 }
 
-/// Adds the ground of a cell in whose campaigns the bound is kept.
+/// Appends the background of a cell if the bound holds in some of its campaigns.
 #[tactic(auto, unfolding(crate::specs::Pictures::kept))]
 fn put_kept(out: &mut String, row: u64, group: &Group) -> Result<(), AllocError>
     ensures { OnOk result (string_bytes out.new ≡ string_bytes out.old ++ kept row group.now) }
@@ -171,7 +174,7 @@ fn put_kept(out: &mut String, row: u64, group: &Group) -> Result<(), AllocError>
     )
 }
 
-/// Adds how many campaigns of a cell fail.
+/// Appends the title of a cell, which says how many of its campaigns failed.
 #[tactic(auto, unfolding(crate::specs::Pictures::counts))]
 fn put_counts(out: &mut String, group: &Group) -> Result<(), AllocError>
     ensures { OnOk result (string_bytes out.new ≡ string_bytes out.old ++ counts group.now) }
@@ -180,7 +183,7 @@ fn put_counts(out: &mut String, group: &Group) -> Result<(), AllocError>
     write!(out, "<g><title>{failed} of {campaigns}</title>")
 }
 
-/// Adds in which column a bar stands.
+/// Appends the start of a bar with its horizontal position.
 #[tactic(auto, unfolding(crate::specs::Pictures::side))]
 fn put_side(out: &mut String, group: &Group) -> Result<(), AllocError>
     ensures { OnOk result (string_bytes out.new ≡ string_bytes out.old ++ side group.now) }
@@ -189,7 +192,7 @@ fn put_side(out: &mut String, group: &Group) -> Result<(), AllocError>
     write!(out, "<rect class=\"bar\" x=\"{x}\"")
 }
 
-/// Adds where a bar begins, and its height.
+/// Appends the vertical position and the height of a bar, and ends it.
 #[tactic(auto, unfolding(crate::specs::Pictures::rise))]
 fn put_rise(out: &mut String, row: u64, height: u128) -> Result<(), AllocError>
     ensures { OnOk result (string_bytes out.new ≡ string_bytes out.old ++ rise row height) }
@@ -198,7 +201,7 @@ fn put_rise(out: &mut String, row: u64, height: u128) -> Result<(), AllocError>
     write!(out, " y=\"{y}\" width=\"40\" height=\"{height}\"/></g>")
 }
 
-/// Adds the bar of a cell.
+/// Appends the bar of a cell.
 fn put_bar(out: &mut String, row: u64, group: &Group) -> Result<(), AllocError>
     ensures { OnOk result (string_bytes out.new ≡ string_bytes out.old ++ bar row group.now) }
 {
@@ -206,7 +209,7 @@ fn put_bar(out: &mut String, row: u64, group: &Group) -> Result<(), AllocError>
     put_rise(out, row, share_of(28, group))
 }
 
-/// Adds the share of the campaigns that fail, in per cent.
+/// Appends the share of a cell's campaigns that failed, in per cent.
 #[tactic(auto, unfolding(crate::specs::Pictures::percent))]
 fn put_percent(out: &mut String, group: &Group) -> Result<(), AllocError>
     ensures { OnOk result (string_bytes out.new ≡ string_bytes out.old ++ percent group.now) }
@@ -218,7 +221,7 @@ fn put_percent(out: &mut String, group: &Group) -> Result<(), AllocError>
     write!(out, "{percent}%")
 }
 
-/// Adds where the share of a cell stands.
+/// Appends the start of a cell's label with its position.
 #[tactic(auto, unfolding(crate::specs::Pictures::place))]
 fn put_place(out: &mut String, row: u64, group: &Group) -> Result<(), AllocError>
     ensures { OnOk result (string_bytes out.new ≡ string_bytes out.old ++ place row group.now) }
@@ -228,7 +231,7 @@ fn put_place(out: &mut String, row: u64, group: &Group) -> Result<(), AllocError
     write!(out, "<text class=\"share\" x=\"{x}\" y=\"{y}\">")
 }
 
-/// Adds a cell.
+/// Appends a cell: its title, its bar and its label.
 fn put_cell(out: &mut String, row: u64, group: &Group) -> Result<(), AllocError>
     ensures { OnOk result (string_bytes out.new ≡ string_bytes out.old ++ cell row group.now) }
 {
@@ -239,7 +242,7 @@ fn put_cell(out: &mut String, row: u64, group: &Group) -> Result<(), AllocError>
     out.push_str("</text>\n")
 }
 
-/// Adds the grounds of the groups, row by row.
+/// Appends the backgrounds of the cells, row by row.
 fn put_grounds(out: &mut String, groups: &[Group]) -> Result<(), AllocError>
     ensures { OnOk result (string_bytes out.new ≡ string_bytes out.old ++ grounds 0 None groups.now) }
 {
@@ -255,7 +258,7 @@ fn put_grounds(out: &mut String, groups: &[Group]) -> Result<(), AllocError>
     Ok(())
 }
 
-/// Adds what a row begins with, if the group begins one.
+/// Appends what a row begins with, if the group begins a row.
 fn put_start(out: &mut String, row: u64, group: &Group, is_first: bool) -> Result<(), AllocError>
     ensures { OnOk result (string_bytes out.new ≡ string_bytes out.old ++ start_of row group.now is_first) }
 {
@@ -266,7 +269,7 @@ fn put_start(out: &mut String, row: u64, group: &Group, is_first: bool) -> Resul
     }
 }
 
-/// Adds the groups, row by row.
+/// Appends the cells of the groups, row by row.
 fn put_groups(out: &mut String, groups: &[Group]) -> Result<(), AllocError>
     ensures { OnOk result (string_bytes out.new ≡ string_bytes out.old ++ cells 0 None groups.now) }
 {
@@ -284,7 +287,7 @@ fn put_groups(out: &mut String, groups: &[Group]) -> Result<(), AllocError>
     Ok(())
 }
 
-/// The picture of these groups.
+/// Returns the picture of these groups.
 #[tactic(auto, unfolding(crate::specs::Pictures::picture_text))]
 fn drawn(alloc: Global, groups: &[Group]) -> Result<String, AllocError>
     ensures { IfOk result (λ text. string_bytes text ≡ picture_text groups.now) }
@@ -299,13 +302,13 @@ fn drawn(alloc: Global, groups: &[Group]) -> Result<String, AllocError>
     Ok(out)
 }
 
-/// The picture of what these campaigns come to: a row for each number of generals and bound of which there are some, a
-/// column for each number of traitors, in it a bar as high as the share of its campaigns in which the loyal
-/// lieutenants decide unlike, or not as a loyal commander has ordered.
+/// Returns a picture of the campaigns' results. It has a row for each number of generals and bound that occur, and a
+/// column for each number of traitors. A bar shows the share of campaigns in which the loyal lieutenants do not decide
+/// alike or do not obey a loyal commander.
 ///
 /// # Errors
 ///
-/// `AllocError` where memory is refused.
+/// Fails with `AllocError` if it runs out of memory.
 pub fn picture(alloc: Global, findings: &[Finding]) -> Result<String, AllocError>
     ensures { IfOk result (λ text. string_bytes text ≡ picture_text (groups_of findings.now)) }
 {

@@ -1,4 +1,4 @@
-//! The sums of a survey as a table.
+//! Writes the sums of a survey as a table.
 ghost use Rattle.std.specs.Prelude.{◌≡◌, ◌++◌, IfOk, OnOk, flat_map, string_bytes};
 ghost use Rattle.survey_search.specs.Groups.{groups_of};
 ghost use Rattle.survey_search.specs.Tables.{cells_of, group_text, header, table_text};
@@ -10,7 +10,7 @@ use crate::group::Group;
 use std::alloc::{AllocError, Global};
 use survey_draw::Finding;
 
-/// A cell with a number.
+/// Returns a cell with a number.
 fn of(width: usize, number: u64) -> NumberCell
     ensures { result ≡ record { width = width; number = Some number } }
 {
@@ -20,14 +20,14 @@ fn of(width: usize, number: u64) -> NumberCell
     }
 }
 
-/// A cell with a number, if there is one.
+/// Returns a cell with a number, or an empty cell.
 fn if_any(width: usize, number: Option<u64>) -> NumberCell
     ensures { result ≡ record { width = width; number = number } }
 {
     NumberCell { width, number }
 }
 
-/// The cells of a row.
+/// Returns the cells of a group's row.
 fn cells_of(group: &Group) -> [NumberCell; 11]
     ensures { result ≡ cells_of group.now }
 {
@@ -47,7 +47,7 @@ fn cells_of(group: &Group) -> [NumberCell; 11]
     ]
 }
 
-/// Adds the row of a group.
+/// Appends the row of a group.
 fn put_group(out: &mut String, group: &Group) -> Result<(), AllocError>
     ensures { OnOk result (string_bytes out.new ≡ string_bytes out.old ++ group_text group.now) }
 {
@@ -55,7 +55,7 @@ fn put_group(out: &mut String, group: &Group) -> Result<(), AllocError>
     put_row(out, &cells)
 }
 
-/// Adds the rows of these groups.
+/// Appends the rows of these groups.
 fn put_groups(out: &mut String, groups: &[Group]) -> Result<(), AllocError>
     ensures { OnOk result (string_bytes out.new ≡ string_bytes out.old ++ flat_map group_text groups.now) }
 {
@@ -65,7 +65,7 @@ fn put_groups(out: &mut String, groups: &[Group]) -> Result<(), AllocError>
     Ok(())
 }
 
-/// The head of a table.
+/// Returns the first line of the table, which names the columns.
 #[tactic(auto, unfolding(crate::specs::Tables::header))]
 fn header() -> &'static str
     ensures { result.now ≡ header }
@@ -73,12 +73,12 @@ fn header() -> &'static str
     " generals bound traitors campaigns     kept   first   broken   first disobeyed   first   failed\n"
 }
 
-/// The table of what these campaigns come to: a row for each numbers of generals, bound and traitors of which there are
-/// some.
+/// Returns a table of the campaigns' results. It has a row for each combination of generals, bound and traitors that
+/// occurs.
 ///
 /// # Errors
 ///
-/// `AllocError` where memory is refused.
+/// Fails with `AllocError` if it runs out of memory.
 pub fn table(alloc: Global, findings: &[Finding]) -> Result<String, AllocError>
     ensures { IfOk result (λ text. string_bytes text ≡ table_text (groups_of findings.now)) }
 {
