@@ -1,5 +1,5 @@
 /*
- * The sandbox of byzlab for programs in C: the context, which is the only argument, and the helpers. See docs/SANDBOX.md, "From C".
+ * The sandbox of byzlab for programs in C: the context, which is the only argument, and the helpers. See docs/SANDBOX-C.md.
  *
  *     clang -O2 --target=bpf -mcpu=v3 -I share -c traitor.c -o traitor.o
  *     ./byzlab check --elf traitor.o

@@ -4,7 +4,7 @@
  *     cc program.c $(pkg-config --cflags --libs byzlab_sandbox)
  *
  * A program that is accepted (status 0) never traps, never leaves its memory and ends within as many steps as it has
- * instructions, whatever its context and board hold. What is said of each status is proved (docs/SANDBOX.md says by
+ * instructions, whatever its context and board hold. What is said of each status is proved (docs/EMBEDDING.md says by
  * which clause of a contract), but for why it is 3: that malloc or realloc gave NULL then is tested.
  *
  * What nothing checks, and the caller has to see to:
