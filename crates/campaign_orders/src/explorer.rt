@@ -24,8 +24,8 @@ use world::replay;
 
 /// Returns the outcomes of all orders in which the traitors of an oral campaign can access the board, if there are at
 /// most `most` orders. Otherwise it returns the outcomes of the `most` least orders and says that there are more. If
-/// `most` is `u64::MAX`, all orders are counted, however many there are. Time and memory then grow with the number of
-/// worlds that are not alike.
+/// `most` is `u64::MAX`, all orders are counted, and counts stop at 2^64 - 1. Time and memory then grow with the number
+/// of worlds that are not alike.
 ///
 /// # Errors
 ///

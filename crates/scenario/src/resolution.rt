@@ -261,7 +261,7 @@ fn resolved_document(
 
 /// Returns the resolved text of a scenario: programs replace the names of their files, and each traitor has a table of
 /// his own. Returns `None` if the text is not TOML, if no table names a file or several generals, or if a date has no
-/// text. The caller then reads the text itself.
+/// text. The caller then reads the text itself. What is proved holds for TOML that nests at most 80 levels deep.
 ///
 /// The name of a file that is not in `files` is kept, and the reader rejects its key as unknown. The same happens to a
 /// file's key next to another source for its program, and to `generals` next to `general`.
