@@ -1,8 +1,8 @@
 //! Campaigns that break agreement, reduced as far as they stay broken.
 use survey_draw::Plot;
 
-/// A broken campaign of a seed, reduced until nothing more can be removed: without any one of its traitors or statements
-/// it is not broken. Removing in another order may leave less.
+/// A broken campaign of a seed, reduced until nothing more can be removed: without any one of its traitors or
+/// statements it is not broken. Removing in another order may leave less.
 #[derive(Drop)]
 pub struct Breach {
     /// The seed.
