@@ -22,8 +22,8 @@ fn walked(alloc: Global, plot: Plot) -> Result<Plot, ScenarioError>
 }
 
 /// Returns the campaign reduced until nothing more can be removed. Traitors and statements are removed one by one while
-/// the campaign stays broken, which means that its loyal lieutenants do not decide alike or do not obey a loyal commander.
-/// Returns `None` if the campaign is not broken.
+/// the campaign stays broken, which means that its loyal lieutenants do not decide alike or do not obey a loyal
+/// commander. Returns `None` if the campaign is not broken.
 ///
 /// # Errors
 ///
