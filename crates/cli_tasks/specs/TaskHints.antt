@@ -1,6 +1,8 @@
 -- Defines the hint for the refusal of a task's first file: the explanation of a program that the verifier rejects, the
 -- report, the sentence of an object's fault, or what the bytes seem to be.
-use Rattle.std.specs.Prelude.{ℕ, ◌≡◌, Bool, true, false, List, [], Option, None, Some, string_bytes, unwrap_or}
+use Rattle.std.specs.Prelude.{ℕ, ◌≡◌, Bool, true, false, List, [], Option, None, Some, Result, Ok, Err, option_map, string_bytes, unwrap_or}
+use Rattle.object.specs.Entry.{entry_of}
+use Rattle.object.specs.declared.fault.ObjectFault.{ObjectFault}
 use Rattle.cli_words.specs.Tasks.{file_of}
 use Rattle.cli_words.specs.declared.tasks.Notation.{Notation}
 use Rattle.cli_words.specs.declared.tasks.Notation.TheVariants.{Object}
@@ -20,12 +22,23 @@ abbrev pub explained_in : Task → Option Notation
 explained_in (Check file notation context true traced) = Some notation
 explained_in _ = None
 
--- Returns the bytes in which the faults of the task's first file are located: all bytes of the file, or no bytes if the
--- task reads an object. Faults of an object's program are located in the code of its function instead.
+-- Returns the code that was found, or no bytes if none was.
+abbrev pub code_found : Result (List ℕ) ObjectFault → List ℕ
+code_found (Ok code) = code
+code_found (Err fault) = []
+
+-- Returns the code of the object's entry, or no bytes if the object has no such entry. The entry is the function with
+-- the given name, if one is given.
+abbrev pub entry_code : Option (List ℕ) → List ℕ → List ℕ
+entry_code name object = code_found (entry_of object name)
+
+-- Returns the bytes in which the faults of the task's first file are located: the code of the entry if the task reads an
+-- object, and otherwise all bytes of the file.
 abbrev pub bytecode_in : Task → List ℕ → List ℕ
-bytecode_in (Check file (Object entry) context explained traced) bytes = []
-bytecode_in (Disassemble file (Object entry) units explained) bytes = []
-bytecode_in (DisassemblePartly file (Object entry) explained) bytes = []
+bytecode_in (Check file (Object entry) context explained traced) bytes =
+    entry_code (option_map string_bytes entry) bytes
+bytecode_in (Disassemble file (Object entry) units explained) bytes = entry_code (option_map string_bytes entry) bytes
+bytecode_in (DisassemblePartly file (Object entry) explained) bytes = entry_code (option_map string_bytes entry) bytes
 bytecode_in task bytes = bytes
 
 -- Returns the notation in which a rejected program is read once more. This is the notation of the task if the verifier

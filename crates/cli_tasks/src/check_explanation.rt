@@ -1,13 +1,15 @@
 //! Makes the failure of a task that rejects its first file, and explains a rejected program for `check --explain`.
 ghost use Rattle.std.specs.Prelude.{◌≡◌, ◌≢◌, false, option_map};
+ghost use Rattle.object.specs.Symbol.{asked};
 ghost use Rattle.cli_tasks.specs.Hints.{is_reported};
 ghost use Rattle.cli_tasks.specs.TaskFaults.{StopsFirst};
-ghost use Rattle.cli_tasks.specs.TaskHints.{asked_of, bytecode_in, explained_in};
+ghost use Rattle.cli_tasks.specs.TaskHints.{asked_of, bytecode_in, entry_code, explained_in};
 ghost use Rattle.cli_tasks.specs.TaskRefusals.{Refuses};
 
 use crate::failure::TaskFailure;
 use crate::hint::Hint;
 use crate::program_explanation::explanation;
+use crate::programs::code_in;
 use crate::refusal::InputRefusal;
 use crate::whys::unjudged;
 use cli_words::{Notation, Task};
@@ -27,24 +29,35 @@ pub(crate) fn explained_in(task: &Task) -> Option<&Notation>
     }
 }
 
-/// Returns the bytes in which the faults of the task's first file are located: all bytes of the file, or no bytes if
-/// the task reads an object. Faults of an object's program are located in the code of its function instead.
+/// Returns the code of the object's entry, or no bytes if the object has no such entry. The entry is the function with
+/// the given name, if one is given.
+fn entry_code<'a>(object: &'a [u8], entry: Option<&str>) -> &'a [u8]
+    ensures { result.now ≡ entry_code (asked entry.entry) object.now }
+{
+    match code_in(object, entry) {
+        Ok(code) => code,
+        Err(_) => &[],
+    }
+}
+
+/// Returns the bytes in which the faults of the task's first file are located: the code of the entry if the task reads
+/// an object, and otherwise all bytes of the file.
 fn bytecode_in<'a>(task: &Task, bytes: &'a [u8]) -> &'a [u8]
     ensures { result.now ≡ bytecode_in task.now bytes.now }
 {
     match task {
         Task::Check {
-            notation: Notation::Object { .. },
+            notation: Notation::Object { entry },
             ..
         }
         | Task::Disassemble {
-            notation: Notation::Object { .. },
+            notation: Notation::Object { entry },
             ..
         }
         | Task::DisassemblePartly {
-            notation: Notation::Object { .. },
+            notation: Notation::Object { entry },
             ..
-        } => &[],
+        } => entry_code(bytes, entry.as_deref()),
         _ => bytes,
     }
 }
