@@ -56,3 +56,9 @@ has_ended a = a.over || is_reached a.patience a.state.steps
 -- Returns the next turn of an activation: one step of its program, or `Ended` if it has ended.
 abbrev pub turn : Activation → Turn
 turn a = cond (has_ended a) Ended (turned a (step a.program a.context a.relay a.state))
+
+-- States that a turn makes a request.
+abbrev pub MakesRequest : Turn → Type 0
+MakesRequest (Goes b) = ⊥
+MakesRequest (Asks request answered) = Unit {0}
+MakesRequest Ended = ⊥

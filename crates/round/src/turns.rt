@@ -7,7 +7,7 @@ ghost use Rattle.semantics.specs.Relay.{IsContext};
 ghost use Rattle.board.specs.Board.{reply};
 ghost use Rattle.machine.specs.Standing.{HasAsked, before};
 ghost use Rattle.machine.specs.Advance.{IsOfRun, IsAskOfRun, IsStopOfRun, IsCounted};
-ghost use Rattle.round.specs.Activation.{turn};
+ghost use Rattle.round.specs.Activation.{MakesRequest, turn};
 ghost use Rattle.round.specs.Running.{Stopped, IsBack, access_entered, moved, activation_of, Silently, Pauses, IsSameRun, lesser};
 
 use crate::run::Running;
@@ -23,10 +23,11 @@ impl Running {
     ///
     /// # Errors
     ///
-    /// Fails with `AllocError` if there is no memory for the access. Then nothing has changed.
+    /// Fails with `AllocError` if the turn makes a request and there is no memory for the access. Then nothing has changed.
     pub fn turn(&mut self, board: &mut Board, general: u32, round: u32) -> Result<(), AllocError>
         ensures done { OnOk result ((self.new, board.new) ≡ moved general round self.old board.old (turn self.old)) }
         ensures undone { OnErr result ((self.new ≡ self.old) × (board.new ≡ board.old)) }
+        ensures asking { OnErr result (MakesRequest (turn self.old)) }
     {
         if self.has_ended() {
             return Ok(());

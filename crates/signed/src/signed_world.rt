@@ -3,7 +3,7 @@ ghost use Rattle.std.specs.Prelude.{◌≡◌, ◌≤◌, ◌<◌, suc, length, 
 ghost use Rattle.signed.specs.Kind.{signed_kind};
 ghost use Rattle.signed.specs.Sending.{signatures};
 ghost use Rattle.world.specs.declared.event.Event.TheVariants.{Tick, Post, Close};
-ghost use Rattle.world.specs.KindHeld.{AheadTo, IsAnswer};
+ghost use Rattle.world.specs.KindHeld.{AheadTo, AsksNext, IsAnswer};
 ghost use Rattle.world.specs.Kind.{opening, happen, refusal, run};
 
 use crate::opening::beginnings;
@@ -84,12 +84,12 @@ impl SignedWorld {
     ///
     /// After an error the world is as it was. The call fails with `NotOpen` if all rounds are closed. It fails with
     /// `NoGeneral` if the general does not exist or is not of the event's kind. Otherwise it fails with `Memory` if
-    /// there is no memory for a tick or a close. A post needs no memory.
+    /// there is no memory for a close or for the access of a tick that makes a request. Other ticks and posts need none.
     pub fn apply(&mut self, event: Event) -> Result<(), EventError>
         ensures done { OnOk result (self.new ≡ happen signed_kind self.old event) }
         ensures undone { OnErr result (self.new ≡ self.old) }
         ensures fit { OnOk result (refusal self.old event ≡ None) }
-        ensures refused { IfErr result (λ e. IsAnswer event e (refusal self.old event)) }
+        ensures refused { IfErr result (λ e. IsAnswer self.old.parts event e (refusal self.old event)) }
     {
         if self.closed.len() > usize::from(self.scenario.bound()) {
             return Err(EventError::NotOpen);
@@ -140,6 +140,7 @@ impl SignedWorld {
     pub(crate) fn turn(&mut self, general: u32) -> Result<(), AllocError>
         ensures done { OnOk result (self.new ≡ happen signed_kind self.old (Tick general)) }
         ensures undone { OnErr result (self.new ≡ self.old) }
+        ensures asking { OnErr result (AsksNext (slice_get self.old.parts general)) }
     {
         let round = self.round();
         parts::turn(&mut self.parts, &mut self.board, general, round)

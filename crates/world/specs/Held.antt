@@ -7,7 +7,7 @@ use Rattle.round.specs.Letters.{Letter}
 use Rattle.world.specs.Part.{Progress}
 use Rattle.world.specs.World.{oral_kind}
 use Rattle.world.specs.KindHeld as held
-pub use Rattle.world.specs.KindHeld.{TakesMemory, IsAnswer, ticked_of, posted_of, AheadTo, steps_of, AreLetters}
+pub use Rattle.world.specs.KindHeld.{AsksNext, TakesMemory, IsAnswer, ticked_of, posted_of, AheadTo, steps_of, AreLetters}
 
 -- Returns a general's letter, if he has one, from his part and the accesses of the round.
 abbrev pub letter_held : Scenario → List (List Letter) → List Access → ℕ → Option Progress → List Letter

@@ -5,27 +5,33 @@ use Rattle.board.specs.Board.{Access}
 use Rattle.board.specs.Ledger.{RecordedBoard}
 use Rattle.round.specs.Scenario.{Scenario, program_of}
 use Rattle.round.specs.Letters.{Letter}
-use Rattle.round.specs.Activation.{Activation, turn}
+use Rattle.round.specs.Activation.{Activation, MakesRequest, turn}
 use Rattle.round.specs.Runs.{Runs, IsLetter}
 use Rattle.round.specs.Running.{moved, Pauses, letter_left}
 use Rattle.world.specs.declared.event.Event.{Event}
-use Rattle.world.specs.declared.event.Event.TheVariants.{Post}
+use Rattle.world.specs.declared.event.Event.TheVariants.{Tick, Post, Close}
 use Rattle.world.specs.declared.event.EventError.{EventError}
 use Rattle.world.specs.declared.event.EventError.TheVariants.{Memory}
 use Rattle.world.specs.Part.{Progress, Acting, Silent, Posted}
 use Rattle.world.specs.Kind.{Kind, World, each, accesses_of, begins, round_open, opening, run, loyal_letter, letter_of_part}
 
--- States that an event may need memory. A tick enters an access into the ledger and a close keeps letters, but a post
--- needs no memory.
-abbrev pub TakesMemory : Event → Type 0
-TakesMemory (Post g) = ⊥
-TakesMemory _ = Unit {0}
+-- States that the next turn of the general with this part makes a request, so that an access is entered into the ledger.
+abbrev pub AsksNext : Option Progress → Type 0
+AsksNext (Some (Acting a)) = MakesRequest (turn a)
+AsksNext _ = ⊥
 
--- States that the error is the reason for which the event is rejected. If it is not rejected, the error is `Memory`,
--- and the event needs memory.
-abbrev pub IsAnswer : Event → EventError → Option EventError → Type 0
-IsAnswer event error (Some refused) = error ≡ refused
-IsAnswer event error None = (error ≡ Memory) × TakesMemory event
+-- States that an event needs memory, if the generals have these parts: a tick for the access that it makes, if it makes
+-- one, and a close for the letters. A post needs none.
+abbrev pub TakesMemory : List Progress → Event → Type 0
+TakesMemory parts (Tick g) = AsksNext (slice_get parts g)
+TakesMemory parts (Post g) = ⊥
+TakesMemory parts Close = Unit {0}
+
+-- States that the error is the reason for which the event is rejected, if the generals have these parts. If it is not
+-- rejected, the error is `Memory`, and the event needs memory.
+abbrev pub IsAnswer : List Progress → Event → EventError → Option EventError → Type 0
+IsAnswer parts event error (Some refused) = error ≡ refused
+IsAnswer parts event error None = (error ≡ Memory) × TakesMemory parts event
 
 -- Returns the parts and the board after a tick of a general.
 abbrev pub ticked_of : ℕ → ℕ → List Progress → RecordedBoard → Option Progress → List Progress × RecordedBoard

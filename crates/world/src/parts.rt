@@ -1,7 +1,7 @@
 //! Applies one event to the generals' parts and the board, and reads the parts.
 ghost use Rattle.std.specs.Prelude.{◌≡◌, ◌↔◌, IsTrue, OnOk, OnErr, slice_get, is_some};
 ghost use Rattle.world.specs.World.{unfit, named_by};
-ghost use Rattle.world.specs.Held.{ticked_of, posted_of, AheadTo, steps_of};
+ghost use Rattle.world.specs.Held.{ticked_of, posted_of, AheadTo, AsksNext, steps_of};
 ghost use Rattle.world.specs.Playing.{IsStill, program_length};
 
 use crate::event::Event;
@@ -28,7 +28,7 @@ pub fn is_unfit(parts: &[Progress], event: Event) -> bool
 ///
 /// # Errors
 ///
-/// Fails with `AllocError` if there is no memory for an access. Then nothing has changed.
+/// Fails with `AllocError` if the turn makes a request and there is no memory for the access. Then nothing has changed.
 pub fn turn(
     parts: &mut Vec<Progress>,
     board: &mut Board,
@@ -39,6 +39,7 @@ pub fn turn(
         ((parts.new.items, board.new)
         ≡ ticked_of general round parts.old.items board.old (slice_get parts.old.items general)) }
     ensures undone { OnErr result ((parts.new.items ≡ parts.old.items) × (board.new ≡ board.old)) }
+    ensures asking { OnErr result (AsksNext (slice_get parts.old.items general)) }
 {
     let place = general as usize;
     if place >= parts.len() {

@@ -2,7 +2,7 @@
 ghost use Rattle.std.specs.Prelude.{◌≡◌, ◌≤◌, suc, length, IfOk, OnOk, OnErr, IfErr, None, slice_get, replicate};
 ghost use Rattle.world.specs.declared.event.Event.TheVariants.{Tick, Post, Close};
 ghost use Rattle.world.specs.World.{opening, happen, refusal, run};
-ghost use Rattle.world.specs.Held.{AheadTo, IsAnswer};
+ghost use Rattle.world.specs.Held.{AheadTo, AsksNext, IsAnswer};
 
 use crate::event::{Event, EventError};
 use crate::letters::{drafts, is_full, letters, since};
@@ -79,12 +79,12 @@ impl World {
     ///
     /// After an error the world is as it was. The call fails with `NotOpen` if all rounds are closed. It fails with
     /// `NoGeneral` if the general does not exist or is not of the event's kind. Otherwise it fails with `Memory` if
-    /// there is no memory for a tick or a close. A post needs no memory.
+    /// there is no memory for a close or for the access of a tick that makes a request. Other ticks and posts need none.
     pub fn apply(&mut self, event: Event) -> Result<(), EventError>
         ensures done { OnOk result (self.new ≡ happen self.old event) }
         ensures undone { OnErr result (self.new ≡ self.old) }
         ensures fit { OnOk result (refusal self.old event ≡ None) }
-        ensures refused { IfErr result (λ e. IsAnswer event e (refusal self.old event)) }
+        ensures refused { IfErr result (λ e. IsAnswer self.old.parts event e (refusal self.old event)) }
     {
         if self.closed.len() > usize::from(self.scenario.bound()) {
             return Err(EventError::NotOpen);
@@ -121,10 +121,12 @@ impl World {
     ///
     /// # Errors
     ///
-    /// Fails with `AllocError` if there is no memory for an access. The world is then as it was.
+    /// Fails with `AllocError` if the turn makes a request and there is no memory for the access. The world is then as it
+    /// was.
     pub(crate) fn turn(&mut self, general: u32) -> Result<(), AllocError>
         ensures done { OnOk result (self.new ≡ happen self.old (Tick general)) }
         ensures undone { OnErr result (self.new ≡ self.old) }
+        ensures asking { OnErr result (AsksNext (slice_get self.old.parts general)) }
     {
         let round = self.round();
         parts::turn(&mut self.parts, &mut self.board, general, round)
