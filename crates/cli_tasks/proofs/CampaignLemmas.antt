@@ -2,38 +2,44 @@
 use Rattle.std.proofs.Common.{ℕ, suc, ◌≡◌, ◌∙◌, ◌++◌, ◌∷◌, [], List, Option, None, Some, ap, append_assoc, append-nil, refl, subst, sym}
 use Rattle.cli_words.specs.declared.tasks.Account.{Account}
 use Rattle.cli_words.specs.declared.tasks.Lieutenants.{Lieutenants}
-use Rattle.board.specs.Board.{IsLegal}
 use Rattle.round.specs.Scenario.{Scenario, IsScenario}
 use Rattle.world.specs.declared.schedule.Repeat.{Repeat}
 use Rattle.world.specs.Chronicle.{Chronicle, chronicle_of}
-use Rattle.world.specs.Promises.{AgreeUnderBound, IsVerdictOn, IsWellUnderBound}
+use Rattle.world.specs.Promises.{AgreeUnderBound, AreSafeThroughout, AreWhole, IsVerdictOn, IsWellUnderBound}
+use Rattle.world.proofs.Campaigns.{oral_campaigns}
+use Rattle.world.proofs.Lasting.{lists_are_complete}
+use Rattle.world.proofs.Promised.{safe_throughout, whole_letters}
 use Rattle.show_table.specs.Retold.{Explains, IsWhole}
 use Rattle.show_table.proofs.Rounds.{played_whole, replayed_whole}
 use Rattle.trace.specs.Laws.{IsSoundText}
 use Rattle.trace.specs.Names.{chronicle_told, names_of}
 use Rattle.trace.specs.Text.{chronicle_text}
 use Rattle.cli_tasks.specs.AuditLines.{sound_lines}
-use Rattle.world.specs.KindLists.{IsComplete}
-use Rattle.world.specs.Lists.{listed, names_in, replayed}
+use Rattle.world.specs.KindLists.{IsComplete, replayed}
+use Rattle.world.specs.Lists.{listed, names_in}
 use Rattle.world.specs.Replay.{replay_of}
 use Rattle.world.specs.World.{oral_kind}
 use Rattle.world.specs.Schedules.{lines_by}
 use Rattle.signed.specs.Explained.{signed_explained}
 use Rattle.signed.specs.Kind.{signed_kind}
-use Rattle.signed.specs.Promises.{AgreeUnderSignedBound, AreSafeThroughout, AreWhole, IsSignedVerdictOn}
+use Rattle.signed.specs.Promises.{AgreeUnderSignedBound, IsSignedVerdictOn}
+use Rattle.signed.proofs.Worlds.{signed_campaigns}
 use Rattle.trace.specs.SignedAudit.{IsSoundSignedText, signed_chronicle_told}
 use Rattle.trace.specs.SignedText.{signed_text}
 use Rattle.cli_tasks.specs.Campaigns.{IsAccount, IsFollowed, IsMustered, IsOralAudited, IsOralPlayed, IsSignedAudited, IsSignedPlayed, asked, signed_behind}
+use Rattle.cli_tasks.specs.Promises.{IsCompleteRun}
 use Rattle.cli_tasks.specs.Schedules.{played, signed_played}
 
 -- the account of the chronicle that is played, and what is behind it
 pub is_played : (s : Scenario) (schedule : List (List Repeat)) (account : Account) (explained : Option Lieutenants) (chronicle : Chronicle) (front text : List ℕ) → chronicle ≡ played s schedule
+    → IsComplete oral_kind s (listed s (lines_by schedule)) → AreSafeThroughout oral_kind s (listed s (lines_by schedule)) → AreWhole oral_kind s chronicle.accesses chronicle.letters
     → AgreeUnderBound s chronicle.decisions → IsVerdictOn s chronicle.decisions chronicle.verdict → IsWellUnderBound chronicle.verdict
     → IsAccount account chronicle front → IsFollowed explained chronicle front text → IsOralPlayed s schedule account explained text
-is_played s schedule account explained chronicle front text listed agree verdict well told followed = record {
+is_played s schedule account explained chronicle front text listed complete safe whole agree verdict well told followed = record {
   front = front;
   told = subst (λ (c : Chronicle). IsAccount account c front) listed told;
   behind = subst (λ (c : Chronicle). IsFollowed explained c front text) listed followed;
+  run = record { complete = complete; safe = safe; whole = subst (λ (c : Chronicle). AreWhole oral_kind s c.accesses c.letters) listed whole };
   agree = subst (λ (c : Chronicle). AgreeUnderBound s c.decisions) listed agree;
   verdict = subst (λ (c : Chronicle). IsVerdictOn s c.decisions c.verdict) listed verdict;
   well = subst (λ (c : Chronicle). IsWellUnderBound c.verdict) listed well;
@@ -54,26 +60,50 @@ told_wholly s bytes c inside is = replayed_whole s (names_of bytes) c inside is
 
 -- the text of threads
 pub is_mustered : (s : Scenario) (explained : Option Lieutenants) (c : Chronicle) (front text : List ℕ) → front ≡ chronicle_text c → IsFollowed explained c front text
-    → c ≡ chronicle_of (replay_of s c.accesses) → IsComplete oral_kind s (replayed s (names_in 1 c.accesses (suc s.bound))) → IsLegal s.board c.accesses
+    → c ≡ chronicle_of (replay_of s c.accesses) → IsComplete oral_kind s (replayed oral_kind s (names_in 1 c.accesses (suc s.bound)))
+    → AreSafeThroughout oral_kind s (replayed oral_kind s (names_in 1 c.accesses (suc s.bound))) → AreWhole oral_kind s c.accesses c.letters
     → AgreeUnderBound s c.decisions → IsVerdictOn s c.decisions c.verdict → IsWellUnderBound c.verdict → IsMustered s explained text
-is_mustered s explained c front text is behind replay complete legal agree verdict well = record {
+is_mustered s explained c front text is behind replay complete safe whole agree verdict well = record {
   chronicle = c;
   told = subst (λ (f : List ℕ). IsFollowed explained c f text) is behind;
   replay = replay;
-  complete = complete;
-  legal = legal;
+  run = record { complete = complete; safe = safe; whole = whole };
   agree = agree;
   verdict = verdict;
   well = well;
 }
 
+-- the run of the accesses that a text lists
+audited_run : (s : Scenario) (bytes : List ℕ) → IsScenario s → IsCompleteRun oral_kind s (replayed oral_kind s (names_of bytes)) (chronicle_told s bytes)
+unfolding chronicle_told
+audited_run s bytes inside =
+    let events = replayed oral_kind s (names_of bytes) in
+    let complete = (lists_are_complete oral_kind oral_campaigns).replayed s (names_of bytes) inside in
+    record {
+      complete = complete;
+      safe = safe_throughout oral_kind oral_campaigns s events inside;
+      whole = whole_letters oral_kind oral_campaigns s events inside complete;
+    }
+
+-- the same of a signed campaign
+signed_audited_run : (s : Scenario) (bytes : List ℕ) → IsScenario s → IsCompleteRun signed_kind s (replayed signed_kind s (names_of bytes)) (signed_chronicle_told s bytes)
+unfolding signed_chronicle_told
+signed_audited_run s bytes inside =
+    let events = replayed signed_kind s (names_of bytes) in
+    let complete = (lists_are_complete signed_kind signed_campaigns).replayed s (names_of bytes) inside in
+    record {
+      complete = complete;
+      safe = safe_throughout signed_kind signed_campaigns s events inside;
+      whole = whole_letters signed_kind signed_campaigns s events inside complete;
+    }
+
 -- the lines of an audit
-pub is_audited : (s : Scenario) (explained : Option Lieutenants) (bytes : List ℕ) (c : Chronicle) (front text : List ℕ) → IsSoundText s bytes → c ≡ chronicle_told s bytes
+pub is_audited : (s : Scenario) (explained : Option Lieutenants) (bytes : List ℕ) (c : Chronicle) (front text : List ℕ) → IsScenario s → IsSoundText s bytes → c ≡ chronicle_told s bytes
     → front ≡ sound_lines c.verdict → IsFollowed explained c front text → IsOralAudited s explained bytes text
-is_audited s explained bytes c front text sound is lines behind =
+is_audited s explained bytes c front text inside sound is lines behind =
     let first : IsFollowed explained (chronicle_told s bytes) front text = subst (λ (x : Chronicle). IsFollowed explained x front text) is behind in
     let same : front ≡ sound_lines (chronicle_told s bytes).verdict = lines ∙ ap (λ (x : Chronicle). sound_lines x.verdict) is in
-    record { sound = sound; told = subst (λ (f : List ℕ). IsFollowed explained (chronicle_told s bytes) f text) same first }
+    record { sound = sound; run = audited_run s bytes inside; told = subst (λ (f : List ℕ). IsFollowed explained (chronicle_told s bytes) f text) same first }
 
 -- nothing behind a text
 pub alone : (c : Chronicle) (front : List ℕ) → IsFollowed None c front front
@@ -93,24 +123,23 @@ followed who c front lines text explains is = (10 ∷ lines, is, (lines, refl, e
 -- the same of a signed campaign
 pub is_signed_played : (s : Scenario) (schedule : List (List Repeat)) (explained : Option Lieutenants) (chronicle : Chronicle) (front text : List ℕ) → chronicle ≡ signed_played s schedule
     → IsComplete signed_kind s (listed s (lines_by schedule))
-    → AreSafeThroughout s (listed s (lines_by schedule)) → AreWhole s chronicle.accesses chronicle.letters
+    → AreSafeThroughout signed_kind s (listed s (lines_by schedule)) → AreWhole signed_kind s chronicle.accesses chronicle.letters
     → AgreeUnderSignedBound s chronicle.decisions → IsSignedVerdictOn s chronicle.decisions chronicle.verdict → IsWellUnderBound chronicle.verdict
     → front ≡ signed_text chronicle → text ≡ front ++ signed_behind explained chronicle → IsSignedPlayed s schedule explained text
 is_signed_played s schedule explained chronicle front text listed complete safe whole agree verdict well told behind = record {
   told = behind ∙ (ap (λ (f : List ℕ). f ++ signed_behind explained chronicle) told ∙ ap (λ (c : Chronicle). signed_text c ++ signed_behind explained c) listed);
-  complete = complete;
-  safe = safe;
-  whole = subst (λ (c : Chronicle). AreWhole s c.accesses c.letters) listed whole;
+  run = record { complete = complete; safe = safe; whole = subst (λ (c : Chronicle). AreWhole signed_kind s c.accesses c.letters) listed whole };
   agree = subst (λ (c : Chronicle). AgreeUnderSignedBound s c.decisions) listed agree;
   verdict = subst (λ (c : Chronicle). IsSignedVerdictOn s c.decisions c.verdict) listed verdict;
   well = subst (λ (c : Chronicle). IsWellUnderBound c.verdict) listed well;
 }
 
 -- the lines of its audit
-pub is_signed_audited : (s : Scenario) (explained : Option Lieutenants) (bytes : List ℕ) (c : Chronicle) (front text : List ℕ) → IsSoundSignedText s bytes → c ≡ signed_chronicle_told s bytes
+pub is_signed_audited : (s : Scenario) (explained : Option Lieutenants) (bytes : List ℕ) (c : Chronicle) (front text : List ℕ) → IsScenario s → IsSoundSignedText s bytes → c ≡ signed_chronicle_told s bytes
     → front ≡ sound_lines c.verdict → text ≡ front ++ signed_behind explained c → IsSignedAudited s explained bytes text
-is_signed_audited s explained bytes c front text sound is lines behind = record {
+is_signed_audited s explained bytes c front text inside sound is lines behind = record {
   sound = sound;
+  run = signed_audited_run s bytes inside;
   told = behind ∙ (ap (λ (f : List ℕ). f ++ signed_behind explained c) lines ∙ ap (λ (x : Chronicle). sound_lines x.verdict ++ signed_behind explained x) is);
 }
 

@@ -1,6 +1,5 @@
 -- Defines what `play`, `muster` and `audit` print of a campaign.
 use Rattle.std.specs.Prelude.{ℕ, suc, ◌≡◌, List, [], ◌∷◌, ◌++◌, Option, None, Some, unwrap_or}
-use Rattle.board.specs.Board.{IsLegal}
 use Rattle.cli_words.specs.declared.tasks.Account.{Account}
 use Rattle.cli_words.specs.declared.tasks.Account.TheVariants as accounts
 use Rattle.cli_words.specs.declared.tasks.Lieutenants.{Lieutenants}
@@ -9,24 +8,26 @@ use Rattle.show_table.specs.Retold.{Explains, IsRetold}
 use Rattle.round.specs.Scenario.{Scenario}
 use Rattle.world.specs.declared.schedule.Repeat.{Repeat}
 use Rattle.world.specs.Chronicle.{Chronicle, chronicle_of}
-use Rattle.world.specs.KindLists as generic
-use Rattle.world.specs.Lists.{IsComplete, listed, names_in, replayed}
+use Rattle.world.specs.KindLists.{replayed}
+use Rattle.world.specs.Lists.{listed, names_in}
 use Rattle.world.specs.Promises.{AgreeUnderBound, IsVerdictOn, IsWellUnderBound}
 use Rattle.world.specs.Replay.{replay_of}
 use Rattle.world.specs.Schedules.{lines_by}
+use Rattle.world.specs.World.{oral_kind}
 use Rattle.scenario.specs.Reading.{TellsAny}
 use Rattle.scenario.specs.Reading as oral
 use Rattle.scenario.specs.declared.messages.Campaign.{Campaign}
 use Rattle.scenario.specs.declared.messages.Campaign.TheVariants.{Oral, Signed}
 use Rattle.signed.specs.Kind.{signed_kind}
 use Rattle.signed.specs.Explained.{signed_explained}
-use Rattle.signed.specs.Promises.{AgreeUnderSignedBound, AreSafeThroughout, AreWhole, IsSignedVerdictOn}
-use Rattle.trace.specs.Names.{chronicle_told}
+use Rattle.signed.specs.Promises.{AgreeUnderSignedBound, IsSignedVerdictOn}
+use Rattle.trace.specs.Names.{chronicle_told, names_of}
 use Rattle.trace.specs.Laws.{IsSoundText}
 use Rattle.trace.specs.SignedAudit.{IsSoundSignedText, signed_chronicle_told}
 use Rattle.trace.specs.SignedText.{signed_text}
 use Rattle.trace.specs.Text.{chronicle_text}
 use Rattle.cli_tasks.specs.AuditLines.{sound_lines}
+use Rattle.cli_tasks.specs.Promises.{IsCompleteRun}
 use Rattle.cli_tasks.specs.Schedules.{played, signed_played, is_chronicle, TellsCampaign, IsSchedule}
 
 -- States that the text gives this account of an oral campaign: its chronicle, or the message table of its letters,
@@ -52,12 +53,15 @@ abbrev pub IsFollowed : Option Lieutenants → Chronicle → List ℕ → List �
 IsFollowed explained c front text = (behind : List ℕ) × (text ≡ front ++ behind) × IsBehind explained c behind
 
 -- States that the text gives this account of the oral campaign played by the schedule, followed by the explanation, if
--- it is asked for. The decisions agree under the bound, and the verdict describes them correctly.
+-- it is asked for. The run is complete, no activation in it traps or takes more steps than its program has
+-- instructions, and its letters are whole. The decisions agree under the bound, and the verdict describes them
+-- correctly.
 pub record IsOralPlayed (s : Scenario) (schedule : List (List Repeat)) (account : Account)
     (explained : Option Lieutenants) (text : List ℕ) : Type 0 where
   pub front : List ℕ
   pub told : IsAccount account (played s schedule) front
   pub behind : IsFollowed explained (played s schedule) front text
+  pub run : IsCompleteRun oral_kind s (listed s (lines_by schedule)) (played s schedule)
   pub agree : AgreeUnderBound s (played s schedule).decisions
   pub verdict : IsVerdictOn s (played s schedule).decisions (played s schedule).verdict
   pub well : IsWellUnderBound (played s schedule).verdict
@@ -75,9 +79,7 @@ signed_behind (Some who) c = 10 ∷ signed_explained c (asked who)
 pub record IsSignedPlayed (s : Scenario) (schedule : List (List Repeat)) (explained : Option Lieutenants)
     (text : List ℕ) : Type 0 where
   pub told : text ≡ signed_text (signed_played s schedule) ++ signed_behind explained (signed_played s schedule)
-  pub complete : generic.IsComplete signed_kind s (listed s (lines_by schedule))
-  pub safe : AreSafeThroughout s (listed s (lines_by schedule))
-  pub whole : AreWhole s (signed_played s schedule).accesses (signed_played s schedule).letters
+  pub run : IsCompleteRun signed_kind s (listed s (lines_by schedule)) (signed_played s schedule)
   pub agree : AgreeUnderSignedBound s (signed_played s schedule).decisions
   pub verdict : IsSignedVerdictOn s (signed_played s schedule).decisions (signed_played s schedule).verdict
   pub well : IsWellUnderBound (signed_played s schedule).verdict
@@ -96,14 +98,13 @@ Plays account explained first second text =
     × ((schedule : List (List Repeat)) × IsSchedule second schedule × IsPlayed c schedule account explained text)
 
 -- States that the text is the chronicle of a complete run, followed by the explanation, if it is asked for. The run is
--- the replay of its own accesses, which are a legal history of the board. The decisions agree under the bound, and the
--- verdict describes them correctly.
+-- the replay of its own accesses, no activation in it traps or takes more steps than its program has instructions, and
+-- its letters are whole. The decisions agree under the bound, and the verdict describes them correctly.
 pub record IsMustered (s : Scenario) (explained : Option Lieutenants) (text : List ℕ) : Type 0 where
   pub chronicle : Chronicle
   pub told : IsFollowed explained chronicle (chronicle_text chronicle) text
   pub replay : chronicle ≡ chronicle_of (replay_of s chronicle.accesses)
-  pub complete : IsComplete s (replayed s (names_in 1 chronicle.accesses (suc s.bound)))
-  pub legal : IsLegal s.board chronicle.accesses
+  pub run : IsCompleteRun oral_kind s (replayed oral_kind s (names_in 1 chronicle.accesses (suc s.bound))) chronicle
   pub agree : AgreeUnderBound s chronicle.decisions
   pub verdict : IsVerdictOn s chronicle.decisions chronicle.verdict
   pub well : IsWellUnderBound chronicle.verdict
@@ -113,15 +114,17 @@ abbrev pub Musters : Option Lieutenants → List ℕ → List ℕ → Type 0
 Musters explained first text = (s : Scenario) × oral.Tells first s × IsMustered s explained text
 
 -- States that the bytes are the text of a chronicle of the oral campaign. The lines say so, give the verdict of its
--- replay, and then the explanation, if it is asked for.
+-- replay, which is a complete run, and then the explanation, if it is asked for.
 pub record IsOralAudited (s : Scenario) (explained : Option Lieutenants) (bytes text : List ℕ) : Type 0 where
   pub sound : IsSoundText s bytes
+  pub run : IsCompleteRun oral_kind s (replayed oral_kind s (names_of bytes)) (chronicle_told s bytes)
   pub told : IsFollowed explained (chronicle_told s bytes) (sound_lines (chronicle_told s bytes).verdict) text
 
 -- States that the bytes are the text of a chronicle of the signed campaign. The lines say so, give the verdict of its
--- replay, and then the explanation, if it is asked for.
+-- replay, which is a complete run, and then the explanation, if it is asked for.
 pub record IsSignedAudited (s : Scenario) (explained : Option Lieutenants) (bytes text : List ℕ) : Type 0 where
   pub sound : IsSoundSignedText s bytes
+  pub run : IsCompleteRun signed_kind s (replayed signed_kind s (names_of bytes)) (signed_chronicle_told s bytes)
   pub told : text ≡ sound_lines (signed_chronicle_told s bytes).verdict
       ++ signed_behind explained (signed_chronicle_told s bytes)
 

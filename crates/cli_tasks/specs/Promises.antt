@@ -1,11 +1,14 @@
--- What is promised about the decisions and the verdict of a chronicle (TOPLAS 1982, Theorems 1 and 2).
-use Rattle.std.specs.Prelude.{ℕ, ◌≡◌, ◌<◌, false}
+-- What is promised about the run, the decisions and the verdict of a chronicle (TOPLAS 1982, Theorems 1 and 2).
+use Rattle.std.specs.Prelude.{ℕ, ◌≡◌, ◌<◌, false, List}
 use Rattle.label.specs.Oral.{IsFaithful}
 use Rattle.round.specs.Letters.{messages}
 use Rattle.round.specs.Scenario.{Scenario, is_traitor}
 use Rattle.signed.specs.Promises.{AgreeUnderSignedBound, IsSignedVerdictOn}
 use Rattle.world.specs.Chronicle.{Chronicle}
-use Rattle.world.specs.Promises.{AgreeUnderBound, IsVerdictOn, IsWellUnderBound}
+use Rattle.world.specs.declared.event.Event.{Event}
+use Rattle.world.specs.Kind.{Kind}
+use Rattle.world.specs.KindLists.{IsComplete}
+use Rattle.world.specs.Promises.{AgreeUnderBound, AreSafeThroughout, AreWhole, IsVerdictOn, IsWellUnderBound}
 
 -- States that the loyal generals of an oral campaign relay what they received.
 abbrev pub AreFaithful : Chronicle → Type 0
@@ -25,3 +28,11 @@ pub record KeepsSignedPromises (s : Scenario) (c : Chronicle) : Type 0 where
   pub agree : AgreeUnderSignedBound s c.decisions
   pub verdict : IsSignedVerdictOn s c.decisions c.verdict
   pub well : IsWellUnderBound c.verdict
+
+-- States that the events are a complete run of a campaign of this kind, and that the chronicle has its accesses and
+-- letters. No activation in the run traps or takes more steps than its program has instructions. The accesses are a
+-- legal history of the board, and each letter is complete.
+pub record IsCompleteRun (K : Kind) (s : Scenario) (events : List Event) (c : Chronicle) : Type 0 where
+  pub complete : IsComplete K s events
+  pub safe : AreSafeThroughout K s events
+  pub whole : AreWhole K s c.accesses c.letters

@@ -65,6 +65,7 @@ fn signed_audited(
     ensures audited { IfOk result (λ text. IsSignedAudited scenario.now explained bytes.now text.items) }
     ensures refused { IfErr result (RefusesText (RefusesChronicle (Signed scenario.now)) bytes.now) }
 {
+    scenario.recall();
     let chronicle = sound_signed_chronicle(alloc, scenario, bytes)?;
     let front = sound_text(alloc, chronicle.verdict())?;
     Ok(with_signed_decisions(alloc, front, &chronicle, explained)?)

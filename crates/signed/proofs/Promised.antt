@@ -13,14 +13,13 @@ use Rattle.world.specs.Chronicle.{Chronicle}
 use Rattle.world.specs.Kind.{World}
 use Rattle.world.specs.KindHeld.{world_of}
 use Rattle.world.specs.KindLists.{IsComplete}
-use Rattle.world.specs.Promises.{IsWellUnderBound}
+use Rattle.world.specs.Promises.{AreWhole, IsWellUnderBound}
 use Rattle.world.proofs.Punctual.{punctual_full}
-use Rattle.world.proofs.Replaying.{runs_are_accounted}
-use Rattle.world.proofs.Untrapped.{activations_are_safe}
+use Rattle.world.proofs.Promised.{whole_letters}
 use Rattle.signed.specs.Accepted.{decided}
 use Rattle.signed.specs.Chronicle.{signed_chronicle_of, signed_decisions, signed_verdict_of}
 use Rattle.signed.specs.Kind.{signed_kind, played, accepted_in}
-use Rattle.signed.specs.Promises.{AgreeUnderSignedBound, AreSafeThroughout, AreWhole, IsSignedVerdictOn}
+use Rattle.signed.specs.Promises.{AgreeUnderSignedBound, IsSignedVerdictOn}
 use Rattle.signed.specs.Sending.{IsSignedHeld}
 use Rattle.signed.specs.Sent.{Sent}
 use Rattle.signed.specs.Signers.{Signature}
@@ -34,11 +33,6 @@ complete_finished s events complete = record {
   closed = complete.closed ∙ ap (λ (t : Scenario). suc t.bound) (sym (same_scenario s events));
   full = punctual_full signed_kind s events complete.punctual;
 }
-
-pub safe_throughout : (s : Scenario) (events : List Event) → IsScenario s → AreSafeThroughout s events
-safe_throughout s events is before after g a whole at =
-    let safe = activations_are_safe signed_kind signed_campaigns in
-    record { untrapped = λ cause on. safe.untrapped s before g a cause is at on; fewer = safe.fewer s before g a is at }
 
 -- in a held world that is finished the decisions agree
 pub held_agree : (s : Scenario) (closed : List (List Letter)) (k : RecordedBoard) (opened : ℕ) (ps : List Progress) (full : Bool) (sent : Sent) (signers : List Signature) (w : World) (xs : List ℕ) → IsScenario s → IsSignedHeld s closed k opened ps full sent signers →
@@ -60,10 +54,9 @@ module _ (s : Scenario) (events : List Event) (c : Chronicle) (is : IsScenario s
   pub promised_decisions : c.decisions ≡ signed_decisions s c.letters
   promised_decisions = decided_is ∙ ap (λ (rounds : List (List Letter)). signed_decisions s rounds) (sym (ap (λ (d : Chronicle). d.letters) same))
 
-  pub promised_letters : AreWhole s c.accesses c.letters
+  pub promised_letters : AreWhole signed_kind s c.accesses c.letters
   promised_letters =
-      let both = (runs_are_accounted signed_kind signed_campaigns).rounds s events is complete in
-      subst (λ (d : Chronicle). AreWhole s d.accesses d.letters) (sym same) (record { legal = both.0; accounted = both.1 })
+      subst (λ (d : Chronicle). AreWhole signed_kind s d.accesses d.letters) (sym same) (whole_letters signed_kind signed_campaigns s events is complete)
 
   pub promised_agree : AgreeUnderSignedBound s c.decisions
   promised_agree bound =

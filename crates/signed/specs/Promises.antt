@@ -1,19 +1,10 @@
 -- What is promised of a signed campaign that was played (TOPLAS 1982, Theorem 2, IC1 and IC2).
-use Rattle.std.specs.Prelude.{ℕ, ◌≡◌, ◌≢◌, ◌≤◌, ◌↔◌, true, false, List, [], ◌++◌, length, slice_get, None, Some}
+use Rattle.std.specs.Prelude.{ℕ, ◌≡◌, ◌↔◌, true, false, List, None, Some}
 use Rattle.label.specs.Lieutenants.{AgreeInList}
-use Rattle.semantics.specs.Execution.{step}
-use Rattle.semantics.specs.State.{Cause, Trap}
-use Rattle.board.specs.Board.{Access, IsLegal}
-use Rattle.round.specs.Activation.{Activation, has_ended}
-use Rattle.round.specs.Letters.{Letter}
 use Rattle.round.specs.Scenario.{Scenario, is_traitor}
-use Rattle.world.specs.declared.event.Event.{Event}
 use Rattle.world.specs.declared.verdict.Verdict.{Verdict}
 use Rattle.world.specs.Agreement.{AreAlike, AreObedient}
-use Rattle.world.specs.KindAccounted.{AreAccounted}
-use Rattle.world.specs.declared.part.Progress.TheVariants.{Acting}
 use Rattle.signed.specs.Agreement.{IsSignedBound}
-use Rattle.signed.specs.Kind.{signed_kind, played}
 
 -- States that the decisions of the loyal lieutenants agree, and obey a loyal commander, if there are at most m traitors
 -- among at least m + 2 generals.
@@ -29,20 +20,3 @@ pub record IsSignedVerdictOn (s : Scenario) (ds : List ℕ) (v : Verdict) : Type
   pub alike : (v.alike ≡ true) ↔ AreAlike s ds
   pub obeyed : is_traitor s s.commander ≡ false → (v.obeyed ≡ Some true) ↔ AreObedient s ds
   pub none : (v.obeyed ≡ None) ↔ (is_traitor s s.commander ≡ true)
-
--- States that the next step of an activation that has not ended is no trap, and that it has taken at most as many steps
--- as its program has instructions.
-pub record IsSafe (a : Activation) : Type 0 where
-  pub untrapped : (cause : Cause) → has_ended a ≡ false → step a.program a.context a.relay a.state ≢ Trap cause
-  pub fewer : a.state.steps ≤ length a.program
-
--- States that every activation is safe in every world that these events lead through.
-abbrev pub AreSafeThroughout : Scenario → List Event → Type 0
-AreSafeThroughout s events = (before after : List Event) (g : ℕ) (a : Activation) → before ++ after ≡ events →
-    slice_get (played s before).parts g ≡ Some (Acting a) → IsSafe a
-
--- States that the accesses are a legal history of the board, and that each letter is complete. A traitor's letter is
--- the run of his program to its end, with his accesses. A loyal general's letter has the entries that he has to make.
-pub record AreWhole (s : Scenario) (accesses : List Access) (letters : List (List Letter)) : Type 0 where
-  pub legal : IsLegal s.board accesses
-  pub accounted : AreAccounted signed_kind s [] accesses letters

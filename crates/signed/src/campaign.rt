@@ -2,11 +2,11 @@
 ghost use Rattle.std.specs.Prelude.{◌≡◌, IfOk};
 ghost use Rattle.signed.specs.Chronicle.{signed_chronicle_of, signed_decisions};
 ghost use Rattle.signed.specs.Kind.{signed_kind, played};
-ghost use Rattle.signed.specs.Promises.{AgreeUnderSignedBound, AreSafeThroughout, AreWhole, IsSignedVerdictOn};
+ghost use Rattle.signed.specs.Promises.{AgreeUnderSignedBound, IsSignedVerdictOn};
 ghost use Rattle.world.specs.Agreement.{IsFinished};
 ghost use Rattle.world.specs.KindLists.{IsComplete, listed, replayed};
 ghost use Rattle.world.specs.Playing.{lists_in};
-ghost use Rattle.world.specs.Promises.{IsWellUnderBound};
+ghost use Rattle.world.specs.Promises.{AreSafeThroughout, AreWhole, IsWellUnderBound};
 ghost use Rattle.world.specs.Schedules.{lines_by};
 
 use crate::chronicle::SignedChronicle;
@@ -30,8 +30,8 @@ pub fn play_signed(
     ensures listed { IfOk result
         (λ chronicle. chronicle ≡ signed_chronicle_of (played scenario (listed scenario (lines_by schedule.now)))) }
     ensures complete { IfOk result (λ _. IsComplete signed_kind scenario (listed scenario (lines_by schedule.now))) }
-    ensures safe { IfOk result (λ _. AreSafeThroughout scenario (listed scenario (lines_by schedule.now))) }
-    ensures letters { IfOk result (λ chronicle. AreWhole scenario chronicle.accesses chronicle.letters) }
+    ensures safe { IfOk result (λ _. AreSafeThroughout signed_kind scenario (listed scenario (lines_by schedule.now))) }
+    ensures letters { IfOk result (λ chronicle. AreWhole signed_kind scenario chronicle.accesses chronicle.letters) }
     ensures decisions { IfOk result (λ chronicle. chronicle.decisions ≡ signed_decisions scenario chronicle.letters) }
     ensures agree { IfOk result (λ chronicle. AgreeUnderSignedBound scenario chronicle.decisions) }
     ensures verdict { IfOk result (λ chronicle. IsSignedVerdictOn scenario chronicle.decisions chronicle.verdict) }
@@ -62,8 +62,8 @@ pub fn replay_signed(
         ≡ signed_chronicle_of (played scenario (replayed signed_kind scenario (lists_in names.now)))) }
     ensures complete { IfOk result
         (λ _. IsComplete signed_kind scenario (replayed signed_kind scenario (lists_in names.now))) }
-    ensures safe { IfOk result (λ _. AreSafeThroughout scenario (replayed signed_kind scenario (lists_in names.now))) }
-    ensures letters { IfOk result (λ chronicle. AreWhole scenario chronicle.accesses chronicle.letters) }
+    ensures safe { IfOk result (λ _. AreSafeThroughout signed_kind scenario (replayed signed_kind scenario (lists_in names.now))) }
+    ensures letters { IfOk result (λ chronicle. AreWhole signed_kind scenario chronicle.accesses chronicle.letters) }
     ensures decisions { IfOk result (λ chronicle. chronicle.decisions ≡ signed_decisions scenario chronicle.letters) }
     ensures agree { IfOk result (λ chronicle. AgreeUnderSignedBound scenario chronicle.decisions) }
     ensures verdict { IfOk result (λ chronicle. IsSignedVerdictOn scenario chronicle.decisions chronicle.verdict) }

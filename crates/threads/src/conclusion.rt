@@ -6,9 +6,10 @@ ghost use Rattle.round.specs.Told.{WasTold};
 ghost use Rattle.world.specs.Accounted.{AreAccounted};
 ghost use Rattle.world.specs.Chronicle.{decisions, chronicle_of};
 ghost use Rattle.world.specs.Lists.{IsComplete, replayed, names_in};
-ghost use Rattle.world.specs.Promises.{AgreeUnderBound, IsVerdictOn, IsWellUnderBound};
+ghost use Rattle.world.specs.Promises.{AgreeUnderBound, AreSafeThroughout, AreWhole, IsVerdictOn, IsWellUnderBound};
 ghost use Rattle.world.specs.Replay.{replay_of};
 ghost use Rattle.world.specs.Safety.{IsShort};
+ghost use Rattle.world.specs.World.{oral_kind};
 ghost use Rattle.threads.specs.Answers.{mishap_as, IfUnlike};
 ghost use Rattle.threads.specs.declared.error.MusterError.TheVariants.{Memory, Unaccounted, Spawn, Post};
 
@@ -185,6 +186,9 @@ pub(crate) fn conclude(
     ensures replay { result ≡ chronicle_of (replay_of scenario result.accesses) }
     ensures complete { IsComplete scenario (replayed scenario (names_in 1 result.accesses (suc scenario.bound))) }
     ensures legal { IsLegal scenario.board result.accesses }
+    ensures safe { AreSafeThroughout oral_kind scenario
+        (replayed scenario (names_in 1 result.accesses (suc scenario.bound))) }
+    ensures whole { AreWhole oral_kind scenario result.accesses result.letters }
     ensures short { All (λ letters. All IsShort letters) result.letters }
     ensures decisions { result.decisions ≡ decisions scenario (messages result.letters) }
     ensures agree { AgreeUnderBound scenario result.decisions }

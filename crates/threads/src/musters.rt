@@ -5,9 +5,10 @@ ghost use Rattle.board.specs.Board.{IsLegal};
 ghost use Rattle.round.specs.Letters.{Letter as LetterSeen, messages};
 ghost use Rattle.world.specs.Chronicle.{decisions, chronicle_of};
 ghost use Rattle.world.specs.Lists.{IsComplete, replayed, names_in};
-ghost use Rattle.world.specs.Promises.{AgreeUnderBound, IsVerdictOn, IsWellUnderBound};
+ghost use Rattle.world.specs.Promises.{AgreeUnderBound, AreSafeThroughout, AreWhole, IsVerdictOn, IsWellUnderBound};
 ghost use Rattle.world.specs.Replay.{replay_of};
 ghost use Rattle.world.specs.Safety.{IsShort};
+ghost use Rattle.world.specs.World.{oral_kind};
 ghost use Rattle.threads.specs.Answers.{IfUnlike};
 ghost use Rattle.threads.specs.Served.{AreGated, IsGated};
 
@@ -37,8 +38,8 @@ const STACK: usize = 1 << 20;
 ///
 /// - The chronicle is that of a complete run, namely of the replay of its own accesses.
 /// - The accesses are one legal history that begins with the scenario's words.
-/// - No activation has trapped (`world::activations_are_safe`, which covers every complete run), or taken more steps
-///   than its program has instructions (`short`).
+/// - No activation traps or takes more steps than its program has instructions (`safe`).
+/// - Each letter is complete: a traitor's is the run of his program to its end, with his accesses (`whole`).
 /// - Each lieutenant decides what OM(m) gives from the recorded messages.
 /// - If the bound holds, all loyal lieutenants decide alike, on the commander's order if he is loyal (TOPLAS 1982,
 ///   Theorem 1).
@@ -65,6 +66,9 @@ pub fn muster<R: Threads + Wait + Sync, G: Gate + Sync>(
     ensures complete { IfOk result
         (λ chronicle. IsComplete scenario (replayed scenario (names_in 1 chronicle.accesses (suc scenario.bound)))) }
     ensures legal { IfOk result (λ chronicle. IsLegal scenario.board chronicle.accesses) }
+    ensures safe { IfOk result (λ chronicle. AreSafeThroughout oral_kind scenario
+        (replayed scenario (names_in 1 chronicle.accesses (suc scenario.bound)))) }
+    ensures whole { IfOk result (λ chronicle. AreWhole oral_kind scenario chronicle.accesses chronicle.letters) }
     ensures short { IfOk result (λ chronicle. All (λ letters. All IsShort letters) chronicle.letters) }
     ensures decisions { IfOk result
         (λ chronicle. chronicle.decisions ≡ decisions scenario (messages chronicle.letters)) }
@@ -93,6 +97,9 @@ pub fn muster_with<R: Threads + Wait + Sync, G: Gate + Sync>(
     ensures complete { IfOk result
         (λ chronicle. IsComplete scenario (replayed scenario (names_in 1 chronicle.accesses (suc scenario.bound)))) }
     ensures legal { IfOk result (λ chronicle. IsLegal scenario.board chronicle.accesses) }
+    ensures safe { IfOk result (λ chronicle. AreSafeThroughout oral_kind scenario
+        (replayed scenario (names_in 1 chronicle.accesses (suc scenario.bound)))) }
+    ensures whole { IfOk result (λ chronicle. AreWhole oral_kind scenario chronicle.accesses chronicle.letters) }
     ensures short { IfOk result (λ chronicle. All (λ letters. All IsShort letters) chronicle.letters) }
     ensures decisions { IfOk result
         (λ chronicle. chronicle.decisions ≡ decisions scenario (messages chronicle.letters)) }
@@ -121,6 +128,9 @@ fn muster_on<R: Threads + Wait + Sync, G: Gate + Sync>(
     ensures complete { IfOk result
         (λ chronicle. IsComplete scenario (replayed scenario (names_in 1 chronicle.accesses (suc scenario.bound)))) }
     ensures legal { IfOk result (λ chronicle. IsLegal scenario.board chronicle.accesses) }
+    ensures safe { IfOk result (λ chronicle. AreSafeThroughout oral_kind scenario
+        (replayed scenario (names_in 1 chronicle.accesses (suc scenario.bound)))) }
+    ensures whole { IfOk result (λ chronicle. AreWhole oral_kind scenario chronicle.accesses chronicle.letters) }
     ensures short { IfOk result (λ chronicle. All (λ letters. All IsShort letters) chronicle.letters) }
     ensures decisions { IfOk result
         (λ chronicle. chronicle.decisions ≡ decisions scenario (messages chronicle.letters)) }
@@ -158,6 +168,9 @@ fn mustered<R: Threads + Wait + Sync, G: Gate + Sync, J: Room + Send + Sync>(
     ensures complete { IfOk result
         (λ chronicle. IsComplete scenario (replayed scenario (names_in 1 chronicle.accesses (suc scenario.bound)))) }
     ensures legal { IfOk result (λ chronicle. IsLegal scenario.board chronicle.accesses) }
+    ensures safe { IfOk result (λ chronicle. AreSafeThroughout oral_kind scenario
+        (replayed scenario (names_in 1 chronicle.accesses (suc scenario.bound)))) }
+    ensures whole { IfOk result (λ chronicle. AreWhole oral_kind scenario chronicle.accesses chronicle.letters) }
     ensures short { IfOk result (λ chronicle. All (λ letters. All IsShort letters) chronicle.letters) }
     ensures decisions { IfOk result
         (λ chronicle. chronicle.decisions ≡ decisions scenario (messages chronicle.letters)) }
@@ -208,6 +221,9 @@ fn by_board<
     ensures complete { IfOk result
         (λ chronicle. IsComplete scenario (replayed scenario (names_in 1 chronicle.accesses (suc scenario.bound)))) }
     ensures legal { IfOk result (λ chronicle. IsLegal scenario.board chronicle.accesses) }
+    ensures safe { IfOk result (λ chronicle. AreSafeThroughout oral_kind scenario
+        (replayed scenario (names_in 1 chronicle.accesses (suc scenario.bound)))) }
+    ensures whole { IfOk result (λ chronicle. AreWhole oral_kind scenario chronicle.accesses chronicle.letters) }
     ensures short { IfOk result (λ chronicle. All (λ letters. All IsShort letters) chronicle.letters) }
     ensures decisions { IfOk result
         (λ chronicle. chronicle.decisions ≡ decisions scenario (messages chronicle.letters)) }

@@ -37,3 +37,4 @@ pub mod Deciders
 pub mod Counted
 pub mod Drafting
 pub mod Briefed
+pub mod Promised

@@ -1,10 +1,20 @@
--- What is promised about decisions and verdicts (TOPLAS 1982, Theorem 1, IC1 and IC2).
-use Rattle.std.specs.Prelude.{ℕ, ◌≡◌, ◌≢◌, ◌↔◌, true, false, List, None, Some}
+-- What is promised of a campaign that was played: about its decisions and its verdict (TOPLAS 1982, Theorem 1, IC1 and
+-- IC2), and, in campaigns of some kind, about its activations, accesses and letters.
+use Rattle.std.specs.Prelude.{ℕ, ◌≡◌, ◌≢◌, ◌≤◌, ◌↔◌, true, false, List, [], ◌++◌, length, slice_get, None, Some}
 use Rattle.label.specs.Oral.{IsBound}
 use Rattle.label.specs.Lieutenants.{AgreeInList}
+use Rattle.semantics.specs.Execution.{step}
+use Rattle.semantics.specs.State.{Cause, Trap}
+use Rattle.board.specs.Board.{Access, IsLegal}
+use Rattle.round.specs.Activation.{Activation, has_ended}
+use Rattle.round.specs.Letters.{Letter}
 use Rattle.round.specs.Scenario.{Scenario, is_traitor}
+use Rattle.world.specs.declared.event.Event.{Event}
 use Rattle.world.specs.declared.verdict.Verdict.{Verdict}
 use Rattle.world.specs.Agreement.{AreAlike, AreObedient}
+use Rattle.world.specs.Kind.{Kind, opening, run}
+use Rattle.world.specs.KindAccounted.{AreAccounted}
+use Rattle.world.specs.Part.{Acting}
 
 -- States that, if the bound holds, the loyal lieutenants decide alike, and on the order of a loyal commander.
 abbrev pub AgreeUnderBound : Scenario → List ℕ → Type 0
@@ -23,3 +33,20 @@ pub record IsVerdictOn (s : Scenario) (ds : List ℕ) (v : Verdict) : Type 0 whe
 -- disobey.
 abbrev pub IsWellUnderBound : Verdict → Type 0
 IsWellUnderBound v = v.bound ≡ true → (v.alike ≡ true) × (v.obeyed ≢ Some false)
+
+-- States that the next step of an activation that has not ended is no trap, and that it has taken at most as many steps
+-- as its program has instructions.
+pub record IsSafe (a : Activation) : Type 0 where
+  pub untrapped : (cause : Cause) → has_ended a ≡ false → step a.program a.context a.relay a.state ≢ Trap cause
+  pub fewer : a.state.steps ≤ length a.program
+
+-- States that every activation is safe in every world that these events lead through.
+abbrev pub AreSafeThroughout : Kind → Scenario → List Event → Type 0
+AreSafeThroughout K s events = (before after : List Event) (g : ℕ) (a : Activation) → before ++ after ≡ events →
+    slice_get (run K (opening K s) before).parts g ≡ Some (Acting a) → IsSafe a
+
+-- States that the accesses are a legal history of the board, and that each letter is complete. A traitor's letter is
+-- the run of his program to its end, with his accesses. A loyal general's letter sends what he has to send.
+pub record AreWhole (K : Kind) (s : Scenario) (accesses : List Access) (letters : List (List Letter)) : Type 0 where
+  pub legal : IsLegal s.board accesses
+  pub accounted : AreAccounted K s [] accesses letters

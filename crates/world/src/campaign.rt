@@ -4,11 +4,11 @@ ghost use Rattle.std.specs.Prelude.{◌≡◌, IfOk, ◌<◌, [], suc, OnOk, rep
 ghost use Rattle.round.specs.Letters.{messages};
 ghost use Rattle.world.specs.Agreement.{IsFinished};
 ghost use Rattle.world.specs.Chronicle.{decisions, chronicle_of};
-ghost use Rattle.world.specs.Lists.{listed, replayed};
+ghost use Rattle.world.specs.Lists.{IsComplete, listed, replayed};
 ghost use Rattle.world.specs.Playing.{lists_in, line_events};
-ghost use Rattle.world.specs.Promises.{AgreeUnderBound, IsVerdictOn, IsWellUnderBound};
+ghost use Rattle.world.specs.Promises.{AgreeUnderBound, AreSafeThroughout, AreWhole, IsVerdictOn, IsWellUnderBound};
 ghost use Rattle.world.specs.Schedules.{lines_by, entries_of};
-ghost use Rattle.world.specs.World.{opening, run};
+ghost use Rattle.world.specs.World.{opening, oral_kind, run};
 ghost use Rattle.world.specs.declared.event.Event.TheVariants.{Tick, Post, Close};
 ghost use Rattle.round.specs.Scenario.{program_of};
 ghost use Rattle.world.specs.Kind.{each, happen, run as run_of};
@@ -32,6 +32,9 @@ use std::alloc::{AllocError, Global};
 pub fn play(alloc: Global, scenario: Scenario, schedule: &Schedule) -> Result<Chronicle, AllocError>
     ensures listed { IfOk result
         (λ chronicle. chronicle ≡ chronicle_of (run (opening scenario) (listed scenario (lines_by schedule.now)))) }
+    ensures complete { IfOk result (λ _. IsComplete scenario (listed scenario (lines_by schedule.now))) }
+    ensures safe { IfOk result (λ _. AreSafeThroughout oral_kind scenario (listed scenario (lines_by schedule.now))) }
+    ensures letters { IfOk result (λ chronicle. AreWhole oral_kind scenario chronicle.accesses chronicle.letters) }
     ensures decisions { IfOk result
         (λ chronicle. chronicle.decisions ≡ decisions scenario (messages chronicle.letters)) }
     ensures agree { IfOk result (λ chronicle. AgreeUnderBound scenario chronicle.decisions) }
@@ -55,6 +58,11 @@ pub fn play(alloc: Global, scenario: Scenario, schedule: &Schedule) -> Result<Ch
 pub fn replay(alloc: Global, scenario: Scenario, names: &[Vec<u8>]) -> Result<Chronicle, AllocError>
     ensures replayed { IfOk result
         (λ chronicle. chronicle ≡ chronicle_of (run (opening scenario) (replayed scenario (lists_in names.now)))) }
+    ensures complete { IfOk result (λ _. IsComplete scenario (replayed scenario (lists_in names.now))) }
+    ensures safe { IfOk result (λ _. AreSafeThroughout oral_kind scenario (replayed scenario (lists_in names.now))) }
+    ensures letters { IfOk result (λ chronicle. AreWhole oral_kind scenario chronicle.accesses chronicle.letters) }
+    ensures decisions { IfOk result
+        (λ chronicle. chronicle.decisions ≡ decisions scenario (messages chronicle.letters)) }
     ensures agree { IfOk result (λ chronicle. AgreeUnderBound scenario chronicle.decisions) }
     ensures verdict { IfOk result (λ chronicle. IsVerdictOn scenario chronicle.decisions chronicle.verdict) }
     ensures well { IfOk result (λ chronicle. IsWellUnderBound chronicle.verdict) }

@@ -7,5 +7,6 @@ returns c =
     IfOk-weaker c.with_decisions.result _ _
     (λ text behind.
     is_played c.args.scenario c.args.schedule.now c.args.account c.args.explained c.in_ok-chronicle.chronicle c.in_ok-front.front.items text.items c.in_ok-chronicle.ensures.listed
+    c.in_ok-chronicle.ensures.complete c.in_ok-chronicle.ensures.safe c.in_ok-chronicle.ensures.letters
     c.in_ok-chronicle.ensures.agree c.in_ok-chronicle.ensures.verdict c.in_ok-chronicle.ensures.well c.in_ok-front.ensures behind)
     c.with_decisions.ensures

@@ -4,9 +4,10 @@ use Rattle.world.specs.Kind.{World}
 use Rattle.world.specs.KindLists.{listed}
 use Rattle.world.specs.Schedules.{lines_by}
 use Rattle.world.proofs.Lasting.{lists_are_complete}
+use Rattle.world.proofs.Promised.{safe_throughout}
 use Rattle.signed.specs.Chronicle.{signed_chronicle_of}
 use Rattle.signed.specs.Kind.{signed_kind}
-use Rattle.signed.proofs.Promised.{safe_throughout, promised_agree, promised_decisions, promised_letters, promised_verdict, promised_well}
+use Rattle.signed.proofs.Promised.{promised_agree, promised_decisions, promised_letters, promised_verdict, promised_well}
 use Rattle.signed.proofs.Worlds.{signed_campaigns}
 use Rattle.signed.proofs.campaign.play_signed.Goals as goal
 
@@ -17,7 +18,7 @@ pub returns-clause-complete : goal.returns-clause-complete
 returns-clause-complete c = (lists_are_complete signed_kind signed_campaigns).listed c.args.scenario (lines_by c.args.schedule.now) c.recall.ensures
 
 pub returns-clause-safe : goal.returns-clause-safe
-returns-clause-safe c = safe_throughout c.args.scenario (listed c.args.scenario (lines_by c.args.schedule.now)) c.recall.ensures
+returns-clause-safe c = safe_throughout signed_kind signed_campaigns c.args.scenario (listed c.args.scenario (lines_by c.args.schedule.now)) c.recall.ensures
 
 pub returns-clause-letters : goal.returns-clause-letters
 returns-clause-letters c = promised_letters c.args.scenario (listed c.args.scenario (lines_by c.args.schedule.now)) c.in-Some.chronicle c.recall.ensures (returns-clause-complete c) (returns-clause-listed c)

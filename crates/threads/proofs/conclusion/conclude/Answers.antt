@@ -9,6 +9,7 @@ use Rattle.world.specs.World.{oral_kind}
 use Rattle.world.proofs.Campaigns.{oral_campaigns}
 use Rattle.world.proofs.Lasting.{replayed_complete}
 use Rattle.world.proofs.Listed.{replayed_finished}
+use Rattle.world.proofs.Promised.{safe_throughout, whole_told}
 use Rattle.world.proofs.Outcomes.{finished_agree, finished_verdict, finished_well}
 use Rattle.threads.proofs.Concluded.{concluded, all_short}
 use Rattle.threads.proofs.conclusion.conclude.Goals as goal
@@ -22,6 +23,13 @@ returns-clause-replay c =
 
 pub returns-clause-complete : goal.returns-clause-complete
 returns-clause-complete c = replayed_complete oral_kind c.args.scenario (oral_campaigns c.args.scenario c.recall.ensures) (names_in 1 c.of.result.accesses (suc c.args.scenario.bound))
+
+pub returns-clause-safe : goal.returns-clause-safe
+returns-clause-safe c = safe_throughout oral_kind oral_campaigns c.args.scenario (replayed c.args.scenario (names_in 1 c.of.result.accesses (suc c.args.scenario.bound))) c.recall.ensures
+
+pub returns-clause-whole : goal.returns-clause-whole
+returns-clause-whole c =
+    whole_told c.args.scenario (replayed c.args.scenario (names_in 1 c.of.result.accesses (suc c.args.scenario.bound))) c.of.result c.recall.ensures (returns-clause-complete c) (returns-clause-replay c)
 
 pub returns-clause-legal : goal.returns-clause-legal
 returns-clause-legal c = subst (λ (ledger : List Access). IsLegal c.args.scenario.board ledger) (sym (ap (λ (x : Chronicle). x.accesses) c.of.ensures)) c.requires.legal
