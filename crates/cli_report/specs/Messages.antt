@@ -20,7 +20,7 @@ table_sentence fault.Line number =
     else codes "a line must be `tell LABEL RECEIVER ORDER`, with the label's generals joined by dots, "
     ++ codes "numbers without leading zeros, and an order of at most 4294967295"
 table_sentence fault.Range number =
-    codes "there must be 2 to 13 generals, a bound of 0 to 4, at most generals - 2, and a commander below generals"
+    codes "there must be 2 to 13 generals, a bound of 0 to 4 and at most generals - 2, and a commander below generals"
 table_sentence fault.Place number =
     codes "there is no such label, or no such receiver for it: a label begins with the commander, "
     ++ codes "has at most bound + 1 generals, none twice, and the receiver is not on it"

@@ -30,7 +30,7 @@ fn sentence(alloc: Global, fault: TableFault, number: u64) -> Result<String, All
             "a line must be `tell LABEL RECEIVER ORDER`, with the label's generals joined by dots, \
              numbers without leading zeros, and an order of at most 4294967295",
         TableFault::Range =>
-            "there must be 2 to 13 generals, a bound of 0 to 4, at most generals - 2, and a commander below generals",
+            "there must be 2 to 13 generals, a bound of 0 to 4 and at most generals - 2, and a commander below generals",
         TableFault::Place =>
             "there is no such label, or no such receiver for it: a label begins with the commander, \
              has at most bound + 1 generals, none twice, and the receiver is not on it",
