@@ -44,7 +44,7 @@ number_rule (Negate w dst) n = codes ": 0 stays 0, and numbers above it become n
 number_rule (SignExtend w part dst src) n = codes ": the sign is extended, so the result is small or just below 2^64"
 number_rule (LoadSigned part dst base offset) n =
     codes ": the sign is extended, so the result is small or just below 2^64"
-number_rule (Load size dst base offset) n = codes ": a load may give any number of its size"
+number_rule (Load size dst base offset) n = codes ": a load gives any number of its size"
 number_rule i n = []
 
 -- the rule for a result of which nothing is known

@@ -49,7 +49,7 @@ fn number_rule(insn: &Insn, numbers: NumberSet) -> &'static str
         Insn::SignExtend { .. } | Insn::LoadSigned { .. } => {
             ": the sign is extended, so the result is small or just below 2^64"
         }
-        Insn::Load { .. } => ": a load may give any number of its size",
+        Insn::Load { .. } => ": a load gives any number of its size",
         _ => "",
     }
 }
