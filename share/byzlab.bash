@@ -2,12 +2,12 @@
 #
 #     source share/byzlab.bash
 #
-# It offers what `byzlab --help` and the help of each subcommand list (checks/docs compares them), and files otherwise.
+# It offers what `byzlab --help` and the help of each subcommand list (checks/docs compares them), and otherwise files.
 
 _byzlab() {
     local words=("${COMP_WORDS[@]}") at=$COMP_CWORD script="prove --try" offered
     local commands="check asm dis book table muster play audit explore tree draw page schedule survey help"
-    # (behind --try stand the same words; it and prove are the script's)
+    # (the same words follow --try, which belongs to the script, as does prove)
     if [ "$at" -gt 1 ] && [ "${words[1]}" = --try ]; then
         words=("${words[0]}" "${words[@]:2}") at=$((at - 1)) script=
     fi

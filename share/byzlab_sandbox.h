@@ -1,24 +1,24 @@
 /*
- * byzlab_sandbox.h: a proved verifier and machine of BPF programs (RFC 9669; no loops, no maps), for programs in C.
+ * byzlab_sandbox.h: a proved verifier and machine for BPF programs (RFC 9669; no loops, no maps), for programs in C.
  *
  *     cc program.c $(pkg-config --cflags --libs byzlab_sandbox)
  *
- * A program that is accepted (status 0) never traps, never leaves its memory and ends within as many steps as it has
- * instructions, whatever its context and board hold. What is said of each status is proved (docs/EMBEDDING.md says by
- * which clause of a contract), but for why it is 3: that malloc or realloc gave NULL then is tested.
+ * A program that is accepted (status 0) never traps, never leaves its memory, and ends within as many steps as it has
+ * instructions, whatever its context and board contain. What is said here about each status is proved
+ * (docs/EMBEDDING.md says by which clause of a contract). Only the cause of status 3, that malloc or realloc returned
+ * NULL, is tested and not proved.
  *
- * What nothing checks, and the caller has to see to:
+ * The caller must ensure the following, which nothing checks:
  *
- * - Each pointer is to memory of the size that stands with it, aligned as its type is, and is not null, also where the
- *   size is 0.
- * - What a function writes to (fault, outcome, outcomes, board, text, needed) overlaps nothing else that it is given,
- *   and no other thread reads or writes it during the call. What it only reads (program, context, contexts) no other
- *   thread writes during the call.
- * - malloc, realloc and free come from one allocator, and malloc and realloc align a block to each power of two up to
- *   16 that divides its size, as to 8 for 24 bytes.
+ * - Each pointer points to memory of the given size, is aligned for its type, and is not null, even if the size is 0.
+ * - The memory that a function writes (fault, outcome, outcomes, board, text, needed) does not overlap any other
+ *   argument, and no other thread reads or writes it during the call. No other thread writes the memory that a
+ *   function only reads (program, context, contexts) during the call.
+ * - malloc, realloc and free come from one allocator. malloc and realloc align a block to each power of two up to 16
+ *   that divides its size, for instance to 8 for 24 bytes.
  * - No function is called from a signal handler, or from the forked child of a process with threads.
  *
- * A call keeps nothing for the next, and no memory: threads may call at once, where malloc may be called so.
+ * A call keeps no state and no memory for the next. Threads may call at the same time if they may call malloc so.
  */
 #ifndef BYZLAB_SANDBOX_H
 #define BYZLAB_SANDBOX_H
@@ -30,90 +30,92 @@
 extern "C" {
 #endif
 
-/* What a function answers. */
+/* What a function returns. */
 enum byzlab_status {
-    BYZLAB_DONE = 0,     /* the program is accepted (byzlab_disassemble: is one), and what was asked is done */
-    BYZLAB_MISSPELT = 1, /* the bytes spell no program; the fault has a number of 1 to 8 */
-    BYZLAB_REFUSED = 2,  /* the program is not accepted; the fault has a number of 101 to 113 */
-    BYZLAB_MEMORY = 3,   /* malloc or realloc gave NULL; the bytes spell a program */
-    BYZLAB_LENGTH = 4    /* the context has not 4,096 bytes, or the contexts not 4,096 for each outcome */
+    BYZLAB_DONE = 0,     /* the program is accepted, and the call has done its work (see byzlab_disassemble) */
+    BYZLAB_MISSPELT = 1, /* the bytes do not spell a program; the fault has a number from 1 to 8 */
+    BYZLAB_REFUSED = 2,  /* the program is not accepted; the fault has a number from 101 to 113 */
+    BYZLAB_MEMORY = 3,   /* malloc or realloc returned NULL; the bytes spell a program */
+    BYZLAB_LENGTH = 4    /* the context is not 4,096 bytes long, or the contexts not 4,096 for each outcome */
 };
 
-/* The numbers of the faults. With a number stands a unit: that of the instruction at fault, 8 bytes each, from 0. */
+/* The numbers of the faults. Each comes with the unit of the instruction at fault: 8 bytes each, counted from 0. */
 enum byzlab_number {
-    BYZLAB_C1_LENGTH = 1,   /* the length is no multiple of 8; the unit is the one that is cut */
+    BYZLAB_C1_LENGTH = 1,   /* the length is not a multiple of 8; the unit is the one that is cut off */
     BYZLAB_C2_OPCODE = 2,   /* no instruction has this opcode */
     BYZLAB_C3_RESERVED = 3, /* an unused field, or the reserved bits of a wide instruction, are not zero */
     BYZLAB_C4_WIDE_CUT = 4, /* the second half of a wide instruction is missing */
-    BYZLAB_C5_REGISTER = 5, /* a used register above r10 */
-    BYZLAB_C6_LEFT_OUT = 6, /* an instruction of the standard that is left out */
-    BYZLAB_C7_OPERAND = 7,  /* an operand that chooses the instruction has a value that chooses none */
+    BYZLAB_C5_REGISTER = 5, /* a register above r10 is used */
+    BYZLAB_C6_LEFT_OUT = 6, /* an instruction of the standard that is not supported */
+    BYZLAB_C7_OPERAND = 7,  /* an operand that selects the instruction has a value that selects none */
     BYZLAB_C8_COUNT = 8,    /* no unit, or more than 4,096; the unit is 0 */
 
-    BYZLAB_V1_BACK_JUMP = 101,      /* a jump leads to its own unit or back */
+    BYZLAB_V1_BACK_JUMP = 101,      /* a jump leads to its own unit or backward */
     BYZLAB_V2_JUMP_OUT = 102,       /* a jump leads past the end */
     BYZLAB_V3_JUMP_IN_WIDE = 103,   /* a jump leads into the second half of a wide instruction */
     BYZLAB_V4_LAST_NOT_EXIT = 104,  /* the last instruction is not the exit */
-    BYZLAB_V5_UNSET = 105,          /* a register is read that may be unset, or of different kinds on different ways */
+    BYZLAB_V5_UNSET = 105,          /* a register is read that may be unset, or of different kinds on different paths */
     BYZLAB_V6_FRAME_WRITE = 106,    /* the frame pointer is written */
-    BYZLAB_V7_POINTER_USE = 107,    /* a pointer is used as it may not be, or a number is the base of an access */
+    BYZLAB_V7_POINTER_USE = 107,    /* a pointer is used where it is not allowed, or a number is a base */
     BYZLAB_V8_BOUNDS = 108,         /* an access may leave its region */
-    BYZLAB_V9_STACK_UNSET = 109,    /* a cell of the stack is read that may hold no byte */
+    BYZLAB_V9_STACK_UNSET = 109,    /* a stack cell is read that may be unset */
     BYZLAB_V10_CONTEXT_WRITE = 110, /* the context is written */
-    BYZLAB_V11_HELPER = 111,        /* a helper is called that is not there */
-    BYZLAB_V12_ARGUMENT = 112,      /* a helper is called with an argument that it may not take */
+    BYZLAB_V11_HELPER = 111,        /* a helper is called that does not exist */
+    BYZLAB_V12_ARGUMENT = 112,      /* a helper is called with an argument that it does not accept */
     BYZLAB_V13_EXIT_POINTER = 113   /* the program ends with a pointer in r0 */
 };
 
-#define BYZLAB_VERSION 10000      /* of this header, as byzlab_version tells the library's */
-#define BYZLAB_CONTEXT_BYTES 4096 /* what a program is given to read: r1 points to it */
-#define BYZLAB_BOARD_WORDS 64     /* what the helpers 1 to 5 read and write */
+#define BYZLAB_VERSION 10000      /* the version of this header; byzlab_version returns the library's */
+#define BYZLAB_CONTEXT_BYTES 4096 /* the size of the context, which a program only reads: r1 points to it */
+#define BYZLAB_BOARD_WORDS 64     /* how many words the helpers 1 to 5 read and write */
 #define BYZLAB_MOST_BYTES 32768   /* the longest program: 4,096 units */
 
-/* Why bytes are not accepted. It is written at the statuses 1 and 2 alone. */
+/* Why bytes are not accepted. It is written only at the statuses 1 and 2. */
 struct byzlab_fault {
     uint32_t number;
     size_t unit;
 };
 
-/* How a run has ended: r0 at the exit, and how many instructions were run. */
+/* How a run ended: r0 at the exit, and the number of instructions that were run. */
 struct byzlab_outcome {
     uint64_t r0;
     uint32_t steps;
 };
 
-/* Whether the program is accepted: 0 to 3. */
+/* Checks whether the program is accepted. Returns 0 to 3. */
 uint32_t byzlab_verify(const uint8_t *program, size_t length, struct byzlab_fault *fault);
 
 /*
- * Verifies the program and runs it once: 0 to 4. The board's words are those that the helpers 1 to 5 find, and behind
- * the call those that the program left. Board and outcome are written at status 0 alone.
+ * Verifies the program and runs it once. Returns 0 to 4. The helpers 1 to 5 read and write the board; after the call it
+ * has the words that the program left. Board and outcome are written only at status 0.
  */
 uint32_t byzlab_run(const uint8_t *program, size_t length, const uint8_t *context, size_t context_length,
                     uint64_t board[BYZLAB_BOARD_WORDS], struct byzlab_fault *fault, struct byzlab_outcome *outcome);
 
 /*
- * Verifies the program once and runs it in each of so many contexts, which stand behind one another: 0 to 4. Each run
- * has a board of zeros. contexts_length is 4,096 * count. The outcomes are written at status 0; at 3, where memory was
- * refused in a run, each is that of its run or as it was.
+ * Verifies the program once and runs it in each of `count` contexts, which follow one another in memory. Each run has a
+ * board of zeros. contexts_length is 4,096 * count. Returns 0 to 4. At status 0 all outcomes are written. At 3, if a run
+ * had not enough memory, each outcome is either that of its run or unchanged.
  */
 uint32_t byzlab_run_many(const uint8_t *program, size_t length, const uint8_t *contexts, size_t contexts_length,
                          struct byzlab_fault *fault, struct byzlab_outcome *outcomes, size_t count);
 
 /*
- * Answers as byzlab_verify, 0 to 3. At 0 and 2 it writes what the verifier knows at each unit of the registers that are
- * read, and at 2 why it refuses the program: into text as much as there is room for, and into needed how many bytes the
- * whole has. Each line stands behind a line feed, and no 0 behind the last. At 1 and 3 neither is written.
+ * Returns the same as byzlab_verify, 0 to 3. At 0 and 2 it writes what the verifier knows at each unit about the
+ * registers that are read, and at 2 why it rejects the program: at most `room` bytes into text, and the length of the
+ * whole text into needed. Each line begins with a line feed, and there is no terminating 0. At 1 and 3 it writes neither.
  */
 uint32_t byzlab_explain(const uint8_t *program, size_t length, char *text, size_t room, size_t *needed,
                         struct byzlab_fault *fault);
 
-/* Writes so, at 0, the program's assembly text, a line for each instruction with a line feed behind it, accepted or not:
- * 0, 1 or 3. */
+/*
+ * Writes at status 0, in the same way, the program's assembly text: a line for each instruction, which ends with a line
+ * feed. The program need not be accepted. Returns 0, 1 or 3.
+ */
 uint32_t byzlab_disassemble(const uint8_t *program, size_t length, char *text, size_t room, size_t *needed,
                             struct byzlab_fault *fault);
 
-/* 10,000 * major + 100 * minor + patch. */
+/* Returns 10,000 * major + 100 * minor + patch. */
 uint32_t byzlab_version(void);
 
 #ifdef __cplusplus

@@ -563,7 +563,7 @@ again:  ja again
         ldw r0, [r2+4]
         exit
 ;; refused_context_write.asm
-; V10: the context is only read.
+; V10: the context is read-only.
         stb [r1+0], 1
         mov r0, 0
         exit

@@ -57,7 +57,7 @@ part t k w p j = part_words (w ++ j ∷ []) (held t k (w ++ j ∷ []) p)
 -- combined list.
 abbrev pub list_words : List ℕ → Option ℕ → List ℕ → List ℕ → List ℕ
 list_words w order parts outcome =
-    dotted w ++ codes ": told " ++ order_words order ++ parts ++ codes ": " ++ outcome ++ codes "\n"
+    dotted w ++ codes ": received " ++ order_words order ++ parts ++ codes ": " ++ outcome ++ codes "\n"
 
 -- Writes the line of the label `w` for lieutenant `p`.
 abbrev pub list_line : MessageTable → ℕ → List ℕ → ℕ → List ℕ
@@ -123,11 +123,13 @@ alike_line is_so = if is_so then codes "IC1 yes: the loyal lieutenants decide al
 -- Writes the line of IC2: whether each loyal lieutenant obeys the commander.
 abbrev pub obedience_line : Obedience → List ℕ
 obedience_line Traitor = codes "IC2 -: the commander is named as a traitor\n"
-obedience_line Unlike = codes "IC2 -: the commander did not tell all the same order, as a loyal one does\n"
+obedience_line Unlike = codes "IC2 -: the commander did not send the same order to all, as a loyal one does\n"
 obedience_line (Obeyed order) =
-    codes "IC2 yes: each loyal lieutenant decides " ++ decimal order ++ codes ", as the commander told all\n"
+    codes "IC2 yes: each loyal lieutenant decides " ++ decimal order
+    ++ codes ", the order that the commander sent to all\n"
 obedience_line (Disobeyed order) =
-    codes "IC2 no: not each loyal lieutenant decides " ++ decimal order ++ codes ", as the commander told all\n"
+    codes "IC2 no: not every loyal lieutenant decides " ++ decimal order
+    ++ codes ", the order that the commander sent to all\n"
 
 -- Writes the lines that say whether the bound, IC1 and IC2 hold.
 unfoldable pub condition_lines : MessageTable → Conditions → List ℕ

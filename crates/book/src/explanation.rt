@@ -219,16 +219,16 @@ fn obedience_line(alloc: Global, obedience: Obedience) -> Result<String, AllocEr
         }
         Obedience::Unlike => String::from_str(
             alloc,
-            "IC2 -: the commander did not tell all the same order, as a loyal one does\n",
+            "IC2 -: the commander did not send the same order to all, as a loyal one does\n",
         ),
         Obedience::Obeyed(order) => {
             format!(in alloc;
-                "IC2 yes: each loyal lieutenant decides {order}, as the commander told all\n"
+                "IC2 yes: each loyal lieutenant decides {order}, the order that the commander sent to all\n"
             )
         }
         Obedience::Disobeyed(order) => {
             format!(in alloc;
-                "IC2 no: not each loyal lieutenant decides {order}, as the commander told all\n"
+                "IC2 no: not every loyal lieutenant decides {order}, the order that the commander sent to all\n"
             )
         }
     }

@@ -83,7 +83,7 @@ fn push_silent_list(
         OnOk result (string_bytes lines.new ≡ string_bytes lines.old
         ++ list_words w None parts.now (words.now ++ decimal order)) }
 {
-    write!(lines, "{front}{last}: told ")?;
+    write!(lines, "{front}{last}: received ")?;
     write!(lines, "nothing{parts}: {words}{order}\n")
 }
 
@@ -103,7 +103,7 @@ fn push_list(
         ++ list_words w told parts.now (words.now ++ decimal order)) }
 {
     match told {
-        Some(said) => write!(lines, "{front}{last}: told {said}{parts}: {words}{order}\n"),
+        Some(said) => write!(lines, "{front}{last}: received {said}{parts}: {words}{order}\n"),
         None => push_silent_list(lines, front, last, parts, words, order),
     }
 }

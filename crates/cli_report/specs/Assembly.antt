@@ -132,7 +132,7 @@ unit_mark s = spot_mark s (statement_place s.code)
 -- Returns the sentence for a line of the wrong shape. The argument is the code from its first non-ASCII byte on.
 abbrev pub outline_sentence : List ℕ → List ℕ
 outline_sentence [] = codes "a line is `[name:] [mnemonic operands] [; comment]`, with commas between the operands"
-outline_sentence (c ∷ cs) = codes "a character that is not of ASCII stands outside a comment"
+outline_sentence (c ∷ cs) = codes "a character outside a comment is not ASCII"
 
 -- Returns the sentence for a wrong operand of `call`. An operand that begins with a letter or `_` is taken for a
 -- helper's name.
@@ -143,31 +143,31 @@ call_sentence (c ∷ cs) = if is_within 97 122 c || is_within 65 90 c || c == 95
 
 -- Returns the sentence for operands that do not fit the mnemonic, by what the mnemonic takes.
 abbrev pub operand_sentence : Option Takes → List ℕ → List ℕ
-operand_sentence None operands = codes "the operands are not those of the mnemonic"
+operand_sentence None operands = codes "the operands do not fit the mnemonic"
 operand_sentence (Some takes.Call) operands = call_sentence operands
 operand_sentence (Some takes) operands = takes_text takes
 
 -- Returns the sentence for a number out of range, by what the mnemonic takes.
 abbrev pub range_sentence : Option Takes → List ℕ
-range_sentence (Some takes.Wide) = codes "a number here is -9223372036854775808 to 18446744073709551615"
-range_sentence (Some takes.Load) = codes "an offset is -32768 to 32767"
-range_sentence (Some takes.Target) = codes "a jump leads at most 32767 units on (with `ja.w` 2147483647)"
+range_sentence (Some takes.Wide) = codes "a number here must be -9223372036854775808 to 18446744073709551615"
+range_sentence (Some takes.Load) = codes "an offset must be -32768 to 32767"
+range_sentence (Some takes.Target) = codes "a jump must lead at most 32767 units forward (2147483647 with `ja.w`)"
 range_sentence (Some takes.Branch) =
-    codes "a number here is -2147483648 to 2147483647, and a jump leads at most 32767 units on"
-range_sentence (Some takes.StoreRegister) = codes "an offset is -32768 to 32767"
+    codes "a number here must be -2147483648 to 2147483647, and a jump must lead at most 32767 units forward"
+range_sentence (Some takes.StoreRegister) = codes "an offset must be -32768 to 32767"
 range_sentence (Some takes.StoreNumber) =
-    codes "a number here is -2147483648 to 2147483647, and an offset -32768 to 32767"
-range_sentence _ = codes "a number here is -2147483648 to 2147483647"
+    codes "a number here must be -2147483648 to 2147483647, and an offset -32768 to 32767"
+range_sentence _ = codes "a number here must be -2147483648 to 2147483647"
 
 -- Returns the sentence for a fault in this code.
 abbrev pub assembly_sentence : AsmFault → List ℕ → List ℕ
 assembly_sentence fault.Line code = outline_sentence (past_ascii code)
 assembly_sentence fault.Mnemonic code = codes "there is no such mnemonic"
 assembly_sentence fault.Operand code = operand_sentence (taken (mnemonic_in code)) (operands_in code)
-assembly_sentence fault.Label code = codes "no line has this name"
-assembly_sentence fault.Twice code = codes "a line before has this name"
+assembly_sentence fault.Label code = codes "no line defines this name"
+assembly_sentence fault.Twice code = codes "an earlier line defines this name"
 assembly_sentence fault.Range code = range_sentence (taken (mnemonic_in code))
-assembly_sentence fault.Count code = codes "a program has 1 to 4096 units"
+assembly_sentence fault.Count code = codes "a program must have 1 to 4096 units"
 
 -- ---- the help
 
@@ -192,17 +192,17 @@ begins_marked number line = number == 1 && starts_with nat_eq line order_mark
 abbrev pub outline_advice : ℕ → List ℕ → List ℕ → Option (List ℕ)
 outline_advice number line code =
     if begins_marked number line then Some (codes "the file begins with a byte order mark: save it without one")
-    else if has 13 line then Some (codes "a carriage return stands only before a line feed: these are other line ends")
+    else if has 13 line then Some (codes "a carriage return is allowed only right before a line feed")
     else if has 35 code || has 47 code then Some (codes "a comment begins with `;`")
     else if has 61 code then Some (codes "`r0 = 1` is written `mov r0, 1`")
-    else if has 91 code then Some (codes "inside an operand stands no blank: `[r1+8]`")
+    else if has 91 code then Some (codes "an operand contains no spaces: `[r1+8]`")
     else None
 
 -- Returns the help message that names a close name or, without one, the message about capital letters.
 abbrev pub or_small : List ℕ → Option (List ℕ) → Option (List ℕ)
 or_small code (Some advice) = Some advice
 or_small code None =
-    if has_capital code then Some (codes "mnemonics, registers and helpers are written small") else None
+    if has_capital code then Some (codes "mnemonics, registers and helpers are written in lower case") else None
 
 -- Holds if the mnemonic takes a helper.
 abbrev pub is_call : Option Takes → Bool

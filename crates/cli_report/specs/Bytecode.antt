@@ -17,20 +17,20 @@ byte_of digits = unwrap_or (digits_on 16 0 (take 2 digits)) 0
 abbrev pub left_out_sentence : ℕ → List ℕ
 left_out_sentence opcode =
     if opcode == 0x85 then codes
-    "a call of a function of the program, a local call (group base32), is left out, and one of a helper by its BTF"
-    else if opcode == 0x18 then codes "a map load, a wide load of a map, a variable or code (group base64), is left out"
-    else if opcode == 0xc3 then codes "an atomic instruction of 32 bits (group atomic32) is left out"
-    else if opcode == 0xdb then codes "an atomic instruction of 64 bits (group atomic64) is left out"
-    else codes "a packet load (group packet) is left out"
+    "a local call of a function in the program (group base32), or a call of a helper by its BTF id, is not supported"
+    else if opcode == 0x18 then codes "a wide load of a map, a variable or code (group base64) is not supported"
+    else if opcode == 0xc3 then codes "a 32-bit atomic instruction (group atomic32) is not supported"
+    else if opcode == 0xdb then codes "a 64-bit atomic instruction (group atomic64) is not supported"
+    else codes "a packet load (group packet) is not supported"
 
 -- Returns the sentence for a field that selects none of the instruction's forms, by the opcode.
 abbrev pub choice_sentence : ℕ → List ℕ
 choice_sentence opcode =
     if opcode == 0xd4 || opcode == 0xd7 || opcode == 0xdc
-    then codes "a swap is of 16, 32 or 64 bits, as the number behind says"
+    then codes "the number of a byte swap must be 16, 32 or 64, its width in bits"
     else if opcode == 0xbc || opcode == 0xbf
-    then codes "the offset of a move is 0, or 8, 16 or (of 64 bits) 32 to extend so many bits by their sign"
-    else codes "the offset of a division or a remainder is 0, or 1 for the signed one"
+    then codes "the offset of a move must be 0, or the number of bits to sign-extend: 8, 16 or, in 64 bits, 32"
+    else codes "the offset of a division or remainder must be 0, or 1 if it is signed"
 
 -- Returns the sentence for a fault in a unit with these hex digits.
 abbrev pub unit_sentence : CodecFault → List ℕ → List ℕ
@@ -41,7 +41,7 @@ unit_sentence fault.WideCut digits = codes "the second half of this wide instruc
 unit_sentence fault.Register digits = codes "the registers are r0 to r10"
 unit_sentence fault.LeftOut digits = left_out_sentence (byte_of digits)
 unit_sentence fault.Operand digits = choice_sentence (byte_of digits)
-unit_sentence fault.Count digits = codes "a program has 1 to 4096 units"
+unit_sentence fault.Count digits = codes "a program must have 1 to 4096 units"
 
 -- Returns the digits of what shows that an instruction is left out. For a call and a wide load it is the source
 -- register, which is in the second byte, and otherwise the opcode.

@@ -13,14 +13,14 @@ use Rattle.cli_report.specs.Report.{has_words, report_text, shown_line}
 -- The sentence for a faulty line of a schedule.
 abbrev pub schedule_sentence : List ℕ
 schedule_sentence =
-    codes "a line is entries with one space between them, `G` or `G*K` for K of them, G being 0 to 12 and K 1 to 4096; "
+    codes "a line has entries separated by one space: `G`, or `G*K` for K times `G`, with G 0 to 12 and K 1 to 4096; "
     ++ codes "a schedule has at most 5 lines and 1048576 bytes"
 
 -- Returns the help message for a faulty line of a schedule: the likely cause by what the line contains.
 abbrev pub schedule_advice : ℕ → List ℕ → Option (List ℕ)
 schedule_advice number line =
     if begins_marked number line then Some (codes "the file begins with a byte order mark: save it without one")
-    else if has 13 line then Some (codes "the file has Windows line ends: a line ends with a line feed alone")
+    else if has 13 line then Some (codes "the file has Windows line ends: each line must end with only a line feed")
     else if has 35 line then Some (codes "a schedule has no comments")
     else None
 
@@ -45,10 +45,10 @@ is_last text number = number == length (pieces feed text)
 -- feed. With any other fault, the campaign has a line and the file has none.
 abbrev pub chronicle_sentence : Bool → TraceFault → List ℕ
 chronicle_sentence true fault.Line = codes "the file is cut off: this line has no line feed at its end"
-chronicle_sentence true f = codes "the file ends here, and the campaign has more lines"
+chronicle_sentence true f = codes "the file ends here, but the campaign's chronicle has more lines"
 chronicle_sentence false fault.Line = codes "no line of a chronicle has this shape"
 chronicle_sentence false fault.Scenario = codes "the first two lines are not those of this scenario's campaign"
-chronicle_sentence false fault.Differs = codes "this line is not the campaign's"
+chronicle_sentence false fault.Differs = codes "this line differs from the campaign's"
 
 -- Returns the help message: the campaign's own line if it is known, otherwise the likely cause by what the line
 -- contains.
@@ -56,7 +56,7 @@ abbrev pub chronicle_advice : ℕ → Option (List ℕ) → List ℕ → Option 
 chronicle_advice number (Some wanted) line = Some (has_words wanted)
 chronicle_advice number None line =
     if begins_marked number line then Some (codes "the file begins with a byte order mark: save it without one")
-    else if has 13 line then Some (codes "the file has Windows line ends: a line ends with a line feed alone")
+    else if has 13 line then Some (codes "the file has Windows line ends: each line must end with only a line feed")
     else None
 
 -- Returns the report of a fault in a line of a chronicle. Without a line, the report has no excerpt.

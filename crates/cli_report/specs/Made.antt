@@ -185,7 +185,7 @@ IsRefusedTold name own reason unit source table None told =
 -- Returns the report of bytecode that is not an even number of hex digits.
 abbrev pub hex_told : List ℕ → List ℕ → Option ℕ → List ℕ
 hex_told name own table =
-    report_text name (codes "bytecode is an even number of digits in hex, without blanks")
+    report_text name (codes "bytecode must be an even number of hex digits, without spaces")
     (option_map (shown_at true (codes "code")) (own_line table (codes "code") own)) None
 
 -- The text is the report of a fault in a general's program. `table` is the number of his table in the scenario's own

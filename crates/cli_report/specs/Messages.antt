@@ -10,32 +10,32 @@ use Rattle.cli_report.specs.Report.{report_text}
 -- The sentence for a first line of the wrong shape.
 abbrev pub first_sentence : List ℕ
 first_sentence = codes
-    "the first line is `generals N bound M commander C`, perhaps with ` rule R` behind it, where R is " ++ rule_names
+    "the first line must be `generals N bound M commander C`, perhaps with ` rule R` after it, where R is " ++ rule_names
 
 -- Returns the sentence for a fault in line `number` of a table.
 abbrev pub table_sentence : TableFault → ℕ → List ℕ
 table_sentence fault.Line number =
     if number == 1
     then first_sentence
-    else codes "a line is `tell LABEL RECEIVER ORDER`: the label's generals joined by dots, "
-    ++ codes "numbers without leading zeros, an order of at most 4294967295"
+    else codes "a line must be `tell LABEL RECEIVER ORDER`, with the label's generals joined by dots, "
+    ++ codes "numbers without leading zeros, and an order of at most 4294967295"
 table_sentence fault.Range number =
-    codes "a table has 2 to 13 generals, a bound of 0 to 4 and at most generals - 2, and a commander below generals"
+    codes "there must be 2 to 13 generals, a bound of 0 to 4 and at most generals - 2, and a commander below generals"
 table_sentence fault.Place number =
-    codes "nobody is told of this label, or not this receiver: a label begins with the commander, "
+    codes "there is no such label, or no such receiver for it: a label begins with the commander, "
     ++ codes "has at most bound + 1 generals, none twice, and the receiver is not on it"
-table_sentence fault.Twice number = codes "a line before tells this receiver of this label"
+table_sentence fault.Twice number = codes "an earlier line has an order for this label and receiver"
 
 -- Returns the help message for a line of the wrong shape: the likely cause by the first of these characters that the
 -- line contains.
 abbrev pub shape_advice : ℕ → List ℕ → Option (List ℕ)
 shape_advice number line =
     if begins_marked number line then Some (codes "the file begins with a byte order mark: save it without one")
-    else if has 13 line then Some (codes "the file has Windows line ends: a line ends with a line feed alone")
+    else if has 13 line then Some (codes "the file has Windows line ends: each line must end with only a line feed")
     else if length line == 0 then Some (codes "a table has no empty line")
-    else if has 63 line then Some (codes "an order, a number, is to stand in place of `?`")
+    else if has 63 line then Some (codes "put an order, which is a number, in place of `?`")
     else if has 35 line || has 59 line then Some (codes "a table has no comments")
-    else if has 9 line then Some (codes "one space stands between two parts, and no tab")
+    else if has 9 line then Some (codes "the parts of a line are separated by one space, not by a tab")
     else None
 
 -- Returns the help message for a faulty line of a table, if a cause is likely.

@@ -39,7 +39,7 @@ takes_text takes.Register = codes "this mnemonic takes one register, r0 to r10"
 takes_text takes.Registers = codes "this mnemonic takes two registers, r0 to r10"
 takes_text takes.Target = codes "this mnemonic takes a target: a name, `+k` or `-k`"
 takes_text takes.Branch =
-    codes "this mnemonic takes `rD, rS, target` or `rD, number, target`, a target being a name, `+k` or `-k`"
+    codes "this mnemonic takes `rD, rS, target` or `rD, number, target`, where a target is a name, `+k` or `-k`"
 takes_text takes.Load = codes "this mnemonic takes `rD, [rS+k]`, with registers r0 to r10"
 takes_text takes.StoreRegister = codes "this mnemonic takes `[rD+k], rS`, with registers r0 to r10"
 takes_text takes.StoreNumber = codes "this mnemonic takes `[rD+k], number`, with registers r0 to r10"

@@ -6,12 +6,12 @@ use Rattle.threads.specs.declared.error.MusterError.TheVariants as errors
 -- Returns the sentence for the error of a muster.
 abbrev pub muster_sentence : MusterError → List ℕ
 muster_sentence errors.Unaccounted =
-    codes "the board's accesses do not account for the letters that the threads gave back: "
-    ++ codes "this is a fault of the program or the machine, and of no file"
+    codes "the board's accesses do not explain the letters that the threads returned: "
+    ++ codes "this is a fault of the program or the machine, not of a file"
 muster_sentence errors.Spawn =
-    codes "the system starts no further thread, and a muster has one for each general: `play` needs none"
+    codes "the system cannot start another thread, and a muster needs one for each general: `play` needs none"
 muster_sentence errors.Post =
-    codes "a general's letter found the post full: this is a fault of the program, and of no file"
+    codes "a general's letter found the post full: this is a fault of the program, not of a file"
 muster_sentence errors.Memory = codes "there is not enough memory"
 
 -- Returns the report of a muster's error.

@@ -74,11 +74,11 @@ place_text name (Some m) = excerpt_text (margin_of m.number) name m
 
 -- Returns the help message that names a close name of this kind.
 abbrev pub near_words : List ℕ → List ℕ → List ℕ
-near_words kind name = codes "a " ++ (kind ++ (codes " of nearly this name is `" ++ (name ++ codes "`")))
+near_words kind name = codes "a " ++ (kind ++ (codes " with a similar name is `" ++ (name ++ codes "`")))
 
 -- Returns the help message that gives the campaign's own line.
 abbrev pub has_words : List ℕ → List ℕ
-has_words line = codes "the campaign has `" ++ line ++ codes "`"
+has_words line = codes "the campaign's line is `" ++ line ++ codes "`"
 
 -- Returns the text of a help message.
 abbrev pub help_words : Help → List ℕ

@@ -36,52 +36,52 @@ use Rattle.cli_report.specs.Units.{IsUnitLine}
 
 -- Returns the sentence for a key that is missing, or that must not be there.
 abbrev pub missing_sentence : ScenarioKey → List ℕ
-missing_sentence names.Rule = codes "a signed campaign combines nothing, and has no rule"
+missing_sentence names.Rule = codes "a signed campaign combines no orders, so it has no rule"
 missing_sentence names.Asm =
-    codes "a traitor's table has one of `asm`, `code`, `asm_file`, `code_file` and `elf`, and no second"
+    codes "a traitor's table must have exactly one of `asm`, `code`, `asm_file`, `code_file` and `elf`"
 missing_sentence name = codes "the key `" ++ text_of name ++ codes "` is missing"
 
 -- Returns the sentence for a value of the wrong type.
 abbrev pub kind_sentence : ScenarioKey → List ℕ
-kind_sentence names.Board = codes "a board is a list of whole numbers"
-kind_sentence names.Rule = codes "a rule is a text in quotation marks: " ++ rule_names
-kind_sentence names.Messages = codes "messages are a text, \"oral\" or \"signed\""
-kind_sentence names.Traitor = codes "the traitors are a list of tables, each begun by `[[traitor]]`"
-kind_sentence names.Asm = codes "a program is a text in quotation marks, as `asm = \"mov r0, 0\\nexit\"`"
-kind_sentence names.Code = codes "bytecode is a text in quotation marks, of digits in hex"
-kind_sentence name = codes "a whole number is wanted here"
+kind_sentence names.Board = codes "a board must be a list of whole numbers"
+kind_sentence names.Rule = codes "a rule must be a text in quotation marks: " ++ rule_names
+kind_sentence names.Messages = codes "messages must be a text, \"oral\" or \"signed\""
+kind_sentence names.Traitor = codes "the traitors must be a list of tables, each of which begins with `[[traitor]]`"
+kind_sentence names.Asm = codes "a program must be a text in quotation marks, such as `asm = \"mov r0, 0\\nexit\"`"
+kind_sentence names.Code = codes "bytecode must be a text of hex digits in quotation marks"
+kind_sentence name = codes "a whole number is expected here"
 
 -- Returns the sentence for a value out of its range.
 abbrev pub range_sentence : ScenarioKey → List ℕ
-range_sentence names.Generals = codes "there are 2 to 13 generals"
-range_sentence names.Bound = codes "a bound is 0 to 4, and at most generals - 2"
-range_sentence names.Commander = codes "a general is numbered from 0 on"
-range_sentence names.Order = codes "an order is 0 to 4294967295"
-range_sentence names.Board = codes "a board has at most 64 words"
-range_sentence names.Patience = codes "a patience is 1 to 4096 steps"
-range_sentence names.Rule = codes "a rule is one of these texts, in quotation marks: " ++ rule_names
+range_sentence names.Generals = codes "there must be 2 to 13 generals"
+range_sentence names.Bound = codes "a bound must be 0 to 4, and at most generals - 2"
+range_sentence names.Commander = codes "generals are numbered from 0"
+range_sentence names.Order = codes "an order must be 0 to 4294967295"
+range_sentence names.Board = codes "a board must have at most 64 words"
+range_sentence names.Patience = codes "a patience must be 1 to 4096 steps"
+range_sentence names.Rule = codes "a rule must be one of these texts, in quotation marks: " ++ rule_names
 range_sentence names.Messages =
-    codes "messages are \"oral\" or \"signed\", and of all but `play` without `--table` and `audit` \"oral\""
-range_sentence name = codes "this value is out of its range"
+    codes "messages must be \"oral\" or \"signed\", and \"oral\" for `muster` and `play --table`"
+range_sentence name = codes "this value is out of range"
 
 -- Returns the sentence for a fault of a key or its value.
 abbrev pub name_sentence : ScenarioFault → ScenarioKey → List ℕ
 name_sentence faults.Key name = missing_sentence name
 name_sentence faults.Kind name = kind_sentence name
 name_sentence faults.Range name = range_sentence name
-name_sentence faults.General name = codes "no general has this number: they are 0 to generals - 1"
-name_sentence faults.Twice name = codes "a table before is of this general"
+name_sentence faults.General name = codes "no general has this number: it must be 0 to generals - 1"
+name_sentence faults.Twice name = codes "an earlier table is for this general"
 
 -- Returns the sentence for a fault of a word of the board.
 abbrev pub word_sentence : ScenarioFault → List ℕ
-word_sentence faults.Kind = codes "a word of the board is a whole number"
-word_sentence f = codes "a word of the board is 0 to 9223372036854775807"
+word_sentence faults.Kind = codes "a word of the board must be a whole number"
+word_sentence f = codes "a word of the board must be 0 to 9223372036854775807"
 
 -- Returns the sentence for a fault at this place.
 abbrev pub place_sentence : ScenarioFault → ScenarioPlace → List ℕ
 place_sentence f (places.Key name) = name_sentence f name
 place_sentence f (places.Word index) = word_sentence f
-place_sentence f (places.Table index) = codes "a traitor is a table, begun by `[[traitor]]`"
+place_sentence f (places.Table index) = codes "a traitor must be a table that begins with `[[traitor]]`"
 place_sentence f (places.Entry index name) = name_sentence f name
 
 -- Holds if a fault is in the value of a key. The fault that a key is missing is not.
@@ -135,8 +135,8 @@ is_itself (Some known) key = bytes_eq known key
 abbrev pub entry_sentence : Option (List ℕ) → List ℕ → List ℕ
 entry_sentence known key =
     if is_itself known key
-    then codes "this key does not go with the table's others: a table has one program, and `general` or `generals`; "
-    ++ codes "`generals` is a list, a file's name a text, and `entry` goes with `elf`"
+    then codes "this key does not fit the table's other keys: a table has one program, and `general` or `generals`; "
+    ++ codes "`generals` is a list, a file's name is a text, and `entry` needs `elf`"
     else codes "a traitor's table has no such key"
 
 -- Returns the close key, unless it is the key itself.
@@ -253,7 +253,7 @@ code_line_told name f unit (Some line) =
 -- Returns the sentence for a program that the verifier rejects.
 abbrev pub verifier_sentence : Reason → ℕ → List ℕ
 verifier_sentence reason unit =
-    codes "the verifier refuses this program, by " ++ (code_of reason ++ (codes " at its unit " ++ decimal unit))
+    codes "the verifier rejects this program: " ++ (code_of reason ++ (codes " at its unit " ++ decimal unit))
 
 -- Returns the line with the key of a program: that of its assembly, otherwise that of its bytecode.
 abbrev pub source_line : ℕ → List ℕ → Option Found
@@ -307,7 +307,7 @@ IsRefusedProgram name text general reason unit told =
 -- Returns the report of bytecode that is not an even number of hex digits.
 abbrev pub hex_told : List ℕ → List ℕ → ℕ → List ℕ
 hex_told name text general =
-    report_text name (codes "bytecode is an even number of digits in hex, without blanks")
+    report_text name (codes "bytecode must be an even number of hex digits, without spaces")
     (option_map (shown_at true (codes "code")) (program_line general (codes "code") text)) None
 
 -- The text is the report of a fault in this general's program.

@@ -13,35 +13,35 @@ use Rattle.cli_report.specs.Report.{Mark, near_words, report_text}
 
 -- Returns the sentence for a value of the wrong type.
 abbrev pub setting_kind_sentence : SettingKey → List ℕ
-setting_kind_sentence names.Taken = codes "the orders taken are a list of whole numbers"
-setting_kind_sentence names.Board = codes "the board is a list of whole numbers"
-setting_kind_sentence name = codes "a whole number is wanted here"
+setting_kind_sentence names.Taken = codes "the orders taken must be a list of whole numbers"
+setting_kind_sentence names.Board = codes "the board must be a list of whole numbers"
+setting_kind_sentence name = codes "a whole number is expected here"
 
 -- Returns the sentence for a value out of its range.
 abbrev pub setting_range_sentence : SettingKey → List ℕ
-setting_range_sentence names.Generals = codes "there are 2 to 13 generals"
-setting_range_sentence names.Bound = codes "a bound is 0 to 4, and at most generals - 2"
-setting_range_sentence names.Round = codes "a round is 1 to bound + 1"
-setting_range_sentence names.Taken = codes "these are more orders than he relays labels in this round"
-setting_range_sentence names.Board = codes "a board has at most 64 words"
-setting_range_sentence name = codes "this value is out of its range"
+setting_range_sentence names.Generals = codes "there must be 2 to 13 generals"
+setting_range_sentence names.Bound = codes "a bound must be 0 to 4, and at most generals - 2"
+setting_range_sentence names.Round = codes "a round must be 1 to bound + 1"
+setting_range_sentence names.Taken = codes "there are more orders than labels that he relays in this round"
+setting_range_sentence names.Board = codes "a board must have at most 64 words"
+setting_range_sentence name = codes "this value is out of range"
 
 -- Returns the sentence for a fault of a key or its value.
 abbrev pub setting_name_sentence : SettingFault → SettingKey → List ℕ
 setting_name_sentence faults.Key name = codes "the key `" ++ text_of name ++ codes "` is missing"
 setting_name_sentence faults.Kind name = setting_kind_sentence name
 setting_name_sentence faults.Range name = setting_range_sentence name
-setting_name_sentence faults.General name = codes "no general has this number: they are 0 to generals - 1"
+setting_name_sentence faults.General name = codes "no general has this number: it must be 0 to generals - 1"
 
 -- Returns the sentence for a fault of an order that was taken.
 abbrev pub order_sentence : SettingFault → List ℕ
-order_sentence faults.Kind = codes "an order that was taken is a whole number"
-order_sentence f = codes "an order is 0 to 4294967295"
+order_sentence faults.Kind = codes "an order that was taken must be a whole number"
+order_sentence f = codes "an order must be 0 to 4294967295"
 
 -- Returns the sentence for a fault of a word of the board.
 abbrev pub setting_word_sentence : SettingFault → List ℕ
-setting_word_sentence faults.Kind = codes "a word of the board is a whole number"
-setting_word_sentence f = codes "a word of the board is 0 to 2^63 - 1"
+setting_word_sentence faults.Kind = codes "a word of the board must be a whole number"
+setting_word_sentence f = codes "a word of the board must be 0 to 2^63 - 1"
 
 -- Returns the sentence for a fault at this place.
 abbrev pub setting_sentence : SettingFault → SettingPlace → List ℕ

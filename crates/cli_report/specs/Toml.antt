@@ -16,7 +16,7 @@ span_marked text start end =
 
 -- Returns the sentence with a parser's message.
 abbrev pub unread_sentence : List ℕ → List ℕ
-unread_sentence message = codes "the text is no TOML: " ++ message
+unread_sentence message = codes "the text is not TOML: " ++ message
 
 -- Returns the report of a parser's message on the bytes between these two offsets.
 abbrev pub span_told : List ℕ → List ℕ → List ℕ → ℕ → ℕ → List ℕ

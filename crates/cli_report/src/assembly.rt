@@ -181,7 +181,7 @@ fn outline_sentence(code: &[u8]) -> &'static str
     match past_ascii(code) {
         [] =>
             "a line is `[name:] [mnemonic operands] [; comment]`, with commas between the operands",
-        _ => "a character that is not of ASCII stands outside a comment",
+        _ => "a character outside a comment is not ASCII",
     }
 }
 
@@ -201,7 +201,7 @@ fn operand_sentence(takes: Option<Takes>, operands: &[u8]) -> &'static str
     ensures { result.now ≡ operand_sentence takes operands.now }
 {
     match takes {
-        None => "the operands are not those of the mnemonic",
+        None => "the operands do not fit the mnemonic",
         Some(Takes::Call) => call_sentence(operands),
         Some(takes) => takes.text(),
     }
@@ -212,14 +212,14 @@ fn range_sentence(takes: Option<Takes>) -> &'static str
     ensures { result.now ≡ range_sentence takes }
 {
     match takes {
-        Some(Takes::Wide) => "a number here is -9223372036854775808 to 18446744073709551615",
-        Some(Takes::Load | Takes::StoreRegister) => "an offset is -32768 to 32767",
-        Some(Takes::Target) => "a jump leads at most 32767 units on (with `ja.w` 2147483647)",
+        Some(Takes::Wide) => "a number here must be -9223372036854775808 to 18446744073709551615",
+        Some(Takes::Load | Takes::StoreRegister) => "an offset must be -32768 to 32767",
+        Some(Takes::Target) => "a jump must lead at most 32767 units forward (2147483647 with `ja.w`)",
         Some(Takes::Branch) =>
-            "a number here is -2147483648 to 2147483647, and a jump leads at most 32767 units on",
+            "a number here must be -2147483648 to 2147483647, and a jump must lead at most 32767 units forward",
         Some(Takes::StoreNumber) =>
-            "a number here is -2147483648 to 2147483647, and an offset -32768 to 32767",
-        _ => "a number here is -2147483648 to 2147483647",
+            "a number here must be -2147483648 to 2147483647, and an offset -32768 to 32767",
+        _ => "a number here must be -2147483648 to 2147483647",
     }
 }
 
@@ -231,10 +231,10 @@ pub(crate) fn sentence(fault: AsmFault, code: &[u8]) -> &'static str
         AsmFault::Line => outline_sentence(code),
         AsmFault::Mnemonic => "there is no such mnemonic",
         AsmFault::Operand => operand_sentence(taken(mnemonic_in(code)), operands_in(code)),
-        AsmFault::Label => "no line has this name",
-        AsmFault::Twice => "a line before has this name",
+        AsmFault::Label => "no line defines this name",
+        AsmFault::Twice => "an earlier line defines this name",
         AsmFault::Range => range_sentence(taken(mnemonic_in(code))),
-        AsmFault::Count => "a program has 1 to 4096 units",
+        AsmFault::Count => "a program must have 1 to 4096 units",
     }
 }
 
@@ -266,13 +266,13 @@ fn outline_help(number: u64, line: &[u8], code: &[u8]) -> Option<Help<'static>>
     let sentence = if begins_marked(number, line) {
         "the file begins with a byte order mark: save it without one"
     } else if has(b'\r', line) {
-        "a carriage return stands only before a line feed: these are other line ends"
+        "a carriage return is allowed only right before a line feed"
     } else if has(b'#', code) || has(b'/', code) {
         "a comment begins with `;`"
     } else if has(b'=', code) {
         "`r0 = 1` is written `mov r0, 1`"
     } else if has(b'[', code) {
-        "inside an operand stands no blank: `[r1+8]`"
+        "an operand contains no spaces: `[r1+8]`"
     } else {
         return None;
     };
@@ -288,7 +288,7 @@ fn or_small(code: &[u8], kind: &'static str, name: Option<&'static str>) -> Opti
     match name {
         Some(name) => Some(Help::Near(kind, name)),
         None if has_capital(code) => Some(Help::Said(
-            "mnemonics, registers and helpers are written small",
+            "mnemonics, registers and helpers are written in lower case",
         )),
         None => None,
     }

@@ -24,12 +24,12 @@ fn left_out_sentence(opcode: u128) -> &'static str
     ensures { result.now ≡ left_out_sentence opcode }
 {
     match opcode {
-        0x85 => "a call of a function of the program, a local call (group base32), is left out, \
-             and one of a helper by its BTF",
-        0x18 => "a map load, a wide load of a map, a variable or code (group base64), is left out",
-        0xc3 => "an atomic instruction of 32 bits (group atomic32) is left out",
-        0xdb => "an atomic instruction of 64 bits (group atomic64) is left out",
-        _ => "a packet load (group packet) is left out",
+        0x85 => "a local call of a function in the program (group base32), or a call of a helper by its BTF id, \
+             is not supported",
+        0x18 => "a wide load of a map, a variable or code (group base64) is not supported",
+        0xc3 => "a 32-bit atomic instruction (group atomic32) is not supported",
+        0xdb => "a 64-bit atomic instruction (group atomic64) is not supported",
+        _ => "a packet load (group packet) is not supported",
     }
 }
 
@@ -38,10 +38,10 @@ fn choice_sentence(opcode: u128) -> &'static str
     ensures { result.now ≡ choice_sentence opcode }
 {
     match opcode {
-        0xd4 | 0xd7 | 0xdc => "a swap is of 16, 32 or 64 bits, as the number behind says",
+        0xd4 | 0xd7 | 0xdc => "the number of a byte swap must be 16, 32 or 64, its width in bits",
         0xbc | 0xbf =>
-            "the offset of a move is 0, or 8, 16 or (of 64 bits) 32 to extend so many bits by their sign",
-        _ => "the offset of a division or a remainder is 0, or 1 for the signed one",
+            "the offset of a move must be 0, or the number of bits to sign-extend: 8, 16 or, in 64 bits, 32",
+        _ => "the offset of a division or remainder must be 0, or 1 if it is signed",
     }
 }
 
@@ -57,7 +57,7 @@ pub(crate) fn unit_sentence(fault: CodecFault, hex: &[u8]) -> &'static str
         CodecFault::Register => "the registers are r0 to r10",
         CodecFault::LeftOut => left_out_sentence(byte_of(hex)),
         CodecFault::Operand => choice_sentence(byte_of(hex)),
-        CodecFault::Count => "a program has 1 to 4096 units",
+        CodecFault::Count => "a program must have 1 to 4096 units",
     }
 }
 

@@ -17,7 +17,7 @@ fn ends_help(number: u64, line: &[u8]) -> Option<Help<'static>>
     if begins_marked(number, line) {
         Some(Help::Said("the file begins with a byte order mark: save it without one"))
     } else if has(b'\r', line) {
-        Some(Help::Said("the file has Windows line ends: a line ends with a line feed alone"))
+        Some(Help::Said("the file has Windows line ends: each line must end with only a line feed"))
     } else {
         None
     }
@@ -45,7 +45,7 @@ fn schedule_line_told(
         ≡ schedule_line_told name.now number (option_map (λ l. l.now) line.entry)) }
 {
     let sentence =
-        "a line is entries with one space between them, `G` or `G*K` for K of them, G being 0 to 12 and K 1 to 4096; \
+        "a line has entries separated by one space: `G`, or `G*K` for K times `G`, with G 0 to 12 and K 1 to 4096; \
          a schedule has at most 5 lines and 1048576 bytes";
     let Some(line) = line else {
         return report(alloc, name, sentence, None, None);
@@ -89,10 +89,10 @@ fn chronicle_sentence(last: bool, fault: TraceFault) -> &'static str
 {
     match fault {
         TraceFault::Line if last => "the file is cut off: this line has no line feed at its end",
-        _ if last => "the file ends here, and the campaign has more lines",
+        _ if last => "the file ends here, but the campaign's chronicle has more lines",
         TraceFault::Line => "no line of a chronicle has this shape",
         TraceFault::Scenario => "the first two lines are not those of this scenario's campaign",
-        TraceFault::Differs => "this line is not the campaign's",
+        TraceFault::Differs => "this line differs from the campaign's",
     }
 }
 

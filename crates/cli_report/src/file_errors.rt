@@ -368,7 +368,7 @@ fn hex_told(
 ) -> Result<String, AllocError>
     ensures { IfOk result (λ told. string_bytes told ≡ hex_told name.now own.now table) }
 {
-    let sentence = "bytecode is an even number of digits in hex, without blanks";
+    let sentence = "bytecode must be an even number of hex digits, without spaces";
     let mark = value_mark(b"code", own_line(table, b"code", own));
     report(alloc, name, sentence, mark, None)
 }

@@ -16,7 +16,7 @@ fn first_sentence(alloc: Global) -> Result<String, AllocError>
 {
     let names = Rule::names();
     format!(in alloc;
-        "the first line is `generals N bound M commander C`, perhaps with ` rule R` behind it, where R is {names}"
+        "the first line must be `generals N bound M commander C`, perhaps with ` rule R` after it, where R is {names}"
     )
 }
 
@@ -27,14 +27,14 @@ fn sentence(alloc: Global, fault: TableFault, number: u64) -> Result<String, All
     let sentence = match fault {
         TableFault::Line if number == 1 => return first_sentence(alloc),
         TableFault::Line =>
-            "a line is `tell LABEL RECEIVER ORDER`: the label's generals joined by dots, \
-             numbers without leading zeros, an order of at most 4294967295",
+            "a line must be `tell LABEL RECEIVER ORDER`, with the label's generals joined by dots, \
+             numbers without leading zeros, and an order of at most 4294967295",
         TableFault::Range =>
-            "a table has 2 to 13 generals, a bound of 0 to 4 and at most generals - 2, and a commander below generals",
+            "there must be 2 to 13 generals, a bound of 0 to 4 and at most generals - 2, and a commander below generals",
         TableFault::Place =>
-            "nobody is told of this label, or not this receiver: a label begins with the commander, \
+            "there is no such label, or no such receiver for it: a label begins with the commander, \
              has at most bound + 1 generals, none twice, and the receiver is not on it",
-        TableFault::Twice => "a line before tells this receiver of this label",
+        TableFault::Twice => "an earlier line has an order for this label and receiver",
     };
     String::from_str(alloc, sentence)
 }
@@ -46,15 +46,15 @@ fn shape_help(number: u64, line: &[u8]) -> Option<Help<'static>>
     let sentence = if begins_marked(number, line) {
         "the file begins with a byte order mark: save it without one"
     } else if has(b'\r', line) {
-        "the file has Windows line ends: a line ends with a line feed alone"
+        "the file has Windows line ends: each line must end with only a line feed"
     } else if line.is_empty() {
         "a table has no empty line"
     } else if has(b'?', line) {
-        "an order, a number, is to stand in place of `?`"
+        "put an order, which is a number, in place of `?`"
     } else if has(b'#', line) || has(b';', line) {
         "a table has no comments"
     } else if has(b'\t', line) {
-        "one space stands between two parts, and no tab"
+        "the parts of a line are separated by one space, not by a tab"
     } else {
         return None;
     };

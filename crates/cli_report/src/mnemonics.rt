@@ -43,7 +43,7 @@ impl Takes {
             Takes::Registers => "this mnemonic takes two registers, r0 to r10",
             Takes::Target => "this mnemonic takes a target: a name, `+k` or `-k`",
             Takes::Branch =>
-                "this mnemonic takes `rD, rS, target` or `rD, number, target`, a target being a name, `+k` or `-k`",
+                "this mnemonic takes `rD, rS, target` or `rD, number, target`, where a target is a name, `+k` or `-k`",
             Takes::Load => "this mnemonic takes `rD, [rS+k]`, with registers r0 to r10",
             Takes::StoreRegister => "this mnemonic takes `[rD+k], rS`, with registers r0 to r10",
             Takes::StoreNumber => "this mnemonic takes `[rD+k], number`, with registers r0 to r10",

@@ -11,12 +11,12 @@ fn sentence(error: MusterError) -> &'static str
 {
     match error {
         MusterError::Unaccounted =>
-            "the board's accesses do not account for the letters that the threads gave back: \
-             this is a fault of the program or the machine, and of no file",
+            "the board's accesses do not explain the letters that the threads returned: \
+             this is a fault of the program or the machine, not of a file",
         MusterError::Spawn =>
-            "the system starts no further thread, and a muster has one for each general: `play` needs none",
+            "the system cannot start another thread, and a muster needs one for each general: `play` needs none",
         MusterError::Post =>
-            "a general's letter found the post full: this is a fault of the program, and of no file",
+            "a general's letter found the post full: this is a fault of the program, not of a file",
         MusterError::Memory => "there is not enough memory",
     }
 }

@@ -278,7 +278,7 @@ pub(crate) fn verifier_sentence(
 ) -> Result<String, AllocError>
     ensures { IfOk result (λ text. string_bytes text ≡ verifier_sentence reason unit) }
 {
-    format!(in alloc; "the verifier refuses this program, by {reason} at its unit {unit}")
+    format!(in alloc; "the verifier rejects this program: {reason} at its unit {unit}")
 }
 
 /// Marks the statement in the program's line at this spot.
@@ -382,7 +382,7 @@ fn hex_told(alloc: Global, name: &str, text: &[u8], general: u8) -> Result<Strin
     ensures { IfOk result (λ told. string_bytes told ≡ hex_told name.now text.now general) }
 {
     let line = program_line(alloc, general, b"code", text)?;
-    let sentence = "bytecode is an even number of digits in hex, without blanks";
+    let sentence = "bytecode must be an even number of hex digits, without spaces";
     report(alloc, name, sentence, value_mark(b"code", line), None)
 }
 

@@ -40,8 +40,8 @@ impl fmt::Display for Help<'_> {
     fn fmt<W: fmt::Write>(&self, f: &mut fmt::Formatter<W>) -> fmt::Result {
         match *self {
             Help::Said(sentence) => f.write_str(sentence),
-            Help::Near(kind, name) => write!(f, "a {kind} of nearly this name is `{name}`"),
-            Help::Has(line) => write!(f, "the campaign has `{line}`"),
+            Help::Near(kind, name) => write!(f, "a {kind} with a similar name is `{name}`"),
+            Help::Has(line) => write!(f, "the campaign's line is `{line}`"),
         }
     }
 }

@@ -44,11 +44,11 @@ fn missing_sentence(alloc: Global, name: ScenarioKey) -> Result<String, AllocErr
     match name {
         ScenarioKey::Rule => String::from_str(
             alloc,
-            "a signed campaign combines nothing, and has no rule",
+            "a signed campaign combines no orders, so it has no rule",
         ),
         ScenarioKey::Asm => String::from_str(
             alloc,
-            "a traitor's table has one of `asm`, `code`, `asm_file`, `code_file` and `elf`, and no second",
+            "a traitor's table must have exactly one of `asm`, `code`, `asm_file`, `code_file` and `elf`",
         ),
         name => format!(in alloc; "the key `{}` is missing", name.text()),
     }
@@ -61,15 +61,15 @@ fn kind_sentence(alloc: Global, name: ScenarioKey) -> Result<String, AllocError>
     let sentence = match name {
         ScenarioKey::Rule => {
             let names = Rule::names();
-            return format!(in alloc; "a rule is a text in quotation marks: {names}");
+            return format!(in alloc; "a rule must be a text in quotation marks: {names}");
         }
-        ScenarioKey::Board => "a board is a list of whole numbers",
-        ScenarioKey::Messages => "messages are a text, \"oral\" or \"signed\"",
-        ScenarioKey::Traitor => "the traitors are a list of tables, each begun by `[[traitor]]`",
+        ScenarioKey::Board => "a board must be a list of whole numbers",
+        ScenarioKey::Messages => "messages must be a text, \"oral\" or \"signed\"",
+        ScenarioKey::Traitor => "the traitors must be a list of tables, each of which begins with `[[traitor]]`",
         ScenarioKey::Asm =>
-            "a program is a text in quotation marks, as `asm = \"mov r0, 0\\nexit\"`",
-        ScenarioKey::Code => "bytecode is a text in quotation marks, of digits in hex",
-        _ => "a whole number is wanted here",
+            "a program must be a text in quotation marks, such as `asm = \"mov r0, 0\\nexit\"`",
+        ScenarioKey::Code => "bytecode must be a text of hex digits in quotation marks",
+        _ => "a whole number is expected here",
     };
     String::from_str(alloc, sentence)
 }
@@ -81,17 +81,17 @@ fn range_sentence(alloc: Global, name: ScenarioKey) -> Result<String, AllocError
     let sentence = match name {
         ScenarioKey::Rule => {
             let names = Rule::names();
-            return format!(in alloc; "a rule is one of these texts, in quotation marks: {names}");
+            return format!(in alloc; "a rule must be one of these texts, in quotation marks: {names}");
         }
-        ScenarioKey::Generals => "there are 2 to 13 generals",
-        ScenarioKey::Bound => "a bound is 0 to 4, and at most generals - 2",
-        ScenarioKey::Commander => "a general is numbered from 0 on",
-        ScenarioKey::Order => "an order is 0 to 4294967295",
-        ScenarioKey::Board => "a board has at most 64 words",
-        ScenarioKey::Patience => "a patience is 1 to 4096 steps",
+        ScenarioKey::Generals => "there must be 2 to 13 generals",
+        ScenarioKey::Bound => "a bound must be 0 to 4, and at most generals - 2",
+        ScenarioKey::Commander => "generals are numbered from 0",
+        ScenarioKey::Order => "an order must be 0 to 4294967295",
+        ScenarioKey::Board => "a board must have at most 64 words",
+        ScenarioKey::Patience => "a patience must be 1 to 4096 steps",
         ScenarioKey::Messages =>
-            "messages are \"oral\" or \"signed\", and of all but `play` without `--table` and `audit` \"oral\"",
-        _ => "this value is out of its range",
+            "messages must be \"oral\" or \"signed\", and \"oral\" for `muster` and `play --table`",
+        _ => "this value is out of range",
     };
     String::from_str(alloc, sentence)
 }
@@ -108,8 +108,8 @@ fn name_sentence(
         ScenarioFault::Key => return missing_sentence(alloc, name),
         ScenarioFault::Kind => return kind_sentence(alloc, name),
         ScenarioFault::Range => return range_sentence(alloc, name),
-        ScenarioFault::General => "no general has this number: they are 0 to generals - 1",
-        ScenarioFault::Twice => "a table before is of this general",
+        ScenarioFault::General => "no general has this number: it must be 0 to generals - 1",
+        ScenarioFault::Twice => "an earlier table is for this general",
     };
     String::from_str(alloc, sentence)
 }
@@ -119,8 +119,8 @@ fn word_sentence(fault: ScenarioFault) -> &'static str
     ensures { result.now ≡ word_sentence fault }
 {
     match fault {
-        ScenarioFault::Kind => "a word of the board is a whole number",
-        _ => "a word of the board is 0 to 9223372036854775807",
+        ScenarioFault::Kind => "a word of the board must be a whole number",
+        _ => "a word of the board must be 0 to 9223372036854775807",
     }
 }
 
@@ -139,7 +139,7 @@ pub(crate) fn place_sentence(
         ScenarioPlace::Word(_) => String::from_str(alloc, word_sentence(fault)),
         ScenarioPlace::Table(_) => String::from_str(
             alloc,
-            "a traitor is a table, begun by `[[traitor]]`",
+            "a traitor must be a table that begins with `[[traitor]]`",
         ),
     }
 }
@@ -266,8 +266,8 @@ fn entry_sentence(known: Option<&'static str>, word: &[u8]) -> &'static str
     ensures { result.now ≡ entry_sentence (option_map (λ k. k.now) known.entry) word.now }
 {
     if is_itself(known, word) {
-        "this key does not go with the table's others: a table has one program, and `general` or `generals`; \
-         `generals` is a list, a file's name a text, and `entry` goes with `elf`"
+        "this key does not fit the table's other keys: a table has one program, and `general` or `generals`; \
+         `generals` is a list, a file's name is a text, and `entry` needs `elf`"
     } else {
         "a traitor's table has no such key"
     }

@@ -27,9 +27,9 @@ fn kind_sentence(name: SettingKey) -> &'static str
     ensures { result.now ≡ setting_kind_sentence name }
 {
     match name {
-        SettingKey::Taken => "the orders taken are a list of whole numbers",
-        SettingKey::Board => "the board is a list of whole numbers",
-        _ => "a whole number is wanted here",
+        SettingKey::Taken => "the orders taken must be a list of whole numbers",
+        SettingKey::Board => "the board must be a list of whole numbers",
+        _ => "a whole number is expected here",
     }
 }
 
@@ -38,12 +38,12 @@ fn range_sentence(name: SettingKey) -> &'static str
     ensures { result.now ≡ setting_range_sentence name }
 {
     match name {
-        SettingKey::Generals => "there are 2 to 13 generals",
-        SettingKey::Bound => "a bound is 0 to 4, and at most generals - 2",
-        SettingKey::Round => "a round is 1 to bound + 1",
-        SettingKey::Taken => "these are more orders than he relays labels in this round",
-        SettingKey::Board => "a board has at most 64 words",
-        _ => "this value is out of its range",
+        SettingKey::Generals => "there must be 2 to 13 generals",
+        SettingKey::Bound => "a bound must be 0 to 4, and at most generals - 2",
+        SettingKey::Round => "a round must be 1 to bound + 1",
+        SettingKey::Taken => "there are more orders than labels that he relays in this round",
+        SettingKey::Board => "a board must have at most 64 words",
+        _ => "this value is out of range",
     }
 }
 
@@ -55,7 +55,7 @@ fn name_sentence(alloc: Global, fault: SettingFault, name: SettingKey) -> Result
         SettingFault::Key => return format!(in alloc; "the key `{}` is missing", name.text()),
         SettingFault::Kind => kind_sentence(name),
         SettingFault::Range => range_sentence(name),
-        SettingFault::General => "no general has this number: they are 0 to generals - 1",
+        SettingFault::General => "no general has this number: it must be 0 to generals - 1",
     };
     String::from_str(alloc, sentence)
 }
@@ -65,8 +65,8 @@ fn order_sentence(fault: SettingFault) -> &'static str
     ensures { result.now ≡ order_sentence fault }
 {
     match fault {
-        SettingFault::Kind => "an order that was taken is a whole number",
-        _ => "an order is 0 to 4294967295",
+        SettingFault::Kind => "an order that was taken must be a whole number",
+        _ => "an order must be 0 to 4294967295",
     }
 }
 
@@ -75,8 +75,8 @@ fn word_sentence(fault: SettingFault) -> &'static str
     ensures { result.now ≡ setting_word_sentence fault }
 {
     match fault {
-        SettingFault::Kind => "a word of the board is a whole number",
-        _ => "a word of the board is 0 to 2^63 - 1",
+        SettingFault::Kind => "a word of the board must be a whole number",
+        _ => "a word of the board must be 0 to 2^63 - 1",
     }
 }
 

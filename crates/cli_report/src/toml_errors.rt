@@ -48,7 +48,7 @@ fn span_told(
 ) -> Result<String, AllocError>
     ensures { IfOk result (λ told. string_bytes told ≡ span_told name.now text.now message.now start end) }
 {
-    let sentence = format!(in alloc; "the text is no TOML: {message}")?;
+    let sentence = format!(in alloc; "the text is not TOML: {message}")?;
     let mark = span_marked(text, start, end);
     report(alloc, name, sentence.as_str(), Some(mark), None)
 }

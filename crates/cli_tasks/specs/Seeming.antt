@@ -42,6 +42,6 @@ likeness_of _ bytes = None
 
 -- Returns the line which says what the bytes seem to be.
 abbrev pub seems_text : Likeness → List ℕ
-seems_text Hex = codes "it seems to be bytecode in hex, of which `xxd -r -p` makes bytes"
+seems_text Hex = codes "it seems to be bytecode in hex, which `xxd -r -p` turns into bytes"
 seems_text Object = codes "it seems to be an ELF object, which `--elf` reads"
-seems_text Text = codes "it seems to be text, and no bytecode: assembly is checked by `check --asm`"
+seems_text Text = codes "it seems to be text, not bytecode: `check --asm` checks assembly"

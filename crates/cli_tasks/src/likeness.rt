@@ -25,10 +25,10 @@ impl fmt::Display for Likeness {
 
     fn fmt<W: fmt::Write>(&self, f: &mut fmt::Formatter<W>) -> fmt::Result {
         f.write_str(match self {
-            Likeness::Hex => "it seems to be bytecode in hex, of which `xxd -r -p` makes bytes",
+            Likeness::Hex => "it seems to be bytecode in hex, which `xxd -r -p` turns into bytes",
             Likeness::Object => "it seems to be an ELF object, which `--elf` reads",
             Likeness::Text =>
-                "it seems to be text, and no bytecode: assembly is checked by `check --asm`",
+                "it seems to be text, not bytecode: `check --asm` checks assembly",
         })
     }
 }

@@ -9,15 +9,15 @@ pub fn reason(kind: ErrorKind) -> &'static str
     ensures { result.now ≡ reason_text kind }
 {
     match kind {
-        ErrorKind::NotFound => "there is no file of this name",
+        ErrorKind::NotFound => "there is no file with this name",
         ErrorKind::PermissionDenied => "the system does not permit it",
         ErrorKind::IsADirectory => "it is a folder",
-        ErrorKind::NotADirectory => "a part of its name before a slash is no folder",
-        ErrorKind::InvalidFilename => "its name is longer than the system takes",
-        ErrorKind::FilesystemLoop => "its name leads through too many links",
-        ErrorKind::ReadOnlyFilesystem => "its file system cannot be written",
-        ErrorKind::StorageFull => "no room is left for it",
-        ErrorKind::BrokenPipe => "who reads it has gone",
-        _ => "the system gives no reason that is known here",
+        ErrorKind::NotADirectory => "a part of its path is not a folder",
+        ErrorKind::InvalidFilename => "its name is longer than the system allows",
+        ErrorKind::FilesystemLoop => "its path has too many links",
+        ErrorKind::ReadOnlyFilesystem => "its file system is read-only",
+        ErrorKind::StorageFull => "there is no space left for it",
+        ErrorKind::BrokenPipe => "its reader has closed it",
+        _ => "the system gives no known reason",
     }
 }

@@ -31,7 +31,7 @@ leaf usage = record { top = shape usage; subs = [] }
 
 -- The description of the program in its help.
 abbrev pub lab_about : Text
-lab_about = codes "A laboratory for the Byzantine generals problem; a hyphen as a file is standard input"
+lab_about = codes "A laboratory for the Byzantine generals problem; the file name `-` means standard input"
 
 -- The text that `--version` prints.
 abbrev pub lab_version : Text

@@ -13,7 +13,7 @@ use std::alloc::{AllocError, Global};
 
 /// The description of the program in its help.
 const ABOUT: &str =
-    "A laboratory for the Byzantine generals problem; a hyphen as a file is standard input";
+    "A laboratory for the Byzantine generals problem; the file name `-` means standard input";
 
 /// The text that `--version` prints: the version, and the line of `rt version` for the toolchain that proves this
 /// program.

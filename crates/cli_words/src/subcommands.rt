@@ -10,22 +10,22 @@ use std::slice;
 
 /// The help of `--explain` for a program.
 const EXPLAIN: &str =
-    "Tells what is known of the registers that are read, and what a refused instruction misses";
+    "Prints what is known about each register that is read, and why an instruction is rejected";
 
 /// The help of `--explain` for a campaign.
-const EXPLAIN_DECISIONS: &str = "Tells how each decision comes about, or why a file is refused";
+const EXPLAIN_DECISIONS: &str = "Explains how each decision is made, or why a file is refused";
 
 /// The help of `--entry`.
-const ENTRY: &str = "The function of the object; without it, its only global one";
+const ENTRY: &str = "The function of the object; by default its only global function";
 
 /// The help of `--json`.
-const JSON: &str = "Prints JSON Lines, an object for each line, and what is refused as one too";
+const JSON: &str = "Prints JSON Lines: an object for each line, also for a refusal";
 
 /// The help of `--verdicts`.
-const VERDICTS: &str = "Prints one line for each file, and takes several";
+const VERDICTS: &str = "Prints one line for each file, and accepts several files";
 
 /// The help of `--of` for a campaign.
-const OF: &str = "Explains this lieutenant's decision alone";
+const OF: &str = "Explains only this lieutenant's decision";
 
 /// The place of a program.
 const BYTECODE: Place<'static> = Place {
@@ -36,7 +36,7 @@ const BYTECODE: Place<'static> = Place {
 /// The place of a message table.
 const TOLD: Place<'static> = Place {
     name: "FILE",
-    help: "The message table: who told whom what",
+    help: "The message table: who sent which order to whom",
 };
 
 /// The place of a scenario.
@@ -48,28 +48,28 @@ const SCENARIO: Place<'static> = Place {
 /// The place of a chronicle.
 const CHRONICLE: Place<'static> = Place {
     name: "CHRONICLE",
-    help: "What `play` or `muster` has printed of this campaign",
+    help: "The campaign's chronicle, as `play` or `muster` printed it",
 };
 
 /// The place of a chronicle, or of a list of accesses.
 const ACCESSES: Place<'static> = Place {
     name: "CHRONICLE",
-    help: "What `play` or `muster` has printed of this campaign; with --accesses the accesses themselves, \
-           as '5 4 / 4 5'",
+    help: "The campaign's chronicle, as `play` or `muster` printed it; with --accesses the accesses, \
+           such as '5 4 / 4 5'",
 };
 
 /// The option `--schedule`.
 const SCHEDULED: Flag<'static> = Flag::Option {
     name: "schedule",
     value: "FILE",
-    help: "The order of the turns; without it each round is punctual",
+    help: "The order of the turns; by default each round is punctual",
 };
 
 /// The option `--chronicle` of `page`.
 const RECORDED: Flag<'static> = Flag::Option {
     name: "chronicle",
     value: "FILE",
-    help: "Tells what this chronicle tells",
+    help: "Shows what this chronicle records",
 };
 
 /// The option `-o` of `page`.
@@ -77,7 +77,7 @@ const PAGE_TARGET: Flag<'static> = Flag::Letter {
     name: "target",
     letter: 'o',
     value: "FILE",
-    help: "Writes to this file, once the page is whole",
+    help: "Writes to this file, when the page is complete",
 };
 
 pub(crate) const CHECK: Subcommand<'static> = Subcommand {
@@ -99,7 +99,7 @@ pub(crate) const CHECK: Subcommand<'static> = Subcommand {
         },
         Flag::Switch {
             name: "trace",
-            help: "Tells each step of the run",
+            help: "Prints each step of the run",
         },
         Flag::Switch {
             name: "json",
@@ -112,7 +112,7 @@ pub(crate) const CHECK: Subcommand<'static> = Subcommand {
         Flag::Option {
             name: "context",
             value: "CONTEXT",
-            help: "Runs it in the context that this TOML tells, and prints what it put and changed",
+            help: "Runs it in the context that this TOML file describes, and prints what it set and changed",
         },
         Flag::Option {
             name: "entry",
@@ -136,17 +136,17 @@ const ASM: Subcommand<'static> = Subcommand {
         },
         Flag::Switch {
             name: "explain",
-            help: "Shows a refused line, and says what was wanted there",
+            help: "Shows a refused line, and says what was expected there",
         },
         Flag::Switch {
             name: "partial",
-            help: "Takes units as bytes too, as `dis --partial` writes them",
+            help: "Also accepts units as bytes, as `dis --partial` writes them",
         },
         Flag::Letter {
             name: "target",
             letter: 'o',
             value: "FILE",
-            help: "Writes to this file, once all is translated",
+            help: "Writes to this file, when everything is translated",
         },
     ],
 };
@@ -170,7 +170,7 @@ const DIS: Subcommand<'static> = Subcommand {
         },
         Flag::Switch {
             name: "partial",
-            help: "Writes a unit that cannot be decoded as bytes, and why, and goes on",
+            help: "Writes a unit that cannot be decoded as bytes, with the reason, and continues",
         },
         Flag::Option {
             name: "entry",
@@ -187,7 +187,7 @@ const BOOK: Subcommand<'static> = Subcommand {
     flags: &[
         Flag::Switch {
             name: "explain",
-            help: "Tells how each decision comes about",
+            help: "Explains how each decision is made",
         },
         Flag::Switch {
             name: "json",
@@ -196,7 +196,7 @@ const BOOK: Subcommand<'static> = Subcommand {
         Flag::Option {
             name: "traitors",
             value: "G,H",
-            help: "Tells it with these generals named as traitors",
+            help: "Explains the decisions with these generals named as traitors",
         },
     ],
 };
@@ -222,12 +222,12 @@ const TABLE: Subcommand<'static> = Subcommand {
         Flag::Option {
             name: "loyal",
             value: "V",
-            help: "Fills it in as loyal generals would, behind this order",
+            help: "Fills it in as loyal generals would, if this is the commander's order",
         },
         Flag::Option {
             name: "lie",
             value: "G",
-            help: "Leaves what this general says to be edited",
+            help: "Leaves the orders that this general sends to be filled in",
         },
     ],
 };
@@ -320,25 +320,25 @@ pub(crate) const AUDIT: Subcommand<'static> = Subcommand {
 
 const EXPLORE: Subcommand<'static> = Subcommand {
     name: "explore",
-    about: "Plays a campaign in each order of its accesses and prints what it comes to",
+    about: "Plays a campaign in each order of its accesses and prints the outcomes",
     places: &[SCENARIO],
     flags: &[
         Flag::Option {
             name: "most",
             value: "N",
-            help: "Stops after this many orders; without it all are counted, however many",
+            help: "Stops after this many orders of accesses; by default it counts them all",
         },
         Flag::Option {
             name: "keep",
             value: "DIR",
-            help: "Writes the scenario and a schedule of each outcome to this folder",
+            help: "Writes the scenario and a schedule for each outcome to this folder",
         },
     ],
 };
 
 const TREE: Subcommand<'static> = Subcommand {
     name: "tree",
-    about: "Draws what a lieutenant was told, by a message table or in a campaign",
+    about: "Draws what a lieutenant received, in a message table or a campaign",
     places: &[Place {
         name: "FILE",
         help: "A message table, or a campaign as TOML, which is played without a schedule",
@@ -346,11 +346,11 @@ const TREE: Subcommand<'static> = Subcommand {
     flags: &[
         Flag::Switch {
             name: "text",
-            help: "Draws lines of text, as without --dot and --svg",
+            help: "Draws lines of text, which is the default",
         },
         Flag::Switch {
             name: "ascii",
-            help: "Draws lines by characters of ASCII in place of box-drawing ones",
+            help: "Draws lines with ASCII characters instead of box-drawing ones",
         },
         Flag::Switch {
             name: "dot",
@@ -362,7 +362,7 @@ const TREE: Subcommand<'static> = Subcommand {
         },
         Flag::Switch {
             name: "fold",
-            help: "Leaves out what is below a label where all tell the same",
+            help: "Leaves out the labels below one whose messages are all the same",
         },
         Flag::Option {
             name: "of",
@@ -372,12 +372,12 @@ const TREE: Subcommand<'static> = Subcommand {
         Flag::Option {
             name: "traitors",
             value: "G,H",
-            help: "Marks the lies of these generals, besides a campaign's own traitors",
+            help: "Marks the lies of these generals, in addition to the campaign's traitors",
         },
         Flag::Option {
             name: "depth",
             value: "D",
-            help: "How many levels below the commander's are drawn; without it all",
+            help: "How many levels below the commander's are drawn; by default all",
         },
     ],
 };
@@ -391,25 +391,25 @@ const DRAW: Subcommand<'static> = Subcommand {
         Flag::Option {
             name: "chronicle",
             value: "FILE",
-            help: "Draws what this chronicle tells",
+            help: "Draws what this chronicle records",
         },
     ],
 };
 
 const PAGE: Subcommand<'static> = Subcommand {
     name: "page",
-    about: "Tells a campaign as one page of HTML",
+    about: "Describes a campaign on one page of HTML",
     places: &[SCENARIO],
     flags: &[SCHEDULED, RECORDED, PAGE_TARGET],
 };
 
 const SCHEDULE: Subcommand<'static> = Subcommand {
     name: "schedule",
-    about: "Prints the schedule by which a campaign has a chronicle, or these accesses",
+    about: "Prints the schedule by which a campaign has this chronicle, or these accesses",
     places: &[SCENARIO, ACCESSES],
     flags: &[Flag::Switch {
         name: "accesses",
-        help: "CHRONICLE is no file: the generals as they come to the board, rounds parted by a slash",
+        help: "CHRONICLE is not a file, but the generals in the order of their accesses, with a slash between rounds",
     }],
 };
 

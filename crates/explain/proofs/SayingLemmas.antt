@@ -9,15 +9,15 @@ two_parts : (out one last a name b : List ℕ) → name ≡ a → one ≡ out ++
 two_parts out one last a name b same front behind =
     behind ∙ (ap (λ (l : List ℕ). l ++ b) front ∙ (append_assoc out name b ∙ ap (λ (l : List ℕ). out ++ (l ++ b)) same))
 
-pub pointer_so : (out one last name : List ℕ) (called : Helper) → name ≡ helper_name called → one ≡ out ++ name → last ≡ one ++ codes " takes a pointer there" → last ≡ out ++ pointer_text called
+pub pointer_so : (out one last name : List ℕ) (called : Helper) → name ≡ helper_name called → one ≡ out ++ name → last ≡ one ++ codes " accepts only a pointer here" → last ≡ out ++ pointer_text called
 unfolding pointer_text
-pointer_so out one last name called same front behind = two_parts out one last (helper_name called) name (codes " takes a pointer there") same front behind
+pointer_so out one last name called same front behind = two_parts out one last (helper_name called) name (codes " accepts only a pointer here") same front behind
 
 pub above_so : (out one last name : List ℕ) (called : Helper) (most : ℕ) → name ≡ helper_name called → one ≡ out ++ name →
-    last ≡ one ++ (codes " takes a number up to " ++ decimal most ++ codes " there") → last ≡ out ++ above_text called most
+    last ≡ one ++ (codes " accepts numbers up to " ++ decimal most ++ codes " here") → last ≡ out ++ above_text called most
 unfolding above_text
 above_so out one last name called most same front behind =
-    two_parts out one last (helper_name called) name (codes " takes a number up to " ++ decimal most ++ codes " there") same front behind
+    two_parts out one last (helper_name called) name (codes " accepts numbers up to " ++ decimal most ++ codes " here") same front behind
 
 pub three_parts : (out one two last a b c : List ℕ) → one ≡ out ++ a → two ≡ one ++ b → last ≡ two ++ c → last ≡ out ++ ((a ++ b) ++ c)
 three_parts out one two last a b c first second third =

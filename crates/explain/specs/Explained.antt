@@ -45,7 +45,7 @@ reads_text registers _ = []
 
 -- what is known at a unit, given what `survey` knows at each unit of the program
 abbrev pub known_text : List Insn → KnownByUnit → ℕ → Insn → Option AbsState → List ℕ
-known_text program survey unit i None = codes " ; no way leads here"
+known_text program survey unit i None = codes " ; no path leads here"
 known_text program survey unit i (Some a) =
     reads_text a.registers (read_by i) ++ cells_read (holding program survey unit a.stack) i a.registers
 

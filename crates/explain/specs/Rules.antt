@@ -35,19 +35,21 @@ is_all bits p = p.0 == 0 && p.1 == 2 ^ bits - 1
 -- the rule for a result that is a number, by what is known of it
 abbrev pub number_rule : Insn → NumberSet → List ℕ
 number_rule (Arithmetic w ArithmeticShiftRight dst operand) n =
-    codes ": the sign is copied, so of numbers on both sides of 2^63 it is any number"
+    codes ": the sign is copied, so numbers on both sides of 2^63 may give any number"
 number_rule (Arithmetic w operation dst operand) n =
-    if may_wrap operation && is_all (bits_of w) n.range then codes ": what may wrap is any number of its width" else []
-number_rule (Call number) n = codes ": of an answer its range alone is known"
-number_rule (Negate w dst) n = codes ": what was 0 and more becomes 0, and just below 2^64"
-number_rule (SignExtend w part dst src) n = codes ": the sign is extended, so it is small, or just below 2^64"
-number_rule (LoadSigned part dst base offset) n = codes ": the sign is extended, so it is small, or just below 2^64"
+    if may_wrap operation && is_all (bits_of w) n.range
+    then codes ": a result that may wrap around is any number of its width" else []
+number_rule (Call number) n = codes ": of an answer only its range is known"
+number_rule (Negate w dst) n = codes ": 0 stays 0, and numbers above it become numbers just below 2^64"
+number_rule (SignExtend w part dst src) n = codes ": the sign is extended, so the result is small or just below 2^64"
+number_rule (LoadSigned part dst base offset) n =
+    codes ": the sign is extended, so the result is small or just below 2^64"
 number_rule (Load size dst base offset) n = codes ": a load gives any number of its size"
 number_rule i n = []
 
 -- the rule for a result of which nothing is known
 abbrev pub unset_rule : Insn → List ℕ
-unset_rule (Call number) = codes ": behind a call r1 to r5 are unset"
+unset_rule (Call number) = codes ": after a call r1 to r5 are unset"
 unset_rule i = []
 
 -- the rule for a result, by what is known of it after the instruction
@@ -93,9 +95,9 @@ passed_by r i value = None
 
 -- the reason for a test
 unfoldable pub tested_text : List ℕ
-tested_text = codes ": such a test tells only of numbers that are known to be below 2^"
+tested_text = codes ": such a test narrows only numbers that are known to be below 2^"
 
 -- the reason for a test or a copy
 abbrev pub passing_text : Passing → List ℕ
 passing_text (Test bits) = tested_text ++ decimal bits
-passing_text (Copied dst) = codes ": what is tested of r" ++ decimal dst ++ codes " is not known of it"
+passing_text (Copied dst) = codes ": a test of r" ++ decimal dst ++ codes " does not narrow the register it copies"

@@ -26,8 +26,8 @@ leads_text to = codes "the jump leads to unit " ++ signed_decimal to
 
 -- the sentence about the structure of a program
 abbrev pub structure_text : Structure → List ℕ
-structure_text (structure.Back to) = leads_text to ++ codes ": a jump leads only forward"
-structure_text (structure.Out to units) = leads_text to ++ codes ", past all " ++ decimal units
+structure_text (structure.Back to) = leads_text to ++ codes ": a jump must lead forward"
+structure_text (structure.Out to units) = leads_text to ++ codes ", but the number of units is " ++ decimal units
 structure_text (structure.Inside to) = leads_text to ++ codes ", inside a wide instruction"
 structure_text structure.NoExit = codes "the last instruction is not the exit"
 
@@ -58,20 +58,20 @@ past_text region span = place_text region span ++ codes ", past " ++ limit_text 
 -- the sentence about a misuse of a register
 abbrev pub misuse_text : RegisterMisuse → List ℕ
 misuse_text (misuse.Unset r) =
-    codes "r" ++ decimal r ++ codes " is read, and may be unset, or of different kinds on different ways"
-misuse_text misuse.Frame = codes "r10 is written, which marks the end of the stack"
+    codes "r" ++ decimal r ++ codes " is read, but may be unset, or of different kinds on different paths"
+misuse_text misuse.Frame = codes "r10 is written, but it must mark the end of the stack"
 misuse_text (misuse.Far r region span) = would_text r ++ codes " into " ++ past_text region span
 misuse_text (misuse.EitherSign r value) = named_text r value
     ++ codes ": a number that moves a pointer is read as signed, and this one may be above or below 0"
 misuse_text (misuse.Computed r value) = named_text r value
-    ++ (codes ": of a pointer only a copy of 64 bits is made, or, in its own register, "
-    ++ codes "the 64-bit sum or difference with a number")
-misuse_text (misuse.Compared r value) = named_text r value ++ codes ": a comparison is of numbers only"
+    ++ (codes ": a pointer can only be copied as 64 bits, or, in its own register, "
+    ++ codes "have a number added or subtracted in 64 bits")
+misuse_text (misuse.Compared r value) = named_text r value ++ codes ": only numbers can be compared"
 misuse_text (misuse.Stored r value base at) =
     named_text r value ++ codes ", stored at " ++ named_text base at
-    ++ codes ": a pointer is stored as 8 bytes, with one offset, at one address"
-misuse_text (misuse.NoBase r value) = named_text r value ++ codes ": memory is reached by a pointer only"
-misuse_text (misuse.Exit value) = named_text 0 value ++ codes ": a program ends with a number"
+    ++ codes ": a pointer can be stored only as 8 bytes, with one offset, at one address"
+misuse_text (misuse.NoBase r value) = named_text r value ++ codes ": memory can be reached only by a pointer"
+misuse_text (misuse.Exit value) = named_text 0 value ++ codes ": a program must end with a number in r0"
 
 -- the offsets at which a region has bytes
 abbrev pub extent_text : Region → List ℕ
@@ -80,18 +80,19 @@ extent_text Context = codes "0 to 4095"
 
 -- the sentence about a misuse of memory
 abbrev pub access_text : AccessMisuse → List ℕ
-access_text (access.Outside r region span) = reached_text r region span ++ codes ": it has " ++ extent_text region
+access_text (access.Outside r region span) =
+    reached_text r region span ++ codes ": its bytes are " ++ extent_text region
 access_text (access.Empty r span cell) =
     reached_text r Stack span ++ codes ": no byte is known at " ++ signed_decimal (pos cell -ℤ pos 512)
-access_text (access.Context r value) = named_text r value ++ codes ": the context is only read"
+access_text (access.Context r value) = named_text r value ++ codes ": the context is read-only"
 
 -- the greatest number that a helper accepts as an argument
 unfoldable pub above_text : Helper → ℕ → List ℕ
-above_text called most = helper_name called ++ (codes " takes a number up to " ++ decimal most ++ codes " there")
+above_text called most = helper_name called ++ (codes " accepts numbers up to " ++ decimal most ++ codes " here")
 
 -- a helper accepts only a pointer as an argument
 unfoldable pub pointer_text : Helper → List ℕ
-pointer_text called = helper_name called ++ codes " takes a pointer there"
+pointer_text called = helper_name called ++ codes " accepts only a pointer here"
 
 -- no helper has a number
 unfoldable pub no_helper_text : List ℕ
@@ -99,18 +100,18 @@ no_helper_text = codes "no helper has the number "
 
 -- the numbers that helpers have
 unfoldable pub numbers_text : List ℕ
-numbers_text = codes ": they are 1 to " ++ decimal (length helpers)
+numbers_text = codes ": helpers are numbered 1 to " ++ decimal (length helpers)
 
 -- slot and count together may be too much
 unfoldable pub together_text : List ℕ
-together_text = codes "r1 and r3 together may be "
+together_text = codes "the sum of r1 and r3 may be "
 
 -- the sentence about a misfit of a call
 abbrev pub misfit_text : Misfit → List ℕ
 misfit_text (misfit.Helper number) = no_helper_text ++ signed_decimal number ++ numbers_text
 misfit_text (misfit.Above called r value most) = named_text r value ++ codes ": " ++ above_text called most
 misfit_text (misfit.NoPointer called r value) = named_text r value ++ codes ": " ++ pointer_text called
-misfit_text (misfit.Board sum) = together_text ++ decimal sum ++ codes ", and the board has 64 words"
+misfit_text (misfit.Board sum) = together_text ++ decimal sum ++ codes ", but the board has 64 words"
 
 -- the text of a sentence
 abbrev pub sentence_text : Sentence → List ℕ

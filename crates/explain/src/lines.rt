@@ -61,7 +61,7 @@ fn put_known(
         (option_map (λ a. a.now) state.entry)) }
 {
     let Some(state) = state else {
-        return put(out, " ; no way leads here");
+        return put(out, " ; no path leads here");
     };
     put_reads(out, state, read_by(insn))?;
     let here = Here {

@@ -105,9 +105,9 @@ fn put_structure(out: &mut String, structure: Structure) -> Result<(), AllocErro
     ensures { OnOk result (string_bytes out.new ≡ string_bytes out.old ++ structure_text structure) }
 {
     match structure {
-        Structure::Back(to) => put_leads(out, to, ": a jump leads only forward"),
+        Structure::Back(to) => put_leads(out, to, ": a jump must lead forward"),
         Structure::Out(to, units) => {
-            put_leads(out, to, ", past all ")?;
+            put_leads(out, to, ", but the number of units is ")?;
             put_unsigned(out, units as u64)
         }
         Structure::Inside(to) => put_leads(out, to, ", inside a wide instruction"),
@@ -193,7 +193,7 @@ fn put_stored(
         out,
         base,
         at,
-        ": a pointer is stored as 8 bytes, with one offset, at one address",
+        ": a pointer can be stored only as 8 bytes, with one offset, at one address",
     )
 }
 
@@ -206,10 +206,10 @@ fn put_misuse(out: &mut String, misuse: RegisterMisuse) -> Result<(), AllocError
             put_register(out, r)?;
             put(
                 out,
-                " is read, and may be unset, or of different kinds on different ways",
+                " is read, but may be unset, or of different kinds on different paths",
             )
         }
-        RegisterMisuse::Frame => put(out, "r10 is written, which marks the end of the stack"),
+        RegisterMisuse::Frame => put(out, "r10 is written, but it must mark the end of the stack"),
         RegisterMisuse::Far(r, region, span) => put_far(out, r, region, span),
         RegisterMisuse::EitherSign(r, value) => put_so(
             out,
@@ -221,21 +221,21 @@ fn put_misuse(out: &mut String, misuse: RegisterMisuse) -> Result<(), AllocError
             out,
             r,
             value,
-            ": of a pointer only a copy of 64 bits is made, or, in its own register, \
-             the 64-bit sum or difference with a number",
+            ": a pointer can only be copied as 64 bits, or, in its own register, \
+             have a number added or subtracted in 64 bits",
         ),
         RegisterMisuse::Compared(r, value) => put_so(
             out,
             r,
             value,
-            ": a comparison is of numbers only",
+            ": only numbers can be compared",
         ),
         RegisterMisuse::Stored(r, value, base, at) => put_stored(out, r, value, base, at),
         RegisterMisuse::NoBase(r, value) => {
-            put_so(out, r, value, ": memory is reached by a pointer only")
+            put_so(out, r, value, ": memory can be reached only by a pointer")
         }
         RegisterMisuse::Exit(value) => {
-            put_so(out, numbered(0), value, ": a program ends with a number")
+            put_so(out, numbered(0), value, ": a program must end with a number in r0")
         }
     }
 }
@@ -256,14 +256,14 @@ fn put_access(out: &mut String, access: AccessMisuse) -> Result<(), AllocError>
 {
     match access {
         AccessMisuse::Outside(r, region, span) => {
-            put_reached(out, r, region, span, ": it has ")?;
+            put_reached(out, r, region, span, ": its bytes are ")?;
             put(out, extent(region))
         }
         AccessMisuse::Empty(r, span, cell) => {
             put_reached(out, r, Region::Stack, span, ": no byte is known at ")?;
             put_number(out, i64::from(cell) - 512)
         }
-        AccessMisuse::Context(r, value) => put_so(out, r, value, ": the context is only read"),
+        AccessMisuse::Context(r, value) => put_so(out, r, value, ": the context is read-only"),
     }
 }
 
@@ -273,7 +273,7 @@ fn put_above(out: &mut String, helper: Helper, most: u64) -> Result<(), AllocErr
     ensures { OnOk result (string_bytes out.new ≡ string_bytes out.old ++ above_text helper most) }
 {
     put(out, helper_name(helper))?;
-    put_between(out, " takes a number up to ", most, " there")
+    put_between(out, " accepts numbers up to ", most, " here")
 }
 
 /// Appends that a helper accepts only a pointer as an argument.
@@ -282,7 +282,7 @@ fn put_pointer(out: &mut String, helper: Helper) -> Result<(), AllocError>
     ensures { OnOk result (string_bytes out.new ≡ string_bytes out.old ++ pointer_text helper) }
 {
     put(out, helper_name(helper))?;
-    put(out, " takes a pointer there")
+    put(out, " accepts only a pointer here")
 }
 
 /// Returns the beginning of the sentence about a number that no helper has.
@@ -298,7 +298,7 @@ fn no_helper() -> &'static str
 fn put_numbers(out: &mut String) -> Result<(), AllocError>
     ensures { OnOk result (string_bytes out.new ≡ string_bytes out.old ++ numbers_text) }
 {
-    put_counted(out, ": they are 1 to ", HELPERS.len() as u64)
+    put_counted(out, ": helpers are numbered 1 to ", HELPERS.len() as u64)
 }
 
 /// Appends that no helper has a number, and which numbers helpers have.
@@ -314,7 +314,7 @@ fn put_no_helper(out: &mut String, number: i32) -> Result<(), AllocError>
 fn together() -> &'static str
     ensures { result.now ≡ together_text }
 {
-    "r1 and r3 together may be "
+    "the sum of r1 and r3 may be "
 }
 
 /// Appends the sentence about a misfit of a call.
@@ -331,7 +331,7 @@ fn put_misfit(out: &mut String, misfit: Misfit) -> Result<(), AllocError>
             put_so(out, r, value, ": ")?;
             put_pointer(out, helper)
         }
-        Misfit::Board(sum) => { put_between(out, together(), sum, ", and the board has 64 words") }
+        Misfit::Board(sum) => { put_between(out, together(), sum, ", but the board has 64 words") }
     }
 }
 

@@ -36,18 +36,18 @@ fn number_rule(insn: &Insn, numbers: NumberSet) -> &'static str
         Insn::Arithmetic {
             operation: Operation::ArithmeticShiftRight,
             ..
-        } => ": the sign is copied, so of numbers on both sides of 2^63 it is any number",
+        } => ": the sign is copied, so numbers on both sides of 2^63 may give any number",
         Insn::Arithmetic {
             width,
             operation,
             ..
         } if may_wrap(*operation) && is_all(*width, numbers.range()) => {
-            ": what may wrap is any number of its width"
+            ": a result that may wrap around is any number of its width"
         }
-        Insn::Call { .. } => ": of an answer its range alone is known",
-        Insn::Negate { .. } => ": what was 0 and more becomes 0, and just below 2^64",
+        Insn::Call { .. } => ": of an answer only its range is known",
+        Insn::Negate { .. } => ": 0 stays 0, and numbers above it become numbers just below 2^64",
         Insn::SignExtend { .. } | Insn::LoadSigned { .. } => {
-            ": the sign is extended, so it is small, or just below 2^64"
+            ": the sign is extended, so the result is small or just below 2^64"
         }
         Insn::Load { .. } => ": a load gives any number of its size",
         _ => "",
@@ -59,7 +59,7 @@ fn unset_rule(insn: &Insn) -> &'static str
     ensures { result.now ≡ unset_rule insn.now }
 {
     match insn {
-        Insn::Call { .. } => ": behind a call r1 to r5 are unset",
+        Insn::Call { .. } => ": after a call r1 to r5 are unset",
         _ => "",
     }
 }
@@ -138,7 +138,7 @@ pub(crate) enum Passing {
 fn tested() -> &'static str
     ensures { result.now ≡ tested_text }
 {
-    ": such a test tells only of numbers that are known to be below 2^"
+    ": such a test narrows only numbers that are known to be below 2^"
 }
 
 /// Appends the reason for which an instruction says nothing about a register.
@@ -149,9 +149,9 @@ pub(crate) fn put_tells(out: &mut String, tells: Passing) -> Result<(), AllocErr
         Passing::Test(bits) => put_counted(out, tested(), u64::from(bits)),
         Passing::Copied(dst) => put_between(
             out,
-            ": what is tested of r",
+            ": a test of r",
             u64::from(dst.number()),
-            " is not known of it",
+            " does not narrow the register it copies",
         ),
     }
 }

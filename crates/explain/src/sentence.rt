@@ -75,6 +75,6 @@ pub enum Misfit {
     Above(Helper, Reg, AbsVal, u64),
     /// The helper accepts a pointer in the register.
     NoPointer(Helper, Reg, AbsVal),
-    /// The sum of slot and count may be as great as this number, and the board has 64 words.
+    /// The sum of slot and count may be as great as this number, but the board has 64 words.
     Board(u64),
 }

@@ -77,30 +77,30 @@ pub fn sentence(fault: ObjectFault) -> &'static str
 {
     match fault {
         ObjectFault::NoObject => {
-            "this is no relocatable ELF object of 64 bits, little-endian, for BPF (machine 247)"
+            "this is not a relocatable 64-bit little-endian ELF object for BPF (machine 247)"
         }
         ObjectFault::Damaged(Damage::Sections) => {
-            "the header is cut off, or those of the sections are not within the file"
+            "the header is cut off, or the section headers are not within the file"
         }
         ObjectFault::Damaged(Damage::Section(_)) => {
             "the bytes of this section are not within the file"
         }
         ObjectFault::Damaged(Damage::Symbol(_)) => {
-            "the name of this function is not among the strings, or its code not within its section"
+            "the name of this function is not among the strings, or its code is not within its section"
         }
         ObjectFault::Damaged(Damage::Relocations(_)) => {
-            "the relocations of this section name a symbol that is not there"
+            "the relocations of this section name a symbol that does not exist"
         }
         ObjectFault::NoFunction => {
-            "there is no function of this name, or no global function at all"
+            "there is no function with this name, or no global function"
         }
         ObjectFault::Several => { "there are several functions: name the one that is the program" }
         ObjectFault::Names(_) => {
-            "the entry names data or a function that is not here: arrays belong on the stack, \
-             helpers are called by number"
+            "the entry uses data, or a function that is not in the object: put arrays on the stack, \
+             and call helpers by number"
         }
         ObjectFault::Leaves(_) => {
-            "the entry calls or names another function: make that one `static inline`, so that one is left"
+            "the entry calls or names another function: make that one `static inline`, so that only one is left"
         }
     }
 }

@@ -100,7 +100,7 @@ row_text x =
 
 bound_text : (b : Bool) → IsText (bound_words b)
 bound_text true = bare_text (codes "The bound holds: there are few enough traitors.") refl
-bound_text false = bare_text (codes "The bound does not hold, by too many traitors: no promise.") refl
+bound_text false = bare_text (codes "The bound does not hold: too many traitors. No promise.") refl
 
 signed_text : (s : Scenario) → IsText (signed_words s)
 signed_text s =
@@ -178,15 +178,15 @@ foot_content c marks wide top =
 abbrev key_words : List ℕ
 key_words =
     codes "A column for each general, and a band for each round, from above. In a band a line leads from "
-    ++ codes "who sends chains to whom he sends them, one line for each order, as wide as it has chains; below "
-    ++ codes "stands in the column of the receiver what he was sent: the order, and who signed it, the commander "
+    ++ codes "from the sender of chains to their receiver, one line for each order. The number of chains is the line's "
+    ++ codes "width. Below, in the receiver's column, is what he received: the order and its signers, the commander "
     ++ codes "first and the sender last."
 
 stroke_key_text : (marks : DiagramMarks) → IsText (stroke_key marks)
 stroke_key_text marks =
-    let one : List ℕ = codes " Circle and plain line: a loyal general in place of the sender would send so." in
-    let two : List ℕ = codes " Diamond and dashes: a loyal general would not send so." in
-    let three : List ℕ = codes " Cross and dots: a loyal general would send so, and it was not sent." in
+    let one : List ℕ = codes " Circle and plain line: a loyal general in place of the sender would send the same." in
+    let two : List ℕ = codes " Diamond and dashes: a loyal general would not send this." in
+    let three : List ℕ = codes " Cross and dots: not sent, but a loyal general would send it." in
     three_texts marks.circle marks.diamond marks.cross one two three (bare_text one refl) (bare_text two refl) (bare_text three refl)
 
 several_text : (strokes : List Drawn) → IsText (flat_map several_words strokes)

@@ -10,7 +10,7 @@ use Rattle.show_chains.specs.Legend.{legend}
 
 abbrev pub bound_words : Bool → List ℕ
 bound_words true = oral_bound true
-bound_words false = codes "The bound does not hold, by too many traitors: no promise."
+bound_words false = codes "The bound does not hold: too many traitors. No promise."
 
 abbrev pub verdict_lines : Verdict → List ℕ
 verdict_lines v =

@@ -23,17 +23,17 @@ signed_words s = campaign_words s.generals s.bound s.commander s.order ++ codes 
 -- diagram has no room.
 unfoldable pub key_start : List ℕ
 key_start =
-    codes "<desc>A column for each general, and a band for each round, from above. In a band a line leads from "
-    ++ codes "who sends chains to whom he sends them, one line for each order, as wide as it has chains; below "
-    ++ codes "stands in the column of the receiver what he was sent: the order, and who signed it, the commander "
+    codes "<desc>There is a column for each general, and a band for each round, from above. In a band a line leads "
+    ++ codes "from the sender of chains to their receiver, one line for each order. The number of chains is the line's "
+    ++ codes "width. Below, in the receiver's column, is what he received: the order and its signers, the commander "
     ++ codes "first and the sender last."
 
 -- The meaning of each mark of strokes that occurs in a signed campaign's diagram.
 abbrev pub stroke_key : DiagramMarks → List ℕ
 stroke_key marks =
-    said_if marks.circle (codes " Circle and plain line: a loyal general in place of the sender would send so.")
-    ++ said_if marks.diamond (codes " Diamond and dashes: a loyal general would not send so.")
-    ++ said_if marks.cross (codes " Cross and dots: a loyal general would send so, and it was not sent.")
+    said_if marks.circle (codes " Circle and plain line: a loyal general in place of the sender would send the same.")
+    ++ said_if marks.diamond (codes " Diamond and dashes: a loyal general would not send this.")
+    ++ said_if marks.cross (codes " Cross and dots: not sent, but a loyal general would send it.")
 
 abbrev pub description : List Drawn → List Access → DiagramMarks → Bool → List ℕ
 description strokes accesses marks cut =

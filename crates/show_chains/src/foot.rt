@@ -50,6 +50,6 @@ pub fn bound_words(bound: bool) -> &'static str
     if bound {
         oral_bound_words(true)
     } else {
-        "The bound does not hold, by too many traitors: no promise."
+        "The bound does not hold: too many traitors. No promise."
     }
 }

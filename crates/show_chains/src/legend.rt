@@ -33,7 +33,7 @@ fn sent_meaning() -> &'static str
 fn differs_meaning() -> &'static str
     ensures { result.now ≡ differs_meaning }
 {
-    "sent, and a loyal general would not send it"
+    "sent, but a loyal general would not send it"
 }
 
 /// Returns the meaning of a stroke that was not sent, although a loyal general would send it.
@@ -41,7 +41,7 @@ fn differs_meaning() -> &'static str
 fn missing_meaning() -> &'static str
     ensures { result.now ≡ missing_meaning }
 {
-    "not sent, and a loyal general would send it"
+    "not sent, but a loyal general would send it"
 }
 
 /// Returns the legend's words about the width of a line in a signed campaign's diagram, which is the stroke's number of
@@ -50,5 +50,5 @@ fn missing_meaning() -> &'static str
 fn wide_meaning() -> &'static str
     ensures { result.now ≡ wide_meaning }
 {
-    "A line leads down, as wide as it has chains, up to 5; its row has the first, and how many."
+    "A line's width is its number of chains, up to 5; its row has the first, and how many."
 }

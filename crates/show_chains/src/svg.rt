@@ -165,9 +165,10 @@ fn put_description(
 fn key_start() -> &'static str
     ensures { result.now ≡ key_start }
 {
-    "<desc>A column for each general, and a band for each round, from above. In a band a line leads from who sends \
-     chains to whom he sends them, one line for each order, as wide as it has chains; below stands in the column of \
-     the receiver what he was sent: the order, and who signed it, the commander first and the sender last."
+    "<desc>There is a column for each general, and a band for each round, from above. In a band a line leads from \
+     the sender of chains to their receiver, one line for each order. The number of chains is the line's width. \
+     Below, in the receiver's column, is what he received: the order and its signers, the commander first and the \
+     sender last."
 }
 
 /// Appends the meanings of the marks of strokes in a signed campaign's diagram.
@@ -177,17 +178,17 @@ fn put_stroke_key(out: &mut String, marks: DiagramMarks) -> Result<(), AllocErro
     put_if(
         out,
         marks.circle,
-        " Circle and plain line: a loyal general in place of the sender would send so.",
+        " Circle and plain line: a loyal general in place of the sender would send the same.",
     )?;
     put_if(
         out,
         marks.diamond,
-        " Diamond and dashes: a loyal general would not send so.",
+        " Diamond and dashes: a loyal general would not send this.",
     )?;
     put_if(
         out,
         marks.cross,
-        " Cross and dots: a loyal general would send so, and it was not sent.",
+        " Cross and dots: not sent, but a loyal general would send it.",
     )?;
     Ok(())
 }

@@ -44,15 +44,15 @@ labels_text labels =
     (λ _. many (codes ", " ++ decimal labels) (codes " labels") (many (codes ", ") (decimal labels) (bare_text (codes ", ") refl) (decimal_text labels)) (bare_text (codes " labels") refl))
 
 differs_text : (b : Bool) → IsText (differs_words b)
-differs_text true = bare_text (codes "; an honest relay would tell something else") refl
+differs_text true = bare_text (codes "; an honest relay would send something else") refl
 differs_text false = no_text
 
 tells_text : (j p : ℕ) → IsText (tells_words j p)
 unfolding tells_words
 tells_text j p =
-    many (codes "general ") (decimal j ++ (codes " tells general " ++ (decimal p ++ codes ": "))) (bare_text (codes "general ") refl)
-    (many (decimal j) (codes " tells general " ++ (decimal p ++ codes ": ")) (decimal_text j)
-    (many (codes " tells general ") (decimal p ++ codes ": ") (bare_text (codes " tells general ") refl) (many (decimal p) (codes ": ") (decimal_text p) (bare_text (codes ": ") refl))))
+    many (codes "general ") (decimal j ++ (codes " sends general " ++ (decimal p ++ codes ": "))) (bare_text (codes "general ") refl)
+    (many (decimal j) (codes " sends general " ++ (decimal p ++ codes ": ")) (decimal_text j)
+    (many (codes " sends general ") (decimal p ++ codes ": ") (bare_text (codes " sends general ") refl) (many (decimal p) (codes ": ") (decimal_text p) (bare_text (codes ": ") refl))))
 
 from_text : (j : ℕ) → IsText (from_words j)
 unfolding from_words
@@ -145,11 +145,11 @@ alike_text false = bare_text (codes "The loyal lieutenants do not decide alike."
 pub obeyed_text : (o : Option Bool) → IsText (obeyed_words o)
 obeyed_text (Some true) = bare_text (codes "They obey the loyal commander.") refl
 obeyed_text (Some false) = bare_text (codes "They do not obey the loyal commander.") refl
-obeyed_text None = bare_text (codes "The commander is a traitor, whom nobody has to obey.") refl
+obeyed_text None = bare_text (codes "The commander is a traitor, so nobody has to obey him.") refl
 
 bound_text : (b : Bool) → IsText (bound_words b)
 bound_text true = bare_text (codes "The bound holds: there are few enough traitors.") refl
-bound_text false = bare_text (codes "The bound does not hold, by too few generals or too many traitors: no promise.") refl
+bound_text false = bare_text (codes "The bound does not hold: too few generals or too many traitors. No promise.") refl
 
 pub campaign_text : (n m c order : ℕ) → IsText (campaign_words n m c order)
 unfolding campaign_words
@@ -543,8 +543,8 @@ foot_content c marks wide top =
 abbrev key_words : List ℕ
 key_words =
     codes "A column for each general, and a band for each round, from above. In a band a line leads down from "
-    ++ codes "who tells something to whom he tells it, as wide as he tells it of labels, up to 5, and below stands "
-    ++ codes "in the column of the receiver what he was told."
+    ++ codes "down from the sender of an order to its receiver. The number of labels is the line's width, up to 5. "
+    ++ codes "Below, in the receiver's column, is what he received."
 
 pub said_text : (stands : Bool) (words : List ℕ) → IsText words → IsText (said_if stands words)
 unfolding said_if
@@ -556,14 +556,14 @@ three_texts a b c x y z tx ty tz = many (said_if a x ++ said_if b y) (said_if c 
 
 stroke_key_text : (marks : DiagramMarks) → IsText (stroke_key marks)
 stroke_key_text marks =
-    let one : List ℕ = codes " Circle and plain line: as an honest relay tells it." in
-    let two : List ℕ = codes " Diamond and dashes: something else." in
-    let three : List ℕ = codes " Cross and dots: nothing, where something was to be told." in
+    let one : List ℕ = codes " Circle and plain line: as an honest relay sends it." in
+    let two : List ℕ = codes " Diamond and dashes: an honest relay would send something else." in
+    let three : List ℕ = codes " Cross and dots: nothing was sent, but an order should be sent." in
     three_texts marks.circle marks.diamond marks.cross one two three (bare_text one refl) (bare_text two refl) (bare_text three refl)
 
 pub shape_key_text : (marks : DiagramMarks) → IsText (shape_key marks)
 shape_key_text marks =
-    let one : List ℕ = codes " Above the lines stand the accesses to the board, in its order." in
+    let one : List ℕ = codes " Above the lines are the accesses to the board, in its order." in
     let two : List ℕ = codes " Square: a traitor." in
     let three : List ℕ = codes " Circle at a name: a loyal general." in
     three_texts marks.point marks.square marks.loyal one two three (bare_text one refl) (bare_text two refl) (bare_text three refl)
@@ -571,9 +571,9 @@ shape_key_text marks =
 pub cut_text : IsText cut_words
 unfolding cut_words
 cut_text =
-    let first : List ℕ = codes " rows, of orders and of silence. A longer one begins with the first row of each general in which a " in
-    let second : List ℕ = codes "loyal one would do otherwise, then come the others of this kind, then the rest; below it stands how " in
-    let third : List ℕ = codes "many are not drawn." in
+    let first : List ℕ = codes " rows. A longer list begins with the first row of each general in which a " in
+    let second : List ℕ = codes "loyal general would do otherwise. The others of this kind follow, and then the rest. Below the list is " in
+    let third : List ℕ = codes "the number of rows that are not drawn." in
     many (codes " A list has at most ") (decimal most_rows ++ (first ++ (second ++ third))) (bare_text (codes " A list has at most ") refl)
     (many (decimal most_rows) (first ++ (second ++ third)) (decimal_text most_rows)
     (many first (second ++ third) (bare_text first refl) (many second third (bare_text second refl) (bare_text third refl))))

@@ -40,11 +40,11 @@ alike_words false = codes "The loyal lieutenants do not decide alike."
 abbrev pub obeyed_words : Option Bool → List ℕ
 obeyed_words (Some true) = codes "They obey the loyal commander."
 obeyed_words (Some false) = codes "They do not obey the loyal commander."
-obeyed_words None = codes "The commander is a traitor, whom nobody has to obey."
+obeyed_words None = codes "The commander is a traitor, so nobody has to obey him."
 
 abbrev pub bound_words : Bool → List ℕ
 bound_words true = codes "The bound holds: there are few enough traitors."
-bound_words false = codes "The bound does not hold, by too few generals or too many traitors: no promise."
+bound_words false = codes "The bound does not hold: too few generals or too many traitors. No promise."
 
 abbrev pub verdict_lines : Verdict → List ℕ
 verdict_lines v =

@@ -39,9 +39,9 @@ left_in_full p round left lies = codes "general "
 -- The note for readers who do not see the diagram, if a stroke is left out.
 unfoldable pub cut_words : List ℕ
 cut_words = codes " A list has at most " ++ (decimal most_rows
-    ++ (codes " rows, of orders and of silence. A longer one begins with the first row of each general in which a "
-    ++ (codes "loyal one would do otherwise, then come the others of this kind, then the rest; below it stands how "
-    ++ codes "many are not drawn.")))
+    ++ (codes " rows. A longer list begins with the first row of each general in which a "
+    ++ (codes "loyal general would do otherwise. The others of this kind follow, and then the rest. Below the list is "
+    ++ codes "the number of rows that are not drawn.")))
 
 abbrev pub more_told : ℕ → ℕ → ℕ → ℕ → List ℕ
 more_told p round left lies =

@@ -89,22 +89,22 @@ legend_of marks told differs missing wide =
 -- The meanings of the marks of generals and accesses, for readers who do not see the diagram.
 abbrev pub shape_key : DiagramMarks → List ℕ
 shape_key marks =
-    said_if marks.point (codes " Above the lines stand the accesses to the board, in its order.")
+    said_if marks.point (codes " Above the lines are the accesses to the board, in its order.")
     ++ said_if marks.square (codes " Square: a traitor.")
     ++ said_if marks.loyal (codes " Circle at a name: a loyal general.")
 
 -- The meanings of the marks in a campaign with oral messages.
 unfoldable pub told_meaning : List ℕ
-told_meaning = codes "told as an honest relay tells it"
+told_meaning = codes "sent as an honest relay sends it"
 
 unfoldable pub differs_meaning : List ℕ
-differs_meaning = codes "told, and an honest relay would tell something else"
+differs_meaning = codes "sent, but an honest relay would send something else"
 
 unfoldable pub missing_meaning : List ℕ
-missing_meaning = codes "nothing told, where something was to be told"
+missing_meaning = codes "nothing sent, but an order should be sent"
 
 unfoldable pub wide_meaning : List ℕ
-wide_meaning = codes "A line leads down to who is told, as wide as it has labels, up to 5."
+wide_meaning = codes "A line leads down to the receiver. Its width is its number of labels, up to 5."
 
 abbrev pub legend : DiagramMarks → List ℕ
 legend marks = legend_of marks told_meaning differs_meaning missing_meaning wide_meaning

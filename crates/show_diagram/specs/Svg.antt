@@ -37,16 +37,16 @@ campaign_words n m c order =
 -- The start of the description for readers who do not see the diagram. It explains columns, bands and lines.
 unfoldable pub key_start : List ℕ
 key_start =
-    codes "<desc>A column for each general, and a band for each round, from above. In a band a line leads down from "
-    ++ codes "who tells something to whom he tells it, as wide as he tells it of labels, up to 5, and below stands "
-    ++ codes "in the column of the receiver what he was told."
+    codes "<desc>There is a column for each general, and a band for each round, from above. In a band a line leads "
+    ++ codes "down from the sender of an order to its receiver. The number of labels is the line's width, up to 5. "
+    ++ codes "Below, in the receiver's column, is what he received."
 
 -- The meaning of each mark of strokes that occurs in an oral campaign's diagram.
 abbrev pub stroke_key : DiagramMarks → List ℕ
 stroke_key marks =
-    said_if marks.circle (codes " Circle and plain line: as an honest relay tells it.")
-    ++ said_if marks.diamond (codes " Diamond and dashes: something else.")
-    ++ said_if marks.cross (codes " Cross and dots: nothing, where something was to be told.")
+    said_if marks.circle (codes " Circle and plain line: as an honest relay sends it.")
+    ++ said_if marks.diamond (codes " Diamond and dashes: an honest relay would send something else.")
+    ++ said_if marks.cross (codes " Cross and dots: nothing was sent, but an order should be sent.")
 
 abbrev pub key_end : List ℕ
 key_end = codes "</desc>\n"

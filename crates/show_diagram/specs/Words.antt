@@ -14,11 +14,11 @@ abbrev pub labels_words : ℕ → List ℕ
 labels_words labels = if labels == 1 then [] else codes ", " ++ decimal labels ++ codes " labels"
 
 abbrev pub differs_words : Bool → List ℕ
-differs_words true = codes "; an honest relay would tell something else"
+differs_words true = codes "; an honest relay would send something else"
 differs_words false = []
 
 unfoldable pub tells_words : ℕ → ℕ → List ℕ
-tells_words teller p = codes "general " ++ (decimal teller ++ (codes " tells general " ++ (decimal p ++ codes ": ")))
+tells_words teller p = codes "general " ++ (decimal teller ++ (codes " sends general " ++ (decimal p ++ codes ": ")))
 
 -- The full words of a stroke: the sender, the receiver, the order, the number of labels, and whether an honest relay
 -- would send something else.

@@ -137,7 +137,7 @@ pub fn obeyed_words(obeyed: Option<bool>) -> &'static str
     match obeyed {
         Some(true) => "They obey the loyal commander.",
         Some(false) => "They do not obey the loyal commander.",
-        None => "The commander is a traitor, whom nobody has to obey.",
+        None => "The commander is a traitor, so nobody has to obey him.",
     }
 }
 
@@ -149,6 +149,6 @@ pub fn bound_words(bound: bool) -> &'static str
     if bound {
         "The bound holds: there are few enough traitors."
     } else {
-        "The bound does not hold, by too few generals or too many traitors: no promise."
+        "The bound does not hold: too few generals or too many traitors. No promise."
     }
 }

@@ -276,7 +276,7 @@ pub fn put_shape_key(out: &mut String, marks: DiagramMarks) -> Result<(), AllocE
     put_if(
         out,
         marks.point,
-        " Above the lines stand the accesses to the board, in its order.",
+        " Above the lines are the accesses to the board, in its order.",
     )?;
     put_if(out, marks.square, " Square: a traitor.")?;
     put_if(out, marks.loyal, " Circle at a name: a loyal general.")?;
@@ -302,7 +302,7 @@ pub(crate) fn put_legend(out: &mut String, marks: DiagramMarks) -> Result<(), Al
 fn told_meaning() -> &'static str
     ensures { result.now ≡ told_meaning }
 {
-    "told as an honest relay tells it"
+    "sent as an honest relay sends it"
 }
 
 /// Returns the meaning of a stroke for which an honest relay would send something else.
@@ -310,7 +310,7 @@ fn told_meaning() -> &'static str
 fn differs_meaning() -> &'static str
     ensures { result.now ≡ differs_meaning }
 {
-    "told, and an honest relay would tell something else"
+    "sent, but an honest relay would send something else"
 }
 
 /// Returns the meaning of a stroke that is missing.
@@ -318,7 +318,7 @@ fn differs_meaning() -> &'static str
 fn missing_meaning() -> &'static str
     ensures { result.now ≡ missing_meaning }
 {
-    "nothing told, where something was to be told"
+    "nothing sent, but an order should be sent"
 }
 
 /// Returns the legend's words about the width of a line in an oral campaign's diagram, which is the stroke's number of
@@ -327,5 +327,5 @@ fn missing_meaning() -> &'static str
 fn wide_meaning() -> &'static str
     ensures { result.now ≡ wide_meaning }
 {
-    "A line leads down to who is told, as wide as it has labels, up to 5."
+    "A line leads down to the receiver. Its width is its number of labels, up to 5."
 }

@@ -272,8 +272,8 @@ fn put_cut_words(out: &mut String) -> Result<(), AllocError>
     let most = MOST;
     write!(
         out,
-        " A list has at most {most} rows, of orders and of silence. A longer one begins with the first row of each \
-         general in which a loyal one would do otherwise, then come the others of this kind, then the rest; below it \
-         stands how many are not drawn."
+        " A list has at most {most} rows. A longer list begins with the first row of each general in which a \
+         loyal general would do otherwise. The others of this kind follow, and then the rest. Below the list is \
+         the number of rows that are not drawn."
     )
 }

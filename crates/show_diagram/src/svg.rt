@@ -195,9 +195,9 @@ pub fn put_key_end(out: &mut String) -> Result<(), AllocError>
 fn key_start() -> &'static str
     ensures { result.now ≡ key_start }
 {
-    "<desc>A column for each general, and a band for each round, from above. In a band a line leads down from who \
-     tells something to whom he tells it, as wide as he tells it of labels, up to 5, and below stands in the column \
-     of the receiver what he was told."
+    "<desc>There is a column for each general, and a band for each round, from above. In a band a line leads down \
+     from the sender of an order to its receiver. The number of labels is the line's width, up to 5. Below, in the \
+     receiver's column, is what he received."
 }
 
 /// Appends the meanings of the marks of strokes in an oral campaign's diagram.
@@ -207,13 +207,13 @@ fn put_stroke_key(out: &mut String, marks: DiagramMarks) -> Result<(), AllocErro
     put_if(
         out,
         marks.circle,
-        " Circle and plain line: as an honest relay tells it.",
+        " Circle and plain line: as an honest relay sends it.",
     )?;
-    put_if(out, marks.diamond, " Diamond and dashes: something else.")?;
+    put_if(out, marks.diamond, " Diamond and dashes: an honest relay would send something else.")?;
     put_if(
         out,
         marks.cross,
-        " Cross and dots: nothing, where something was to be told.",
+        " Cross and dots: nothing was sent, but an order should be sent.",
     )?;
     Ok(())
 }

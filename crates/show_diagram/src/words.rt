@@ -34,7 +34,7 @@ fn differs_words(differs: bool) -> &'static str
     ensures { result.now ≡ differs_words differs }
 {
     if differs {
-        "; an honest relay would tell something else"
+        "; an honest relay would send something else"
     } else {
         ""
     }
@@ -56,7 +56,7 @@ pub(crate) fn put_stroke_words(out: &mut String, stroke: &Stroke) -> Result<(), 
 fn put_tells(out: &mut String, teller: u8, receiver: u8) -> Result<(), AllocError>
     ensures { OnOk result (string_bytes out.new ≡ string_bytes out.old ++ tells_words teller receiver) }
 {
-    write!(out, "general {teller} tells general {receiver}: ")
+    write!(out, "general {teller} sends general {receiver}: ")
 }
 
 /// Appends the words of a stroke in its receiver's column: the sender, the order and the number of labels.

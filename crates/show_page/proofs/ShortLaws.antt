@@ -48,9 +48,9 @@ over_words_short : (room : ℕ) (who : List ℕ) → room < 10 ^ 6 → length wh
 unfolding over_words
 over_words_short room who low short =
     let digits : length (decimal room) ≤ 6 = length-decimal-le 6 room (omega arith) low (omega arith) in
-    let start : length (codes "Longer than its share of this page, ") ≤ 40 = known (codes "Longer than its share of this page, ") 40 refl in
+    let start : length (codes "This part is longer than its share, ") ≤ 40 = known (codes "This part is longer than its share, ") 40 refl in
     let middle : length (codes " bytes of HTML: ") ≤ 20 = known (codes " bytes of HTML: ") 20 refl in
-    omega (arith, length-append (codes "Longer than its share of this page, ") (decimal room ++ (codes " bytes of HTML: " ++ who)), length-append (decimal room) (codes " bytes of HTML: " ++ who), length-append (codes " bytes of HTML: ") who)
+    omega (arith, length-append (codes "This part is longer than its share, ") (decimal room ++ (codes " bytes of HTML: " ++ who)), length-append (decimal room) (codes " bytes of HTML: " ++ who), length-append (codes " bytes of HTML: ") who)
 
 over_short : (room : ℕ) (who : List ℕ) → room < 10 ^ 6 → length who ≤ 130 → length (over room who) ≤ 2000
 over_short room who low short = let told = paragraph_short (over_words room who) 200 (over_words_short room who low short) in omega arith

@@ -38,7 +38,7 @@ scenario_heading [] = codes "Scenario"
 scenario_heading (c ∷ cs) = codes "Story and scenario"
 
 unfoldable pub picture_heading : List ℕ
-picture_heading = codes "Who told whom what"
+picture_heading = codes "Who sent what to whom"
 
 unfoldable pub chronicle_heading : List ℕ
 chronicle_heading = codes "Chronicle"
@@ -47,7 +47,7 @@ unfoldable pub programs_heading : List ℕ
 programs_heading = codes "Programs of the traitors"
 
 unfoldable pub lieutenants_heading : List ℕ
-lieutenants_heading = codes "What each lieutenant was told, and why he decides so"
+lieutenants_heading = codes "What each lieutenant received, and why he decides so"
 
 unfoldable pub accesses_heading : List ℕ
 accesses_heading = codes "Accesses to the board"
@@ -56,17 +56,17 @@ unfoldable pub schedule_heading : List ℕ
 schedule_heading = codes "Who acts when"
 
 unfoldable pub recorded_words : List ℕ
-recorded_words = codes "As the chronicle tells: the accesses to the board are made in its order."
+recorded_words = codes "As in the chronicle: the accesses to the board are made in its order."
 
 unfoldable pub unscheduled_words : List ℕ
 unscheduled_words =
-    codes "By no schedule: in each round the loyal generals write, and then each traitor acts up to his end, by their "
-    ++ codes "numbers."
+    codes "Without a schedule: in each round the loyal generals write, and then each traitor acts until he ends, in "
+    ++ codes "the order of their numbers."
 
 unfoldable pub behind_words : List ℕ
 behind_words =
-    codes "When a round's line is done, and in a round without one, the loyal generals who have not written do so, and "
-    ++ codes "then each traitor acts up to his end, by their numbers."
+    codes "After a round's line, and in a round without one, the loyal generals who have not written do so, and "
+    ++ codes "then each traitor acts until he ends, in the order of their numbers."
 
 unfoldable pub verdict_heading : List ℕ
 verdict_heading = codes "Verdict, and what was promised"
@@ -76,8 +76,8 @@ picture_name = codes "Space-time diagram"
 
 unfoldable pub picture_hint : List ℕ
 picture_hint =
-    codes "The same picture alone, to enlarge or to print at any size, is what byzlab draw writes, with --schedule or "
-    ++ codes "--chronicle as here."
+    codes "byzlab draw, with --schedule or --chronicle as here, writes this picture as a file of its own, to enlarge or "
+    ++ codes "to print at any size."
 
 -- ---- sections
 
@@ -198,8 +198,8 @@ lieutenant_words g is_traitor order =
 -- more than a thousand lists, so a page leaves them out.
 unfoldable pub elsewhere_words : ℕ → List ℕ
 elsewhere_words g =
-    codes "Of five rounds a page leaves out the lists by which he decides so: byzlab play, with --schedule as here, "
-    ++ codes "or byzlab audit of the chronicle tells them with --explain --of " ++ (decimal g ++ codes ".")
+    codes "With five rounds a page leaves out the lists by which he decides: byzlab play, with --schedule as here, "
+    ++ codes "or byzlab audit of the chronicle prints them with --explain --of " ++ (decimal g ++ codes ".")
 
 abbrev pub why_part : MessageTable → List ℕ → ℕ → List ℕ
 why_part t traitors g = if nat_lt t.bound 4 then lines (explained_one t traitors g) else paragraph (elsewhere_words g)

@@ -57,7 +57,7 @@ narrow_sheet = 1300
 -- The words that a section, or a part of one, is longer than its own room, and where to find it.
 unfoldable pub over_words : ℕ → List ℕ → List ℕ
 over_words room who =
-    codes "Longer than its share of this page, " ++ (decimal room ++ (codes " bytes of HTML: " ++ who))
+    codes "This part is longer than its share, " ++ (decimal room ++ (codes " bytes of HTML: " ++ who))
 
 abbrev pub over : ℕ → List ℕ → List ℕ
 over room who = paragraph (over_words room who)
@@ -76,4 +76,4 @@ lines_told room who text = if nat_lt room_for_sections (length text) then over r
 
 -- The words that a program has `count` units, which are too many to be explained, and where to find an explanation.
 unfoldable pub units_words : ℕ → List ℕ → List ℕ
-units_words count who = decimal count ++ (codes " units, and a page explains programs of 256 at most: " ++ who)
+units_words count who = decimal count ++ (codes " units are more than the 256 that a page explains: " ++ who)

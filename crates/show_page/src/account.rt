@@ -214,7 +214,7 @@ fn put_byte(out: &mut String, byte: u8) -> Result<(), AllocError>
 fn picture_heading() -> &'static str
     ensures { result.now ≡ picture_heading }
 {
-    "Who told whom what"
+    "Who sent what to whom"
 }
 
 /// Returns the heading of the chronicle.
@@ -238,6 +238,6 @@ fn picture_name() -> &'static str
 fn picture_hint() -> &'static str
     ensures { result.now ≡ picture_hint }
 {
-    "The same picture alone, to enlarge or to print at any size, is what byzlab draw writes, with --schedule or \
-     --chronicle as here."
+    "byzlab draw, with --schedule or --chronicle as here, writes this picture as a file of its own, to enlarge or \
+     to print at any size."
 }

@@ -8,7 +8,7 @@ ghost use Rattle.show_page.specs.Printers.{accesses_printer, chronicle_printer, 
 pub(crate) fn scenario_printer() -> &'static str
     ensures { result.now ≡ scenario_printer }
 {
-    "it stands in the scenario's file, and in those that it names."
+    "it is in the scenario's file, and in the files that the scenario names."
 }
 
 /// Returns the hint that says where to find the schedule.
@@ -24,7 +24,7 @@ pub(crate) fn schedule_printer() -> &'static str
 pub(crate) fn programs_printer() -> &'static str
     ensures { result.now ≡ programs_printer }
 {
-    "byzlab check --explain, with --asm or --elf, tells what is known of a program in a file of its own."
+    "byzlab check --explain, with --asm or --elf, prints what is known about a program in a file of its own."
 }
 
 /// Returns the hint that says how to print the diagram.
@@ -40,7 +40,7 @@ pub(crate) fn picture_printer() -> &'static str
 pub(crate) fn lieutenants_printer() -> &'static str
     ensures { result.now ≡ lieutenants_printer }
 {
-    "byzlab play --explain, with --schedule as here, or byzlab audit --explain of the chronicle tells why they \
+    "byzlab play --explain, with --schedule as here, or byzlab audit --explain of the chronicle says why they \
      decide so."
 }
 
@@ -49,7 +49,7 @@ pub(crate) fn lieutenants_printer() -> &'static str
 pub(crate) fn accesses_printer() -> &'static str
     ensures { result.now ≡ accesses_printer }
 {
-    "they stand in the chronicle, the file of --chronicle, or what byzlab play prints, with --schedule as here."
+    "they are in the chronicle: the file of --chronicle, or what byzlab play prints, with --schedule as here."
 }
 
 /// Returns the hint that says where to find the chronicle.

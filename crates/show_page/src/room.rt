@@ -128,7 +128,7 @@ pub(crate) fn put_over(
 fn over_words(alloc: Global, room: usize, who: &str) -> Result<String, AllocError>
     ensures { IfOk result (λ words. string_bytes words ≡ over_words room who.now) }
 {
-    format!(in alloc; "Longer than its share of this page, {room} bytes of HTML: {who}")
+    format!(in alloc; "This part is longer than its share, {room} bytes of HTML: {who}")
 }
 
 /// Returns the words that a program has `count` units, which are too many to be explained, and where to find an
@@ -137,5 +137,5 @@ fn over_words(alloc: Global, room: usize, who: &str) -> Result<String, AllocErro
 pub(crate) fn units_words(alloc: Global, count: usize, who: &str) -> Result<String, AllocError>
     ensures { IfOk result (λ words. string_bytes words ≡ units_words count who.now) }
 {
-    format!(in alloc; "{count} units, and a page explains programs of 256 at most: {who}")
+    format!(in alloc; "{count} units are more than the 256 that a page explains: {who}")
 }

@@ -91,7 +91,7 @@ fn schedule_heading() -> &'static str
 fn recorded_words() -> &'static str
     ensures { result.now ≡ recorded_words }
 {
-    "As the chronicle tells: the accesses to the board are made in its order."
+    "As in the chronicle: the accesses to the board are made in its order."
 }
 
 /// Returns the words for what happens in a round after its line of the schedule.
@@ -99,8 +99,8 @@ fn recorded_words() -> &'static str
 fn behind_words() -> &'static str
     ensures { result.now ≡ behind_words }
 {
-    "When a round's line is done, and in a round without one, the loyal generals who have not written do so, and \
-     then each traitor acts up to his end, by their numbers."
+    "After a round's line, and in a round without one, the loyal generals who have not written do so, and \
+     then each traitor acts until he ends, in the order of their numbers."
 }
 
 /// Returns the words for a campaign that was played by no schedule, or by one without entries.
@@ -108,6 +108,6 @@ fn behind_words() -> &'static str
 fn unscheduled_words() -> &'static str
     ensures { result.now ≡ unscheduled_words }
 {
-    "By no schedule: in each round the loyal generals write, and then each traitor acts up to his end, by their \
-     numbers."
+    "Without a schedule: in each round the loyal generals write, and then each traitor acts until he ends, in \
+     the order of their numbers."
 }

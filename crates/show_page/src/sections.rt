@@ -298,8 +298,8 @@ fn elsewhere_words(alloc: Global, general: u8) -> Result<String, AllocError>
     ensures { IfOk result (λ words. string_bytes words ≡ elsewhere_words general) }
 {
     format!(in alloc;
-        "Of five rounds a page leaves out the lists by which he decides so: byzlab play, with --schedule as here, \
-         or byzlab audit of the chronicle tells them with --explain --of {general}."
+        "With five rounds a page leaves out the lists by which he decides: byzlab play, with --schedule as here, \
+         or byzlab audit of the chronicle prints them with --explain --of {general}."
     )
 }
 
@@ -341,5 +341,5 @@ fn programs_heading() -> &'static str
 fn lieutenants_heading() -> &'static str
     ensures { result.now ≡ lieutenants_heading }
 {
-    "What each lieutenant was told, and why he decides so"
+    "What each lieutenant received, and why he decides so"
 }

@@ -66,11 +66,11 @@ mark_text (Lie general took) =
 extent_text : (e : Extent) → IsText (extent_words stop e)
 extent_text Last = no_text
 extent_text Open = no_text
-extent_text (Folded count) = many (stop ++ decimal count) (codes " below told the same") (many stop (decimal count) stop_text (decimal_text count)) (bare_text (codes " below told the same") refl)
+extent_text (Folded count) = many (stop ++ decimal count) (codes " below received the same") (many stop (decimal count) stop_text (decimal_text count)) (bare_text (codes " below received the same") refl)
 extent_text (Cut count) = many (stop ++ decimal count) (codes " below not shown") (many stop (decimal count) stop_text (decimal_text count)) (bare_text (codes " below not shown") refl)
 
 told_text : (o : Option ℕ) → IsText (told_words o)
-told_text o = many (codes "told ") (order_words o) (bare_text (codes "told ") refl) (order_text o)
+told_text o = many (codes "received ") (order_words o) (bare_text (codes "received ") refl) (order_text o)
 
 counted_text : (o : Option Outcome) (told : Option ℕ) → IsText (counted_words o told)
 counted_text None None = bare_text (codes ", so 0") refl
@@ -277,12 +277,12 @@ meanings_content marks dashed place =
     let second : ℕ = place + one_if marks.circle in
     let third : ℕ = second + one_if marks.square in
     let one : List ℕ = meaning_if marks.circle place Honest None (codes "no lie is known") in
-    let two : List ℕ = meaning_if marks.square second Traitor None (codes "a named commander, his word") in
+    let two : List ℕ = meaning_if marks.square second Traitor None (codes "the message of a named commander") in
     let three : List ℕ = meaning_if marks.diamond third (Lie 0 0) None (codes "a lie of a named traitor") in
     joined (one ++ two ++ three) (meaning_if marks.dashes (third + one_if marks.diamond) dashed (Some (Divided 0)) (codes "no order has a majority"))
     (joined (one ++ two) three
     (joined one two (meaning_if_content marks.circle place Honest None (codes "no lie is known") (bare_text _ refl))
-    (meaning_if_content marks.square second Traitor None (codes "a named commander, his word") (bare_text _ refl)))
+    (meaning_if_content marks.square second Traitor None (codes "the message of a named commander") (bare_text _ refl)))
     (meaning_if_content marks.diamond third (Lie 0 0) None (codes "a lie of a named traitor") (bare_text _ refl)))
     (meaning_if_content marks.dashes (third + one_if marks.diamond) dashed (Some (Divided 0)) (codes "no order has a majority") (bare_text _ refl))
 
@@ -349,12 +349,12 @@ said_if_text false words t = no_text
 
 shape_words_text : (marks : DrawnMarks) → IsText (shape_words marks)
 shape_words_text marks =
-    let circle : List ℕ = said_if marks.circle (codes " Circle: the word of a general who is not named as a traitor, or tells what he took.") in
-    let square : List ℕ = said_if marks.square (codes " Square: the word of a commander who is named.") in
+    let circle : List ℕ = said_if marks.circle (codes " Circle: the message of a general who is not named as a traitor, or who sends what he took.") in
+    let square : List ℕ = said_if marks.square (codes " Square: the message of a commander who is named as a traitor.") in
     let diamond : List ℕ = said_if marks.diamond (codes " Diamond: a lie.") in
     many (circle ++ square ++ diamond) (said_if marks.dashes (codes " Dashes: no order has a majority."))
     (many (circle ++ square) diamond
-    (many circle square (said_if_text marks.circle (codes " Circle: the word of a general who is not named as a traitor, or tells what he took.") (bare_text _ refl)) (said_if_text marks.square (codes " Square: the word of a commander who is named.") (bare_text _ refl)))
+    (many circle square (said_if_text marks.circle (codes " Circle: the message of a general who is not named as a traitor, or who sends what he took.") (bare_text _ refl)) (said_if_text marks.square (codes " Square: the message of a commander who is named as a traitor.") (bare_text _ refl)))
     (said_if_text marks.diamond (codes " Diamond: a lie.") (bare_text _ refl)))
     (said_if_text marks.dashes (codes " Dashes: no order has a majority.") (bare_text _ refl))
 

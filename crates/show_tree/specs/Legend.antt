@@ -80,7 +80,7 @@ meaning_if stands place mark outcome words = if stands then meaning place mark o
 abbrev pub meanings : DrawnMarks → Trust → ℕ → List ℕ
 meanings marks dashed place =
     meaning_if marks.circle place Honest None (codes "no lie is known")
-    ++ meaning_if marks.square (place + one_if marks.circle) Traitor None (codes "a named commander, his word")
+    ++ meaning_if marks.square (place + one_if marks.circle) Traitor None (codes "the message of a named commander")
     ++ meaning_if marks.diamond (place + one_if marks.circle + one_if marks.square) (Lie 0 0) None
     (codes "a lie of a named traitor")
     ++ meaning_if marks.dashes (place + one_if marks.circle + one_if marks.square + one_if marks.diamond) dashed

@@ -31,15 +31,15 @@ heading p order = codes "<text x=\"10\" y=\"24\">lieutenant "
 -- The description for readers who do not see the shapes. It explains each mark that occurs in the picture.
 unfoldable pub key_start : List ℕ
 key_start =
-    codes "<desc>Each row is a label, below the label that it goes on from, with what he was told of it."
+    codes "<desc>Each row is a label, below the label that it extends, with the order that he received for it."
 
 unfoldable pub said_if : Bool → List ℕ → List ℕ
 said_if stands words = if stands then words else []
 
 abbrev pub shape_words : DrawnMarks → List ℕ
 shape_words marks =
-    said_if marks.circle (codes " Circle: the word of a general who is not named as a traitor, or tells what he took.")
-    ++ said_if marks.square (codes " Square: the word of a commander who is named.")
+    said_if marks.circle (codes " Circle: the message of a general who is not named as a traitor, or who sends what he took.")
+    ++ said_if marks.square (codes " Square: the message of a commander who is named as a traitor.")
     ++ said_if marks.diamond (codes " Diamond: a lie.")
     ++ said_if marks.dashes (codes " Dashes: no order has a majority.")
 

@@ -11,7 +11,7 @@ use Rattle.show_tree.specs.declared.node.Extent.TheVariants.{Last, Open, Folded,
 use Rattle.show_tree.specs.declared.node.Node.{Node}
 
 abbrev pub told_words : Option ℕ → List ℕ
-told_words told = codes "told " ++ order_words told
+told_words told = codes "received " ++ order_words told
 
 -- The words that a missing order counts as 0, if the label has no list.
 abbrev pub counted_words : Option Outcome → Option ℕ → List ℕ
@@ -31,7 +31,7 @@ mark_words stop (Lie general took) = stop ++ codes "a lie, " ++ decimal general 
 abbrev pub extent_words : List ℕ → Extent → List ℕ
 extent_words stop Last = []
 extent_words stop Open = []
-extent_words stop (Folded count) = stop ++ decimal count ++ codes " below told the same"
+extent_words stop (Folded count) = stop ++ decimal count ++ codes " below received the same"
 extent_words stop (Cut count) = stop ++ decimal count ++ codes " below not shown"
 
 abbrev pub words : List ℕ → Node → List ℕ

@@ -190,7 +190,7 @@ fn put_meanings(
         marks.square,
         second,
         Trust::Traitor,
-        "a named commander, his word",
+        "the message of a named commander",
     )?;
     put_shape_if(
         out,

@@ -113,12 +113,12 @@ fn put_shape_words(out: &mut String, marks: DrawnMarks) -> Result<(), AllocError
     put_if(
         out,
         marks.circle,
-        " Circle: the word of a general who is not named as a traitor, or tells what he took.",
+        " Circle: the message of a general who is not named as a traitor, or who sends what he took.",
     )?;
     put_if(
         out,
         marks.square,
-        " Square: the word of a commander who is named.",
+        " Square: the message of a commander who is named as a traitor.",
     )?;
     put_if(out, marks.diamond, " Diamond: a lie.")?;
     put_if(out, marks.dashes, " Dashes: no order has a majority.")?;
@@ -130,7 +130,7 @@ fn put_shape_words(out: &mut String, marks: DrawnMarks) -> Result<(), AllocError
 fn key_start() -> &'static str
     ensures { result.now ≡ key_start }
 {
-    "<desc>Each row is a label, below the label that it goes on from, with what he was told of it."
+    "<desc>Each row is a label, below the label that it extends, with the order that he received for it."
 }
 
 /// Appends these words if the condition holds.

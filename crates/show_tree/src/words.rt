@@ -36,8 +36,8 @@ fn put_told(out: &mut String, told: Option<u32>) -> Result<(), AllocError>
     ensures { OnOk result (string_bytes out.new ≡ string_bytes out.old ++ told_words told) }
 {
     match told {
-        Some(order) => write!(out, "told {order}"),
-        None => out.push_str("told nothing"),
+        Some(order) => write!(out, "received {order}"),
+        None => out.push_str("received nothing"),
     }
 }
 
@@ -84,7 +84,7 @@ fn put_extent(out: &mut String, stop: &str, extent: Extent) -> Result<(), AllocE
 {
     match extent {
         Extent::Last | Extent::Open => Ok(()),
-        Extent::Folded(count) => write!(out, "{stop}{count} below told the same"),
+        Extent::Folded(count) => write!(out, "{stop}{count} below received the same"),
         Extent::Cut(count) => write!(out, "{stop}{count} below not shown"),
     }
 }

@@ -177,13 +177,13 @@ fn push_obedience(lines: &mut String, order: u32, obeyed: Option<bool>) -> Resul
         Some(true) => {
             write!(
                 lines,
-                "IC2 yes: each loyal lieutenant decides {order}, as the commander told all\n"
+                "IC2 yes: each loyal lieutenant decides {order}, the order that the commander sent to all\n"
             )
         }
         Some(false) => {
             write!(
                 lines,
-                "IC2 no: not each loyal lieutenant decides {order}, as the commander told all\n"
+                "IC2 no: not every loyal lieutenant decides {order}, the order that the commander sent to all\n"
             )
         }
     }

@@ -15,11 +15,11 @@ size height =
 -- Writes the title, the description, the style sheet and the legend of a picture.
 unfoldable pub head : List ℕ
 head =
-    codes "<title>where agreement or the order is broken</title>\n"
-    ++ codes "<desc>Each row: so many generals, n, who provide for so many traitors, m. Each column: so many traitors. "
-    ++ codes "A bar: the share of the campaigns of these numbers in which loyal lieutenants decide unlike, "
-    ++ codes "or not as a loyal commander has ordered. "
-    ++ codes "Dashes: n = 3m + 1, at so many traitors as m. A ground: the campaign's bound is kept.</desc>\n"
+    codes "<title>where agreement or obedience is broken</title>\n"
+    ++ codes "<desc>Each row is for a number of generals, n, and a bound, m. Each column is for a number of traitors. "
+    ++ codes "A bar is the share of these campaigns in which loyal lieutenants do not decide alike, "
+    ++ codes "or disobey a loyal commander. "
+    ++ codes "Dashes: n = 3m + 1, where m is the number of traitors. Green: the campaign's bound is kept.</desc>\n"
     ++ codes "<style>svg{background:#fff}text{fill:#111;font:14px sans-serif}"
     ++ codes ".bar{fill:#b00020}.base,.limit{fill:none;stroke:#767676}"
     ++ codes ".limit{stroke:#0b57d0;stroke-width:2;stroke-dasharray:6 3}"
@@ -29,7 +29,7 @@ head =
     ++ codes ".kept{fill:#143d1b}}</style>\n"
     ++ codes "<text x=\"10\" y=\"24\">campaigns in which agreement is broken or the order disobeyed, "
     ++ codes "by the number of traitors</text>\n"
-    ++ codes "<text x=\"10\" y=\"46\">dashes: n = 3m + 1, for m the number of traitors; "
+    ++ codes "<text x=\"10\" y=\"46\">dashes: n = 3m + 1, where m is the number of traitors; "
     ++ codes "green: within the campaign's bound</text>\n"
     ++ codes "<text x=\"10\" y=\"84\">traitors</text>\n"
 

@@ -22,7 +22,7 @@ fn start() -> &'static str
 fn head() -> &'static str
     ensures { result.now ≡ head }
 {
-    "<title>where agreement or the order is broken</title>\n\
+    "<title>where agreement or obedience is broken</title>\n\
      <desc>Each row: so many generals, n, who provide for so many traitors, \
      m. Each column: so many traitors. A bar: the share of \
      the campaigns of these numbers in \
@@ -37,7 +37,7 @@ fn head() -> &'static str
      .kept{fill:#143d1b}}</style>\n\
      <text x=\"10\" y=\"24\">campaigns in which agreement is broken or the order disobeyed, \
      by the number of traitors</text>\n\
-     <text x=\"10\" y=\"46\">dashes: n = 3m + 1, for m the number of traitors; \
+     <text x=\"10\" y=\"46\">dashes: n = 3m + 1, where m is the number of traitors; \
      green: within the campaign's bound</text>\n\
      <text x=\"10\" y=\"84\">traitors</text>\n"
 }

@@ -61,23 +61,23 @@ handed_on P (Err own) e is h = subst P (sym is) h
 abbrev pub NoSurvey : List Row → Type 0
 NoSurvey rows = (s : Survey) → IsSurveying rows s → ⊥
 
-pub no_generals : (rows : List Row) (word text : Text) (e : AskedError) → word ≡ value (codes "generals") (codes "4") rows → text ≡ codes "--generals takes 2 to 13, as 4 or 4..7" → IsSaid text (IsOutside 2 13 word) e → IsRefused rows (NoSurvey rows) e
+pub no_generals : (rows : List Row) (word text : Text) (e : AskedError) → word ≡ value (codes "generals") (codes "4") rows → text ≡ codes "--generals takes 2 to 13, such as 4 or 4..7" → IsSaid text (IsOutside 2 13 word) e → IsRefused rows (NoSurvey rows) e
 no_generals rows word text e is says h =
     let own : IsOutside 2 13 word → IsOutside 2 13 (value (codes "generals") (codes "4") rows) = subst (IsOutside 2 13) is in
     said_so rows text (IsOutside 2 13 word) (NoSurvey rows) e (λ why same bars. generals (same ∙ says) (own bars)) (λ bars s told. own bars s.generals told.generals) h
 
-pub no_bound : (rows : List Row) (word text : Text) (e : AskedError) → word ≡ value (codes "bound") (codes "1") rows → text ≡ codes "--bound takes 0 to 4, as 1 or 1..2" → IsSaid text (IsOutside 0 4 word) e → IsRefused rows (NoSurvey rows) e
+pub no_bound : (rows : List Row) (word text : Text) (e : AskedError) → word ≡ value (codes "bound") (codes "1") rows → text ≡ codes "--bound takes 0 to 4, such as 1 or 1..2" → IsSaid text (IsOutside 0 4 word) e → IsRefused rows (NoSurvey rows) e
 no_bound rows word text e is says h =
     let own : IsOutside 0 4 word → IsOutside 0 4 (value (codes "bound") (codes "1") rows) = subst (IsOutside 0 4) is in
     said_so rows text (IsOutside 0 4 word) (NoSurvey rows) e (λ why same bars. bound (same ∙ says) (own bars)) (λ bars s told. own bars s.bound told.bound) h
 
-pub no_traitors : (rows : List Row) (word some text : Text) (e : AskedError) → word ≡ value (codes "traitors") some rows → some ≡ some_traitors rows → text ≡ codes "--traitors takes 0 to 13, as 1 or 1..3" → IsSaid text (IsOutside 0 13 word) e → IsRefused rows (NoSurvey rows) e
+pub no_traitors : (rows : List Row) (word some text : Text) (e : AskedError) → word ≡ value (codes "traitors") some rows → some ≡ some_traitors rows → text ≡ codes "--traitors takes 0 to 13, such as 1 or 1..3" → IsSaid text (IsOutside 0 13 word) e → IsRefused rows (NoSurvey rows) e
 no_traitors rows word some text e is all says h =
     let own : IsOutside 0 13 word → IsOutside 0 13 (value (codes "traitors") (some_traitors rows) rows) = subst (IsOutside 0 13) (is ∙ ap (λ (t : Text). value (codes "traitors") t rows) all) in
     said_so rows text (IsOutside 0 13 word) (NoSurvey rows) e (λ why same bars. traitors (same ∙ says) (own bars)) (λ bars s told. own bars s.traitors told.traitors) h
 
 abbrev seeds_text : Text
-seeds_text = codes "--seeds takes up to 10000000 numbers below 18446744073709551615, as 7 or 1..1000"
+seeds_text = codes "--seeds takes at most 10000000 seeds below 18446744073709551615, such as 7 or 1..1000"
 
 pub no_seeds : (rows : List Row) (word : Text) (e : AskedError) → word ≡ value (codes "seeds") (codes "1..1000") rows → IsSaid seeds_text (AreNoSeeds word) e → IsRefused rows (NoSurvey rows) e
 no_seeds rows word e is h =
@@ -112,7 +112,7 @@ pub no_patience : (rows : List Row) (e : AskedError) → IsSaid (codes "--patien
 no_patience rows e h = said_so rows (codes "--patience takes 1 to 4096") (IsNoPatience (given (codes "patience") rows)) (NoSurvey rows) e (λ why same bars. patience same bars) (λ bars s told. bars s.patience told.patience) h
 
 abbrev shape_text : Text
-shape_text = codes "one of --lines, --table, --svg, --shrink and --break is printed"
+shape_text = codes "only one of --lines, --table, --svg, --shrink and --break can be used"
 
 pub no_shape : (rows : List Row) (e : AskedError) → IsSaid shape_text (shape_in rows ≡ None) e → IsRefused rows (NoSurvey rows) e
 no_shape rows e h = said_so rows shape_text (shape_in rows ≡ None) (NoSurvey rows) e (λ why same none. shape same none) (λ none s told. (let is = sym none ∙ told.shape in cc)) h
@@ -141,10 +141,10 @@ has_kept None word is kept = cc
 has_kept (Some name) word is kept = sym (ap (λ (o : Option Text). is_some o) is)
 
 pub no_break_shape : (rows : List Row) (own : Survey) (e : AskedError) → has (codes "break") rows ≡ true → IsSurveying rows own
-    → IsSaid (codes "--break is printed, or with --table as a table alone") (IsNoBreak own.shape) e ⊎ IsSaid (codes "--break keeps nothing: what it prints can be sent to a file") (is_some own.keep ≡ true) e → IsRefused rows (NoBreak rows) e
-no_break_shape rows own e has_it is (inl h) = said_so rows (codes "--break is printed, or with --table as a table alone") (IsNoBreak own.shape) (NoBreak rows) e
+    → IsSaid (codes "--break can be used with --table, but not with --lines, --svg or --shrink") (IsNoBreak own.shape) e ⊎ IsSaid (codes "--break cannot be used with --keep: redirect its output to a file") (is_some own.keep ≡ true) e → IsRefused rows (NoBreak rows) e
+no_break_shape rows own e has_it is (inl h) = said_so rows (codes "--break can be used with --table, but not with --lines, --svg or --shrink") (IsNoBreak own.shape) (NoBreak rows) e
     (λ why same bars. broken same has_it own.shape is.shape bars) (other_shape rows own is) h
-no_break_shape rows own e has_it is (inr h) = said_so rows (codes "--break keeps nothing: what it prints can be sent to a file") (is_some own.keep ≡ true) (NoBreak rows) e
+no_break_shape rows own e has_it is (inr h) = said_so rows (codes "--break cannot be used with --keep: redirect its output to a file") (is_some own.keep ≡ true) (NoBreak rows) e
     (λ why same kept. keep same has_it (has_kept own.keep (given (codes "keep") rows) is.keep kept))
     (λ kept s is_table told. is_kept own.keep s.keep (given (codes "keep") rows) is.keep told.survey.keep kept told.keep) h
 
@@ -173,10 +173,10 @@ no_merge_seeds names rows e h = said_so rows seeds_text (IsSomeAnd (given (codes
     (λ why same bars. seeds same (said_value (given (codes "seeds") rows) bars)) (λ bars m told. no_said (given (codes "seeds") rows) m.seeds bars told.seeds) h
 
 pub no_merge_sum : (names : List Text) (rows : List Row) (e : AskedError) → names_in rows ≡ Some names
-    → IsSaid (codes "--sum plays nothing: beside it stand --seeds, --table and --svg alone") (bars_sum rows ≡ true) e ⊎ IsSaid (codes "standard input is read once") (AreTwice names) e → IsRefused rows (NoMerge names rows) e
-no_merge_sum names rows e is (inl h) = said_so rows (codes "--sum plays nothing: beside it stand --seeds, --table and --svg alone") (bars_sum rows ≡ true) (NoMerge names rows) e
+    → IsSaid (codes "--sum plays nothing: it can be used only with --seeds, --table and --svg") (bars_sum rows ≡ true) e ⊎ IsSaid (codes "standard input can be read only once") (AreTwice names) e → IsRefused rows (NoMerge names rows) e
+no_merge_sum names rows e is (inl h) = said_so rows (codes "--sum plays nothing: it can be used only with --seeds, --table and --svg") (bars_sum rows ≡ true) (NoMerge names rows) e
     (λ why same bars. sum same (ap (λ (o : Option (List Text)). is_some o) is) bars) (λ bars m told. (let both = sym bars ∙ told.alone in cc)) h
-no_merge_sum names rows e is (inr h) = said_so rows (codes "standard input is read once") (AreTwice names) (NoMerge names rows) e
+no_merge_sum names rows e is (inr h) = said_so rows (codes "standard input can be read only once") (AreTwice names) (NoMerge names rows) e
     (λ why same more. twice same names is more) (λ more m told. (let once = told.once in omega arith)) h
 
 -- ---- nothing at all

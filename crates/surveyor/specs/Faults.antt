@@ -123,9 +123,9 @@ abbrev pub part_line : List ℕ → List ℕ → PartError → Option (List ℕ)
 part_line name first (part.Line n) =
     Some (codes "refused ") ++? shown name ++? Some (codes " line ") ++? Some (decimal n)
 part_line name first (part.Family n) = Some (codes "refused ") ++? shown name ++? Some (codes " line ")
-    ++? Some (decimal n) ++? Some (codes ": another family than that of ") ++? shown first
+    ++? Some (decimal n) ++? Some (codes ": its family differs from that of ") ++? shown first
 part_line name first (part.Seed n seed) = Some (codes "refused ") ++? shown name ++? Some (codes " line ")
-    ++? Some (decimal n) ++? Some (codes ": seed ") ++? Some (decimal seed) ++? Some (codes " is none of --seeds")
+    ++? Some (decimal n) ++? Some (codes ": seed ") ++? Some (decimal seed) ++? Some (codes " is not one of --seeds")
 part_line name first part.Memory = None
 
 -- States that this line says why the file `name` is not a part of the survey that the file `first` begins. Nothing is

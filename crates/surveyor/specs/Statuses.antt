@@ -32,7 +32,7 @@ fault_text (Unwritten (Some name)) = Some (codes "fault write ") ++? shown (stri
 fault_text (Unwritten None) = Some (codes "fault write")
 fault_text (Refused line) = Some (string_bytes line)
 fault_text (Campaign first last error) = Some (codes "refused " ++ (told error
-    ++ (codes " (of seeds " ++ (decimal first ++ (codes ".." ++ (decimal last ++ codes ")"))))))
+    ++ (codes " (for seeds " ++ (decimal first ++ (codes ".." ++ (decimal last ++ codes ")"))))))
 fault_text Words = Some (codes "error: the words are not UTF-8")
 fault_text Memory = Some (codes "out of memory")
 

@@ -35,27 +35,27 @@ AreTwice names = 1 < count_by (λ name. bytes_eq name (codes "-")) names
 
 -- States that this message is true of the words: it says what is wrong with them.
 pub data IsWrong (rows : List Row) (why : Text) : Type 0 where
-  generals : why ≡ codes "--generals takes 2 to 13, as 4 or 4..7" →
+  generals : why ≡ codes "--generals takes 2 to 13, such as 4 or 4..7" →
       IsOutside 2 13 (value (codes "generals") (codes "4") rows) → IsWrong rows why
-  bound : why ≡ codes "--bound takes 0 to 4, as 1 or 1..2" →
+  bound : why ≡ codes "--bound takes 0 to 4, such as 1 or 1..2" →
       IsOutside 0 4 (value (codes "bound") (codes "1") rows) → IsWrong rows why
-  traitors : why ≡ codes "--traitors takes 0 to 13, as 1 or 1..3" →
+  traitors : why ≡ codes "--traitors takes 0 to 13, such as 1 or 1..3" →
       IsOutside 0 13 (value (codes "traitors") (some_traitors rows) rows) → IsWrong rows why
-  seeds : why ≡ codes "--seeds takes up to 10000000 numbers below 18446744073709551615, as 7 or 1..1000" →
+  seeds : why ≡ codes "--seeds takes at most 10000000 seeds below 18446744073709551615, such as 7 or 1..1000" →
       AreNoSeeds (value (codes "seeds") (codes "1..1000") rows) → IsWrong rows why
   patience : why ≡ codes "--patience takes 1 to 4096" →
       IsNoPatience (given (codes "patience") rows) → IsWrong rows why
   signed : why ≡ codes "signed messages have no rule" →
       has (codes "signed") rows ≡ true → has (codes "rule") rows ≡ true → IsWrong rows why
-  shape : why ≡ codes "one of --lines, --table, --svg, --shrink and --break is printed" →
+  shape : why ≡ codes "only one of --lines, --table, --svg, --shrink and --break can be used" →
       shape_in rows ≡ None → IsWrong rows why
-  broken : why ≡ codes "--break is printed, or with --table as a table alone" →
+  broken : why ≡ codes "--break can be used with --table, but not with --lines, --svg or --shrink" →
       has (codes "break") rows ≡ true → (shape : ReportKind) → shape_in rows ≡ Some shape → IsNoBreak shape → IsWrong rows why
-  keep : why ≡ codes "--break keeps nothing: what it prints can be sent to a file" →
+  keep : why ≡ codes "--break cannot be used with --keep: redirect its output to a file" →
       has (codes "break") rows ≡ true → has (codes "keep") rows ≡ true → IsWrong rows why
-  sum : why ≡ codes "--sum plays nothing: beside it stand --seeds, --table and --svg alone" →
+  sum : why ≡ codes "--sum plays nothing: it can be used only with --seeds, --table and --svg" →
       is_some (names_in rows) ≡ true → bars_sum rows ≡ true → IsWrong rows why
-  twice : why ≡ codes "standard input is read once" →
+  twice : why ≡ codes "standard input can be read only once" →
       (names : List Text) → names_in rows ≡ Some names → AreTwice names → IsWrong rows why
 
 -- States that a rule is named for oral messages, and that there is no rule of this name.

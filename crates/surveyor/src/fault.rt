@@ -46,7 +46,7 @@ impl fmt::Display for SurveyFailure {
             SurveyFailure::Unwritten(None) => f.write_str("fault write"),
             SurveyFailure::Refused(line) => f.write_str(line.as_str()),
             SurveyFailure::Campaign(first, last, error) => {
-                write!(f, "refused {error} (of seeds {first}..{last})")
+                write!(f, "refused {error} (for seeds {first}..{last})")
             }
             SurveyFailure::Words => f.write_str("error: the words are not UTF-8"),
             SurveyFailure::Memory => f.write_str("out of memory"),

@@ -106,13 +106,13 @@ fn refusal(
         }
         PartError::Family(number) => {
             let line = format!(in alloc;
-                "refused {name} line {number}: another family than that of {first}"
+                "refused {name} line {number}: its family differs from that of {first}"
             )?;
             Ok(SurveyFailure::Refused(line))
         }
         PartError::Seed(number, seed) => {
             let line = format!(in alloc;
-                "refused {name} line {number}: seed {seed} is none of --seeds"
+                "refused {name} line {number}: seed {seed} is not one of --seeds"
             )?;
             Ok(SurveyFailure::Refused(line))
         }

@@ -26,7 +26,7 @@ const FAMILY: &[Flag<'static>] = &[
     Flag {
         name: "bound",
         value: Some("N..M"),
-        help: "For how many traitors they provide, 0 to 4 [default: 1]",
+        help: "How many traitors they provide for, 0 to 4 [default: 1]",
     },
     Flag {
         name: "traitors",
@@ -36,7 +36,7 @@ const FAMILY: &[Flag<'static>] = &[
     Flag {
         name: "seeds",
         value: Some("N..M"),
-        help: "The seeds, each of which gives a campaign, 10000000 at most [default: 1..1000]",
+        help: "The seeds, one for each campaign, at most 10000000 [default: 1..1000]",
     },
 ];
 
@@ -45,7 +45,7 @@ const MANNER: &[Flag<'static>] = &[
     Flag {
         name: "patience",
         value: Some("STEPS"),
-        help: "After how many steps a traitor is no longer waited for, 1 to 4096",
+        help: "How many steps a traitor may take in each round, 1 to 4096",
     },
     Flag {
         name: "signed",
@@ -64,28 +64,28 @@ const SHAPES: &[Flag<'static>] = &[
     Flag {
         name: "lines",
         value: None,
-        help: "Prints an object of JSON for each campaign, in place of sums",
+        help: "Prints a JSON object for each campaign, in place of the sums",
     },
     Flag {
         name: "table",
         value: None,
-        help: "Prints the sums for each number of generals, bound and traitors",
+        help: "Prints the sums for each number of generals, each bound and each number of traitors",
     },
     Flag {
         name: "svg",
         value: None,
-        help: "Prints a picture: the share of broken campaigns over the number of traitors",
+        help: "Prints a picture in SVG: the share of broken campaigns by number of traitors",
     },
     Flag {
         name: "shrink",
         value: None,
-        help: "Prints the least broken campaign, of which nothing more can be taken out",
+        help: "Prints the smallest broken campaign, from which nothing more can be removed",
     },
     Flag {
         name: "break",
         value: None,
-        help: "Prints, for each number of generals and bound, the least campaign found with the fewest traitors who \
-               break it",
+        help: "Prints, for each number of generals and each bound, the smallest broken campaign found with the \
+               fewest traitors",
     },
     Flag {
         name: "keep",
@@ -98,7 +98,7 @@ const SHAPES: &[Flag<'static>] = &[
 const SUM: Flag<'static> = Flag {
     name: "sum",
     value: Some("FILE"),
-    help: "Sums the lines of these files, and names the seeds that lack or are double; nothing is played",
+    help: "Sums the lines of these files, and lists missing and duplicate seeds; plays nothing",
 };
 
 impl<'a> Flag<'a> {
@@ -143,7 +143,7 @@ fn bare<'a>(alloc: Global) -> Result<Command<'a>, AllocError>
 {
     Command::new(alloc, "survey")
         .no_binary_name(true)
-        .about("Plays many campaigns of a family, and counts how they come out")
+        .about("Plays many campaigns of a family, and counts their outcomes")
         .bin_name("byzlab survey")
 }
 

@@ -36,7 +36,7 @@ past rank labels =
 abbrev pub passed_over : ℕ → ℕ → List ℕ → List ℕ
 passed_over sender receiver such =
     if receiver == sender then codes "general " ++ decimal receiver ++ codes " is the sender himself"
-    else codes "general " ++ decimal receiver ++ codes " stands on " ++ such
+    else codes "general " ++ decimal receiver ++ codes " is on " ++ such
 
 -- Writes why no label of this description goes to the receiver, or that there is no such general.
 abbrev pub unheard : Shape → ℕ → List ℕ → List ℕ
@@ -44,17 +44,17 @@ unheard shape receiver such =
     if nat_lt receiver shape.generals then passed_over shape.general receiver such
     else codes "there is no general " ++ decimal receiver
 
--- Writes why `send` puts nothing: there is no label of this rank, or the label does not go to this receiver.
+-- Writes why `send` sets no order: there is no label of this rank, or the label does not go to this receiver.
 abbrev pub no_place : Relay → ℕ → ℕ → Option (List ℕ) → List ℕ
 no_place r rank receiver None = past rank (length (relayed r))
 no_place r rank receiver (Some label) = unheard r.shape receiver (codes "the label " ++ dotted label)
 
--- Writes why `send_row` puts nothing: there is no label of this rank, no orders were given, or the label goes to
+-- Writes why `send_row` sets no order: there is no label of this rank, no orders were given, or the label goes to
 -- nobody.
 abbrev pub no_row : Relay → ℕ → ℕ → Option (List ℕ) → List ℕ
 no_row r rank orders None = past rank (length (relayed r))
 no_row r rank orders (Some label) =
-    if orders == 0 then codes "no orders were given" else codes "nobody hears of the label " ++ dotted label
+    if orders == 0 then codes "no orders were given" else codes "nobody receives the label " ++ dotted label
 
 -- Writes why `sway` and `honest` put nothing: there is no label, or no label goes to this receiver.
 abbrev pub no_label : Shape → ℕ → ℕ → List ℕ
@@ -116,7 +116,7 @@ unit_told places unit = decimal unit ++ in_brackets (place_of (slice_get places 
 
 -- Writes that a call of this helper puts nothing.
 unfoldable pub slip_told : Helper → List ℕ
-slip_told helper = codes ", " ++ helper_name helper ++ codes " puts nothing: "
+slip_told helper = codes ", " ++ helper_name helper ++ codes " sets no order: "
 
 -- Writes the whole note on a call: its unit, its helper, and the reason.
 abbrev pub note_of : List (String Global) → Relay → HelperCall → List ℕ

@@ -58,7 +58,7 @@ fn put_slip(out: &mut String, helper: Helper) -> Result<(), AllocError>
     ensures { OnOk result (string_bytes out.new ≡ string_bytes out.old ++ slip_told helper) }
 {
     let name = helper_name(helper);
-    write!(out, ", {name} puts nothing: ")
+    write!(out, ", {name} sets no order: ")
 }
 
 /// Appends a unit and, if it is known, the unit's place in the text in which the program was written.
@@ -148,7 +148,7 @@ fn put_no_row(
         return out.push_str("no orders were given");
     }
     let label = label_text(alloc, outbox, rank as u32)?;
-    write!(out, "nobody hears of the label {label}")
+    write!(out, "nobody receives the label {label}")
 }
 
 /// Appends why `sway` or `honest` puts nothing for a receiver.
@@ -196,7 +196,7 @@ fn put_passed_over(
     if receiver == u64::from(sender) {
         return write!(out, "general {receiver} is the sender himself");
     }
-    write!(out, "general {receiver} stands on {such}")
+    write!(out, "general {receiver} is on {such}")
 }
 
 /// Returns the text of the label of this rank, among those that the outbox relays.

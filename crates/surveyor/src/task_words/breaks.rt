@@ -13,9 +13,9 @@ use crate::word_values::has;
 use clap::ArgMatches;
 use std::alloc::Global;
 
-const BREAK: &str = "--break is printed, or with --table as a table alone";
+const BREAK: &str = "--break can be used with --table, but not with --lines, --svg or --shrink";
 
-const KEEP: &str = "--break keeps nothing: what it prints can be sent to a file";
+const KEEP: &str = "--break cannot be used with --keep: redirect its output to a file";
 
 /// Returns whether `--break` prints only a table, or `None` if it cannot print in this form.
 fn is_table(shape: ReportKind) -> Option<bool>
@@ -36,8 +36,8 @@ fn is_table(shape: ReportKind) -> Option<bool>
 fn break_shape(survey: &Survey) -> Result<bool, AskedError>
     ensures told { IfOk result (λ is_table. (survey.now.shape ≡ break_shape is_table) × (survey.now.keep ≡ None)) }
     ensures refused { IfErr result (λ e.
-        IsSaid (codes "--break is printed, or with --table as a table alone") (IsNoBreak survey.now.shape) e
-        ⊎ IsSaid (codes "--break keeps nothing: what it prints can be sent to a file")
+        IsSaid (codes "--break can be used with --table, but not with --lines, --svg or --shrink") (IsNoBreak survey.now.shape) e
+        ⊎ IsSaid (codes "--break cannot be used with --keep: redirect its output to a file")
         (is_some survey.now.keep ≡ true) e) }
 {
     let Some(is_table) = is_table(survey.shape) else {

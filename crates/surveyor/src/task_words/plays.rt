@@ -17,20 +17,20 @@ use combine::Rule;
 use std::alloc::{AllocError, Global};
 use survey_draw::{CountRange, Manner};
 
-const GENERALS: &str = "--generals takes 2 to 13, as 4 or 4..7";
+const GENERALS: &str = "--generals takes 2 to 13, such as 4 or 4..7";
 
-const BOUND: &str = "--bound takes 0 to 4, as 1 or 1..2";
+const BOUND: &str = "--bound takes 0 to 4, such as 1 or 1..2";
 
-const TRAITORS: &str = "--traitors takes 0 to 13, as 1 or 1..3";
+const TRAITORS: &str = "--traitors takes 0 to 13, such as 1 or 1..3";
 
 const SEEDS: &str =
-    "--seeds takes up to 10000000 numbers below 18446744073709551615, as 7 or 1..1000";
+    "--seeds takes at most 10000000 seeds below 18446744073709551615, such as 7 or 1..1000";
 
 const PATIENCE: &str = "--patience takes 1 to 4096";
 
 const SIGNED: &str = "signed messages have no rule";
 
-const SHAPE: &str = "one of --lines, --table, --svg, --shrink and --break is printed";
+const SHAPE: &str = "only one of --lines, --table, --svg, --shrink and --break can be used";
 
 /// Parses a span of numbers from `least` to `most`.
 ///
@@ -56,7 +56,7 @@ fn within(word: &str, least: u8, most: u8, why: &'static str) -> Result<CountRan
 pub(super) fn told_seeds(word: &str) -> Result<(u64, u64), AskedError>
     ensures told { IfOk result (AreSeeds word.now) }
     ensures refused { IfErr result (IsSaid
-        (codes "--seeds takes up to 10000000 numbers below 18446744073709551615, as 7 or 1..1000")
+        (codes "--seeds takes at most 10000000 seeds below 18446744073709551615, such as 7 or 1..1000")
         (AreNoSeeds word.now)) }
 {
     match seeds(word) {
@@ -133,7 +133,7 @@ fn shape_by(lines: bool, table: bool, svg: bool, shrink: bool) -> Option<ReportK
 pub(super) fn printed(found: &ArgMatches) -> Result<ReportKind, AskedError>
     ensures { let shape = shape_in (rows_of (found_of found.now)) in
         MatchResult result (λ s. shape ≡ Some s)
-        (IsSaid (codes "one of --lines, --table, --svg, --shrink and --break is printed") (shape ≡ None)) }
+        (IsSaid (codes "only one of --lines, --table, --svg, --shrink and --break can be used") (shape ≡ None)) }
 {
     let shape = shape_by(
         has(found, "lines"),

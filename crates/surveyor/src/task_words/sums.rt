@@ -13,9 +13,9 @@ use crate::word_values::{given, has};
 use clap::ArgMatches;
 use std::alloc::{AllocError, Global};
 
-const MERGE: &str = "--sum plays nothing: beside it stand --seeds, --table and --svg alone";
+const MERGE: &str = "--sum plays nothing: it can be used only with --seeds, --table and --svg";
 
-const ONCE: &str = "standard input is read once";
+const ONCE: &str = "standard input can be read only once";
 
 /// Returns whether at least one of these options and switches is given.
 fn has_any(found: &ArgMatches, names: &[&str]) -> bool
@@ -76,7 +76,7 @@ fn is_read_twice(names: &[&str]) -> bool
 fn said_seeds(found: &ArgMatches) -> Result<Option<(u64, u64)>, AskedError>
     ensures told { IfOk result (AreSaid (given (codes "seeds") (rows_of (found_of found.now)))) }
     ensures refused { let word = given (codes "seeds") (rows_of (found_of found.now)) in IfErr result (IsSaid
-        (codes "--seeds takes up to 10000000 numbers below 18446744073709551615, as 7 or 1..1000")
+        (codes "--seeds takes at most 10000000 seeds below 18446744073709551615, such as 7 or 1..1000")
         (IsSomeAnd word AreNoSeeds)) }
 {
     match given(found, "seeds") {
@@ -97,9 +97,9 @@ fn summable(found: &ArgMatches, names: &[&str]) -> Result<(), AskedError>
     ensures told { IfOk result (λ _. (bars_sum (rows_of (found_of found.now)) ≡ false)
         × (AreTwice (map (λ name. name.now) names.now) → ⊥)) }
     ensures refused { IfErr result (λ e.
-        IsSaid (codes "--sum plays nothing: beside it stand --seeds, --table and --svg alone")
+        IsSaid (codes "--sum plays nothing: it can be used only with --seeds, --table and --svg")
         (bars_sum (rows_of (found_of found.now)) ≡ true) e
-        ⊎ IsSaid (codes "standard input is read once") (AreTwice (map (λ name. name.now) names.now)) e) }
+        ⊎ IsSaid (codes "standard input can be read only once") (AreTwice (map (λ name. name.now) names.now)) e) }
 {
     if bars_sum(found) {
         return Err(AskedError::Value(MERGE));

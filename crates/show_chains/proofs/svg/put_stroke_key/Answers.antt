@@ -6,7 +6,7 @@ use Rattle.show_chains.proofs.svg.put_stroke_key.Goals as goal
 
 pub returns : goal.returns
 returns c =
-    three_parts (string_bytes c.args.out.now) (said_if c.args.marks.circle (codes " Circle and plain line: a loyal general in place of the sender would send so."))
-    (said_if c.args.marks.diamond (codes " Diamond and dashes: a loyal general would not send so.")) (said_if c.args.marks.cross (codes " Cross and dots: a loyal general would send so, and it was not sent."))
+    three_parts (string_bytes c.args.out.now) (said_if c.args.marks.circle (codes " Circle and plain line: a loyal general in place of the sender would send the same."))
+    (said_if c.args.marks.diamond (codes " Diamond and dashes: a loyal general would not send this.")) (said_if c.args.marks.cross (codes " Cross and dots: not sent, but a loyal general would send it."))
     (string_bytes c.put_if.new.out) (string_bytes c.put_if-2.new.out) (string_bytes c.put_if-3.new.out)
     c.in_ok-put_if.ensures c.in_ok-put_if-2.ensures c.in_ok-put_if-3.ensures

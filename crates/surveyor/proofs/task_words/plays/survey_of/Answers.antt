@@ -8,4 +8,4 @@ pub returns-in_err-bound-clause-refused : goal.returns-in_err-bound-clause-refus
 returns-in_err-bound-clause-refused c =
     let rows = rows_of (found_of c.args.found.now) in
     handed_on (IsRefused rows (NoSurvey rows)) c.from_residual-in_err-bound.result c.in_err-bound.field-0.0 c.from_residual-in_err-bound.ensures.1
-    (no_bound rows c.value-2.result.now (codes "--bound takes 0 to 4, as 1 or 1..2") c.in_err-bound.field-0.0 c.value-2.ensures refl c.in_err-bound.ensures.refused)
+    (no_bound rows c.value-2.result.now (codes "--bound takes 0 to 4, such as 1 or 1..2") c.in_err-bound.field-0.0 c.value-2.ensures refl c.in_err-bound.ensures.refused)
