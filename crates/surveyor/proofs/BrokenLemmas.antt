@@ -5,11 +5,11 @@ use Rattle.std.specs.List.{AllZip, range_with_len}
 use Rattle.std.specs.Io.KnownBytes.{Appends}
 use Rattle.std.proofs.KnownBytes.{Appends-trans}
 use Rattle.rayon.proofs.ListFacts.{AllZip-append}
-use Rattle.survey_draw.specs.declared.span.CountRange.{CountRange}
-use Rattle.survey_draw.specs.Family.{Family}
-use Rattle.survey_search.specs.declared.breach.Breaking.{Breaking}
-use Rattle.survey_search.specs.Breaches.{IsBreaking, NoneBreaks}
-use Rattle.survey_search.specs.Breakings.{breaking_text}
+use Rattle.surveys.specs.declared.span.CountRange.{CountRange}
+use Rattle.surveys.specs.Family.{Family}
+use Rattle.surveys.specs.declared.breach.Breaking.{Breaking}
+use Rattle.surveys.specs.Breaches.{IsBreaking, NoneBreaks}
+use Rattle.surveys.specs.Breakings.{breaking_text}
 use Rattle.surveyor.specs.declared.task.Survey.{Survey}
 use Rattle.surveyor.specs.Broken.{Entry, IsBroken, IsEntry, IsSearched, break_header, cut_to, entries_text, entry_text, gap, later_text, sizes_of, sizes_with}
 use Rattle.surveyor.proofs.Going.{range_both}

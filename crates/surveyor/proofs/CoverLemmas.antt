@@ -6,11 +6,11 @@ use Rattle.std.proofs.lemmas.Bool.{and_parts, cases_lt, eq-eqb, eqb-true, le-leb
 use Rattle.std.proofs.lemmas.Bool.Decides.{nat_tests}
 use Rattle.std.proofs.lemmas.List.{map-append}
 use Rattle.std.proofs.lemmas.List.Sums.{sum_by_push}
-use Rattle.survey_draw.specs.declared.finding.Finding.{Finding}
-use Rattle.survey_draw.specs.Parts.{AreOf}
-use Rattle.survey_search.specs.Covering.{AreApart, AreDoubles, AreHoles, is_in, seeds_in, times}
-use Rattle.survey_search.specs.declared.stretch.Stretch.{Stretch}
-use Rattle.survey_search.proofs.Exactness.{times_more}
+use Rattle.surveys.specs.declared.finding.Finding.{Finding}
+use Rattle.surveys.specs.Parts.{AreOf}
+use Rattle.surveys.specs.Covering.{AreApart, AreDoubles, AreHoles, is_in, seeds_in, times}
+use Rattle.surveys.specs.declared.stretch.Stretch.{Stretch}
+use Rattle.surveys.proofs.Exactness.{times_more}
 use Rattle.surveyor.specs.Summed.{AreEnds, IsAskedFor, IsCovered, IsCoveredBy, AreLeastAndGreatest, IsToldOf, span_of, with_seed}
 
 -- one campaign more

@@ -4,17 +4,17 @@ use Rattle.std.specs.Prelude.{String, string_bytes}
 use Rattle.std.specs.Global.{Global}
 use Rattle.scenario.specs.declared.fault.ScenarioError.{ScenarioError}
 use Rattle.scenario.specs.declared.fault.ScenarioError.TheVariants as scenario
-use Rattle.survey_draw.specs.Family.{Family}
-use Rattle.survey_draw.specs.Judging.{IsRefusedIn}
-use Rattle.survey_draw.specs.Plotting.{plot_of}
-use Rattle.survey_search.specs.Breaches as Lessened
+use Rattle.surveys.specs.Family.{Family}
+use Rattle.surveys.specs.Judging.{IsRefusedIn}
+use Rattle.surveys.specs.Plotting.{plot_of}
+use Rattle.surveys.specs.Breaches as Lessened
 use Rattle.surveyor.specs.declared.task.ReportKind.{ReportKind}
 use Rattle.surveyor.specs.declared.task.ReportKind.TheVariants.{Sums, Lines, Table, Picture, Least}
 use Rattle.surveyor.specs.declared.task.Survey.{Survey}
 use Rattle.surveyor.specs.declared.fault.SurveyFailure.{SurveyFailure}
 use Rattle.surveyor.specs.declared.fault.SurveyFailure.TheVariants.{Unread, NotText, Unwritten, Refused, Campaign, Words, Memory}
 use Rattle.surveyor.specs.Ends.{IsDrawnRefused, IsStopped, IsUnended, IsUnsurveyed}
-use Rattle.survey_draw.specs.declared.parts.PartError.{PartError}
+use Rattle.surveys.specs.declared.parts.PartError.{PartError}
 use Rattle.surveyor.specs.declared.task.Merge.{Merge}
 use Rattle.surveyor.specs.Faults.{IsFile, IsKeptIn, IsNoPart, IsUnkept, IsUnkeptIn, IsUnprinted, IsUnread, IsUnsummed, IsUntaken, IsUntold}
 use Rattle.surveyor.specs.Words.{IsFamilyOf}

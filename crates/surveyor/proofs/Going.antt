@@ -5,10 +5,10 @@ use Rattle.std.specs.List.{AllZip, range_with_len}
 use Rattle.std.specs.Io.KnownBytes.{Appends}
 use Rattle.std.proofs.KnownBytes.{Appends-trans}
 use Rattle.rayon.proofs.ListFacts.{AllZip-append}
-use Rattle.survey_draw.specs.declared.finding.Finding.{Finding}
-use Rattle.survey_draw.specs.Family.{Family}
-use Rattle.survey_draw.specs.Judging.{IsFindingOf}
-use Rattle.survey_draw.specs.Lines.{line_text}
+use Rattle.surveys.specs.declared.finding.Finding.{Finding}
+use Rattle.surveys.specs.Family.{Family}
+use Rattle.surveys.specs.Judging.{IsFindingOf}
+use Rattle.surveys.specs.Lines.{line_text}
 use Rattle.surveyor.specs.declared.task.ReportKind.{ReportKind}
 use Rattle.surveyor.specs.declared.task.ReportKind.TheVariants.{Sums, Lines, Table, Picture, Least}
 use Rattle.surveyor.specs.declared.task.Survey.{Survey}

@@ -3,11 +3,11 @@ use Rattle.std.proofs.Common.{ℕ, ◌+◌, ◌<◌, ◌≤◌, ◌≡◌, List,
 use Rattle.std.specs.Prelude.{String, cond, flat_map, string_bytes}
 use Rattle.std.specs.Global.{Global}
 use Rattle.std.proofs.lemmas.List.{map_more, take_all, take_more}
-use Rattle.survey_draw.specs.declared.finding.Finding.{Finding}
-use Rattle.survey_draw.specs.Family.{Family}
-use Rattle.survey_draw.specs.Sums.{is_sound}
-use Rattle.survey_draw.specs.Wording.{campaign_text}
-use Rattle.survey_search.specs.declared.breach.Breach.{Breach}
+use Rattle.surveys.specs.declared.finding.Finding.{Finding}
+use Rattle.surveys.specs.Family.{Family}
+use Rattle.surveys.specs.Sums.{is_sound}
+use Rattle.surveys.specs.Wording.{campaign_text}
+use Rattle.surveys.specs.declared.breach.Breach.{Breach}
 use Rattle.surveyor.specs.Kept.{File, Gains, breach_file, breach_files, campaign_file, campaign_files, kept_name}
 use Rattle.surveyor.specs.Printed.{broken_seeds}
 

@@ -2,12 +2,12 @@
 use Rattle.std.proofs.Common.{ℕ, ◌+◌, ◌-◌, ◌≤◌, ◌≡◌, List, [], ◌++◌, sym, subst, arith, Option, None}
 use Rattle.std.specs.List.{AllZip, range_with_len}
 use Rattle.std.proofs.lemmas.List.Elements.{All-nil}
-use Rattle.survey_draw.specs.Plot.{Plot}
-use Rattle.survey_draw.specs.Family.{Family}
-use Rattle.survey_draw.specs.Plotting.{plot_of}
-use Rattle.survey_search.specs.declared.breach.Breach.{Breach}
-use Rattle.survey_search.specs.Breaches.{IsLeastOf, IsShrunk, better}
-use Rattle.survey_search.proofs.Ranks.{least_of_both}
+use Rattle.surveys.specs.Plot.{Plot}
+use Rattle.surveys.specs.Family.{Family}
+use Rattle.surveys.specs.Plotting.{plot_of}
+use Rattle.surveys.specs.declared.breach.Breach.{Breach}
+use Rattle.surveys.specs.Breaches.{IsLeastOf, IsShrunk, better}
+use Rattle.surveys.proofs.Ranks.{least_of_both}
 use Rattle.surveyor.specs.declared.task.Survey.{Survey}
 use Rattle.surveyor.specs.Kept.{File, Gains, breach_files}
 use Rattle.surveyor.specs.Printed.{IsLeastKept}

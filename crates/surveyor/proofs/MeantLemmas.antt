@@ -7,8 +7,8 @@ use Rattle.clap.specs.Words.{App, HasKind, IsAmong, Row, Text, fault_of, is_simp
 use Rattle.clap.specs.declared.error.Error.{Error}
 use Rattle.combine.specs.Names.{rule_named}
 use Rattle.combine.specs.declared.campaign_rule.Rule.{Rule as CombineRule}
-use Rattle.survey_draw.specs.declared.manner.Manner.TheVariants.{Oral}
-use Rattle.survey_draw.specs.declared.span.CountRange.{CountRange}
+use Rattle.surveys.specs.declared.manner.Manner.TheVariants.{Oral}
+use Rattle.surveys.specs.declared.span.CountRange.{CountRange}
 use Rattle.surveyor.specs.Flags.{given, has, survey_app}
 use Rattle.surveyor.specs.Meant.{AreSaid, AreSeeds, Asks, IsBreaking, IsMerging, IsPatience, IsSurveying, IsWithin, bars_sum, break_shape, names_in, shape_in, some_traitors, value}
 use Rattle.surveyor.specs.Numbers.{IsNoSpan, IsTold}

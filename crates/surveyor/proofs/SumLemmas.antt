@@ -4,9 +4,9 @@ use Rattle.std.specs.Prelude.{flat_map, nat_le, ◌==◌, ◌&&◌, IfSome}
 use Rattle.std.specs.List.{AllZip}
 use Rattle.std.proofs.lemmas.Bool.Decides.{nat_tests}
 use Rattle.rayon.proofs.ListFacts.{AllZip-append}
-use Rattle.survey_draw.specs.declared.finding.Finding.{Finding}
-use Rattle.survey_draw.specs.Parts.{AreOf, IsLed, IsOf, IsPart, IsReadOn, found_in, row_text}
-use Rattle.survey_draw.proofs.PartLemmas.{all_both}
+use Rattle.surveys.specs.declared.finding.Finding.{Finding}
+use Rattle.surveys.specs.Parts.{AreOf, IsLed, IsOf, IsPart, IsReadOn, found_in, row_text}
+use Rattle.surveys.proofs.PartLemmas.{all_both}
 use Rattle.surveyor.specs.Summed.{joined}
 
 joined_more : (parts : List (List Finding)) (part : List Finding) → joined (parts ++ part ∷ []) ≡ joined parts ++ part

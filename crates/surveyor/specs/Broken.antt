@@ -2,11 +2,11 @@
 use Rattle.std.specs.Prelude.{ℕ, ◌≡◌, ◌+◌, ◌-◌, min, Bool, true, false, List, [], ◌∷◌, ◌++◌, map, flat_map, codes, Option, MatchOption}
 use Rattle.std.specs.List.{AllZip, range_with_len}
 use Rattle.std.specs.Io.KnownBytes.{Appends}
-use Rattle.survey_draw.specs.declared.span.CountRange.{CountRange}
-use Rattle.survey_draw.specs.Family.{Family}
-use Rattle.survey_search.specs.declared.breach.Breaking.{Breaking}
-use Rattle.survey_search.specs.Breaches.{IsBreaking, NoneBreaks}
-use Rattle.survey_search.specs.Breakings.{breaking_text}
+use Rattle.surveys.specs.declared.span.CountRange.{CountRange}
+use Rattle.surveys.specs.Family.{Family}
+use Rattle.surveys.specs.declared.breach.Breaking.{Breaking}
+use Rattle.surveys.specs.Breaches.{IsBreaking, NoneBreaks}
+use Rattle.surveys.specs.Breakings.{breaking_text}
 use Rattle.surveyor.specs.declared.task.Survey.{Survey}
 use Rattle.surveyor.specs.Words.{IsFamilyOf}
 

@@ -1,11 +1,11 @@
 -- Defines why a survey cannot be finished (docs/FORMATS.md, "Surveys").
 use Rattle.std.specs.Prelude.{⊤, ℕ, ◌≡◌, ◌+◌, ◌≤◌, List, is_some, true, None, Some, string_bytes}
 use Rattle.scenario.specs.declared.fault.ScenarioError.{ScenarioError}
-use Rattle.survey_draw.specs.Family.{Family}
-use Rattle.survey_draw.specs.Judging.{IsRefusedIn}
-use Rattle.survey_draw.specs.Plotting.{plot_of}
-use Rattle.survey_search.specs.Breaches as Lessened
-use Rattle.survey_search.specs.Breaches.{IsRefusedWith}
+use Rattle.surveys.specs.Family.{Family}
+use Rattle.surveys.specs.Judging.{IsRefusedIn}
+use Rattle.surveys.specs.Plotting.{plot_of}
+use Rattle.surveys.specs.Breaches as Lessened
+use Rattle.surveys.specs.Breaches.{IsRefusedWith}
 use Rattle.surveyor.specs.Broken.{cut_to}
 use Rattle.surveyor.specs.Faults.{IsFile, IsRefusedBy}
 use Rattle.surveyor.specs.Words.{IsFamilyOf}

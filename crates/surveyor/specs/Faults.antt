@@ -7,8 +7,8 @@ use Rattle.asm.specs.Program.{program_of, said}
 use Rattle.asm.specs.declared.fault.AsmError.{AsmError}
 use Rattle.asm.specs.declared.fault.AsmError.TheVariants as asm
 use Rattle.streams.specs.Names.{shown}
-use Rattle.survey_draw.specs.declared.parts.PartError.{PartError}
-use Rattle.survey_draw.specs.declared.parts.PartError.TheVariants as part
+use Rattle.surveys.specs.declared.parts.PartError.{PartError}
+use Rattle.surveys.specs.declared.parts.PartError.TheVariants as part
 use Rattle.verify.specs.ErrorText as verifier_text
 use Rattle.verify.specs.Judgement.{judged}
 use Rattle.verify.specs.declared.error.VerifyError.{VerifyError}

@@ -2,9 +2,9 @@
 use Rattle.std.specs.Prelude.{ℕ, ◌≡◌, List, [], ◌∷◌, ◌++◌, Option, None, Some, IfSome, codes, decimal, flat_map, map, string_bytes}
 use Rattle.std.specs.Global.{Global}
 use Rattle.std.specs.Prelude.{String}
-use Rattle.survey_draw.specs.Family.{Family}
-use Rattle.survey_draw.specs.Wording.{campaign_text, plot_text}
-use Rattle.survey_search.specs.declared.breach.Breach.{Breach}
+use Rattle.surveys.specs.Family.{Family}
+use Rattle.surveys.specs.Wording.{campaign_text, plot_text}
+use Rattle.surveys.specs.declared.breach.Breach.{Breach}
 
 -- A name, and the bytes that were written whole to the file of this name.
 abbrev pub File : Type 0

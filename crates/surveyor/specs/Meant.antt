@@ -3,7 +3,7 @@ use Rattle.std.specs.Prelude.{ℕ, ◌≡◌, ◌≤◌, ◌<◌, ◌-◌, ◌^�
 use Rattle.std.specs.List.{list_any}
 use Rattle.std.specs.Str.{bytes_eq}
 use Rattle.clap.specs.Words.{Row, Text}
-use Rattle.survey_draw.specs.declared.span.CountRange.{CountRange}
+use Rattle.surveys.specs.declared.span.CountRange.{CountRange}
 use Rattle.text.specs.Number.{decimal_of}
 use Rattle.surveyor.specs.Flags.{given, has, row_of}
 use Rattle.surveyor.specs.Numbers.{IsTold}

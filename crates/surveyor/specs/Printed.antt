@@ -3,20 +3,20 @@ use Rattle.std.specs.Prelude.{ℕ, ◌≡◌, ◌+◌, cond, List, [], ◌∷◌
 use Rattle.std.specs.List.{AllZip}
 use Rattle.std.specs.Io.KnownBytes.{Appends}
 use Rattle.rayon.specs.Numbers.{nat_range}
-use Rattle.survey_draw.specs.declared.finding.Finding.{Finding}
-use Rattle.survey_draw.specs.Family.{Family}
-use Rattle.survey_draw.specs.Heads.{head_text}
-use Rattle.survey_draw.specs.Judging.{IsFindingOf}
-use Rattle.survey_draw.specs.Lines.{line_text}
-use Rattle.survey_draw.specs.Plotting.{plot_of}
-use Rattle.survey_draw.specs.Sums.{is_sound, sums_of}
-use Rattle.survey_draw.specs.Wording.{plot_text}
-use Rattle.survey_search.specs.Counts.{sums_text}
-use Rattle.survey_search.specs.Groups.{groups_of}
-use Rattle.survey_search.specs.Pictures.{picture_text}
-use Rattle.survey_search.specs.Tables.{table_text}
-use Rattle.survey_search.specs.declared.breach.Breach.{Breach}
-use Rattle.survey_search.specs.Breaches.{IsLeastOf, IsShrunk, statements}
+use Rattle.surveys.specs.declared.finding.Finding.{Finding}
+use Rattle.surveys.specs.Family.{Family}
+use Rattle.surveys.specs.Heads.{head_text}
+use Rattle.surveys.specs.Judging.{IsFindingOf}
+use Rattle.surveys.specs.Lines.{line_text}
+use Rattle.surveys.specs.Plotting.{plot_of}
+use Rattle.surveys.specs.Sums.{is_sound, sums_of}
+use Rattle.surveys.specs.Wording.{plot_text}
+use Rattle.surveys.specs.Counts.{sums_text}
+use Rattle.surveys.specs.Groups.{groups_of}
+use Rattle.surveys.specs.Pictures.{picture_text}
+use Rattle.surveys.specs.Tables.{table_text}
+use Rattle.surveys.specs.declared.breach.Breach.{Breach}
+use Rattle.surveys.specs.Breaches.{IsLeastOf, IsShrunk, statements}
 use Rattle.surveyor.specs.declared.task.ReportKind.{ReportKind}
 use Rattle.surveyor.specs.declared.task.ReportKind.TheVariants.{Sums, Lines, Table, Picture, Least}
 use Rattle.surveyor.specs.declared.task.Survey.{Survey}

@@ -2,9 +2,9 @@
 use Rattle.std.specs.Prelude.{ℕ, ◌≡◌, ◌≢◌, ◌≤◌, ◌-◌, ◌^◌, min, max, List, [], ◌∷◌, ◌++◌, length, Option, None, Some}
 use Rattle.std.specs.List.{AllZip}
 use Rattle.std.specs.Io.KnownBytes.{Appends}
-use Rattle.survey_draw.specs.declared.finding.Finding.{Finding}
-use Rattle.survey_draw.specs.Parts.{AreOf, IsPart}
-use Rattle.survey_search.specs.Covering.{seeds_in, times}
+use Rattle.surveys.specs.declared.finding.Finding.{Finding}
+use Rattle.surveys.specs.Parts.{AreOf, IsPart}
+use Rattle.surveys.specs.Covering.{seeds_in, times}
 use Rattle.surveyor.specs.declared.task.Merge.{Merge}
 use Rattle.surveyor.specs.Printed.{summary_text}
 

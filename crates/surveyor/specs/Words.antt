@@ -6,11 +6,11 @@ use Rattle.asm.specs.Program.{program_of}
 use Rattle.codec.specs.Spelling.{program_bytes}
 use Rattle.verify.specs.Judgement.{judged}
 use Rattle.combine.specs.Names.{default_rule, rule_named}
-use Rattle.survey_draw.specs.declared.adversary.Adversary.{Adversary}
-use Rattle.survey_draw.specs.declared.adversary.Adversary.TheVariants.{Lies, Silent, Collude, Given}
-use Rattle.survey_draw.specs.declared.manner.Manner.{Manner}
-use Rattle.survey_draw.specs.declared.manner.Manner.TheVariants.{Oral, Signed}
-use Rattle.survey_draw.specs.Family.{Family}
+use Rattle.surveys.specs.declared.adversary.Adversary.{Adversary}
+use Rattle.surveys.specs.declared.adversary.Adversary.TheVariants.{Lies, Silent, Collude, Given}
+use Rattle.surveys.specs.declared.manner.Manner.{Manner}
+use Rattle.surveys.specs.declared.manner.Manner.TheVariants.{Oral, Signed}
+use Rattle.surveys.specs.Family.{Family}
 use Rattle.surveyor.specs.declared.task.Survey.{Survey}
 
 -- Returns how messages are sent if no rule is named.

@@ -5,7 +5,7 @@ use Rattle.clap.specs.Words.{IsAmong, Row, Text, fault_of, kind_of, matches_of}
 use Rattle.clap.specs.declared.error.Error.{Error}
 use Rattle.clap.specs.declared.error.kind.ErrorKind.TheVariants.{OutOfMemory}
 use Rattle.combine.specs.Names.{rule_named}
-use Rattle.survey_draw.specs.declared.span.CountRange.{CountRange}
+use Rattle.surveys.specs.declared.span.CountRange.{CountRange}
 use Rattle.surveyor.specs.Flags.{given, has, survey_app}
 use Rattle.surveyor.specs.Meant.{AreSeeds, Asks, IsPatience, IsWithin, bars_sum, break_shape, names_in, shape_in, some_traitors, value}
 use Rattle.surveyor.specs.declared.task.Asked.{Asked}

@@ -1,8 +1,8 @@
 //! `--break`: searches, for each number of generals and each bound, the fewest traitors that break agreement.
 ghost use Rattle.std.specs.Prelude.{◌≡◌, ◌≤◌, ◌+◌, ◌-◌, min, Option, IfErr, IfOk, OnOk};
 ghost use Rattle.std.specs.Io.KnownBytes.{Appends};
-ghost use Rattle.survey_search.specs.declared.breach.Breaking.{Breaking as Found};
-ghost use Rattle.survey_search.specs.Breakings.{breaking_text};
+ghost use Rattle.surveys.specs.declared.breach.Breaking.{Breaking as Found};
+ghost use Rattle.surveys.specs.Breakings.{breaking_text};
 ghost use Rattle.surveyor.specs.Asked.{IsSurvey};
 ghost use Rattle.surveyor.specs.Broken.{IsBreakAnswered, IsBroken, IsSearched, break_header, cut_to, gap};
 ghost use Rattle.surveyor.specs.Ends.{IsSearchRefused, IsStopped, IsUnended};
@@ -14,8 +14,7 @@ use crate::printer::print;
 use crate::task::Survey;
 use std::thread::Threads;
 use streams::Output;
-use survey_draw::{CountRange, Family};
-use survey_search::{Breaking, breaking, breaking_text};
+use surveys::{Breaking, CountRange, Family, breaking, breaking_text};
 
 /// Prints, for each number of generals and each bound that they can have, the fewest traitors that break agreement in
 /// the campaign of a seed. Also prints the least of these campaigns after reduction or, if `is_table` is true, its

@@ -11,7 +11,7 @@ use crate::task::Survey;
 use asm::{AsmError, assemble};
 use codec::encode;
 use std::alloc::Global;
-use survey_draw::{Adversary, Family};
+use surveys::{Adversary, Family};
 use verify::{VerifyError, verify};
 
 /// Returns the family of a survey. If the survey names a file of assembly, reads that file.

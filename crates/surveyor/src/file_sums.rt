@@ -1,6 +1,6 @@
 //! `--sum`: sums the lines of several files, and reports the seeds that are missing or occur more than once.
 ghost use Rattle.std.specs.Prelude.{◌≡◌, ◌≢◌, IfErr, IfOk, length};
-ghost use Rattle.survey_draw.specs.Parts.{AreOf};
+ghost use Rattle.surveys.specs.Parts.{AreOf};
 ghost use Rattle.surveyor.specs.Faults.{IsNoPart, IsUnsummed, IsUntold};
 ghost use Rattle.surveyor.specs.Summed.{AreEnds, IsAskedFor, IsCoveredBy, IsSummed, IsTold, span_of, with_seed};
 
@@ -10,8 +10,7 @@ use crate::printer::put_summary;
 use crate::task::Merge;
 use std::alloc::{AllocError, Global};
 use streams::{FileName, Output};
-use survey_draw::{Finding, PartError, Parts, read_part};
-use survey_search::{Stretch, doubles, holes};
+use surveys::{Finding, PartError, Parts, Stretch, doubles, holes, read_part};
 
 /// Sums the lines of files, and prints the summary. Reports on standard error which seeds are missing, and which occur
 /// more than once. Returns the exit status: 1 if there are such seeds, and otherwise 0.

@@ -1,8 +1,8 @@
 //! `--shrink`: reduces the broken campaigns of a survey, and prints the least of them.
 ghost use Rattle.std.specs.Prelude.{◌≡◌, List, ℕ, IfErr, IfOk, OnOk, count_by, flat_map, is_some, length, option_map, string_bytes};
 ghost use Rattle.std.specs.Io.KnownBytes.{Appends};
-ghost use Rattle.survey_search.specs.Breaches.{IsRefusedIn};
-ghost use Rattle.survey_draw.specs.Plotting.{plot_of};
+ghost use Rattle.surveys.specs.Breaches.{IsRefusedIn};
+ghost use Rattle.surveys.specs.Plotting.{plot_of};
 ghost use Rattle.surveyor.specs.Asked.{IsSurvey};
 ghost use Rattle.surveyor.specs.Ends.{IsStopped};
 ghost use Rattle.surveyor.specs.Faults.{IsKeptIn, IsUnkeptIn};
@@ -18,8 +18,7 @@ use crate::task::Survey;
 use std::alloc::{AllocError, Global};
 use std::thread::Threads;
 use streams::Output;
-use survey_draw::{Family, Plot, plot_text};
-use survey_search::{Breach, better, breaches, least, statements};
+use surveys::{Breach, Family, Plot, better, breaches, least, plot_text, statements};
 
 /// Reduces each broken campaign of the seeds, by removing traitors and statements while it stays broken. Prints the
 /// least of the reduced campaigns.

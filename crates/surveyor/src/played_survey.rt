@@ -2,7 +2,7 @@
 ghost use Rattle.std.specs.Prelude.{◌≡◌, ◌≢◌, ◌++◌, IfErr, IfOk, OnOk, Some, is_some, map, true};
 ghost use Rattle.std.specs.Io.KnownBytes.{Appends};
 ghost use Rattle.surveyor.specs.Asked.{IsSurvey};
-ghost use Rattle.survey_draw.specs.Judging.{IsRefusedIn};
+ghost use Rattle.surveys.specs.Judging.{IsRefusedIn};
 ghost use Rattle.surveyor.specs.Ends.{IsStopped, IsUnsurveyed};
 ghost use Rattle.surveyor.specs.Faults.{IsKeptIn, IsUnkeptIn, IsUnprinted};
 ghost use Rattle.surveyor.specs.Kept.{Gains, campaign_file, campaign_files};
@@ -20,8 +20,7 @@ use crate::task::{ReportKind, Survey};
 use std::alloc::{AllocError, Global};
 use std::thread::Threads;
 use streams::Output;
-use survey_draw::{Family, Finding, campaign_text, head, is_sound, survey};
-use survey_search::lines_text;
+use surveys::{Family, Finding, campaign_text, head, is_sound, lines_text, survey};
 
 /// Plays the campaigns of a survey, and prints what is asked for.
 ///

@@ -10,8 +10,7 @@ use crate::task::ReportKind;
 use std::alloc::{AllocError, Global};
 use std::io::ErrorKind;
 use streams::Output;
-use survey_draw::Finding;
-use survey_search::{picture, sums_text, table};
+use surveys::{Finding, picture, sums_text, table};
 
 /// Prints a text.
 ///

@@ -10,7 +10,7 @@ use crate::flags::{command, rules};
 use crate::task_words::meant;
 use clap::error::ErrorKind;
 use std::alloc::{AllocError, Global};
-use survey_draw::{CountRange, Manner};
+use surveys::{CountRange, Manner};
 
 /// A request of the command line.
 #[derive(Drop)]

@@ -15,7 +15,7 @@ use crate::word_values::{given, has, value};
 use clap::ArgMatches;
 use combine::Rule;
 use std::alloc::{AllocError, Global};
-use survey_draw::{CountRange, Manner};
+use surveys::{CountRange, Manner};
 
 const GENERALS: &str = "--generals takes 2 to 13, such as 4 or 4..7";
 

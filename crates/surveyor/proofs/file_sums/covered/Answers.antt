@@ -1,5 +1,5 @@
 use Rattle.std.proofs.Common.{List, ◌∙◌, ap, length, sym}
-use Rattle.survey_search.specs.declared.stretch.Stretch.{Stretch}
+use Rattle.surveys.specs.declared.stretch.Stretch.{Stretch}
 use Rattle.surveyor.proofs.CoverLemmas.{status_by}
 use Rattle.surveyor.proofs.file_sums.covered.Goals as goal
 

@@ -1,5 +1,5 @@
 use Rattle.std.proofs.Common.{ℕ, ◌+◌, refl, subst}
-use Rattle.survey_draw.specs.Parts.{IsReadOn}
+use Rattle.surveys.specs.Parts.{IsReadOn}
 use Rattle.surveyor.specs.Summed.{span_of}
 use Rattle.surveyor.proofs.SumLemmas.{none_told, one_told}
 use Rattle.surveyor.proofs.file_sums.told.Goals as goal

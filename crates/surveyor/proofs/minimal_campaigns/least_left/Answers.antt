@@ -1,5 +1,5 @@
 use Rattle.std.proofs.Common.{◌+◌, ◌≤◌, List, Option, arith, subst}
-use Rattle.survey_search.specs.declared.breach.Breach.{Breach}
+use Rattle.surveys.specs.declared.breach.Breach.{Breach}
 use Rattle.surveyor.specs.Kept.{Gains, breach_files}
 use Rattle.surveyor.proofs.LeastLemmas.{and_more}
 use Rattle.surveyor.proofs.minimal_campaigns.least_left.Goals as goal

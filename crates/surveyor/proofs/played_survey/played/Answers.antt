@@ -1,7 +1,7 @@
 use Rattle.std.proofs.Common.{ℕ, ◌+◌, ◌≤◌, ◌∙◌, ◌++◌, List, ap, subst, arith}
 use Rattle.std.proofs.lemmas.Result.{on_ok_weaker}
 use Rattle.std.specs.Io.KnownBytes.{Appends}
-use Rattle.survey_draw.specs.declared.finding.Finding.{Finding}
+use Rattle.surveys.specs.declared.finding.Finding.{Finding}
 use Rattle.surveyor.specs.Kept.{Gains, campaign_files}
 use Rattle.surveyor.specs.Printed.{added, broken_seeds, lines_in, summary_text}
 use Rattle.surveyor.proofs.Going.{ends, goes}

@@ -1,9 +1,0 @@
-use Rattle.std.proofs.Common.{ℕ}
-use Rattle.survey_draw.specs.Plotting.{drawn_for, oral_lies}
-use Rattle.survey_draw.proofs.Ranges.{range_pieces}
-use Rattle.survey_draw.proofs.seeded_plots.oral_of.Goals as goal
-
-pub loop-receiver-preserved : goal.loop-receiver-preserved
-loop-receiver-preserved c =
-    let piece = λ (r : ℕ). oral_lies c.args.counts c.args.general r (drawn_for c.args.seed c.args.general r) in
-    rw (c.in_ok-push_oral.ensures, c.drawn_for.ensures, c.loop-receiver.invariant) (range_pieces piece c.loop-receiver.receiver)

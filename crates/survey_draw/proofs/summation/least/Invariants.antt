@@ -1,6 +1,0 @@
-use Rattle.std.proofs.Common.{◌≡◌, drop}
-use Rattle.survey_draw.specs.Sums.{least, lesser}
-use Rattle.survey_draw.proofs.summation.least.Given as goal
-
-abbrev pub invariant-loop-finding : goal.invariant-loop-finding
-invariant-loop-finding l = lesser l.least (least l.outcome (drop l.finding-index l.findings)) ≡ least l.outcome l.findings

@@ -1,5 +1,0 @@
-use Rattle.std.proofs.Common.{◌≡◌, take}
-use Rattle.survey_search.proofs.copies.traitors_copied.Given as goal
-
-abbrev pub invariant-loop-traitor : goal.invariant-loop-traitor
-invariant-loop-traitor l = l.copies.items ≡ take l.traitor-index l.traitors

@@ -1,6 +1,0 @@
-use Rattle.std.proofs.Common.{ℕ, ◌<◌}
-use Rattle.survey_search.specs.Shrinking.{LiesAreNeeded}
-use Rattle.survey_search.proofs.reductions.fewer_lies.Given as goal
-
-abbrev pub invariant-loop-place : goal.invariant-loop-place
-invariant-loop-place l = (place : ℕ) → place < l.place → LiesAreNeeded l.plot place

@@ -1,6 +1,0 @@
-use Rattle.std.proofs.Common.{ℕ, ◌<◌}
-use Rattle.survey_search.specs.Shrinking.{ComesWell, without_traitor}
-use Rattle.survey_search.proofs.reductions.fewer_traitors.Given as goal
-
-abbrev pub invariant-loop-place : goal.invariant-loop-place
-invariant-loop-place l = (place : ℕ) → place < l.place → ComesWell (without_traitor l.plot place)

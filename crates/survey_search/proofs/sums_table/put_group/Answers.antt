@@ -1,4 +1,0 @@
-use Rattle.survey_search.proofs.sums_table.put_group.Goals as goal
-
-pub returns : goal.returns
-returns c = rw c.cells_of-cells.ensures at c.put_row.ensures

@@ -1,0 +1,21 @@
+-- The pseudo-random numbers that a seed gives (Steele, Lea and Flood 2014, SplitMix64).
+use Rattle.std.specs.Prelude.{ℕ, ◌+◌, ◌*◌, ◌-◌, ◌/◌, ◌%◌, ◌^◌, bit_xor}
+use Rattle.surveys.specs.declared.span.CountRange.{CountRange}
+
+-- Folds a word of 64 bits down by `places` bits, by exclusive or, and multiplies the result by a factor.
+abbrev pub folded : ℕ → ℕ → ℕ → ℕ
+folded z places factor = bit_xor z (z / 2 ^ places) * factor % 2 ^ 64
+
+-- Returns a word of 64 bits with its bits mixed.
+unfoldable pub mixed : ℕ → ℕ
+mixed z =
+    let y = folded (folded z 30 0xbf58476d1ce4e5b9) 27 0x94d049bb133111eb in
+    bit_xor y (y / 2 ^ 31)
+
+-- Returns the number of 64 bits at an index of those that a seed gives. Indices are counted from 0.
+unfoldable pub draw : ℕ → ℕ → ℕ
+draw seed place = mixed ((seed + (place + 1) * 0x9e3779b97f4a7c15) % 2 ^ 64)
+
+-- Returns the number of a range that a drawn number selects.
+abbrev pub within : CountRange → ℕ → ℕ
+within span drawn = span.low + drawn % (span.high + 1 - span.low)

@@ -1,0 +1,87 @@
+-- The head of a survey: a JSON object (RFC 8259) that describes the family of its campaigns, with its members in
+-- ascending order of their names.
+use Rattle.std.specs.Prelude.{ℕ, ◌≡◌, ◌<◌, ◌^◌, ◌==◌, not, true, Bool, IfSome, List, [], ◌∷◌, ◌++◌, take, decimal, bytes_eq, codes, Option, None, Some, string_bytes}
+use Rattle.std.specs.List.{list_all}
+use Rattle.combine.specs.Rule.{rule_name}
+use Rattle.surveys.specs.declared.adversary.Adversary.{Adversary}
+use Rattle.surveys.specs.declared.adversary.Adversary.TheVariants.{Lies, Silent, Collude, Given}
+use Rattle.surveys.specs.declared.manner.Manner.{Manner}
+use Rattle.surveys.specs.declared.manner.Manner.TheVariants.{Oral, Signed}
+use Rattle.surveys.specs.declared.span.CountRange.{CountRange}
+use Rattle.surveys.specs.Family.{Family}
+use Rattle.surveys.specs.Lines.{member}
+use Rattle.surveys.specs.Wording.{campaign_text}
+
+-- Writes what the traitors do. For a given program this is its bytecode in hex.
+abbrev pub adversary_word : Adversary → List ℕ
+adversary_word Lies = codes "\"lies\""
+adversary_word Silent = codes "\"silent\""
+adversary_word Collude = codes "\"collude\""
+adversary_word (Given hex) = codes "\"0x" ++ (string_bytes hex ++ codes "\"")
+
+-- Writes how orders are sent.
+abbrev pub manner_word : Manner → List ℕ
+manner_word (Oral rule) = codes "\"" ++ (rule_name rule ++ codes "\"")
+manner_word Signed = codes "\"signed\""
+
+-- Writes how many steps a traitor may take, or `null` if they are unlimited.
+abbrev pub patience_word : Option ℕ → List ℕ
+patience_word None = codes "null"
+patience_word (Some steps) = decimal steps
+
+-- Writes the head of a family.
+abbrev pub head_text : Family → List ℕ
+head_text f =
+    member (codes "{\"adversary\"") (adversary_word f.adversary)
+    (member (codes ",\"bound_high\"") (decimal f.bound.high)
+    (member (codes ",\"bound_low\"") (decimal f.bound.low)
+    (member (codes ",\"generals_high\"") (decimal f.generals.high)
+    (member (codes ",\"generals_low\"") (decimal f.generals.low)
+    (member (codes ",\"line\"") (codes "\"family\"")
+    (member (codes ",\"manner\"") (manner_word f.manner)
+    (member (codes ",\"patience\"") (patience_word f.patience)
+    (member (codes ",\"traitors_high\"") (decimal f.traitors.high)
+    (member (codes ",\"traitors_low\"") (decimal f.traitors.low) (codes "}\n"))))))))))
+
+-- Writes the members of a head that describe the bound and the generals.
+abbrev pub head_front : CountRange → CountRange → List ℕ
+head_front bound generals =
+    codes ",\"bound_high\":" ++ (decimal bound.high ++ (codes ",\"bound_low\":" ++ (decimal bound.low
+    ++ (codes ",\"generals_high\":"
+    ++ (decimal generals.high ++ (codes ",\"generals_low\":" ++ decimal generals.low))))))
+
+-- Writes the members of a head that describe how orders are sent and the patience.
+abbrev pub head_middle : List ℕ → List ℕ → List ℕ
+head_middle manner patience =
+    codes ",\"line\":\"family\",\"manner\":" ++ (manner ++ (codes ",\"patience\":" ++ patience))
+
+-- Writes the members of a head that describe the traitors, and ends the line.
+abbrev pub head_end : CountRange → List ℕ
+head_end traitors = codes ",\"traitors_high\":"
+    ++ (decimal traitors.high ++ (codes ",\"traitors_low\":" ++ (decimal traitors.low ++ codes "}\n")))
+
+-- Checks whether a line begins as a head does.
+abbrev pub is_head : List ℕ → Bool
+is_head line = bytes_eq (take 13 line) (codes "{\"adversary\":")
+
+-- States that the line begins as a head does and ends with a line feed.
+pub record IsHead (line : List ℕ) : Type 0 where
+  pub begins : is_head line ≡ true
+  pub front : List ℕ
+  pub whole : line ≡ front ++ 10 ∷ []
+
+-- States that the numbers of the ranges are below 256, that the patience is below 2 ^ 64, and that the bytecode
+-- contains no comma.
+pub record IsTold (f : Family) : Type 0 where
+  pub bound : (f.bound.low < 256) × (f.bound.high < 256)
+  pub generals : (f.generals.low < 256) × (f.generals.high < 256)
+  pub traitors : (f.traitors.low < 256) × (f.traitors.high < 256)
+  pub patience : IfSome f.patience (λ steps. steps < 2 ^ 64)
+  pub adversary : list_all (λ c. not (c == 44)) (adversary_word f.adversary) ≡ true
+
+-- States that families with the same head have the same campaigns, so that each seed gives the same text. It also
+-- states that each family has a head.
+pub record HeadsTellFamilies : Type 0 where
+  pub campaigns : (f g : Family) (seed : ℕ) → IsTold f → IsTold g → head_text f ≡ head_text g →
+      campaign_text f seed ≡ campaign_text g seed
+  pub heads : (f : Family) → IsHead (head_text f)

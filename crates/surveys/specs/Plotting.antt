@@ -1,0 +1,103 @@
+-- The campaign that a seed draws from a family (own).
+use Rattle.std.specs.Prelude.{ℕ, zero, suc, ◌+◌, ◌-◌, ◌*◌, ◌/◌, ◌%◌, ◌==◌, nat_lt, min, Bool, true, false, cond, List, [], ◌∷◌, map, flat_map, Option, None, Some, string_bytes}
+use Rattle.std.specs.List.{range_with_len}
+use Rattle.surveys.specs.declared.adversary.Adversary.{Adversary}
+use Rattle.surveys.specs.declared.adversary.Adversary.TheVariants.{Lies, Silent, Collude, Given}
+use Rattle.surveys.specs.declared.lie.Lie.{Lie}
+use Rattle.surveys.specs.declared.lie.Lie.TheVariants.{Honest, Sway, Sign, Pass}
+use Rattle.surveys.specs.declared.lie.LieValue.{LieValue}
+use Rattle.surveys.specs.declared.lie.LieValue.TheVariants.{Number, Parity}
+use Rattle.surveys.specs.declared.manner.Manner.{Manner}
+use Rattle.surveys.specs.declared.manner.Manner.TheVariants.{Oral, Signed}
+use Rattle.surveys.specs.Draws.{draw, within}
+use Rattle.surveys.specs.Family.{Family}
+use Rattle.surveys.specs.Plot.{Plot, Traitor}
+
+-- Returns the number at an index of those that a seed gives for general `g`. The numbers 0 to 3 of a seed draw the
+-- generals, the bound, the traitors and the order. Those from 4 on draw who is a traitor, and those from 32 on what
+-- each general says. Each general has 32.
+abbrev pub drawn_for : ℕ → ℕ → ℕ → ℕ
+drawn_for seed g place = draw seed (32 + 32 * g + place)
+
+-- Returns how many generals the seed's campaign has.
+abbrev pub generals_of : Family → ℕ → ℕ
+generals_of f seed = within f.generals (draw seed 0)
+
+-- Returns the bound of the seed's campaign, which is at most 4 and at most the number of generals less 2.
+abbrev pub bound_of : Family → ℕ → ℕ
+bound_of f seed = min (within f.bound (draw seed 1)) (min 4 (generals_of f seed - 2))
+
+-- Returns how many traitors the seed's campaign has.
+abbrev pub count_of : Family → ℕ → ℕ
+count_of f seed = min (within f.traitors (draw seed 2)) (generals_of f seed)
+
+-- Returns `needed` generals, ascending, from a number of generals that begin with `g`. Each choice is as likely as
+-- another (Knuth, volume 2, section 3.4.2, algorithm S).
+abbrev pub chosen : ℕ → ℕ → ℕ → ℕ → List ℕ
+chosen seed g zero needed = []
+chosen seed g (suc more) needed =
+    cond (nat_lt (draw seed (4 + g) % suc more) needed) (g ∷ chosen seed (g + 1) more (needed - 1))
+    (chosen seed (g + 1) more needed)
+
+-- Returns the order or index that a number draws: 0 or 1, or the parity of the count if the traitor counts.
+abbrev pub said_by : Bool → ℕ → LieValue
+said_by true drawn = Parity
+said_by false drawn = Number (drawn / 4 % 2)
+
+-- Returns what general `g` says to a receiver: nothing in one of four cases, the truth in one, and an order in two.
+abbrev pub oral_lies : Bool → ℕ → ℕ → ℕ → List Lie
+oral_lies counts g receiver drawn =
+    cond (receiver == g) []
+    (cond (drawn % 4 == 0) []
+    (cond (drawn % 4 == 1) (Honest receiver ∷ [])
+    (Sway receiver (said_by counts drawn) ∷ [])))
+
+-- Returns what general `g` signs or passes on, and to whom, or nothing in one of four cases. Only the commander signs
+-- orders.
+abbrev pub signed_lies : Bool → ℕ → ℕ → List Lie
+signed_lies counts g drawn =
+    cond (drawn % 4 == 0) []
+    (cond (g == 0) (Sign (said_by counts drawn) (drawn / 8 % 8192) ∷ [])
+    (Pass (said_by counts drawn) (drawn / 8 % 8192) ∷ []))
+
+-- Returns all statements of general `g`. In an oral campaign there is at most one for each receiver, and in a signed
+-- one there are at most four.
+abbrev pub lies_in : Manner → Bool → ℕ → ℕ → ℕ → List Lie
+lies_in (Oral rule) counts seed n g = flat_map (λ r. oral_lies counts g r (drawn_for seed g r)) (range_with_len 0 n)
+lies_in Signed counts seed n g = flat_map (λ r. signed_lies counts g (drawn_for seed g r)) (range_with_len 0 4)
+
+-- Returns the statements of general `g` as a traitor of this kind.
+abbrev pub lies_by : Adversary → Manner → ℕ → ℕ → ℕ → List Lie
+lies_by Lies manner seed n g = lies_in manner false seed n g
+lies_by Collude manner seed n g = lies_in manner true seed n g
+lies_by Silent manner seed n g = []
+lies_by (Given hex) manner seed n g = []
+
+-- Checks whether traitors of this kind count on the board.
+abbrev pub do_count : Adversary → Bool
+do_count Collude = true
+do_count _ = false
+
+-- Returns the bytecode in hex that replaces the traitors' statements, if it is given.
+abbrev pub given_in : Adversary → Option (List ℕ)
+given_in (Given hex) = Some (string_bytes hex)
+given_in _ = None
+
+-- Returns general `g` as a traitor of the family, with his statements.
+abbrev pub traitor_of : Family → ℕ → ℕ → ℕ → Traitor
+traitor_of f seed n g =
+    record { general = g; counts = do_count f.adversary; lies = lies_by f.adversary f.manner seed n g }
+
+-- Returns the campaign that a seed draws from a family.
+unfoldable pub plot_of : Family → ℕ → Plot
+plot_of f seed =
+    let n = generals_of f seed in
+    record {
+      generals = n;
+      bound = bound_of f seed;
+      order = draw seed 3 % 2;
+      manner = f.manner;
+      patience = f.patience;
+      given = given_in f.adversary;
+      traitors = map (traitor_of f seed n) (chosen seed 0 n (count_of f seed));
+    }

@@ -1,0 +1,180 @@
+//! Searches the campaigns of many seeds for the least one that breaks agreement.
+ghost use Rattle.std.specs.Prelude.{◌≡◌, ◌≢◌, ◌≤◌, IfErr, IfOk, IfSome, IfNone, Ok, map};
+ghost use Rattle.std.specs.List.{AllZip};
+ghost use Rattle.rayon.specs.Numbers.{nat_range};
+ghost use Rattle.scenario.specs.declared.fault.ScenarioError.TheVariants.{Memory};
+ghost use Rattle.surveys.specs.Breaches.{IsAnswerTo, IsBreaking, IsFirstError, IsLeastBreach, IsLeastOf, IsRefusedBy, IsRefusedIn, IsRefusedWith, IsShrunk, NoneBreaks, better};
+ghost use Rattle.surveys.specs.Plotting.{plot_of};
+
+use crate::breach::{Breach, Breaking};
+use crate::campaign_order::is_before;
+use crate::family::Family;
+use crate::minimal_campaign::shrunk;
+use crate::narrower_family::narrowed;
+use crate::seeded_plots::plot_of;
+use crate::span::CountRange;
+use rayon::prelude::*;
+use scenario::ScenarioError;
+use std::alloc::{AllocError, Global};
+use std::thread::Threads;
+
+/// Returns the seed's campaign, reduced, if agreement is broken in it.
+///
+/// # Errors
+///
+/// Returns the first fault of the text of the seed's campaign or of a reduction of it. Fails with `Memory` if it runs
+/// out of memory.
+pub fn breach_of(alloc: Global, family: &Family, seed: u64) -> Result<Option<Breach>, ScenarioError>
+    ensures shrunk { IfOk result (IsShrunk (plot_of family.now) seed) }
+    ensures refused { IfErr result (IsRefusedBy (plot_of family.now) seed) }
+{
+    let plot = plot_of(alloc, family, seed)?;
+    match shrunk(alloc, plot)? {
+        Some(plot) => Ok(Some(Breach { seed, plot })),
+        None => Ok(None),
+    }
+}
+
+/// Returns the reduced campaign of each seed from `first` up to but not including `end`, if it is broken, or its error.
+/// The search uses as many threads as there are processors.
+fn gathered<R: Threads + Sync>(
+    rt: &R,
+    alloc: Global,
+    family: &Family,
+    first: u64,
+    end: u64,
+) -> Result<Vec<Result<Option<Breach>, ScenarioError>>, AllocError>
+    ensures { IfOk result (λ answers. AllZip (IsAnswerTo (plot_of family.now)) (nat_range first end) answers.items) }
+{
+    (first..end)
+        .into_par_iter()
+        .map(
+            |seed: u64| -> Result<Option<Breach>, ScenarioError>
+                ensures { IsAnswerTo (plot_of family.entry.now) seed result }
+            { breach_of(alloc, family, seed) },
+        )
+        .with_min_len(LEAST_PIECE)
+        .collect(rt, alloc)
+}
+
+/// The least number of campaigns for which a thread is worth its cost.
+const LEAST_PIECE: usize = 8;
+
+/// Returns the results of all answers, or the first error among them.
+fn all_of(
+    alloc: Global,
+    answers: Vec<Result<Option<Breach>, ScenarioError>>,
+) -> Result<Vec<Option<Breach>>, ScenarioError>
+    ensures found { IfOk result (λ found. answers.items ≡ map Ok found.items) }
+    ensures refused { IfErr result (λ e. e ≢ Memory → IsFirstError answers.items e) }
+{
+    let mut found = Vec::new(alloc);
+    for answer in answers {
+        found.push(answer?)?;
+    }
+    Ok(found)
+}
+
+/// Returns the reduced campaign of each seed from `first` up to but not including `end`, if it is broken.
+///
+/// # Errors
+///
+/// Returns the fault of the first seed whose campaign, or a reduction of it, has a faulty text. Fails with `Memory` if
+/// it runs out of memory.
+pub fn breaches<R: Threads + Sync>(
+    rt: &R,
+    alloc: Global,
+    family: &Family,
+    first: u64,
+    end: u64,
+) -> Result<Vec<Option<Breach>>, ScenarioError>
+    ensures shrunk { IfOk result (λ found. AllZip (IsShrunk (plot_of family.now)) (nat_range first end) found.items) }
+    ensures refused { IfErr result (λ e. e ≢ Memory → IsRefusedIn (plot_of family.now) first end e) }
+{
+    let answers = gathered(rt, alloc, family, first, end)?;
+    all_of(alloc, answers)
+}
+
+/// Returns the first of two reduced campaigns, unless the second is less. If there is only one, it is returned.
+pub fn better(first: Option<Breach>, second: Option<Breach>) -> Option<Breach>
+    ensures { result ≡ better first second }
+{
+    let Some(here) = first else { return second };
+    let Some(there) = second else {
+        return Some(here);
+    };
+    if is_before(&there, &here) {
+        Some(there)
+    } else {
+        Some(here)
+    }
+}
+
+/// Returns the least of the reduced campaigns, if there is one.
+pub fn least(found: Vec<Option<Breach>>) -> Option<Breach>
+    ensures { IsLeastOf found.items result }
+{
+    let mut least = None;
+    for breach in found {
+        least = better(least, breach);
+    }
+    least
+}
+
+/// Returns the least of the reduced campaigns of the seeds from `first` up to but not including `end`. Returns `None`
+/// if agreement is broken in none of them.
+///
+/// # Errors
+///
+/// Returns the fault of the first seed whose campaign, or a reduction of it, has a faulty text. Fails with `Memory` if
+/// it runs out of memory.
+pub fn least_breach<R: Threads + Sync>(
+    rt: &R,
+    alloc: Global,
+    family: &Family,
+    first: u64,
+    end: u64,
+) -> Result<Option<Breach>, ScenarioError>
+    ensures least { IfOk result (IsLeastBreach (plot_of family.now) first end) }
+    ensures refused { IfErr result (λ e. e ≢ Memory → IsRefusedIn (plot_of family.now) first end e) }
+{
+    Ok(least(breaches(rt, alloc, family, first, end)?))
+}
+
+/// Returns the least number of traitors in the range with which a campaign breaks agreement, and the least of the
+/// reduced campaigns with that number. The campaigns are those of the seeds from `first` up to but not including `end`,
+/// with this number of generals and this bound. Returns `None` if agreement is broken with no number of traitors in the
+/// range.
+///
+/// # Errors
+///
+/// Returns the fault of the first seed whose campaign, or a reduction of it, has a faulty text. Fails with `Memory` if
+/// it runs out of memory.
+pub fn breaking<R: Threads + Sync>(
+    rt: &R,
+    alloc: Global,
+    family: &Family,
+    generals: u8,
+    bound: u8,
+    traitors: CountRange,
+    first: u64,
+    end: u64,
+) -> Result<Option<Breaking>, ScenarioError>
+    requires least { 2 ≤ generals }
+    requires most { generals ≤ 13 }
+    ensures some { IfOk result (λ found. IfSome found (IsBreaking family.now generals bound traitors first end)) }
+    ensures none { IfOk result (λ found. IfNone found (NoneBreaks family.now generals bound traitors first end)) }
+    ensures refused { IfErr result (λ e. e ≢ Memory → IsRefusedWith family.now generals bound traitors first end e) }
+{
+    for count in u16::from(traitors.low)..u16::from(traitors.high) + 1 {
+        let count = count as u8;
+        let family = narrowed(alloc, family, generals, bound, count)?;
+        if let Some(breach) = least_breach(rt, alloc, &family, first, end)? {
+            return Ok(Some(Breaking {
+                traitors: count,
+                breach,
+            }));
+        }
+    }
+    Ok(None)
+}

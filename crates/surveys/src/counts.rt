@@ -1,0 +1,63 @@
+//! Writes the sums of a survey as lines, and the lines of its campaigns.
+ghost use Rattle.std.specs.Prelude.{◌≡◌, ◌++◌, IfOk, OnOk, flat_map, string_bytes};
+ghost use Rattle.surveys.specs.Lines.{line_text};
+ghost use Rattle.surveys.specs.Sums.{sums_of};
+ghost use Rattle.surveys.specs.Counts.{campaigns_text, sums_text, tally_text};
+
+use crate::finding::Finding;
+use crate::lines::put_line;
+use crate::summation::sums_of;
+use crate::sums::Tally;
+use std::alloc::{AllocError, Global};
+
+/// Appends the line of an outcome.
+fn put_tally(out: &mut String, name: &str, tally: Tally) -> Result<(), AllocError>
+    ensures { OnOk result (string_bytes out.new ≡ string_bytes out.old ++ tally_text name.now tally) }
+{
+    let count = tally.count;
+    match tally.first {
+        Some(seed) => writeln!(out, "{name} {count} first seed {seed}"),
+        None => writeln!(out, "{name} {count}"),
+    }
+}
+
+/// Appends the line that says how many campaigns there are.
+fn put_campaigns(out: &mut String, campaigns: u64) -> Result<(), AllocError>
+    ensures { OnOk result (string_bytes out.new ≡ string_bytes out.old ++ campaigns_text campaigns) }
+{
+    writeln!(out, "campaigns {campaigns}")
+}
+
+/// Returns the sums of a survey: a line with the number of campaigns, and a line for each outcome with its count and
+/// the least seed.
+///
+/// # Errors
+///
+/// Fails with `AllocError` if it runs out of memory.
+#[tactic(auto, unfolding(crate::specs::Counts::sums_text))]
+pub fn sums_text(alloc: Global, findings: &[Finding]) -> Result<String, AllocError>
+    ensures { IfOk result (λ text. string_bytes text ≡ sums_text (sums_of findings.now)) }
+{
+    let sums = sums_of(findings);
+    let mut out = String::new(alloc);
+    put_campaigns(&mut out, sums.campaigns)?;
+    put_tally(&mut out, "bound kept", sums.kept)?;
+    put_tally(&mut out, "agreement broken", sums.broken)?;
+    put_tally(&mut out, "order disobeyed", sums.disobeyed)?;
+    Ok(out)
+}
+
+/// Returns the lines of these campaigns.
+///
+/// # Errors
+///
+/// Fails with `AllocError` if it runs out of memory.
+pub fn lines_text(alloc: Global, findings: &[Finding]) -> Result<String, AllocError>
+    ensures { IfOk result (λ text. string_bytes text ≡ flat_map line_text findings.now) }
+{
+    let mut out = String::new(alloc);
+    for finding in findings {
+        put_line(&mut out, finding)?;
+    }
+    Ok(out)
+}

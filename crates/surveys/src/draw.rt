@@ -1,0 +1,45 @@
+//! Draws pseudo-random numbers from a seed by SplitMix64.
+ghost use Rattle.std.specs.Prelude.{◌≡◌, ◌≤◌, ◌<◌, ◌^◌};
+ghost use Rattle.surveys.specs.Draws.{draw, folded, mixed, within};
+
+use crate::span::CountRange;
+
+/// The number by which the generator's state grows from one number to the next.
+const STEP: u64 = 0x9e37_79b9_7f4a_7c15;
+
+/// Folds a word down by `places` bits, by exclusive or, and multiplies the result by a factor.
+fn folded(word: u64, places: u32, factor: u64) -> u64
+    requires { places < 64 }
+    ensures { result ≡ folded word places factor }
+{
+    (word ^ (word >> places)).wrapping_mul(factor)
+}
+
+/// Returns a word with its bits mixed.
+#[tactic(auto, unfolding(crate::specs::Draws::mixed))]
+fn mixed(word: u64) -> u64
+    ensures { result ≡ mixed word }
+{
+    let once = folded(word, 30, 0xbf58_476d_1ce4_e5b9);
+    let twice = folded(once, 27, 0x94d0_49bb_1331_11eb);
+    twice ^ (twice >> 31)
+}
+
+/// Returns the number at an index of those that a seed gives. Indices are counted from 0.
+#[tactic(auto, unfolding(crate::specs::Draws::draw))]
+pub(crate) fn draw(seed: u64, place: u16) -> u64
+    ensures { result ≡ draw seed place }
+{
+    mixed(seed.wrapping_add((u64::from(place) + 1).wrapping_mul(STEP)))
+}
+
+/// Returns the number of a range that a drawn number selects.
+pub(crate) fn within(span: CountRange, drawn: u64) -> u8
+    requires { span.low ≤ span.high }
+    ensures number { result ≡ within span drawn }
+    ensures least { span.low ≤ result }
+    ensures greatest { result ≤ span.high }
+{
+    let count = u64::from(span.high) + 1 - u64::from(span.low);
+    span.low + (drawn % count) as u8
+}

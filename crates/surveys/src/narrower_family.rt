@@ -1,0 +1,43 @@
+//! Narrows a family to fixed numbers of generals, bound and traitors.
+ghost use Rattle.std.specs.Prelude.{◌≡◌, ◌≤◌, IfOk};
+ghost use Rattle.surveys.specs.Breaches.{narrowed, only};
+ghost use Rattle.surveys.specs.Plotting.{plot_of};
+
+use crate::copies::adversary_copied;
+use crate::family::Family;
+use crate::span::CountRange;
+use std::alloc::{AllocError, Global};
+
+/// Returns the range of one number.
+fn only(number: u8) -> CountRange
+    ensures { result ≡ only number }
+{
+    CountRange {
+        low: number,
+        high: number,
+    }
+}
+
+/// Returns the family whose campaigns have this number of generals, this bound and this number of traitors, and are
+/// otherwise those of `family`.
+pub(crate) fn narrowed(
+    alloc: Global,
+    family: &Family,
+    generals: u8,
+    bound: u8,
+    traitors: u8,
+) -> Result<Family, AllocError>
+    requires least { 2 ≤ generals }
+    requires most { generals ≤ 13 }
+    ensures { IfOk result (λ less. plot_of less ≡ plot_of (narrowed family.now generals bound traitors)) }
+{
+    let _ = family.generals();
+    Ok(Family::new(
+        only(generals),
+        only(bound),
+        only(traitors),
+        family.manner(),
+        family.patience(),
+        adversary_copied(alloc, family.adversary())?,
+    ))
+}

@@ -1,0 +1,253 @@
+//! Draws the campaign of a seed from a family: its numbers, its traitors and their statements.
+ghost use Rattle.std.specs.Prelude.{◌≡◌, ◌+◌, ◌-◌, ◌%◌, ◌<◌, ◌≤◌, ◌++◌, OnOk, IfOk, flat_map, map, nat_lt, option_map, string_bytes};
+ghost use Rattle.std.specs.List.{range_with_len};
+ghost use Rattle.surveys.specs.Draws.{draw};
+ghost use Rattle.surveys.specs.Plotting.{bound_of, chosen, count_of, do_count, drawn_for, generals_of, given_in, lies_by, lies_in, oral_lies, plot_of, said_by, signed_lies, traitor_of};
+
+use crate::adversary::Adversary;
+use crate::draw::{draw, within};
+use crate::family::Family;
+use crate::lie::{Lie, LieValue};
+use crate::manner::Manner;
+use crate::plot::{Plot, Traitor};
+use std::alloc::{AllocError, Global};
+
+/// Returns the number at an index of those that a seed gives for a general. Each general has 32.
+fn drawn_for(seed: u64, general: u8, place: u8) -> u64
+    ensures { result ≡ drawn_for seed general place }
+{
+    draw(seed, 32 + 32 * u16::from(general) + u16::from(place))
+}
+
+/// Returns how many generals the seed's campaign has.
+fn generals_of(family: &Family, seed: u64) -> u8
+    ensures number { result ≡ generals_of family.now seed }
+    ensures least { 2 ≤ result }
+    ensures greatest { result ≤ 13 }
+{
+    within(family.generals(), draw(seed, 0))
+}
+
+/// Returns the bound of the seed's campaign.
+fn bound_of(family: &Family, seed: u64) -> u8
+    ensures { result ≡ bound_of family.now seed }
+{
+    let greatest = (generals_of(family, seed) - 2).min(4);
+    within(family.bound(), draw(seed, 1)).min(greatest)
+}
+
+/// Returns how many traitors the seed's campaign has.
+fn count_of(family: &Family, seed: u64) -> u8
+    ensures { result ≡ count_of family.now seed }
+{
+    within(family.traitors(), draw(seed, 2)).min(generals_of(family, seed))
+}
+
+/// Returns the order or index that a number draws: 0 or 1, or the parity of the count if the traitor counts.
+fn said_by(counts: bool, drawn: u64) -> LieValue
+    ensures { result ≡ said_by counts drawn }
+{
+    if counts {
+        LieValue::Parity
+    } else {
+        LieValue::Number((drawn / 4 % 2) as u8)
+    }
+}
+
+/// Appends what a general says to a receiver, if anything.
+fn push_oral(
+    lies: &mut Vec<Lie>,
+    counts: bool,
+    general: u8,
+    receiver: u8,
+    drawn: u64,
+) -> Result<(), AllocError>
+    ensures { OnOk result (lies.new.items ≡ lies.old.items ++ oral_lies counts general receiver drawn) }
+{
+    if receiver == general || drawn % 4 == 0 {
+        return Ok(());
+    }
+    if drawn % 4 == 1 {
+        lies.push(Lie::Honest(receiver))?;
+    } else {
+        lies.push(Lie::Sway(receiver, said_by(counts, drawn)))?;
+    }
+    Ok(())
+}
+
+/// Appends what a general signs or passes on, if anything.
+fn push_signed(lies: &mut Vec<Lie>, counts: bool, general: u8, drawn: u64) -> Result<(), AllocError>
+    ensures { OnOk result (lies.new.items ≡ lies.old.items ++ signed_lies counts general drawn) }
+{
+    if drawn % 4 == 0 {
+        return Ok(());
+    }
+    let receivers = (drawn / 8 % 8192) as u16;
+    if general == 0 {
+        lies.push(Lie::Sign(said_by(counts, drawn), receivers))?;
+    } else {
+        lies.push(Lie::Pass(said_by(counts, drawn), receivers))?;
+    }
+    Ok(())
+}
+
+/// Returns what a general says in an oral campaign with `generals` generals.
+fn oral_of(
+    alloc: Global,
+    counts: bool,
+    seed: u64,
+    generals: u8,
+    general: u8,
+) -> Result<Vec<Lie>, AllocError>
+    ensures { IfOk result (λ lies. lies.items
+        ≡ flat_map (λ r. oral_lies counts general r (drawn_for seed general r)) (range_with_len 0 generals)) }
+{
+    let mut lies = Vec::new(alloc);
+    for receiver in 0..generals {
+        push_oral(
+            &mut lies,
+            counts,
+            general,
+            receiver,
+            drawn_for(seed, general, receiver),
+        )?;
+    }
+    Ok(lies)
+}
+
+/// Returns what a general signs and passes on in a signed campaign.
+fn signed_of(alloc: Global, counts: bool, seed: u64, general: u8) -> Result<Vec<Lie>, AllocError>
+    ensures { IfOk result (λ lies. lies.items
+        ≡ flat_map (λ r. signed_lies counts general (drawn_for seed general r)) (range_with_len 0 4)) }
+{
+    let mut lies = Vec::new(alloc);
+    for place in 0..4 {
+        push_signed(&mut lies, counts, general, drawn_for(seed, general, place))?;
+    }
+    Ok(lies)
+}
+
+/// Returns all statements of a general in a campaign with `generals` generals.
+fn lies_in(
+    alloc: Global,
+    manner: Manner,
+    counts: bool,
+    seed: u64,
+    generals: u8,
+    general: u8,
+) -> Result<Vec<Lie>, AllocError>
+    ensures { IfOk result (λ lies. lies.items ≡ lies_in manner counts seed generals general) }
+{
+    match manner {
+        Manner::Oral(_) => oral_of(alloc, counts, seed, generals, general),
+        Manner::Signed => signed_of(alloc, counts, seed, general),
+    }
+}
+
+/// Returns the statements of a traitor of the family.
+fn lies_by(
+    alloc: Global,
+    family: &Family,
+    seed: u64,
+    generals: u8,
+    general: u8,
+) -> Result<Vec<Lie>, AllocError>
+    ensures { IfOk result (λ lies. lies.items ≡ lies_by family.now.adversary family.now.manner seed generals general) }
+{
+    let manner = family.manner();
+    match family.adversary() {
+        Adversary::Lies => lies_in(alloc, manner, false, seed, generals, general),
+        Adversary::Collude => lies_in(alloc, manner, true, seed, generals, general),
+        Adversary::Silent | Adversary::Given(_) => Ok(Vec::new(alloc)),
+    }
+}
+
+/// Checks whether the traitors count on the board.
+fn do_count(adversary: &Adversary) -> bool
+    ensures { result ≡ do_count adversary.now }
+{
+    match adversary {
+        Adversary::Collude => true,
+        Adversary::Lies | Adversary::Silent | Adversary::Given(_) => false,
+    }
+}
+
+/// Returns the bytecode of the traitors in hex, if it replaces their statements.
+fn given_in(alloc: Global, adversary: &Adversary) -> Result<Option<String>, AllocError>
+    ensures { IfOk result (λ given. option_map string_bytes given ≡ given_in adversary.now) }
+{
+    match adversary {
+        Adversary::Given(hex) => Ok(Some(String::from_str(alloc, hex.as_str())?)),
+        Adversary::Lies | Adversary::Silent | Adversary::Collude => Ok(None),
+    }
+}
+
+/// Returns a traitor of the family, with his statements.
+fn traitor_of(
+    alloc: Global,
+    family: &Family,
+    seed: u64,
+    generals: u8,
+    general: u8,
+) -> Result<Traitor, AllocError>
+    ensures { IfOk result (λ traitor. traitor ≡ traitor_of family.now seed generals general) }
+{
+    Ok(Traitor {
+        general,
+        counts: do_count(family.adversary()),
+        lies: lies_by(alloc, family, seed, generals, general)?,
+    })
+}
+
+/// Checks whether a general is chosen as a traitor, if `needed` of `left` generals are still to be chosen. He is one of
+/// those left.
+fn is_chosen(seed: u64, general: u8, left: u8, needed: u8) -> bool
+    requires { 0 < left }
+    ensures { result ≡ nat_lt (draw seed (4 + general) % left) needed }
+{
+    draw(seed, 4 + u16::from(general)) % u64::from(left) < u64::from(needed)
+}
+
+/// Returns the traitors of the seed's campaign, ascending.
+fn traitors_of(
+    alloc: Global,
+    family: &Family,
+    seed: u64,
+    generals: u8,
+    count: u8,
+) -> Result<Vec<Traitor>, AllocError>
+    ensures { IfOk result (λ traitors. traitors.items
+        ≡ map (traitor_of family.now seed generals) (chosen seed 0 generals count)) }
+{
+    let mut needed = count;
+    let mut traitors = Vec::new(alloc);
+    for general in 0..generals {
+        if is_chosen(seed, general, generals - general, needed) {
+            traitors.push(traitor_of(alloc, family, seed, generals, general)?)?;
+            needed = needed.saturating_sub(1);
+        }
+    }
+    Ok(traitors)
+}
+
+/// Returns the campaign that a seed draws from a family.
+///
+/// # Errors
+///
+/// Fails with `AllocError` if it runs out of memory.
+#[tactic(auto, unfolding(crate::specs::Plotting::plot_of))]
+pub fn plot_of(alloc: Global, family: &Family, seed: u64) -> Result<Plot, AllocError>
+    ensures { IfOk result (λ plot. plot ≡ plot_of family.now seed) }
+{
+    let generals = generals_of(family, seed);
+    let count = count_of(family, seed);
+    Ok(Plot {
+        generals,
+        bound: bound_of(family, seed),
+        order: (draw(seed, 3) % 2) as u8,
+        manner: family.manner(),
+        patience: family.patience(),
+        given: given_in(alloc, family.adversary())?,
+        traitors: traitors_of(alloc, family, seed, generals, count)?,
+    })
+}

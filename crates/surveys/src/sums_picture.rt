@@ -1,0 +1,317 @@
+//! Draws the sums of a survey in SVG: in which share of the campaigns agreement fails, by the number of traitors.
+ghost use Rattle.std.specs.Prelude.{◌≡◌, ◌++◌, ◌<◌, IfOk, None, OnOk, string_bytes};
+ghost use Rattle.surveys.specs.Groups.{groups_of};
+ghost use Rattle.surveys.specs.Pictures.{bar, base, begins, cell, cells, column, columns, counts, grounds, head, kept, label, limit, name, percent, picture_text, place, rise, rows_of, share_of, side, size, stand, start, start_of};
+
+use crate::campaign_groups::groups;
+use crate::finding::Finding;
+use crate::group::Group;
+use std::alloc::{AllocError, Global};
+
+/// Returns the start of every picture.
+#[tactic(auto, unfolding(crate::specs::Pictures::start))]
+fn start() -> &'static str
+    ensures { result.now ≡ start }
+{
+    "<svg xmlns=\"http://www.w3.org/2000/svg\" role=\"img\" width=\"840\""
+}
+
+/// Returns the part of a picture that comes before its columns and rows: the title, the description, the style sheet
+/// and the legend.
+#[tactic(auto, unfolding(crate::specs::Pictures::head))]
+fn head() -> &'static str
+    ensures { result.now ≡ head }
+{
+    "<title>where agreement or obedience is broken</title>\n\
+     <desc>Each row: so many generals, n, who provide for so many traitors, \
+     m. Each column: so many traitors. A bar: the share of \
+     the campaigns of these numbers in \
+     which loyal lieutenants decide unlike, or not as a loyal commander has ordered. Dashes: n = 3m + 1, \
+     at so many traitors as m. A ground: \
+     the campaign's bound is kept.</desc>\n\
+     <style>svg{background:#fff}text{fill:#111;font:14px \
+     sans-serif}.bar{fill:#b00020}.base,.limit{fill:none;stroke:#767676}\
+     .limit{stroke:#0b57d0;stroke-width:2;stroke-dasharray:6 \
+     3}.kept{fill:#d7f0da}.share{font-size:11px;text-anchor:middle}\
+     @media(prefers-color-scheme:dark){svg{background:#111}text{fill:#eee}.bar{fill:#ff6b7a}.limit{stroke:#8ab4f8}\
+     .kept{fill:#143d1b}}</style>\n\
+     <text x=\"10\" y=\"24\">campaigns in which agreement is broken or the order disobeyed, \
+     by the number of traitors</text>\n\
+     <text x=\"10\" y=\"46\">dashes: n = 3m + 1, where m is the number of traitors; \
+     green: within the campaign's bound</text>\n\
+     <text x=\"10\" y=\"84\">traitors</text>\n"
+}
+
+/// Appends the number above a column.
+#[tactic(auto, unfolding(crate::specs::Pictures::column))]
+fn put_column(out: &mut String, traitors: u64) -> Result<(), AllocError>
+    requires { traitors < 14 }
+    ensures { OnOk result (string_bytes out.new ≡ string_bytes out.old ++ column traitors) }
+{
+    let x = 145 + 50 * traitors;
+    write!(
+        out,
+        "<text class=\"share\" x=\"{x}\" y=\"84\">{traitors}</text>\n"
+    )
+}
+
+/// Appends the numbers above the columns.
+fn put_columns(out: &mut String) -> Result<(), AllocError>
+    ensures { OnOk result (string_bytes out.new ≡ string_bytes out.old ++ columns) }
+{
+    for traitors in 0..14u64 {
+        put_column(out, traitors)?;
+    }
+    Ok(())
+}
+
+/// Checks whether a group begins a row. It does if it is the first group, or if the group before it has another number
+/// of generals or another bound.
+fn begins(before: Option<Group>, group: &Group) -> bool
+    ensures { result ≡ begins before group.now }
+{
+    match before {
+        None => true,
+        Some(before) => before.generals != group.generals || before.bound != group.bound,
+    }
+}
+
+/// Returns how many rows the groups have.
+fn rows_of(groups: &[Group]) -> u64
+    ensures { result ≡ rows_of groups.now }
+{
+    let mut rows = 0;
+    let mut before = None;
+    for group in groups {
+        if begins(before, group) {
+            rows += 1;
+        }
+        before = Some(*group);
+    }
+    rows
+}
+
+/// Appends the size of a picture, and ends its first tag.
+#[tactic(auto, unfolding(crate::specs::Pictures::size))]
+fn put_size(out: &mut String, height: u128) -> Result<(), AllocError>
+    ensures { OnOk result (string_bytes out.new ≡ string_bytes out.old ++ size height) }
+{
+    write!(out, " height=\"{height}\" viewBox=\"0 0 840 {height}\">\n")
+}
+
+/// Appends the start of a row's label, at the height of the row.
+#[tactic(auto, unfolding(crate::specs::Pictures::stand))]
+fn put_stand(out: &mut String, row: u64) -> Result<(), AllocError>
+    ensures { OnOk result (string_bytes out.new ≡ string_bytes out.old ++ stand row) }
+{
+    let y = 72 + 44 * u128::from(row);
+    write!(out, "<text x=\"10\" y=\"{y}\">")
+}
+
+/// Appends the text of a row's label: the number of generals and the bound.
+#[tactic(auto, unfolding(crate::specs::Pictures::name))]
+fn put_name(out: &mut String, group: &Group) -> Result<(), AllocError>
+    ensures { OnOk result (string_bytes out.new ≡ string_bytes out.old ++ name group.now) }
+{
+    let (generals, bound) = (group.generals, group.bound);
+    write!(out, "n = {generals}, m = {bound}</text>")
+}
+
+/// Appends the base line of a row's bars.
+#[tactic(auto, unfolding(crate::specs::Pictures::base))]
+fn put_base(out: &mut String, row: u64) -> Result<(), AllocError>
+    ensures { OnOk result (string_bytes out.new ≡ string_bytes out.old ++ base row) }
+{
+    let y = 74 + 44 * u128::from(row);
+    write!(out, "<path class=\"base\" d=\"M120 {y}h700\"/>")
+}
+
+/// Appends the dashed line of a row. The columns left of it have fewer than a third of the generals as traitors.
+#[tactic(auto, unfolding(crate::specs::Pictures::limit))]
+fn put_limit(out: &mut String, row: u64, group: &Group) -> Result<(), AllocError>
+    ensures { OnOk result (string_bytes out.new ≡ string_bytes out.old ++ limit row group.now) }
+{
+    let x = 120 + 50 * (u64::from(group.generals.saturating_sub(1)) / 3 + 1);
+    let y = 44 + 44 * u128::from(row);
+    write!(out, "<path class=\"limit\" d=\"M{x} {y}v44\"/>\n")
+}
+
+/// Appends what a row begins with: its label, its base line and its dashed line.
+fn put_label(out: &mut String, row: u64, group: &Group) -> Result<(), AllocError>
+    ensures { OnOk result (string_bytes out.new ≡ string_bytes out.old ++ label row group.now) }
+{
+    put_stand(out, row)?;
+    put_name(out, group)?;
+    put_base(out, row)?;
+    put_limit(out, row, group)
+}
+
+/// Returns the share of `whole` that corresponds to the failed campaigns of a group. It is rounded down, and 0 if there
+/// are no campaigns.
+fn share_of(whole: u64, group: &Group) -> u128
+    ensures { result ≡ share_of whole group.now }
+{
+    let campaigns = u128::from(group.sums.campaigns);
+    if campaigns == 0 {
+        return 0;
+    }
+    u128::from(group.failed) * u128::from(whole) / campaigns
+}
+
+/// Appends the background of a cell if the bound holds in some of its campaigns.
+#[tactic(auto, unfolding(crate::specs::Pictures::kept))]
+fn put_kept(out: &mut String, row: u64, group: &Group) -> Result<(), AllocError>
+    ensures { OnOk result (string_bytes out.new ≡ string_bytes out.old ++ kept row group.now) }
+{
+    if group.sums.kept.count == 0 {
+        return Ok(());
+    }
+    let x = 120 + 50 * u64::from(group.traitors);
+    let y = 44 + 44 * u128::from(row);
+    write!(
+        out,
+        "<rect class=\"kept\" x=\"{x}\" y=\"{y}\" width=\"50\" height=\"44\"/>\n"
+    )
+}
+
+/// Appends the title of a cell, which says how many of its campaigns failed.
+#[tactic(auto, unfolding(crate::specs::Pictures::counts))]
+fn put_counts(out: &mut String, group: &Group) -> Result<(), AllocError>
+    ensures { OnOk result (string_bytes out.new ≡ string_bytes out.old ++ counts group.now) }
+{
+    let (failed, campaigns) = (group.failed, group.sums.campaigns);
+    write!(out, "<g><title>{failed} of {campaigns}</title>")
+}
+
+/// Appends the start of a bar with its horizontal position.
+#[tactic(auto, unfolding(crate::specs::Pictures::side))]
+fn put_side(out: &mut String, group: &Group) -> Result<(), AllocError>
+    ensures { OnOk result (string_bytes out.new ≡ string_bytes out.old ++ side group.now) }
+{
+    let x = 125 + 50 * u64::from(group.traitors);
+    write!(out, "<rect class=\"bar\" x=\"{x}\"")
+}
+
+/// Appends the vertical position and the height of a bar, and ends it.
+#[tactic(auto, unfolding(crate::specs::Pictures::rise))]
+fn put_rise(out: &mut String, row: u64, height: u128) -> Result<(), AllocError>
+    ensures { OnOk result (string_bytes out.new ≡ string_bytes out.old ++ rise row height) }
+{
+    let y = (74 + 44 * u128::from(row)).saturating_sub(height);
+    write!(out, " y=\"{y}\" width=\"40\" height=\"{height}\"/></g>")
+}
+
+/// Appends the bar of a cell.
+fn put_bar(out: &mut String, row: u64, group: &Group) -> Result<(), AllocError>
+    ensures { OnOk result (string_bytes out.new ≡ string_bytes out.old ++ bar row group.now) }
+{
+    put_side(out, group)?;
+    put_rise(out, row, share_of(28, group))
+}
+
+/// Appends the share of a cell's campaigns that failed, in per cent.
+#[tactic(auto, unfolding(crate::specs::Pictures::percent))]
+fn put_percent(out: &mut String, group: &Group) -> Result<(), AllocError>
+    ensures { OnOk result (string_bytes out.new ≡ string_bytes out.old ++ percent group.now) }
+{
+    let percent = share_of(100, group);
+    if percent == 0 && group.failed > 0 {
+        return out.push_str("&lt;1%");
+    }
+    write!(out, "{percent}%")
+}
+
+/// Appends the start of a cell's label with its position.
+#[tactic(auto, unfolding(crate::specs::Pictures::place))]
+fn put_place(out: &mut String, row: u64, group: &Group) -> Result<(), AllocError>
+    ensures { OnOk result (string_bytes out.new ≡ string_bytes out.old ++ place row group.now) }
+{
+    let x = 145 + 50 * u64::from(group.traitors);
+    let y = 85 + 44 * u128::from(row);
+    write!(out, "<text class=\"share\" x=\"{x}\" y=\"{y}\">")
+}
+
+/// Appends a cell: its title, its bar and its label.
+fn put_cell(out: &mut String, row: u64, group: &Group) -> Result<(), AllocError>
+    ensures { OnOk result (string_bytes out.new ≡ string_bytes out.old ++ cell row group.now) }
+{
+    put_counts(out, group)?;
+    put_bar(out, row, group)?;
+    put_place(out, row, group)?;
+    put_percent(out, group)?;
+    out.push_str("</text>\n")
+}
+
+/// Appends the backgrounds of the cells, row by row.
+fn put_grounds(out: &mut String, groups: &[Group]) -> Result<(), AllocError>
+    ensures { OnOk result (string_bytes out.new ≡ string_bytes out.old ++ grounds 0 None groups.now) }
+{
+    let mut row: u64 = 0;
+    let mut before = None;
+    for group in groups {
+        if begins(before, group) {
+            row += 1;
+        }
+        put_kept(out, row, group)?;
+        before = Some(*group);
+    }
+    Ok(())
+}
+
+/// Appends what a row begins with, if the group begins a row.
+fn put_start(out: &mut String, row: u64, group: &Group, is_first: bool) -> Result<(), AllocError>
+    ensures { OnOk result (string_bytes out.new ≡ string_bytes out.old ++ start_of row group.now is_first) }
+{
+    if is_first {
+        put_label(out, row, group)
+    } else {
+        Ok(())
+    }
+}
+
+/// Appends the cells of the groups, row by row.
+fn put_groups(out: &mut String, groups: &[Group]) -> Result<(), AllocError>
+    ensures { OnOk result (string_bytes out.new ≡ string_bytes out.old ++ cells 0 None groups.now) }
+{
+    let mut row: u64 = 0;
+    let mut before = None;
+    for group in groups {
+        let is_first = begins(before, group);
+        if is_first {
+            row += 1;
+        }
+        put_start(out, row, group, is_first)?;
+        put_cell(out, row, group)?;
+        before = Some(*group);
+    }
+    Ok(())
+}
+
+/// Returns the picture of these groups.
+#[tactic(auto, unfolding(crate::specs::Pictures::picture_text))]
+fn drawn(alloc: Global, groups: &[Group]) -> Result<String, AllocError>
+    ensures { IfOk result (λ text. string_bytes text ≡ picture_text groups.now) }
+{
+    let mut out = String::from_str(alloc, start())?;
+    put_size(&mut out, 94 + 44 * u128::from(rows_of(groups)))?;
+    out.push_str(head())?;
+    put_columns(&mut out)?;
+    put_grounds(&mut out, groups)?;
+    put_groups(&mut out, groups)?;
+    out.push_str("</svg>\n")?;
+    Ok(out)
+}
+
+/// Returns a picture of the campaigns' results. It has a row for each number of generals and bound that occur, and a
+/// column for each number of traitors. A bar shows the share of campaigns in which the loyal lieutenants do not decide
+/// alike or do not obey a loyal commander.
+///
+/// # Errors
+///
+/// Fails with `AllocError` if it runs out of memory.
+pub fn picture(alloc: Global, findings: &[Finding]) -> Result<String, AllocError>
+    ensures { IfOk result (λ text. string_bytes text ≡ picture_text (groups_of findings.now)) }
+{
+    let groups = groups(alloc, findings)?;
+    drawn(alloc, groups.as_slice())
+}

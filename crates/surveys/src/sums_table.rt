@@ -1,0 +1,90 @@
+//! Writes the sums of a survey as a table.
+ghost use Rattle.std.specs.Prelude.{◌≡◌, ◌++◌, IfOk, OnOk, flat_map, string_bytes};
+ghost use Rattle.surveys.specs.Groups.{groups_of};
+ghost use Rattle.surveys.specs.Tables.{cells_of, group_text, header, table_text};
+
+use crate::campaign_groups::groups;
+use crate::cell::NumberCell;
+use crate::cells::put_row;
+use crate::finding::Finding;
+use crate::group::Group;
+use std::alloc::{AllocError, Global};
+
+/// Returns a cell with a number.
+fn of(width: usize, number: u64) -> NumberCell
+    ensures { result ≡ record { width = width; number = Some number } }
+{
+    NumberCell {
+        width,
+        number: Some(number),
+    }
+}
+
+/// Returns a cell with a number, or an empty cell.
+fn if_any(width: usize, number: Option<u64>) -> NumberCell
+    ensures { result ≡ record { width = width; number = number } }
+{
+    NumberCell { width, number }
+}
+
+/// Returns the cells of a group's row.
+fn cells_of(group: &Group) -> [NumberCell; 11]
+    ensures { result ≡ cells_of group.now }
+{
+    let sums = group.sums;
+    [
+        of(8, u64::from(group.generals)),
+        of(5, u64::from(group.bound)),
+        of(8, u64::from(group.traitors)),
+        of(9, sums.campaigns),
+        of(8, sums.kept.count),
+        if_any(7, sums.kept.first),
+        of(8, sums.broken.count),
+        if_any(7, sums.broken.first),
+        of(9, sums.disobeyed.count),
+        if_any(7, sums.disobeyed.first),
+        of(8, group.failed),
+    ]
+}
+
+/// Appends the row of a group.
+fn put_group(out: &mut String, group: &Group) -> Result<(), AllocError>
+    ensures { OnOk result (string_bytes out.new ≡ string_bytes out.old ++ group_text group.now) }
+{
+    let cells = cells_of(group);
+    put_row(out, &cells)
+}
+
+/// Appends the rows of these groups.
+fn put_groups(out: &mut String, groups: &[Group]) -> Result<(), AllocError>
+    ensures { OnOk result (string_bytes out.new ≡ string_bytes out.old ++ flat_map group_text groups.now) }
+{
+    for group in groups {
+        put_group(out, group)?;
+    }
+    Ok(())
+}
+
+/// Returns the first line of the table, which names the columns.
+#[tactic(auto, unfolding(crate::specs::Tables::header))]
+fn header() -> &'static str
+    ensures { result.now ≡ header }
+{
+    " generals bound traitors campaigns     kept   first   broken   first disobeyed   first   failed\n"
+}
+
+/// Returns a table of the campaigns' results. It has a row for each combination of generals, bound and traitors that
+/// occurs.
+///
+/// # Errors
+///
+/// Fails with `AllocError` if it runs out of memory.
+pub fn table(alloc: Global, findings: &[Finding]) -> Result<String, AllocError>
+    ensures { IfOk result (λ text. string_bytes text ≡ table_text (groups_of findings.now)) }
+{
+    let groups = groups(alloc, findings)?;
+    let mut out = String::new(alloc);
+    out.push_str(header())?;
+    put_groups(&mut out, groups.as_slice())?;
+    Ok(out)
+}
