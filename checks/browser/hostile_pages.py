@@ -1,4 +1,4 @@
-"""The campaigns that checks/browser has pages and pictures of, besides the examples, and files with faults that it must see."""
+"""The campaigns that checks/browser/run opens in addition to the examples, and files with faults that it must see."""
 
 
 def campaign(generals, bound, commander, order, traitors, before="", more=""):

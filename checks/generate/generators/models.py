@@ -3,7 +3,8 @@ import importlib.machinery
 import importlib.util
 import os
 
-PATH = os.path.join(os.path.dirname(os.path.dirname(os.path.realpath(__file__))), "random_campaigns")
+CHECKS = os.path.dirname(os.path.dirname(os.path.dirname(os.path.realpath(__file__))))
+PATH = os.path.join(CHECKS, "random_campaigns")
 
 
 def loaded():

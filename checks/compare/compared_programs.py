@@ -1,4 +1,4 @@
-"""The programs that checks/compare puts to the engines."""
+"""The programs that checks/compare/run puts to the engines."""
 import struct
 
 import bpf

@@ -1,4 +1,4 @@
-"""What a page is on paper, by the PDF that a browser prints of it: for checks/browser. The PDF is read by mutool."""
+"""What a page is on paper, by the PDF that a browser prints of it: for checks/browser/run. The PDF is read by mutool."""
 import subprocess
 import tempfile
 import xml.etree.ElementTree

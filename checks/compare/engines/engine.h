@@ -1,4 +1,4 @@
-/* What takes a program, and runs it: the sandboxes that checks/compare compares. */
+/* What takes a program, and runs it: the sandboxes that checks/compare/run compares. */
 #ifndef ENGINE_H
 #define ENGINE_H
 

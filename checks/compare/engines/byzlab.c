@@ -54,7 +54,7 @@ static const char *why(const struct program *program) {
     return snprintf(line, sizeof line, "V%u %.*s", fault.number - 100, (int)strcspn(last, "\n"), last), line;
 }
 #else
-static const char *absent(void) { return "no --library, and no checks/library"; }
+static const char *absent(void) { return "no --library, and no checks/library/run"; }
 #define begin 0
 #define end 0
 #define load 0

@@ -1,5 +1,5 @@
-// What checks/browser asks of a page or a picture, in a world of the browser of its own: questions, most of which answer a list
-// of what is wrong. They are made anew for each look, since they keep what they found.
+// What checks/browser/run asks of a page or a picture, in a world of the browser of its own: questions, most of which answer a
+// list of what is wrong. They are made anew for each look, since they keep what they found.
 globalThis.questions = () => {
     "use strict";
 

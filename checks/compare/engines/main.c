@@ -1,5 +1,5 @@
 /*
- * Asks each engine for its verdict, its r0, and its times. checks/compare calls it.
+ * Asks each engine for its verdict, its r0, and its times. checks/compare/run calls it.
  *
  *     engines verdicts FILE SECONDS    in processes that may die
  *     engines times FILE ROUNDS        in this process, the engines in turn in each round

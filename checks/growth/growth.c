@@ -1,5 +1,5 @@
 /*
- * Does one thing so many times, for checks/growth, which counts instructions.
+ * Does one thing so many times, for checks/growth/run, which counts instructions.
  *
  *     growth verify|run FILE TIMES      a program's bytes are verified; a program is run, verified once before
  */

@@ -1,4 +1,4 @@
-"""A browser without a window, led over a pipe by its remote debugging protocol: for checks/browser."""
+"""A browser without a window, led over a pipe by its remote debugging protocol: for checks/browser/run."""
 import fcntl
 import json
 import os
