@@ -102,8 +102,8 @@ pub loyal_in : (s : Story) (c p g : ℕ) → group_of c p ≡ g → g ≢ lying_
 unfolding is_traitor_in
 loyal_in s c p g e ne = ne_eqb (group_of c p) (lying_group s) (λ same. ne (sym e ∙ same))
 
-pub early : (n c p : ℕ) → group_of c p ≡ 1 → IsIndistinguishable n c p (story_messages First c) (story_messages Second c)
-early n c p e = indistinguishable First Second n c p (loyal_in First c p 1 e (λ x. omega arith)) (loyal_in Second c p 1 e (λ x. omega arith)) refl
+pub first_two : (n c p : ℕ) → group_of c p ≡ 1 → IsIndistinguishable n c p (story_messages First c) (story_messages Second c)
+first_two n c p e = indistinguishable First Second n c p (loyal_in First c p 1 e (λ x. omega arith)) (loyal_in Second c p 1 e (λ x. omega arith)) refl
 
-pub late : (n c p : ℕ) → group_of c p ≡ 2 → IsIndistinguishable n c p (story_messages Second c) (story_messages Third c)
-late n c p e = indistinguishable Second Third n c p (loyal_in Second c p 2 e (λ x. omega arith)) (loyal_in Third c p 2 e (λ x. omega arith)) (rw e refl)
+pub last_two : (n c p : ℕ) → group_of c p ≡ 2 → IsIndistinguishable n c p (story_messages Second c) (story_messages Third c)
+last_two n c p e = indistinguishable Second Third n c p (loyal_in Second c p 2 e (λ x. omega arith)) (loyal_in Third c p 2 e (λ x. omega arith)) (rw e refl)

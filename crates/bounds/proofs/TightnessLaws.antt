@@ -9,14 +9,14 @@ use Rattle.bounds.specs.declared.story.Story.{Story}
 use Rattle.bounds.specs.declared.story.Story.TheVariants.{First, Second, Third}
 use Rattle.bounds.specs.Stories.{group_of, lying_group, is_traitor_in, story_order, story_messages, StoriesAreAdmissible, StoriesBreak}
 use Rattle.bounds.specs.Tightness.{IsTooFew, IsAdmissible, BoundIsTight, OmIsDecisionRule}
-use Rattle.bounds.proofs.StoryLemmas.{faithful, early, late, loyal_in, group_of-commander}
+use Rattle.bounds.proofs.StoryLemmas.{faithful, first_two, last_two, loyal_in, group_of-commander}
 use Rattle.bounds.proofs.GroupSizes.{liars}
 
 admissible : (s : Story) (n c m : ℕ) → IsTooFew n c m → IsAdmissible n c m (story_order s) (is_traitor_in s c) (story_messages s c)
 admissible s n c m few = record { few = (liars s n c m few).1; faithful = λ rounds g l loyal. faithful s n c rounds g loyal }
 
 pub proved_stories_are_admissible : StoriesAreAdmissible
-proved_stories_are_admissible = record { admissible = admissible; some = λ s n c m few. (liars s n c m few).0; early = early; late = late }
+proved_stories_are_admissible = record { admissible = admissible; some = λ s n c m few. (liars s n c m few).0; first_two = first_two; last_two = last_two }
 
 -- a lieutenant of each group
 record Has (c g : ℕ) : Type 0 where
@@ -50,8 +50,8 @@ proved_stories_break n c m decide few rule =
     let lb : b.at < 3 = b.below in
     let wa : a.at < n = omega arith in
     let wb : b.at < n = omega arith in
-    let ea : decide a.at (story_messages First c) ≡ decide a.at (story_messages Second c) = rule a.at (story_messages First c) (story_messages Second c) wa (lieutenant c a.at 1 a.is (omega arith)) (early n c a.at a.is) in
-    let eb : decide b.at (story_messages Second c) ≡ decide b.at (story_messages Third c) = rule b.at (story_messages Second c) (story_messages Third c) wb (lieutenant c b.at 2 b.is (omega arith)) (late n c b.at b.is) in
+    let ea : decide a.at (story_messages First c) ≡ decide a.at (story_messages Second c) = rule a.at (story_messages First c) (story_messages Second c) wa (lieutenant c a.at 1 a.is (omega arith)) (first_two n c a.at a.is) in
+    let eb : decide b.at (story_messages Second c) ≡ decide b.at (story_messages Third c) = rule b.at (story_messages Second c) (story_messages Third c) wb (lieutenant c b.at 2 b.is (omega arith)) (last_two n c b.at b.is) in
     elim (cases_eq (decide a.at (story_messages First c)) 0) [
       | inr ne ↦ (First, λ agree. ne (agree.obeyed (loyal_in First c c 0 (group_of-commander c) (λ x. omega arith)) a.at (loyal First n c a.at 1 a.is (omega arith) (λ x. omega arith) wa)))
       | inl none ↦ elim (cases_eq (decide b.at (story_messages Third c)) 1) [

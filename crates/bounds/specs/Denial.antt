@@ -20,8 +20,8 @@ pub record IsOutvoted (n c m : ℕ) (traitor : ℕ → Bool) : Type 0 where
   pub some : 1 ≤ count_by traitor (generals n)
   pub many : n ≤ 2 * count_by traitor (generals n) + m
 
--- States that the denial breaks IC2: the loyal generals are faithful to the order 1, but no loyal lieutenant decides on
--- it.
+-- States that no loyal lieutenant obeys after a denial: the loyal generals are faithful to the order 1, but each loyal
+-- lieutenant decides on 0.
 pub record DenialBreaks : Type 0 where
   pub faithful : (traitor : ℕ → Bool) (n c rounds g : ℕ) → traitor g ≡ false →
       IsFaithful n c rounds 1 (denial traitor) g

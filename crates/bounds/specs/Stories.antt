@@ -1,9 +1,9 @@
 -- Three campaigns with too few generals (Fischer, Lynch, Merritt, "Easy impossibility proofs for distributed consensus
--- problems", Distributed Computing 1, 1986; Lynch, Distributed Algorithms, section 6.4). The generals form the groups 0,
--- 1 and 2. Two copies of each group, a and b, form the ring 0a, 1a, 2a, 0b, 1b, 2b. In the ring everyone is loyal, and
--- exchanges messages with his own group and the two adjacent ones. The commander of copy a orders 0, and that of copy b
--- orders 1. In each story two of the groups are loyal, and receive what two adjacent groups of the ring receive. The
--- third group lies: it sends to each of the two what its copy in the ring that is adjacent to this group sends.
+-- problems", Distributed Computing 1, 1986; Lynch, Distributed Algorithms, section 6.4). The generals form three
+-- groups, 0, 1 and 2. Two copies of each group, a and b, form the ring 0a, 1a, 2a, 0b, 1b, 2b. In the ring everyone is
+-- loyal and exchanges messages with his own group and the two adjacent ones. The commander of copy a orders 0, and that
+-- of copy b orders 1. In each story two groups are loyal, and receive what two adjacent groups of the ring receive. The
+-- third group lies: it sends to each loyal group what its copy adjacent to that group sends in the ring.
 use Rattle.std.specs.Prelude.{ℕ, ◌+◌, ◌%◌, ◌≤◌, ◌≡◌, ◌==◌, ◌&&◌, ◌||◌, nat_lt, if◌then◌else◌, Bool, List, [], ◌∷◌, ◌++◌, Some, count_by}
 use Rattle.label.specs.Labels.{generals}
 use Rattle.label.specs.Oral.{Messages, Agree}
@@ -46,8 +46,9 @@ copy_in Third g = if g == 0 then 1 else 0
 abbrev pub story_order : Story → ℕ
 story_order s = copy_in s 0
 
--- Returns the order that general g holds after it was relayed along the generals of a list, of whom he is the last. In
--- the ring it began with the commander of that copy which is reached from g's copy by going back over all crossings.
+-- Returns the order that general g holds in the ring after it was relayed along the generals of a list, of whom he is
+-- the last. The way back along the list leads to the commander of the copy of g, or after an odd number of crossings to
+-- the other one.
 unfoldable pub held_order : Story → ℕ → ℕ → List ℕ → ℕ
 held_order s c g way = (copy_in s (group_of c g) + crossings c way) % 2
 
@@ -58,21 +59,22 @@ last_general (x ∷ []) = x
 last_general (x ∷ y ∷ more) = last_general (y ∷ more)
 
 -- Returns the messages of a story. A loyal general sends the order that he holds. A traitor sends each receiver the
--- order that this receiver then holds in the ring.
+-- order that this receiver would then hold in the ring.
 unfoldable pub story_messages : Story → ℕ → Messages
 story_messages s c w p =
-    Some (if is_traitor_in s c (last_general w) then held_order s c p (w ++ p ∷ []) else held_order s c (last_general w) w)
+    let g : ℕ = last_general w in
+    Some (if is_traitor_in s c g then held_order s c p (w ++ p ∷ []) else held_order s c g w)
 
--- States that the messages of each story are admissible and at least one general lies, and that a lieutenant of group 1
--- cannot distinguish the first two stories, and one of group 2 the last two. The statement is the contract of a function
--- of this crate.
+-- States that the messages of each story are admissible, that at least one general lies, and that a lieutenant of group
+-- 1 cannot distinguish the first two stories, nor one of group 2 the last two. The statement is the contract of a
+-- function of this crate.
 pub record StoriesAreAdmissible : Type 0 where
   pub admissible : (s : Story) (n c m : ℕ) → IsTooFew n c m →
       IsAdmissible n c m (story_order s) (is_traitor_in s c) (story_messages s c)
   pub some : (s : Story) (n c m : ℕ) → IsTooFew n c m → 1 ≤ count_by (is_traitor_in s c) (generals n)
-  pub early : (n c p : ℕ) → group_of c p ≡ 1 →
+  pub first_two : (n c p : ℕ) → group_of c p ≡ 1 →
       IsIndistinguishable n c p (story_messages First c) (story_messages Second c)
-  pub late : (n c p : ℕ) → group_of c p ≡ 2 →
+  pub last_two : (n c p : ℕ) → group_of c p ≡ 2 →
       IsIndistinguishable n c p (story_messages Second c) (story_messages Third c)
 
 -- States that each decision rule breaks IC1 or IC2 in one of the stories, if there are too few generals. The statement

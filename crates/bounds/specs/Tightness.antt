@@ -5,13 +5,14 @@ use Rattle.std.specs.Prelude.{ℕ, ◌*◌, ◌<◌, ◌≤◌, ◌≡◌, ◌�
 use Rattle.label.specs.Labels.{on, generals}
 use Rattle.label.specs.Oral.{IsLabel, Messages, om, IsFaithful, Agree}
 
--- States that there are at least three generals, but too few to tolerate m traitors: at most 3m.
+-- States that n generals, of whom c is the commander, are at least three, but too few to tolerate m traitors: at most
+-- 3m.
 pub record IsTooFew (n c m : ℕ) : Type 0 where
   pub commander : c < n
   pub three : 3 ≤ n
   pub few : n ≤ 3 * m
 
--- States that messages are admissible: at most m generals are traitors, and all others are faithful, in however many
+-- States that messages are admissible: at most m generals are traitors, and all others are faithful, in any number of
 -- rounds.
 pub record IsAdmissible (n c m order : ℕ) (traitor : ℕ → Bool) (M : Messages) : Type 0 where
   pub few : count_by traitor (generals n) ≤ m

@@ -1,5 +1,5 @@
--- How many traitors OM(m) tolerates, which may be fewer than m or more than the bound of the agreement theorem asks for
--- (TOPLAS 1982, Lemma 1 and Theorem 1). Each statement is the contract of a function of this crate.
+-- How many traitors OM(m) tolerates among n generals (TOPLAS 1982, Lemma 1 and Theorem 1, with the traitors counted
+-- apart from m). Each statement is the contract of a function of this crate.
 use Rattle.std.specs.Prelude.{ℕ, ◌+◌, ◌*◌, ◌<◌, ◌≤◌, ◌≡◌, ◌↔◌, Bool, false, List, [], ◌∷◌, count_by}
 use Rattle.combine.specs.Rule.{majority, IsMajorityRule}
 use Rattle.label.specs.Labels.{generals}
@@ -23,14 +23,14 @@ ToleranceHolds = (f : List ℕ → ℕ) → IsMajorityRule f →
 abbrev pub BoundIsTolerated : Type 0
 BoundIsTolerated = (n m : ℕ) (traitor : ℕ → Bool) → IsBound n m traitor → IsTolerated n m traitor
 
--- States that OM(m) by the majority tolerates k traitors among n generals: the loyal lieutenants agree, whoever the at
--- most k traitors are and whatever they send, if the loyal generals are faithful.
+-- States that OM(m) by the majority tolerates k traitors among n generals: the loyal lieutenants agree if at most k
+-- generals are traitors and the loyal generals are faithful, whatever the traitors send or leave out.
 abbrev pub Tolerates : ℕ → ℕ → ℕ → Type 0
 Tolerates n m k =
     (c order : ℕ) (traitor : ℕ → Bool) (M : Messages) → c < n → count_by traitor (generals n) ≤ k →
     ((g : ℕ) → g < n → traitor g ≡ false → IsFaithful n c m order M g) →
     Agree n c order traitor (om majority n M m (c ∷ []))
 
--- States that the tolerance is exact for the majority, if there are at least one traitor and two loyal generals.
+-- States that the tolerance is exact for the majority, for each k from 1 to n - 2.
 abbrev pub ToleranceIsExact : Type 0
 ToleranceIsExact = (n m k : ℕ) → 1 ≤ k → k + 2 ≤ n → Tolerates n m k ↔ ((k ≤ m) × (2 * k + m < n))

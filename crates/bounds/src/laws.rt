@@ -6,9 +6,8 @@ ghost use Rattle.bounds.specs.Tightness.{BoundIsTight, OmIsDecisionRule};
 ghost use Rattle.bounds.specs.Tolerance.{BoundIsTolerated, ToleranceHolds, ToleranceIsExact};
 ghost use Rattle.bounds.specs.TwoOrders.{TwoOrderRulesAgree};
 
-/// States that no decision rule keeps IC1 and IC2 if there are at least three generals, but at most three times as many
-/// as the bound. Some campaign with at most that many traitors, in which all loyal generals are faithful, breaks one of
-/// the conditions.
+/// States that each decision rule is broken if there are at least three generals and at most 3m: in some campaign with
+/// at most m traitors, in which all loyal generals are faithful, the decisions break IC1 or IC2.
 pub fn bound_is_tight()
     ensures { BoundIsTight }
 {}
@@ -18,13 +17,14 @@ pub fn om_is_decision_rule()
     ensures { OmIsDecisionRule }
 {}
 
-/// States that in each story the loyal generals are faithful and 1 to m generals lie, and that a lieutenant of the group
-/// that is loyal in two consecutive stories receives the same messages in both.
+/// States that in each story the loyal generals are faithful and 1 to m generals lie. A lieutenant of group 1 receives
+/// the same messages in the first two stories, and one of group 2 in the last two.
 pub fn stories_are_admissible()
     ensures { StoriesAreAdmissible }
 {}
 
-/// States that each decision rule breaks IC1 or IC2 in one of the three stories.
+/// States that each decision rule breaks IC1 or IC2 in one of the three stories, if there are at least three generals
+/// and at most 3m.
 pub fn stories_break()
     ensures { StoriesBreak }
 {}
@@ -41,25 +41,26 @@ pub fn bound_is_tolerated()
     ensures { BoundIsTolerated }
 {}
 
-/// States that by the majority k traitors among at most 2k + m generals break IC2, if they deny the order of a loyal
-/// commander.
+/// States that no loyal lieutenant obeys a loyal commander by the majority if k lieutenants deny his order, there are
+/// at most 2k + m generals, and m is at least 1.
 pub fn denial_breaks()
     ensures { DenialBreaks }
 {}
 
-/// States that by the majority a chain of m + 1 traitors, the commander first, breaks IC1, however many loyal generals
-/// there are.
+/// States that a chain of m + 1 traitors, the commander first, breaks IC1 by the majority among at least 2m generals,
+/// if at least two of them are loyal.
 pub fn division_breaks()
     ensures { DivisionBreaks }
 {}
 
-/// States that OM(m) by the majority tolerates k traitors, from one to all generals but two, exactly if k is at most m
-/// and there are more than 2k + m generals.
+/// States that OM(m) by the majority tolerates k traitors among n generals exactly if k is at most m and n is more than
+/// 2k + m, for each k from 1 to n - 2.
 pub fn tolerance_is_exact()
     ensures { ToleranceIsExact }
 {}
 
-/// States that a rule suffices for agreement that is right on the lists of two orders that a campaign can produce.
+/// States that a rule that is right on lists of 0 and 1 suffices for agreement within the tolerance, if everyone takes
+/// only these orders.
 pub fn two_order_rules_agree()
     ensures { TwoOrderRulesAgree }
 {}
