@@ -76,7 +76,7 @@ def unquoted(value):
 
 def neighbours(name):
     """Returns the relative names of the files that a scenario names, if it is a regular file, with where they are."""
-    if not os.path.isfile(name) or os.path.getsize(name) > LARGEST:
+    if not os.path.isfile(name) or not os.access(name, os.R_OK) or os.path.getsize(name) > LARGEST:
         return {}
     with open(name, "rb") as file:
         named = {unquoted(value) for value in VALUE.findall(file.read())}
@@ -116,7 +116,7 @@ class Links:
         if is_text(word):
             return word
         if not os.path.lexists(name) and before not in WRITTEN and flag.rstrip(b"=") not in WRITTEN:
-            return flag + os.fsencode(shown(name))
+            return flag + shown(name).encode()
         self.count += 1
         place = os.path.join(self.folder, str(self.count).encode())
         head, _, base = name.rpartition(b"/")
@@ -163,7 +163,7 @@ def answer(content):
 
 
 def open_closed():
-    """Opens each standard stream that is closed, so that no other file takes its number. Writes to standard output fail then."""
+    """Opens each standard stream that is closed, so that no other file takes its number. Standard output is full then."""
     for number, instead in ((0, os.devnull), (1, "/dev/full"), (2, os.devnull)):
         try:
             os.fstat(number)
