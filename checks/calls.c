@@ -159,7 +159,7 @@ static void texts(void) {
     char text[256] = {0};
     WANT(byzlab_explain(unset, 16, text, sizeof text, &needed, &fault) == BYZLAB_REFUSED);
     WANT(fault.number == BYZLAB_V5_UNSET && fault.unit == 0 && needed < sizeof text && text[0] == '\n');
-    WANT(strstr(text, "r2 is read, and may be unset") && strlen(text) == needed);
+    WANT(strstr(text, "r2 is read, but may be unset") && strlen(text) == needed);
     fault.number = 777;
     WANT(byzlab_explain(answer, 16, text, 0, &needed, &fault) == BYZLAB_DONE && fault.number == 777 && needed > 10);
     needed = 55;

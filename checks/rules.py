@@ -28,7 +28,7 @@ LISTS = (
     ("share/byzlab.1", "How orders are combined: ", " [default", LISTED),
     ("share/texts/help-survey", "How orders are combined: ", " [default", LISTED),
     ("crates/rows/data/reports.rows", "a rule must be one of these texts, in quotation marks: ", "\n", LISTED),
-    ("crates/rows/data/whys.rows", "perhaps with ` rule R` behind it, where R is ", "\n", LISTED),
+    ("crates/rows/data/whys.rows", "perhaps with ` rule R` after it, where R is ", "\n", LISTED),
 )
 
 
