@@ -193,7 +193,7 @@ out:    exit
 ;; campaign_traitor_lieutenant.asm
         mov r1, 1       ; to general 1
         mov r2, 0       ; retreat
-        call sway       ; in every label that he relays: none in round 1, the commander's order in round 2
+        call sway       ; in each label that he relays
         mov r1, 2       ; and to general 2
         mov r2, 0
         call sway
