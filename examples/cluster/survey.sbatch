@@ -1,6 +1,6 @@
 #!/bin/sh
-# `sbatch --array=0-K survey.sbatch N WORDS`: task T plays N seeds from T N + 1 on of the family of WORDS.
-# Its lines are parts/SEED.jsonl, by the first seed, once all are there.
+# `sbatch --array=0-K survey.sbatch N WORDS` surveys the campaigns that WORDS describe. Task T plays the N seeds from T N + 1 on.
+# Its lines are in parts/SEED.jsonl, named by the first seed, once all of them are written.
 #SBATCH --cpus-per-task=4
 #SBATCH --requeue
 #SBATCH --output=survey-%A-%a.log
