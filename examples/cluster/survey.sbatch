@@ -1,5 +1,5 @@
 #!/bin/sh
-# `sbatch --array=0-K survey.sbatch N WORDS` surveys the campaigns of a family: task T plays N seeds from T N + 1 on of the family of WORDS, unless that part is
+# `sbatch --array=0-K survey.sbatch N WORDS`: task T plays N seeds from T N + 1 on of the family of WORDS, unless that part is
 # complete. Once all its lines are written, their file is named parts/FIRST..LAST.jsonl.
 #SBATCH --cpus-per-task=4
 #SBATCH --requeue
