@@ -103,7 +103,10 @@ fn push_list(
         ++ list_words w told parts.now (words.now ++ decimal order)) }
 {
     match told {
-        Some(said) => write!(lines, "{front}{last}: received {said}{parts}: {words}{order}\n"),
+        Some(said) => write!(
+            lines,
+            "{front}{last}: received {said}{parts}: {words}{order}\n"
+        ),
         None => push_silent_list(lines, front, last, parts, words, order),
     }
 }

@@ -214,7 +214,8 @@ fn range_sentence(takes: Option<Takes>) -> &'static str
     match takes {
         Some(Takes::Wide) => "a number here must be -9223372036854775808 to 18446744073709551615",
         Some(Takes::Load | Takes::StoreRegister) => "an offset must be -32768 to 32767",
-        Some(Takes::Target) => "a jump must lead at most 32767 units forward (2147483647 with `ja.w`)",
+        Some(Takes::Target) =>
+            "a jump must lead at most 32767 units forward (2147483647 with `ja.w`)",
         Some(Takes::Branch) =>
             "a number here must be -2147483648 to 2147483647, and a jump must lead at most 32767 units forward",
         Some(Takes::StoreNumber) =>

@@ -24,7 +24,8 @@ fn left_out_sentence(opcode: u128) -> &'static str
     ensures { result.now ≡ left_out_sentence opcode }
 {
     match opcode {
-        0x85 => "a local call of a function in the program (group base32), or a call of a helper by its BTF id, \
+        0x85 =>
+            "a local call of a function in the program (group base32), or a call of a helper by its BTF id, \
              is not supported",
         0x18 => "a wide load of a map, a variable or code (group base64) is not supported",
         0xc3 => "a 32-bit atomic instruction (group atomic32) is not supported",

@@ -65,7 +65,8 @@ fn kind_sentence(alloc: Global, name: ScenarioKey) -> Result<String, AllocError>
         }
         ScenarioKey::Board => "a board must be a list of whole numbers",
         ScenarioKey::Messages => "messages must be a text, \"oral\" or \"signed\"",
-        ScenarioKey::Traitor => "the traitors must be a list of tables, each of which begins with `[[traitor]]`",
+        ScenarioKey::Traitor =>
+            "the traitors must be a list of tables, each of which begins with `[[traitor]]`",
         ScenarioKey::Asm =>
             "a program must be a text in quotation marks, such as `asm = \"mov r0, 0\\nexit\"`",
         ScenarioKey::Code => "bytecode must be a text of hex digits in quotation marks",
@@ -81,7 +82,9 @@ fn range_sentence(alloc: Global, name: ScenarioKey) -> Result<String, AllocError
     let sentence = match name {
         ScenarioKey::Rule => {
             let names = Rule::names();
-            return format!(in alloc; "a rule must be one of these texts, in quotation marks: {names}");
+            return format!(in alloc;
+                "a rule must be one of these texts, in quotation marks: {names}"
+            );
         }
         ScenarioKey::Generals => "there must be 2 to 13 generals",
         ScenarioKey::Bound => "a bound must be 0 to 4, and at most generals - 2",

@@ -27,8 +27,7 @@ impl fmt::Display for Likeness {
         f.write_str(match self {
             Likeness::Hex => "it seems to be bytecode in hex, which `xxd -r -p` turns into bytes",
             Likeness::Object => "it seems to be an ELF object, which `--elf` reads",
-            Likeness::Text =>
-                "it seems to be text, not bytecode: `check --asm` checks assembly",
+            Likeness::Text => "it seems to be text, not bytecode: `check --asm` checks assembly",
         })
     }
 }

@@ -235,7 +235,12 @@ fn put_misuse(out: &mut String, misuse: RegisterMisuse) -> Result<(), AllocError
             put_so(out, r, value, ": memory can be reached only by a pointer")
         }
         RegisterMisuse::Exit(value) => {
-            put_so(out, numbered(0), value, ": a program must end with a number in r0")
+            put_so(
+                out,
+                numbered(0),
+                value,
+                ": a program must end with a number in r0",
+            )
         }
     }
 }

@@ -91,9 +91,7 @@ pub fn sentence(fault: ObjectFault) -> &'static str
         ObjectFault::Damaged(Damage::Relocations(_)) => {
             "the relocations of this section name a symbol that does not exist"
         }
-        ObjectFault::NoFunction => {
-            "there is no function with this name, or no global function"
-        }
+        ObjectFault::NoFunction => { "there is no function with this name, or no global function" }
         ObjectFault::Several => { "there are several functions: name the one that is the program" }
         ObjectFault::Names(_) => {
             "the entry uses data, or a function that is not in the object: put arrays on the stack, \

@@ -209,7 +209,11 @@ fn put_stroke_key(out: &mut String, marks: DiagramMarks) -> Result<(), AllocErro
         marks.circle,
         " Circle and plain line: as an honest relay sends it.",
     )?;
-    put_if(out, marks.diamond, " Diamond and dashes: an honest relay would send something else.")?;
+    put_if(
+        out,
+        marks.diamond,
+        " Diamond and dashes: an honest relay would send something else.",
+    )?;
     put_if(
         out,
         marks.cross,
