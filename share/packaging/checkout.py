@@ -1,4 +1,5 @@
 """The checkout that is packed: its files, version and commit, and how the scripts call other commands."""
+import errno
 import os
 import re
 import shutil
@@ -106,6 +107,8 @@ def make_folders(path):
     """Makes a folder with those above it, and returns those that were not there, the highest first."""
     missing = []
     while not os.path.isdir(path):
+        if os.path.lexists(path):
+            raise NotADirectoryError(errno.ENOTDIR, os.strerror(errno.ENOTDIR), path)
         missing.insert(0, path)
         path = os.path.dirname(path)
     for folder in missing:
