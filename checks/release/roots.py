@@ -2,6 +2,8 @@
 import os
 import subprocess
 
+from checkout import Failure
+
 # (a mirror may be older than a Release file is valid, and nothing here needs a new one)
 APT = 'Acquire::Check-Valid-Until "false"'
 MIRROR = "deb http://deb.debian.org/debian {suite} main"
@@ -15,7 +17,7 @@ class Root:
         made = ["mmdebstrap", "--quiet", f"--aptopt={APT}", *words, suite, folder, MIRROR.format(suite=suite)]
         done = subprocess.run(made, stdin=subprocess.DEVNULL, stdout=subprocess.PIPE, stderr=subprocess.STDOUT, text=True)
         if done.returncode:
-            raise OSError(f"`{' '.join(made)}` failed with status {done.returncode}:\n{done.stdout}")
+            raise Failure(f"mmdebstrap failed with status {done.returncode}:", *done.stdout.splitlines())
 
     def path(self, name):
         return os.path.join(self.folder, name.lstrip("/"))

@@ -32,8 +32,8 @@ Description: Byzantine generals laboratory whose program is proved
 """
 COPYRIGHT = """byzlab has no licence yet: none has been granted, and the owner decides.
 
-Copyright: the owner of the repository in which byzlab is developed. All
-rights are reserved. To copy this package you need the owner's permission.
+Copyright (C) {year} the owner of the repository in which byzlab is developed.
+All rights are reserved. To copy this package you need the owner's permission.
 """
 CHANGELOG = """byzlab ({version}) unstable; urgency=medium
 
@@ -63,8 +63,7 @@ def write(tree, path, text):
 
 
 def pack_pages(tree):
-    """Compresses the man pages and the changelog. A page that is a link then leads to the compressed one."""
-    packed(os.path.join(tree, PAGES, "CHANGELOG.md"))
+    """Compresses the man pages. A page that is a link then leads to the compressed one."""
     for path in leaves(os.path.join(tree, "usr", "share", "man")):
         full = os.path.join(tree, "usr", "share", "man", path)
         if os.path.islink(full):
@@ -87,7 +86,7 @@ def depends(paths):
 def describe(tree, seconds):
     """Writes what dpkg wants to know: the folder DEBIAN, the copyright and the changelog."""
     day = time.strftime("%a, %d %b %Y %H:%M:%S +0000", time.gmtime(seconds))
-    write(tree, f"{PAGES}/copyright", COPYRIGHT)
+    write(tree, f"{PAGES}/copyright", COPYRIGHT.format(year=time.gmtime(seconds).tm_year))
     write(tree, f"{PAGES}/changelog", CHANGELOG.format(version=version(), maintainer=MAINTAINER, day=day))
     packed(os.path.join(tree, PAGES, "changelog"))
     kilobytes, sums = 0, ""
