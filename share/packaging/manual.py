@@ -30,7 +30,7 @@ img { max-width: 100%; }
 @media print { section { break-before: page; border: 0; } }
 """
 # The beginnings of lines that Markdown reads and this script does not.
-UNREAD = re.compile(r">|\t| {4}|\[[^\]]*\]: |[=-]{3,}$|[*+] |<|~~~")
+UNREAD = re.compile(r">|\t| {4}|\[[^\]]*\]: |[=-]{3,}$|[*+] |<(?!!--)|~~~")
 ITEM = re.compile(r"(?P<indent> *)(?P<mark>-|\d+\.) (?P<text>.*)")
 INLINE = re.compile(
     r"(?P<ticks>`+)(?P<code>.+?)(?P=ticks)(?!`)"
@@ -160,10 +160,10 @@ class Manual:
 
     def paragraph(self, page, lines, at):
         end = at
-        while lines[end] and not re.match(r"```|\||#|<!--", lines[end]) and not ITEM.match(lines[end]):
-            if UNREAD.match(lines[end]):
-                raise Failure(f"{page}:{end + 1}: share/packaging/manual.py does not read this form of Markdown: {lines[end][:60]}")
+        while lines[end] and not re.match(r"```|\||#+ |<!--", lines[end]) and not ITEM.match(lines[end]) and not UNREAD.match(lines[end]):
             end += 1
+        if end == at or UNREAD.match(lines[end]):
+            raise Failure(f"{page}:{end + 1}: share/packaging/manual.py does not read this form of Markdown: {lines[end][:60]}")
         return f"<p>{self.inline(page, ' '.join(lines[at:end]))}</p>", end
 
     def body(self, page):
@@ -173,7 +173,7 @@ class Manual:
             if not lines[at] or re.fullmatch(r"<!--.*-->", lines[at]):
                 at += 1
                 continue
-            if lines[at].startswith("#"):
+            if re.match("#+ ", lines[at]):
                 parts.append(self.heading(page, next(headings)))
                 at += 1
                 continue
