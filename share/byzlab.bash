@@ -6,7 +6,7 @@
 # words of the script ./byzlab are not offered for the program of a release, whose surveys are another program.
 
 _byzlab() {
-    local words=("${COMP_WORDS[@]}") at=$COMP_CWORD script="prove release install uninstall --try" offered program start
+    local words=("${COMP_WORDS[@]}") at=$COMP_CWORD script="prove release install uninstall --try" offered program= start=
     local commands="check asm dis book table muster play audit explore tree draw page schedule survey help"
     program=$(type -P -- "${words[0]}") && LC_ALL=C read -r -n 4 start <"$program"
     if [ "$start" = $'\x7fELF' ]; then
