@@ -55,7 +55,7 @@ class Laboratory:
             answer = json.dumps({"error": str(refused)}).encode()
         headers = [("Content-Type", f"{kind}; charset=utf-8"), ("Content-Length", str(len(answer))), *headers, *HEADERS]
         start_response(status, headers)
-        return [answer]
+        return [] if environ["REQUEST_METHOD"] == "HEAD" else [answer]
 
     def admit(self, environ):
         """Refuses a request to another name (DNS rebinding), or from another site."""
