@@ -77,12 +77,19 @@ def own_address():
 
 
 def names(chosen, port):
-    """Returns the hosts by which browsers may call the server, the best one first."""
+    """Returns the hosts by which browsers may call the server, the best one first. A proxy may call it by a name without a port."""
     found = list(settings.LOOPBACK)
     if chosen.host not in settings.LOOPBACK:
         reached = own_address() if chosen.host in ("0.0.0.0", "::") else chosen.host
-        found = [name for name in (reached, socket.gethostname()) if name] + found
-    return [*chosen.name, *(f"{name}:{port}" for name in [*chosen.name, *found] if ":" not in name or name.endswith("]"))]
+        found = [*chosen.name, *(name for name in (reached, socket.gethostname()) if name), *found]
+    return [with_port(name, port) for name in found] + chosen.name + [with_port(name, port) for name in chosen.name]
+
+
+def with_port(name, port):
+    """Returns a host with its port, unless it has one."""
+    if name.endswith("]") or ":" not in name:
+        return f"{name}:{port}"
+    return f"[{name}]:{port}" if name.count(":") > 1 else name
 
 
 def announce(hosts, chosen):
