@@ -29,6 +29,7 @@ export class Pane {
     const number = (this.asked += 1);
     this.stale = true;
     this.failed = false;
+    this.element.classList.add("stale");
     const request = { text: scenario(campaign), of: lieutenants(campaign)[0] };
     const answer = await ask("play", campaign.schedule === null ? request : { ...request, schedule: campaign.schedule });
     if (number !== this.asked) return null;

@@ -71,7 +71,8 @@ function diagram(round, campaign, at, view) {
   const slope = (46 + 6 * campaign.n) * unit;
   const height = 8 * unit + slope + tall * unit + 10 * unit;
   const picture = make("svg", { viewBox: `0 0 ${view.width} ${height}`, width: view.width, height, role: "group", "aria-label": `Messages of round ${at + 1}` });
-  for (const general of all(campaign)) picture.append(make("line", { class: "life", x1: middle(general), x2: middle(general), y1: 0, y2: height }));
+  const life = (general, y1, y2) => make("line", { class: "life", x1: middle(general), x2: middle(general), y1, y2 });
+  for (const general of all(campaign)) picture.append(life(general, 0, 8 * unit + slope), life(general, height - 8 * unit, height));
   const strokes = groups.filter(({ messages }) => isShown(view.chosen, messages[0])).map(({ messages, texts }) => {
     const { from, to } = messages[0];
     const others = senders.filter((general) => general !== to);
