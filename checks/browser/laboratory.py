@@ -258,6 +258,8 @@ def story(browser, address, name, text, wrong, place):
         tab.choose("#story", name)
         wrong.unless(f"{name}: the story", tab.text("#story-text") != "")
         wrong.unless(f"{name}: before round 1", tab.messages(), [])
+        if tab.ask("document.querySelector('.everybody') !== null"):
+            tab.click(".everybody")
         for number in range(1, len(chronicle.rounds) + 1):
             tab.click("#next")
             wrong.unless(f"{name}: after round {number}", tab.messages(), chronicle.spoken(number))

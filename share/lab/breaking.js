@@ -80,7 +80,7 @@ export class Breaking {
     const campaign = fromScenario(answer.text);
     if (campaign === null) return [make("p", {}, `No campaign of ${n} generals with bound ${m} that breaks was found among random ones.`)];
     const count = traitors(campaign).length;
-    const fewest = `The fewest traitors found: ${count}. ${about(campaign)}.`;
+    const fewest = `Found with ${counted(count, "traitor")}, the fewest: ${about(campaign)}.`;
     const play = make("button", { type: "button", onclick: () => this.load(campaign) }, "Play it");
     return [make("p", {}, fewest), make("details", {}, make("summary", {}, "The scenario"), make("pre", { tabindex: 0 }, answer.text)), play];
   }

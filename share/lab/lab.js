@@ -64,6 +64,7 @@ function changed() {
   orders.clear();
   page.step = 0;
   main.stale = other.stale = true;
+  if (main.campaign?.n !== page.campaign.n) main.refresh();
   show();
   playSoon();
 }
@@ -85,11 +86,13 @@ function show() {
   $("ask").hidden = !hasDecisions() || page.revealed;
   if (!$("ask").hidden) questions();
   $("order").hidden = page.campaign.schedule === null;
-  if (page.campaign.schedule !== null) $("order").firstElementChild.textContent = `The traitors act in this order: ${page.campaign.schedule.trim().replaceAll("\n", " / ")}`;
+  if (page.campaign.schedule !== null) $("order").firstElementChild.textContent = `Schedule: ${scheduled(page.campaign.schedule)}.`;
   $("view").disabled = Boolean(course) && !main.canDraw;
   $("narrow").hidden = !$("view").disabled;
   $("view").value = course && !main.canDraw ? "list" : page.view;
 }
+
+const scheduled = (schedule) => schedule.trimEnd().split("\n").map((line, at) => `round ${at + 1}: ${line || "-"}`).join("; ");
 
 function sentence() {
   if (!hasDecisions()) return narration(main.course, main.campaign, page.step);
@@ -186,7 +189,8 @@ function load(campaign) {
   page.step = 0;
   $("predict").checked = page.predict;
   $("fault").hidden = true;
-  main.chosen = other.chosen = null;
+  main.refresh();
+  other.refresh();
   editor.close();
   orders.clear();
   breaking.forget();

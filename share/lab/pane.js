@@ -1,5 +1,5 @@
 /* One campaign on the page: its course, as far as it is shown, and what is known of a general or a message. */
-import { isEnough, isTraitor, lieutenants, scenario, traitors, word } from "./campaign.js";
+import { isEnough, isTraitor, lieutenants, loyal, scenario, traitors, word } from "./campaign.js";
 import { isBroken, origin, read } from "./chronicle.js";
 import { make, refill } from "./dom.js";
 import { decisions, fits, heads, round } from "./picture.js";
@@ -7,6 +7,8 @@ import { ask } from "./server.js";
 
 /* Trees with more labels than this are drawn without the labels below which all messages are the same. */
 const MANY_LABELS = 200;
+/* A list of so many generals begins with the messages of one. */
+const MANY_GENERALS = 6;
 
 export class Pane {
   /* `page` knows what is the same in all panes: step, predict, guesses, view, and is asked to show itself again. */
@@ -16,7 +18,8 @@ export class Pane {
     this.course = null; // what the program answered
     this.stale = false; // whether the campaign was changed since
     this.failed = false; // whether the program has refused it, or could not be asked
-    this.chosen = null; // the general whose messages are shown
+    this.chosen = null; // the general whose messages are shown, or null for everybody's
+    this.isFresh = true; // whether nobody has chosen a general yet
     this.lit = []; // the messages that are an order's origin
     this.asked = 0; // the number of the last request: an older answer is dropped
     this.detail = make("section", { class: "detail", hidden: true, "aria-live": "polite" });
@@ -38,7 +41,7 @@ export class Pane {
     this.campaign = structuredClone(campaign);
     this.course = read(answer.text, this.campaign);
     this.stale = false;
-    if (this.chosen >= campaign.n) this.chosen = null;
+    if (this.chosen >= campaign.n) this.refresh();
     this.closeDetail();
     return null;
   }
@@ -60,7 +63,9 @@ export class Pane {
     const { campaign, course, page } = this;
     const width = Math.floor(this.element.clientWidth);
     this.canDraw = fits(course, campaign.n, width);
-    const view = { width, isDiagram: this.canDraw && page.view === "diagram", chosen: this.chosen, lit: this.lit };
+    const isDiagram = this.canDraw && page.view === "diagram";
+    if (this.isFresh) this.chosen = isDiagram || campaign.n < MANY_GENERALS ? null : (loyal(campaign)[0] ?? null);
+    const view = { width, isDiagram, chosen: this.chosen, lit: this.lit };
     view.onmessage = (messages) => this.showMessage(messages);
     view.ongeneral = (general) => this.choose(general);
     this.element.setAttribute("aria-label", about(campaign));
@@ -72,7 +77,14 @@ export class Pane {
       hasAll && page.isRevealed() ? make("p", { class: `outcome ${isBroken(course) ? "broken" : ""}` }, make("span", { class: "ending" }, `${ending(course)} `), promise(course, campaign)) : null);
   }
 
+  /* Forgets which general was chosen. */
+  refresh() {
+    this.isFresh = true;
+    this.chosen = null;
+  }
+
   choose(general) {
+    this.isFresh = false;
     this.chosen = this.chosen === general ? null : general;
     this.closeDetail();
     this.show();

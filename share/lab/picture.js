@@ -42,7 +42,7 @@ export function round(course, campaign, at, view) {
 function accesses({ accesses: found }) {
   if (!found.length) return null;
   const items = found.map((access) => make("li", {}, access_text(access)));
-  return make("details", { class: "accesses" }, make("summary", {}, `The board: ${found.map(({ general }) => general).join(", ")}`), make("ol", {}, ...items));
+  return make("details", { class: "accesses" }, make("summary", {}, `The board is used by ${found.map(({ general }) => general).join(", ")}`), make("ol", {}, ...items));
 }
 
 function access_text({ general, request, slot, value, expected, new: fresh, count, answer }) {
@@ -140,6 +140,7 @@ export function heads(campaign, view) {
     const below = isTraitor(campaign, general) ? "traitor" : general === campaign.c ? "commander" : "";
     return make("button", words, make("b", {}, `${general}${general === campaign.c ? "★" : ""}`), make("small", {}, below));
   });
+  if (view.chosen !== null && !view.isDiagram) made.push(make("button", { type: "button", class: "everybody", "data-key": "everybody", onclick: () => view.ongeneral(view.chosen) }, "All"));
   const group = make("div", { class: `heads ${view.isDiagram ? "columns" : ""}`, role: "group", "aria-label": "Generals: choose one to see his messages" }, ...made);
   group.style.setProperty("--columns", campaign.n);
   return group;
