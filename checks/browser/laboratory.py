@@ -457,7 +457,7 @@ def strange_links(browser, address, wrong):
     for fragment in ("x", "%00", "eyJ9", "A" * 5000, "predict,zz", "%F0%9F", "a b"):
         with Led(browser, f"{address}#{fragment}") as tab:
             wrong.unless(f"the link {fragment[:9]}: generals", len(tab.all("#generals button", "1")), 3)
-            wrong.unless(f"the link {fragment[:9]}: a fault", tab.ask("!document.querySelector('#fault').hidden"))
+            wrong.unless(f"the link {fragment[:9]}: a fault", tab.until("!document.querySelector('#fault').hidden"))
     with Led(browser, f"{address}#predict") as tab:
         tab.to_the_end()
         wrong.unless("#predict", set(tab.decisions().values()), {"?"})

@@ -34,9 +34,7 @@ async function play() {
   breaking.show();
   const failures = await Promise.all([main.play(page.campaign), compared() ? other.play(compared()) : null]);
   const failure = failures.find(Boolean);
-  $("fault").hidden = !failure;
-  $("fault").firstElementChild.textContent = failure?.why ?? "";
-  $("again").hidden = !failure?.lost;
+  complain(failure);
   page.guesses = {};
   page.revealed = !page.predict;
   if (main.course) page.step = Math.min(page.step, last());
@@ -44,6 +42,17 @@ async function play() {
   show();
 }
 const playSoon = later(WAIT, play);
+
+/* Says what went wrong (a failure with `why`, or null), and what can be done about it. */
+function complain(failure) {
+  const culprit = Number(/^traitor (\d+) /.exec(failure?.place ?? "")?.[1] ?? NaN);
+  const isProgram = isTraitor(page.campaign, culprit);
+  $("fault").hidden = !failure;
+  $("fault").firstElementChild.textContent = !failure ? "" : isProgram ? `The program of general ${culprit} is rejected. ${failure.why}` : failure.why;
+  $("again").hidden = !failure?.lost;
+  $("culprit").hidden = !isProgram || editor.general === culprit;
+  $("culprit").dataset.general = culprit;
+}
 
 const last = () => main.course.rounds.length + 1;
 const hasDecisions = () => main.course !== null && page.step >= last();
@@ -162,10 +171,7 @@ async function save(command, name, type) {
   if (command === null) return download(name, type, text);
   const { schedule } = page.campaign;
   const answer = await ask(command, schedule === null ? { text } : { text, schedule });
-  if (answer.ok) return download(name, type, answer.text);
-  $("fault").hidden = false;
-  $("fault").firstElementChild.textContent = answer.why;
-  return undefined;
+  return answer.ok ? download(name, type, answer.text) : complain(answer);
 }
 
 /* Opens what the link's fragment says: nothing, `predict`, a campaign, or `predict,` and a campaign. */
@@ -176,11 +182,8 @@ async function openLink() {
   if (rest) campaign = await unpacked(rest).catch(() => ((isDamaged = true), first()));
   else if (mode) campaign = setup.story("three_generals") ?? first();
   page.predict = mode !== undefined;
-  load(campaign);
-  if (isDamaged) {
-    $("fault").hidden = false;
-    $("fault").firstElementChild.textContent = "The link is damaged. This is a new campaign.";
-  }
+  await load(campaign);
+  if (isDamaged && !main.failed) complain({ why: "The link is damaged. This is a new campaign." });
 }
 
 /* Shows another campaign from its beginning. */
@@ -188,7 +191,6 @@ function load(campaign) {
   page.campaign = campaign;
   page.step = 0;
   $("predict").checked = page.predict;
-  $("fault").hidden = true;
   main.refresh();
   other.refresh();
   editor.close();
@@ -218,6 +220,7 @@ function listen() {
   clicks["save-page"] = () => save("page", "campaign.html", "text/html");
   clicks["save-picture"] = () => save("draw", "campaign.svg", "image/svg+xml");
   clicks.punctual = changed;
+  clicks.culprit = () => setup.on.edit(Number($("culprit").dataset.general));
   for (const [id, act] of Object.entries(clicks)) $(id).addEventListener("click", act);
   $("predict").addEventListener("change", () => {
     page.predict = $("predict").checked;
@@ -245,9 +248,8 @@ async function openFile() {
   const [file] = $("open").files;
   if (!file) return;
   const campaign = fromScenario(await file.text());
-  if (campaign) return void load(campaign);
-  $("fault").hidden = false;
-  $("fault").firstElementChild.textContent = `${file.name} is not a scenario that this page can edit: its programs must be written in it as assembly.`;
+  if (campaign) load(campaign);
+  else complain({ why: `${file.name} is not a scenario that this page can edit: its programs must be written in it as assembly.` });
 }
 
 async function begin() {
@@ -279,5 +281,5 @@ async function begin() {
 begin().catch(() => {
   $("fault").hidden = false;
   $("fault").firstElementChild.textContent = "The laboratory does not answer. Load this page again.";
-  $("again").hidden = true;
+  $("again").hidden = $("culprit").hidden = true;
 });
