@@ -1,3 +1,3 @@
-; Exits with 42.
+; r0 42: a program that returns a number.
 mov r0, 42
 exit

@@ -1,4 +1,4 @@
-; A counter in word 0: each call answers the word before it, so the second one answers 1.
+; r0 1: a counter in word 0 of the board. Each call returns the old word, so the second one returns 1.
         mov r1, 0
         mov r2, 1
         call board_add

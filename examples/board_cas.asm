@@ -1,4 +1,4 @@
-; Word 0 becomes 5, and then 9 because it is 5.
+; r0 9: word 0 becomes 5. Then it becomes 9, because it is 5.
         mov r1, 0
         mov r2, 5
         call board_swap

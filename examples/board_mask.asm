@@ -1,4 +1,4 @@
-; A word of the board chooses one of the eight cells below r10: the mask leaves 0 to 7 of it.
+; r0 0: a word of the board chooses one of the eight cells below r10. The mask leaves 0 to 7 of it.
         mov r1, 0
         call board_get
         mov r2, r0

@@ -1,4 +1,4 @@
-; A number of the context names a word of the board, where it is at most 63.
+; r0 0: a number of the context chooses a word of the board, if it is at most 63.
         ldd r2, [r1+32]
         mov r0, 0
         jgt r2, 63, out

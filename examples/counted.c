@@ -1,4 +1,4 @@
-/* Tells general 1 the truth, and all others whether the board has counted an odd number of turns. */
+/* Sends general 1 what was taken, and all others 0 and 1 in turn, by a counter on the board. */
 #include "byzlab.h"
 
 u64 counted(const struct context *context)

@@ -1,4 +1,4 @@
-; By 0 a quotient is 0 and a remainder is the number itself; the least number by -1 is itself, with the remainder 0.
+; r0 15: division by 0 gives 0, and its remainder is the number. The least number by -1 is itself, with remainder 0.
         mov r1, 0
         mov r0, 7
         div r0, r1

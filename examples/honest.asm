@@ -1,4 +1,4 @@
-; Tells general 1 for every label what was taken for it, and general 2 the order 0.
+; r0 0: general 1 gets what was taken for each label, and general 2 gets 0. In `check` there are no labels.
         mov r1, 1
         call honest
         mov r6, r0              ; a call leaves r6 to r9 as they are

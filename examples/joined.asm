@@ -1,4 +1,4 @@
-; Either way r2 points into the stack, to -16 or to -8, and both places hold bytes.
+; r0 4: r2 points into the stack on both paths, to -16 or to -8, and both places hold bytes.
         std [r10-16], 3
         std [r10-8], 4
         mov r2, r10

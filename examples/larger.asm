@@ -1,4 +1,4 @@
-; Exits with the larger of r6 and r7 as signed numbers.
+; r0 3: the larger of r6 and r7, compared as signed numbers.
         mov r6, -5
         mov r7, 3
         mov r0, r6

@@ -1,4 +1,4 @@
-/* Keeps the first chain that came to him until nobody can pass it on any more, and then sends it to general 1. */
+/* Keeps the first chain that he received until the last round, and then sends it, too late, to general 1. */
 #include "byzlab.h"
 
 u64 late(const struct context *context)

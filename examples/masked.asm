@@ -1,4 +1,4 @@
-; The same with a mask in place of the test: whatever the number is, 0 to 7 is left of it.
+; r0 0: the mask leaves 0 to 7 of any number, so it can choose one of the eight cells below r10.
         ldd r2, [r1+32]
         and r2, 7
         mov r3, r10

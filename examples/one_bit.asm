@@ -1,4 +1,4 @@
-; Writes to one of two cells: bit 3 of a number decides, all other bits are known to be 0.
+; r0 0: bit 3 of a number chooses one of two cells. All its other bits are known to be 0.
         ldd r2, [r1+32]
         and r2, 8
         xor r2, 8

@@ -1,4 +1,4 @@
-; A test that cannot hold: r2 is 0 or 8, so the empty cell is never read.
+; r0 0: this test never holds, since r2 is 0 or 8. So the empty cell is never read.
         ldd r2, [r1+32]
         and r2, 8
         xor r2, 8

@@ -1,4 +1,4 @@
-; Tells general 1 the order 1 for the label of rank 0; r0 is 1 where there is no such place.
+; r0 1: general 1 gets the order 1 for the label of rank 0. In `check` there is none, so r0 is 1.
         mov r1, 0
         mov r2, 1
         mov r3, 1

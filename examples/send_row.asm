@@ -1,4 +1,4 @@
-; Tells the receivers of the label of rank 0 the orders 1, 0 and 1; r0 is how many are set.
+; r0 0: the receivers of the label of rank 0 get 1, 0 and 1, and r0 is their number. In `check` there are none.
         stw [r10-12], 1
         stw [r10-8], 0
         stw [r10-4], 1

@@ -1,4 +1,4 @@
-; Writes to one of the eight cells below r10, where a number of the context is at most 7.
+; r0 0: a number of the context chooses one of the eight cells below r10, if it is at most 7.
         ldd r2, [r1+32]
         mov r0, 0
         jgt r2, 7, out

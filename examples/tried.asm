@@ -1,4 +1,4 @@
-; Tells general 3 the truth of every label, and general 1 the order 7 for the label of rank 1; word 5 of the board counts.
+; r0 0: general 3 gets what was taken, and general 1 gets 7 for the label of rank 1. Word 5 of the board grows by 1.
         mov r1, 3
         call honest
         mov r1, 1

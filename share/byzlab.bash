@@ -2,11 +2,19 @@
 #
 #     source share/byzlab.bash
 #
-# It offers what `byzlab --help` and the help of each subcommand list (checks/docs compares them), and otherwise files.
+# It offers what `byzlab --help` and the help of each subcommand list (checks/docs compares them), and otherwise files. The
+# words of the script ./byzlab are not offered for the program of a release, in which surveys are another program.
 
 _byzlab() {
-    local words=("${COMP_WORDS[@]}") at=$COMP_CWORD script="prove --try" offered
+    local words=("${COMP_WORDS[@]}") at=$COMP_CWORD script="prove release install uninstall --try" offered program= start=
     local commands="check asm dis book table muster play audit explore tree draw page schedule survey help"
+    program=$(type -P -- "${words[0]}") && LC_ALL=C read -r -n 4 start <"$program"
+    if [ "$start" = $'\x7fELF' ]; then
+        script= commands=${commands/ survey/}
+    fi
+    if [ "${words[0]##*/}" = byzlab-survey ]; then
+        words=("${words[0]}" survey "${words[@]:1}") at=$((at + 1))
+    fi
     # (the same words follow --try, which belongs to the script, as does prove)
     if [ "$at" -gt 1 ] && [ "${words[1]}" = --try ]; then
         words=("${words[0]}" "${words[@]:2}") at=$((at - 1)) script=
@@ -15,6 +23,8 @@ _byzlab() {
     case $at:${words[1]-}:$word in
     1:*) offered="$commands $script -h --help -V --version" ;;
     *:prove:-*) offered="-h --help" ;;
+    *:release:-*) offered="--out -h --help" ;;
+    *:install:-* | *:uninstall:-*) offered="--prefix -h --help" ;;
     2:help:*) offered=$commands ;;
     *:help:*) offered= ;;
     *:play:-*) offered="--table --explain --json --verdicts --schedule --seed --schedule-out --of -h --help" ;;
@@ -36,4 +46,4 @@ _byzlab() {
     mapfile -t COMPREPLY < <(compgen -W "$offered" -- "$word")
 }
 
-complete -o default -F _byzlab byzlab ./byzlab
+complete -o default -F _byzlab byzlab ./byzlab byzlab-survey

@@ -1,4 +1,4 @@
-// A filter in C++: the board counts what was let through, over several runs.
+// A filter in C++. Over several runs the board counts what was let through.
 #include <byzlab_sandbox.h>
 #include <array>
 #include <cstdint>
@@ -13,7 +13,7 @@ const std::vector<std::uint8_t> filter = {
     0x25, 0x06, 4, 0, 9, 0, 0, 0, // if r6 > 9 goto the exit
     0xb7, 0x01, 0, 0, 3, 0, 0, 0, // r1 = slot 3
     0xb7, 0x02, 0, 0, 1, 0, 0, 0, // r2 = 1
-    0x85, 0x00, 0, 0, 3, 0, 0, 0, // r0 = board_add(3, 1), the word before
+    0x85, 0x00, 0, 0, 3, 0, 0, 0, // r0 = board_add(3, 1), the old word
     0xb7, 0x00, 0, 0, 1, 0, 0, 0, // r0 = 1
     0x95, 0x00, 0, 0, 0, 0, 0, 0, // exit
 };

@@ -1,4 +1,4 @@
-"""A refused program, explained, by ctypes. LIBRARY is the path of libbyzlab.so."""
+"""Explains a rejected program by ctypes. LIBRARY is the path of libbyzlab.so."""
 import ctypes
 import os
 
@@ -16,7 +16,7 @@ for name in ("byzlab_explain", "byzlab_disassemble"):
 
 
 def text_of(function, program):
-    """Status, text and fault: asked once for the length, and once for the text."""
+    """Returns status, text and fault. The first call asks for the length of the text."""
     needed, fault = SIZE(0), Fault()
     room = ctypes.create_string_buffer(1)
     function(program, len(program), room, 0, ctypes.byref(needed), ctypes.byref(fault))

@@ -1,4 +1,4 @@
-; There are no loops: what is to happen three times is written three times.
+; r0 6: there are no loops, so what is done three times is written three times.
         mov r0, 0
         add r0, 2
         add r0, 2

@@ -1,4 +1,4 @@
-; The mask leaves 0 to 15, and there are sixteen cells.
+; r0 0: the mask leaves 0 to 15, and there are sixteen cells.
         mov r1, 0
         call board_get
         mov r2, r0

@@ -1,4 +1,4 @@
-/* The array is written to the stack; the empty line of assembly keeps clang from moving it to .rodata again. */
+/* The array is written to the stack. (The empty line of assembly keeps clang from moving it back to .rodata.) */
 #include "byzlab.h"
 
 u64 constant_array(const struct context *context)

@@ -1,4 +1,4 @@
-; What is to change is copied to the stack.
+; r0 5: the number to be changed is copied to the stack.
         ldw r2, [r1+0]
         add r2, 1
         stxw [r10-4], r2

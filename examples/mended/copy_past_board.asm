@@ -1,4 +1,4 @@
-; Five words from 59 on end at word 63.
+; r0 0: five words from 59 on end with word 63.
         mov r1, 59
         mov r2, r10
         add r2, -40

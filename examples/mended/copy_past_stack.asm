@@ -1,4 +1,4 @@
-; Four words in 32 cells.
+; r0 0: four words are copied to 32 cells.
         mov r1, 60
         mov r2, r10
         add r2, -32

@@ -1,4 +1,4 @@
-; The copy that was tested is the one that is used.
+; r0 0: the copy that was tested is used.
         ldd r2, [r1+32]
         mov r0, 0
         mov r4, r2

@@ -1,4 +1,4 @@
-; Cells that some way may read are written first.
+; r0 0: the cells that one path reads are written first.
         std [r10-8], 0
         ldd r2, [r1+32]
         or r2, 1

@@ -1,4 +1,4 @@
-; A copy of r10 may be moved.
+; r0 3: a copy of r10 may be moved.
         mov r2, r10
         sub r2, 16
         std [r2+0], 3

@@ -1,4 +1,4 @@
-; What comes back from the stack is masked again.
+; r0 0: the number is masked again after it is loaded.
         ldd r2, [r1+32]
         mov r0, 0
         jgt r2, 7, out

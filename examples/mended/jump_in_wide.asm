@@ -1,4 +1,4 @@
-; A name counts the two units of lddw.
+; r0 0: a name takes into account that `lddw` has two units.
         mov r0, 0
         ja out
         lddw r0, 1

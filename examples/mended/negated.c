@@ -1,4 +1,4 @@
-/* A difference of known bounds: 16 less 0 to 7. */
+/* The difference of 16 and 0 to 7 has known bounds, 9 to 16. */
 #include "byzlab.h"
 
 u64 negated(const struct context *context)

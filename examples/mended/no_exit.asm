@@ -1,3 +1,3 @@
-; The exit is the last instruction.
+; r0 0: the last instruction is `exit`.
         mov r0, 0
         exit

@@ -1,4 +1,4 @@
-; A helper that there is, by its name.
+; r0 0: the call names a helper that exists.
         mov r1, 0
         call board_get
         exit

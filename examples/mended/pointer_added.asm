@@ -1,4 +1,4 @@
-; The number is added to a copy of the pointer.
+; r0 1: the number is added to a copy of the pointer.
         mov r2, 16
         mov r3, r1
         add r3, r2

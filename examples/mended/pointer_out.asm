@@ -1,3 +1,3 @@
-; An answer is a number: here the one that the pointer leads to.
+; r0 4: the result is the number to which the pointer leads.
         ldw r0, [r1+0]
         exit

@@ -1,4 +1,4 @@
-; The mask leaves 0 or 1, and two orders are stored.
+; r0 0: the mask leaves 0 or 1, and two orders are stored.
         stw [r10-12], 1
         stw [r10-8], 0
         ldd r3, [r1+32]

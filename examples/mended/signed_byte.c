@@ -1,4 +1,4 @@
-/* An unsigned byte is 0 to 255; `^ 128` is what `+ 128` does to the sign. */
+/* An unsigned byte is 0 to 255. `^ 128` gives the same as `+ 128` of a signed byte. */
 #include "byzlab.h"
 
 u64 signed_byte(const struct context *context)

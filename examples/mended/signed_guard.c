@@ -1,4 +1,4 @@
-/* One test of an unsigned type: what was below 0 is past 15 now. */
+/* One test of an unsigned type is enough: a number that was below 0 is now above 15. */
 #include "byzlab.h"
 
 u64 signed_guard(const struct context *context)

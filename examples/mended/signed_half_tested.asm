@@ -1,4 +1,4 @@
-; The test reads the number as unsigned.
+; r0 0: the test reads the number as unsigned.
         ldw r2, [r1+32]
         mov r0, 0
         jgt.w r2, 7, out

@@ -1,4 +1,4 @@
-/* The mask stands before the test, as wide as the numbers that are meant: a signed test tells of numbers below 2^63. */
+/* The mask comes before the test, since a signed test bounds only numbers that are known to be below 2^63. */
 #include "byzlab.h"
 
 u64 signed_limit(const struct context *context)

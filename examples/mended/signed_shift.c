@@ -1,4 +1,4 @@
-/* The upper four bits as an unsigned number are 0 to 15; `^ 8` is what `+ 8` does to the sign. */
+/* The upper four bits as an unsigned number are 0 to 15. `^ 8` gives the same as `+ 8` of a signed number. */
 #include "byzlab.h"
 
 u64 signed_shift(const struct context *context)

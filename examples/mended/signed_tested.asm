@@ -1,4 +1,4 @@
-; An index is unsigned, and so is its test.
+; r0 0: an index is unsigned, and so is its test.
         ldd r2, [r1+32]
         mov r0, 0
         jgt r2, 7, out

@@ -1,4 +1,4 @@
-/* A mask stands behind the load. */
+/* The number is masked after the load. */
 #include "byzlab.h"
 
 u64 spilled(const struct context *context)

@@ -1,4 +1,4 @@
-; The mask leaves 0 to 7.
+; r0 0: the mask leaves 0 to 7.
         ldd r2, [r1+32]
         and r2, 7
         mov r3, r10

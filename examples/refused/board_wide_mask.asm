@@ -1,4 +1,4 @@
-; V8: the mask leaves 0 to 15, and from -8 there are only eight cells.
+; V8 unit 7: the mask leaves 0 to 15, but from -8 on there are only eight cells.
         mov r1, 0
         call board_get
         mov r2, r0

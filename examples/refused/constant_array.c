@@ -1,4 +1,4 @@
-/* The array stands in .rodata, which is not part of the program. */
+/* The array is in .rodata, which is not part of the program. */
 #include "byzlab.h"
 
 static const u32 orders[8] = {5, 7, 1, 9, 2, 6, 5, 3};

@@ -1,4 +1,4 @@
-; V7: clang keeps a constant array in .rodata, and where its address is to be filled in there stands 0.
+; V7 unit 2: clang puts a constant array into .rodata. Until its address is filled in, there is a 0 here.
         lddw r2, 0
         ldw r0, [r2+4]
         exit

@@ -1,4 +1,4 @@
-; V12: five words from 60 on would end behind word 63.
+; V12 unit 4: five words from 60 on would end after word 63, the last.
         mov r1, 60
         mov r2, r10
         add r2, -32

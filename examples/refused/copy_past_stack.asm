@@ -1,4 +1,4 @@
-; V8: four words need 32 cells, and from -24 on there are 24.
+; V8 unit 4: four words need 32 cells, but from -24 on there are only 24.
         mov r1, 60
         mov r2, r10
         add r2, -24

@@ -1,4 +1,4 @@
-; V7: the copy was tested, and what the test tells it tells of the copy alone.
+; V7 unit 6: the test bounds only the copy in r4, and r2 may still be any number.
         ldd r2, [r1+32]
         mov r0, 0
         mov r4, r2

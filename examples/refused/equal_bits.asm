@@ -1,4 +1,4 @@
-; V9: r2 is odd and r3 is not, but a test of equality looks at the ranges alone.
+; V9 unit 7: r2 is odd and r3 is even, but a test of equality uses only their bounds.
         ldd r2, [r1+32]
         or r2, 1
         ldd r3, [r1+40]

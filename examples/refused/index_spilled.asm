@@ -1,4 +1,4 @@
-; V7: a number that comes back from the stack may be any number.
+; V7 unit 7: a number that is loaded from the stack may be any number.
         ldd r2, [r1+32]
         mov r0, 0
         jgt r2, 7, out

@@ -1,4 +1,4 @@
-; V12: the test looks at 32 bits only, so the upper half may still be anything.
+; V12 unit 4: the test uses only the low 32 bits, so the upper half may be anything.
         ldd r2, [r1+32]
         mov r0, 0
         jgt.w r2, 63, out

@@ -1,4 +1,4 @@
-/* A negated index: of `neg` of 0 to 7 nothing is known. The line of assembly keeps clang from making it a difference. */
+/* Nothing is known of a negated number. (The line of assembly keeps clang from computing a difference instead.) */
 #include "byzlab.h"
 
 u64 negated(const struct context *context)

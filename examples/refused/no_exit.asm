@@ -1,2 +1,2 @@
-; V4: the last instruction is not the exit.
+; V4 unit 0: the last instruction is not `exit`.
         mov r0, 0

@@ -1,4 +1,4 @@
-; V7: pointers are not compared.
+; V7 unit 1: pointers cannot be compared.
         mov r0, 0
         jeq r1, 0, out
         mov r0, 1

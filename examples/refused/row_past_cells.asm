@@ -1,4 +1,4 @@
-; V9: the mask leaves 0 to 3 orders, and only two are stored.
+; V9 unit 7: the mask leaves 0 to 3 orders, but only two are stored.
         stw [r10-12], 1
         stw [r10-8], 0
         ldd r3, [r1+32]

@@ -1,4 +1,4 @@
-/* A signed byte is loaded with its sign: -128 to 127, of which nothing is known. */
+/* A signed byte, -128 to 127, is loaded with its sign. Nothing is known of the result. */
 #include "byzlab.h"
 
 u64 signed_byte(const struct context *context)

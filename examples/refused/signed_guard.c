@@ -1,4 +1,4 @@
-/* Two signed tests: below 0, and past 15. */
+/* Two signed tests of a number that may be 2^63 or more. They give it no bounds. */
 #include "byzlab.h"
 
 u64 signed_guard(const struct context *context)

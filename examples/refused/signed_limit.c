@@ -1,4 +1,4 @@
-/* One signed test: a number of 2^63 or more is below 0 for it, and passes. */
+/* For a signed test a number of 2^63 or more is below 0, so it passes. */
 #include "byzlab.h"
 
 u64 signed_limit(const struct context *context)

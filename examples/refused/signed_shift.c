@@ -1,4 +1,4 @@
-/* A shift of a signed type copies the sign: -8 to 7, of which nothing is known. */
+/* A shift of a signed type copies the sign. The result is -8 to 7, but the verifier knows nothing of it. */
 #include "byzlab.h"
 
 u64 signed_shift(const struct context *context)

@@ -1,4 +1,4 @@
-; V7: a signed test lets every number from 2^63 on pass, since it is negative.
+; V7 unit 5: each number from 2^63 on passes a signed test, since it is negative.
         ldd r2, [r1+32]
         mov r0, 0
         jsgt r2, 7, out

@@ -1,4 +1,4 @@
-/* The index is kept in the stack behind its guard: a load gives any number of its size. */
+/* The index is stored to the stack after its test, and a load gives any number of its size. */
 #include "byzlab.h"
 
 u64 spilled(const struct context *context)

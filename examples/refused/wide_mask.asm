@@ -1,4 +1,4 @@
-; V8: the mask leaves 0 to 15, and from -8 there are only eight cells.
+; V8 unit 5: the mask leaves 0 to 15, but from -8 on there are only eight cells.
         ldd r2, [r1+32]
         and r2, 15
         mov r3, r10

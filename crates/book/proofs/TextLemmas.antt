@@ -1,5 +1,5 @@
 -- Texts of several parts.
-use Rattle.std.proofs.Common.{ℕ, ◌≡◌, Bool, List, [], ◌∷◌, ◌++◌, refl, ap, ◌∙◌, append_assoc}
+use Rattle.std.proofs.Common.{ℕ, ◌≡◌, Bool, List, [], ◌∷◌, ◌++◌, Option, Some, refl, ap, ◌∙◌, append_assoc}
 use Rattle.std.specs.Prelude.{Result, Ok, Err, OnOk, is_ok, if◌then◌else◌, codes}
 use Rattle.std.specs.Fmt.{decimal}
 use Rattle.std.specs.List.{flat_map}
@@ -8,7 +8,7 @@ use Rattle.book.specs.declared.conditions.Conditions.{Conditions}
 use Rattle.book.specs.Table.{MessageTable}
 use Rattle.book.specs.Conditions.{judged}
 use Rattle.book.specs.Decisions.{decision_of}
-use Rattle.book.specs.Explained.{yes_no, enough_words, few_words, enough_part, few_part, head_line, list_lines, decision_line, lieutenant_lines, bound_line, alike_line, obedience_line, condition_lines, explained}
+use Rattle.book.specs.Explained.{yes_no, enough_words, few_words, enough_part, few_part, head_line, list_lines, decision_line, lieutenant_lines, bound_line, alike_line, obedience_line, condition_lines, explained, dotted, list_words}
 
 -- a push that succeeded
 pub pushed : {E : Type 0} (r : Result (Unit {0}) E) (new old more : List ℕ) → new ≡ (if is_ok r then old ++ more else old) → OnOk r (new ≡ old ++ more)
@@ -48,3 +48,9 @@ enough_is t met text holds enough n m eh ee en em e = rw (e, eh, ee, en, em) ref
 pub few_is : (t : MessageTable) (met : Conditions) (text few : List ℕ) (m : ℕ) → few ≡ few_words met.few → m ≡ t.bound
     → text ≡ (codes "; " ++ decimal met.named ++ codes " named as traitors, " ++ few ++ decimal m ++ codes "\n") → text ≡ few_part t met
 few_is t met text few m ef em e = rw (e, ef, em) refl
+
+-- the line of a label for which an order was received
+pub heard_whole : (old new front parts words w : List ℕ) (last said order : ℕ) (told : Option ℕ) → told ≡ Some said → front ++ decimal last ≡ dotted w
+    → new ≡ old ++ (front ++ (decimal last ++ (codes ": received " ++ (decimal said ++ (parts ++ (codes ": " ++ (words ++ (decimal order ++ codes "\n"))))))))
+    → new ≡ old ++ list_words w told parts (words ++ decimal order)
+heard_whole old new front parts words w last said order told so is e = rw (so, ← is) (simp append_assoc e)

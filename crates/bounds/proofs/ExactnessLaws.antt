@@ -1,7 +1,7 @@
 -- The tolerance of OM(m) by the majority is exact.
-use Rattle.std.proofs.Common.{ℕ, suc, ◌+◌, ◌*◌, ◌<◌, ◌≤◌, ◌≡◌, true, false, List, [], ◌∷◌, ◌++◌, length, take, refl, sym, arith, inl, inr, length-append}
+use Rattle.std.proofs.Common.{ℕ, suc, ◌+◌, ◌-◌, ◌*◌, ◌<◌, ◌≤◌, ◌≡◌, true, false, List, [], ◌∷◌, ◌++◌, length, take, refl, sym, arith, inl, inr, length-append}
 use Rattle.std.specs.Prelude.{count_by, ◌==◌}
-use Rattle.std.proofs.lemmas.Bool.{cases_lt, or_left, eq-eqb, false_from_ne_true, true≢false, eqb-false, or_parts}
+use Rattle.std.proofs.lemmas.Bool.{cases_eq, cases_lt, or_left, eq-eqb, false_from_ne_true, true≢false, eqb-false, or_parts}
 use Rattle.std.proofs.lemmas.List.{length-take-le}
 use Rattle.std.proofs.lemmas.List.FromFn.{length-range_with_len}
 use Rattle.combine.specs.Rule.{majority}
@@ -17,11 +17,6 @@ use Rattle.bounds.proofs.DivisionLaws.{proved_division_breaks}
 use Rattle.bounds.specs.Denial.{denial}
 use Rattle.bounds.specs.Division.{division}
 use Rattle.bounds.specs.Tolerance.{Tolerates, ToleranceIsExact}
-
--- k traitors within the bound are tolerated
-tolerates : (n m k : ℕ) → k ≤ m → 2 * k + m < n → Tolerates n m k
-tolerates n m k few enough c order traitor M inside count faithful =
-    proved_tolerance majority majority_is_rule n c m order traitor M inside (record { few = omega arith; enough = omega arith }) faithful
 
 -- k lieutenants of the commander 0, and one more
 record Deniers (n k : ℕ) : Type 0 where
@@ -56,7 +51,7 @@ deniers n k room =
     }
 
 -- too few generals: k lieutenants deny the order
-outvoted : (n m k : ℕ) → 1 ≤ k → k + 2 ≤ n → 1 ≤ m → n ≤ 2 * k + m → Tolerates n m k → ⊥
+outvoted : (n m k : ℕ) → 1 ≤ k → k + 2 ≤ n → 1 ≤ m → n ≤ 2 * k + m → Tolerates majority n m k → ⊥
 outvoted n m k some room relays many keeps =
     let d : Deniers n k = deniers n k room in
     let count : count_by (on d.list) (generals n) ≡ k = d.count in
@@ -70,7 +65,7 @@ outvoted n m k some room relays many keeps =
     omega arith
 
 -- too many traitors: m + 1 of them divide the loyal generals
-divides : (n m k : ℕ) → m < k → k + 2 ≤ n → 2 * m ≤ n → Tolerates n m k → ⊥
+divides : (n m k : ℕ) → m < k → k + 2 ≤ n → 2 * m ≤ n → Tolerates majority n m k → ⊥
 divides n m k more room half keeps =
     let inside : 0 < n = omega arith in
     let it = proved_division_breaks.exists n 0 m inside half (omega arith) in
@@ -81,7 +76,7 @@ divides n m k more room half keeps =
     first [] b = absurd b
     first (x ∷ xs) b = or_left (x == 0) (on xs 0) (eq-eqb x 0 b)
 
-bounded : (n m k : ℕ) → 1 ≤ k → k + 2 ≤ n → Tolerates n m k → (k ≤ m) × (2 * k + m < n)
+bounded : (n m k : ℕ) → 1 ≤ k → k + 2 ≤ n → Tolerates majority n m k → (k ≤ m) × (2 * k + m < n)
 bounded n m k some room keeps =
     let few : k ≤ m = elim (cases_lt m k) [
       | inl more ↦ elim (cases_lt n (2 * m)) [
@@ -98,5 +93,26 @@ bounded n m k some room keeps =
       ],
     )
 
+-- where k traitors are tolerated, so are fewer
+fewer : (n m j k : ℕ) → j ≤ k → Tolerates majority n m k → Tolerates majority n m j
+fewer n m j k less keeps c order traitor M inside few faithful = keeps c order traitor M inside (omega arith) faithful
+
+-- with at most one loyal general this follows from the case of n - 2 traitors, who are not tolerated
+bounded_any : (n m k : ℕ) → 1 ≤ k → 3 ≤ n → Tolerates majority n m k → (k ≤ m) × (2 * k + m < n)
+bounded_any n m k some three keeps = elim (cases_lt n (k + 2)) [
+  | inl many ↦
+      let both = bounded n m (n - 2) (omega arith) (omega arith) (fewer n m (n - 2) k (omega arith) keeps) in
+      let few : n - 2 ≤ m = both.0 in
+      let enough : 2 * (n - 2) + m < n = both.1 in
+      absurd (omega arith)
+  | inr room ↦ bounded n m k some room keeps
+]
+
 pub proved_tolerance_is_exact : ToleranceIsExact
-proved_tolerance_is_exact n m k some room = (bounded n m k some room, λ both. tolerates n m k both.0 both.1)
+proved_tolerance_is_exact n m k three = (
+  λ keeps. elim (cases_eq k 0) [
+    | inl none ↦ inl none
+    | inr some ↦ inr (bounded_any n m k (omega arith) three keeps)
+  ],
+  proved_tolerance majority majority_is_rule n m k,
+)

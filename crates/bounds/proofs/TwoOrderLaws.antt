@@ -72,9 +72,9 @@ same_om f n most M is small (suc k) w p l =
     small_cond false x y l h = h
 
 pub proved_two_order_rules_agree : TwoOrderRulesAgree
-proved_two_order_rules_agree f n c m order traitor M is inside tolerated small faithful =
+proved_two_order_rules_agree f n m k is tolerable c order traitor M inside few small faithful =
     let size : length (others n (c ∷ [])) + 1 ≡ n = others-count n (c ∷ []) refl (inside, tt) in
-    let all = proved_tolerance (extended f (n - 1)) (extended_law f (n - 1) is) n c m order traitor M inside tolerated faithful in
+    let all = proved_tolerance (extended f (n - 1)) (extended_law f (n - 1) is) n m k tolerable c order traitor M inside few faithful in
     let same : (p : ℕ) → om (extended f (n - 1)) n M m (c ∷ []) p ≡ om f n M m (c ∷ []) p =
     λ p. (same_om f n (n - 1) M is small m (c ∷ []) p (omega arith)).same in
     record {

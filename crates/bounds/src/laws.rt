@@ -3,7 +3,7 @@ ghost use Rattle.bounds.specs.Denial.{DenialBreaks};
 ghost use Rattle.bounds.specs.Division.{DivisionBreaks};
 ghost use Rattle.bounds.specs.Stories.{StoriesAreAdmissible, StoriesBreak};
 ghost use Rattle.bounds.specs.Tightness.{BoundIsTight, OmIsDecisionRule};
-ghost use Rattle.bounds.specs.Tolerance.{BoundIsTolerated, ToleranceHolds, ToleranceIsExact};
+ghost use Rattle.bounds.specs.Tolerance.{BoundIsTolerable, ToleranceHolds, ToleranceIsExact};
 ghost use Rattle.bounds.specs.TwoOrders.{TwoOrderRulesAgree};
 
 /// States that each decision rule is broken if there are at least three generals and at most 3m: in some campaign with
@@ -29,16 +29,16 @@ pub fn stories_break()
     ensures { StoriesBreak }
 {}
 
-/// States that the loyal lieutenants agree by OM(m) if there are at most m traitors, and more generals than twice the
-/// traitors plus m.
+/// States that OM(m), with any rule that returns the order of a majority, tolerates k traitors among n generals if k is
+/// 0, or if k is at most m and n is more than 2k + m.
 pub fn tolerance()
     ensures { ToleranceHolds }
 {}
 
-/// States that the bound of the agreement theorem, more than 3m generals and at most m traitors, is within the
-/// tolerance.
-pub fn bound_is_tolerated()
-    ensures { BoundIsTolerated }
+/// States that m traitors among more than 3m generals are within the tolerance, which is the bound of the agreement
+/// theorem.
+pub fn bound_is_tolerable()
+    ensures { BoundIsTolerable }
 {}
 
 /// States that no loyal lieutenant obeys a loyal commander by the majority if k lieutenants deny his order, there are
@@ -53,8 +53,8 @@ pub fn division_breaks()
     ensures { DivisionBreaks }
 {}
 
-/// States that OM(m) by the majority tolerates k traitors among n generals exactly if k is at most m and n is more than
-/// 2k + m, for each k from 1 to n - 2.
+/// States that the tolerance is exact: among at least three generals, OM(m) by the majority tolerates no other number
+/// of traitors.
 pub fn tolerance_is_exact()
     ensures { ToleranceIsExact }
 {}

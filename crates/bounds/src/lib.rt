@@ -8,7 +8,7 @@ mod story;
 
 pub use group::group_of;
 pub use laws::{
-    bound_is_tight, bound_is_tolerated, denial_breaks, division_breaks, om_is_decision_rule,
+    bound_is_tight, bound_is_tolerable, denial_breaks, division_breaks, om_is_decision_rule,
     stories_are_admissible, stories_break, tolerance, tolerance_is_exact, two_order_rules_agree,
 };
 pub use story::Story;

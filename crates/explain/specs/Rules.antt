@@ -100,4 +100,4 @@ tested_text = codes ": such a test narrows only numbers that are known to be bel
 -- the reason for a test or a copy
 abbrev pub passing_text : Passing → List ℕ
 passing_text (Test bits) = tested_text ++ decimal bits
-passing_text (Copied dst) = codes ": a test of r" ++ decimal dst ++ codes " does not narrow the register it copies"
+passing_text (Copied dst) = codes ": a test of r" ++ decimal dst ++ codes " does not narrow it"

@@ -151,7 +151,7 @@ pub(crate) fn put_tells(out: &mut String, tells: Passing) -> Result<(), AllocErr
             out,
             ": a test of r",
             u64::from(dst.number()),
-            " does not narrow the register it copies",
+            " does not narrow it",
         ),
     }
 }

@@ -542,7 +542,7 @@ foot_content c marks wide top =
 
 abbrev key_words : List ℕ
 key_words =
-    codes "A column for each general, and a band for each round, from above. In a band a line leads down from "
+    codes "There is a column for each general, and a band for each round, from above. In a band a line leads "
     ++ codes "down from the sender of an order to its receiver. The number of labels is the line's width, up to 5. "
     ++ codes "Below, in the receiver's column, is what he received."
 

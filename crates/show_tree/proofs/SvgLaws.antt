@@ -340,7 +340,7 @@ heading_content p order =
     (text (codes "\n") (bare_text (codes "\n") refl)))
 
 abbrev rows_words : List ℕ
-rows_words = codes "Each row is a label, below the label that it goes on from, with what he was told of it."
+rows_words = codes "Each row is a label, below the label that it extends, with the order that he received for it."
 
 said_if_text : (stands : Bool) (words : List ℕ) → IsText words → IsText (said_if stands words)
 unfolding said_if

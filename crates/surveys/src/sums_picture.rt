@@ -23,12 +23,9 @@ fn head() -> &'static str
     ensures { result.now ≡ head }
 {
     "<title>where agreement or obedience is broken</title>\n\
-     <desc>Each row: so many generals, n, who provide for so many traitors, \
-     m. Each column: so many traitors. A bar: the share of \
-     the campaigns of these numbers in \
-     which loyal lieutenants decide unlike, or not as a loyal commander has ordered. Dashes: n = 3m + 1, \
-     at so many traitors as m. A ground: \
-     the campaign's bound is kept.</desc>\n\
+     <desc>Each row is for a number of generals, n, and a bound, m. Each column is for a number of traitors. \
+     A bar is the share of these campaigns in which loyal lieutenants do not decide alike, or disobey a loyal \
+     commander. Dashes: n = 3m + 1, where m is the number of traitors. Green: the campaign's bound is kept.</desc>\n\
      <style>svg{background:#fff}text{fill:#111;font:14px \
      sans-serif}.bar{fill:#b00020}.base,.limit{fill:none;stroke:#767676}\
      .limit{stroke:#0b57d0;stroke-width:2;stroke-dasharray:6 \

@@ -1,4 +1,4 @@
-// A program is verified and run from Go. CGO_CFLAGS and CGO_LDFLAGS say where the library is.
+// Verifies and runs a program from Go. CGO_CFLAGS and CGO_LDFLAGS say where the library is.
 package main
 
 // #include <byzlab_sandbox.h>

@@ -1,4 +1,4 @@
-//! Where the library is: `BYZLAB_PREFIX`, under which it was installed.
+//! Links the library that is installed under `BYZLAB_PREFIX`.
 fn main() {
     println!("cargo:rerun-if-env-changed=BYZLAB_PREFIX");
     if let Ok(prefix) = std::env::var("BYZLAB_PREFIX") {

@@ -1,22 +1,21 @@
-//! Safe calls of the proved verifier and machine of byzlab. The pointers and lengths that C hands over are made here of
-//! slices, so that nothing of what the header leaves to its caller is left to yours, but for signal handlers and forked
-//! children.
+//! Safe calls of byzlab's proved verifier and machine. They make the pointers and lengths for C from slices. So your code
+//! need not obey what the header asks of a caller, except what it says about signal handlers and forked children.
 use std::fmt;
 
-/// How many bytes a program is given to read.
+/// The length of a context in bytes.
 pub const CONTEXT_BYTES: usize = 4096;
 
 /// The words that the helpers 1 to 5 read and write.
 pub type Board = [u64; 64];
 
-/// Why there is no answer.
+/// The reason why there is no answer.
 #[derive(Clone, Copy, Debug, PartialEq, Eq)]
 pub enum Error {
-    /// The bytes spell no program: 1 to 8 for C1 to C8, and the unit.
+    /// The bytes are not a program: 1 to 8 for C1 to C8, and the unit.
     Misspelt { number: u32, unit: usize },
-    /// The program is not accepted: 101 to 113 for V1 to V13, and the unit.
+    /// The program is rejected: 101 to 113 for V1 to V13, and the unit.
     Refused { number: u32, unit: usize },
-    /// Memory was refused.
+    /// Out of memory.
     Memory,
 }
 
@@ -32,7 +31,7 @@ impl fmt::Display for Error {
 
 impl std::error::Error for Error {}
 
-/// How a run has ended: r0 at the exit, and how many instructions were run.
+/// The outcome of a run: r0 at the exit, and the number of instructions that were run.
 #[repr(C)]
 #[derive(Clone, Copy, Debug, Default, PartialEq, Eq)]
 pub struct Outcome {
@@ -100,7 +99,7 @@ extern "C" {
     fn byzlab_version() -> u32;
 }
 
-/// Whether the program is accepted.
+/// Verifies the program.
 pub fn verify(program: &[u8]) -> Result<(), Error> {
     let mut fault = Fault::default();
     let status = unsafe { byzlab_verify(program.as_ptr(), program.len(), &mut fault) };
@@ -146,7 +145,7 @@ pub fn run_many(program: &[u8], contexts: &[[u8; CONTEXT_BYTES]]) -> Result<Vec<
     fault.result(status, outcomes)
 }
 
-/// The text that a function writes, asked once for its length and once for itself; with its verdict.
+/// Returns the text that a function writes, and its verdict. The first call asks for the length of the text.
 fn told(teller: Teller, program: &[u8]) -> (String, Result<(), Error>) {
     let (mut text, mut needed, mut fault) = (Vec::new(), 0, Fault::default());
     loop {
@@ -175,18 +174,18 @@ fn told(teller: Teller, program: &[u8]) -> (String, Result<(), Error>) {
     }
 }
 
-/// What the verifier knows at each unit, and why it refuses the program, if so; with its verdict.
+/// Returns what the verifier knows at each unit, and why it rejects the program if it does, with its verdict.
 pub fn explain(program: &[u8]) -> (String, Result<(), Error>) {
     told(byzlab_explain, program)
 }
 
-/// The assembly text of the program, accepted or not.
+/// Returns the assembly text of a program, which need not be accepted.
 pub fn disassemble(program: &[u8]) -> Result<String, Error> {
     let (text, verdict) = told(byzlab_disassemble, program);
     verdict.map(|()| text)
 }
 
-/// 10,000 * major + 100 * minor + patch.
+/// Returns 10,000 * major + 100 * minor + patch.
 pub fn version() -> u32 {
     unsafe { byzlab_version() }
 }

@@ -1,4 +1,4 @@
-//! A program is verified, run, and run many times; one that is refused is explained and shown.
+//! Verifies a program, runs it once and many times, and explains a program that is rejected.
 use byzlab_sandbox::{disassemble, explain, run, run_many, verify, version, Error, CONTEXT_BYTES};
 
 const ANSWER: [u8; 16] = [0xb7, 0, 0, 0, 42, 0, 0, 0, 0x95, 0, 0, 0, 0, 0, 0, 0];
