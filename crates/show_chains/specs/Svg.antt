@@ -25,7 +25,7 @@ unfoldable pub key_start : List ℕ
 key_start =
     codes "<desc>There is a column for each general, and a band for each round, from above. In a band a line leads "
     ++ codes "from the sender of chains to their receiver, one line for each order. The number of chains is the line's "
-    ++ codes "width. Below, in the receiver's column, is what he received: the order and its signers, the commander "
+    ++ codes "width. Below, in the column of the receiver, is what he received. the order and its signers, the commander "
     ++ codes "first and the sender last."
 
 -- The meaning of each mark of strokes that occurs in a signed campaign's diagram.

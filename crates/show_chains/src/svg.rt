@@ -167,7 +167,7 @@ fn key_start() -> &'static str
 {
     "<desc>There is a column for each general, and a band for each round, from above. In a band a line leads from \
      the sender of chains to their receiver, one line for each order. The number of chains is the line's width. \
-     Below, in the receiver's column, is what he received: the order and its signers, the commander first and the \
+     Below, in the column of the receiver, is what he received. the order and its signers, the commander first and the \
      sender last."
 }
 
