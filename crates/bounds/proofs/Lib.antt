@@ -1,0 +1,11 @@
+pub mod StoryLemmas
+pub mod GroupSizes
+pub mod CrossingLemmas
+pub mod TightnessLaws
+pub mod Induction
+pub mod VoteLemmas
+pub mod ListParts
+pub mod DenialLaws
+pub mod DivisionLaws
+pub mod ExactnessLaws
+pub mod TwoOrderLaws

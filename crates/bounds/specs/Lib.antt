@@ -1,0 +1,6 @@
+pub mod Stories
+pub mod Tightness
+pub mod Tolerance
+pub mod Denial
+pub mod Division
+pub mod TwoOrders

@@ -1,0 +1,14 @@
+//! How many traitors can be tolerated: the bound of the agreement theorem is tight for every rule, and the tolerance of
+//! OM(m) by the majority is exact. The files in specs/ define both.
+#![tactic(auto)]
+
+mod group;
+mod laws;
+mod story;
+
+pub use group::group_of;
+pub use laws::{
+    bound_is_tight, bound_is_tolerable, denial_breaks, division_breaks, om_is_decision_rule,
+    stories_are_admissible, stories_break, tolerance, tolerance_is_exact, two_order_rules_agree,
+};
+pub use story::Story;

@@ -1,0 +1,67 @@
+//! The three stories, of which each decision rule breaks one.
+ghost use Rattle.std.specs.Prelude.{◌≡◌, ◌<◌, ◌≤◌, Some};
+ghost use Rattle.bounds.specs.Stories.{copy_in, is_traitor_in, lying_group, story_messages};
+
+use crate::group::{crossings, group_of, is_crossing};
+use label::Label;
+
+/// One of three campaigns with too few generals, cut out of a ring of two copies of each group.
+#[derive(Clone, Copy)]
+pub enum Story {
+    /// Group 2 lies. The commander is loyal and orders 0.
+    First,
+    /// Group 0 lies, with the commander in it.
+    Second,
+    /// Group 1 lies. The commander is loyal and orders 1.
+    Third,
+}
+
+impl Story {
+    /// Returns whether the general, who must be below 13, is a traitor in the story.
+    pub fn is_traitor(self, commander: u8, general: u8) -> bool
+        requires { general < 13 }
+        ensures { result ≡ is_traitor_in self commander general }
+    {
+        group_of(commander, general) == self.lying_group()
+    }
+
+    /// Returns the order that the last general of the label sends to the receiver, who must be below 13.
+    pub fn sent(self, commander: u8, label: &Label, receiver: u8) -> u32
+        requires { receiver < 13 }
+        ensures { Some result ≡ story_messages self commander label.now receiver }
+    {
+        let generals = label.generals();
+        let last = generals[generals.len() - 1];
+        let sender = group_of(commander, last);
+        let crossed = crossings(commander, generals);
+        if sender == self.lying_group() {
+            let own = group_of(commander, receiver);
+            let more = u32::from(is_crossing(sender, own));
+            (self.copy(own) + crossed + more) % 2
+        } else {
+            (self.copy(sender) + crossed) % 2
+        }
+    }
+
+    /// Returns the group that lies.
+    fn lying_group(self) -> u8
+        ensures { result ≡ lying_group self }
+    {
+        match self {
+            Story::First => 2,
+            Story::Second => 0,
+            Story::Third => 1,
+        }
+    }
+
+    /// Returns the copy of the ring as which a loyal group acts: 0 for a, and 1 for b.
+    fn copy(self, group: u8) -> u32
+        ensures value { result ≡ copy_in self group }
+        ensures small { result ≤ 1 }
+    {
+        match self {
+            Story::First | Story::Second => 0,
+            Story::Third => u32::from(group == 0),
+        }
+    }
+}
