@@ -6,7 +6,7 @@
 # words of the script ./byzlab are not offered for the program of a release, in which surveys are another program.
 
 _byzlab() {
-    local words=("${COMP_WORDS[@]}") at=$COMP_CWORD script="prove release install uninstall --try" offered program= start=
+    local words=("${COMP_WORDS[@]}") at=$COMP_CWORD script="prove release install uninstall serve --try" offered program= start=
     local commands="check asm dis book table muster play audit explore tree draw page schedule survey help"
     program=$(type -P -- "${words[0]}") && LC_ALL=C read -r -n 4 start <"$program"
     if [ "$start" = $'\x7fELF' ]; then
@@ -24,6 +24,7 @@ _byzlab() {
     1:*) offered="$commands $script -h --help -V --version" ;;
     *:prove:-*) offered="-h --help" ;;
     *:release:-*) offered="--out -h --help" ;;
+    *:serve:-*) offered="--port --host --name --workers --open -h --help" ;;
     *:install:-* | *:uninstall:-*) offered="--prefix -h --help" ;;
     2:help:*) offered=$commands ;;
     *:help:*) offered= ;;

@@ -1,0 +1,283 @@
+/* The laboratory's page: sets up a campaign, asks the proved program for its course, and shows it round by round. */
+import { first, fromScenario, isTraitor, loyal, packed, program, scenario, settle, unpacked, useStrategies, word } from "./campaign.js";
+import { isBroken } from "./chronicle.js";
+import { $, download, later, make, refill } from "./dom.js";
+import { Editor } from "./editor.js";
+import { Breaking } from "./breaking.js";
+import { Orders } from "./orders.js";
+import { Pane, ending, narration, values } from "./pane.js";
+import { Setup } from "./setup.js";
+import { ask } from "./server.js";
+
+const WAIT = 60; // milliseconds after the last change
+const PREDICT = "predict";
+const FIRST_STRATEGY = "splits";
+
+const page = {
+  campaign: first(),
+  step: 0, // how many rounds are shown; one more shows the decisions
+  view: "diagram",
+  predict: false,
+  guesses: {}, // by general, and whether they decide alike (`alike`)
+  revealed: true,
+  score: { right: 0, asked: 0 },
+  isRevealed: () => page.revealed,
+  wrongGuesses: (pane) => new Set(pane === main && page.revealed ? Object.keys(page.guesses).filter((key) => key !== "alike" && !isRight(key)).map(Number) : []),
+};
+const main = new Pane(page);
+const other = new Pane(page);
+let setup, editor, breaking, orders;
+
+/* ---- playing */
+
+async function play() {
+  breaking.show();
+  const failures = await Promise.all([main.play(page.campaign), compared() ? other.play(compared()) : null]);
+  const failure = failures.find(Boolean);
+  $("fault").hidden = !failure;
+  $("fault").firstElementChild.textContent = failure?.why ?? "";
+  $("again").hidden = !failure?.lost;
+  page.guesses = {};
+  page.revealed = !page.predict;
+  if (main.course) page.step = Math.min(page.step, last());
+  if (!failure) breaking.played(main);
+  show();
+}
+const playSoon = later(WAIT, play);
+
+const last = () => main.course.rounds.length + 1;
+const hasDecisions = () => main.course !== null && page.step >= last();
+
+/* The campaign of the second pane: the same with other messages or another rule. */
+function compared() {
+  const kind = $("compare").value;
+  if (!kind) return null;
+  return { ...page.campaign, signed: kind === "signed", rule: kind === "signed" ? page.campaign.rule : kind };
+}
+
+/* The campaign was changed: it begins anew, without the order of accesses that belonged to the old one. */
+function changed() {
+  page.campaign.schedule = null;
+  settle(page.campaign);
+  if (editor.general !== null && !isTraitor(page.campaign, editor.general)) editor.close();
+  setup.show();
+  orders.clear();
+  page.step = 0;
+  main.stale = other.stale = true;
+  if (main.campaign?.n !== page.campaign.n) main.refresh();
+  show();
+  playSoon();
+}
+
+/* ---- showing */
+
+function show() {
+  const isTwo = Boolean(compared()) && other.course !== null;
+  $("panes").classList.toggle("two", isTwo);
+  if (isTwo && !other.element.isConnected) $("panes").append(other.element);
+  if (!isTwo) other.element.remove();
+  main.show();
+  if (isTwo) other.show();
+  const { course } = main;
+  $("back").disabled = !course || page.step === 0;
+  $("next").disabled = !course || hasDecisions();
+  $("said").textContent = course ? sentence() : "";
+  $("said").classList.toggle("broken", hasDecisions() && page.revealed && isBroken(course));
+  $("ask").hidden = !hasDecisions() || page.revealed;
+  if (!$("ask").hidden) questions();
+  $("order").hidden = page.campaign.schedule === null;
+  if (page.campaign.schedule !== null) $("order").firstElementChild.textContent = `Schedule: ${scheduled(page.campaign.schedule)}.`;
+  $("view").disabled = Boolean(course) && !main.canDraw;
+  $("narrow").hidden = !$("view").disabled;
+  $("view").value = course && !main.canDraw ? "list" : page.view;
+}
+
+const scheduled = (schedule) => schedule.trimEnd().split("\n").map((line, at) => `round ${at + 1}: ${line || "-"}`).join("; ");
+
+function sentence() {
+  if (!hasDecisions()) return narration(main.course, main.campaign, page.step);
+  if (!page.revealed) return "Now each lieutenant decides. What do you predict?";
+  return `${scored()}${ending(main.course)} Choose a general to see why.`;
+}
+
+function move(by) {
+  if (!main.course) return;
+  page.step = Math.max(0, Math.min(last(), page.step + by));
+  main.closeDetail();
+  other.closeDetail();
+  show();
+  const shown = main.body.lastElementChild;
+  if (page.step > 0) shown?.scrollIntoView({ block: "nearest" });
+}
+
+/* ---- predictions */
+
+const isRight = (key) => page.guesses[key] === (key === "alike" ? main.course.verdict.alike : main.course.decisions.get(Number(key)));
+
+function scored() {
+  const keys = Object.keys(page.guesses);
+  if (!keys.length) return "";
+  const all = page.score.asked > keys.length ? ` (${page.score.right} of ${page.score.asked} in all)` : "";
+  return `You had ${keys.filter(isRight).length} of ${keys.length} right${all}. `;
+}
+
+function questions() {
+  const row = (key, text, choices) =>
+    make("div", { role: "group", "aria-label": text }, make("span", {}, text),
+      ...choices.map(([name, value]) => make("button", { type: "button", "data-key": `${key} ${name}`, "aria-pressed": String(page.guesses[key] === value), onclick: () => guess(key, value) }, name)));
+  refill($("ask"),
+    ...loyal(main.campaign).map((general) => row(general, `General ${general} decides`, values(main.course).map((value) => [word(value), value]))),
+    row("alike", "Do the loyal lieutenants agree?", [["yes", true], ["no", false]]),
+    make("div", {}, make("button", { type: "button", id: "reveal", onclick: reveal }, "Show the decisions")));
+}
+
+function guess(key, value) {
+  page.guesses[key] = value;
+  if (Object.keys(page.guesses).length < loyal(main.campaign).length + 1) return show();
+  page.score.asked += Object.keys(page.guesses).length;
+  page.score.right += Object.keys(page.guesses).filter(isRight).length;
+  return reveal();
+}
+
+function reveal() {
+  page.revealed = true;
+  show();
+  main.body.querySelector(".decisions")?.scrollIntoView({ block: "nearest" });
+}
+
+/* ---- links and files */
+
+async function share(isExercise) {
+  const fragment = `${isExercise ? `${PREDICT},` : ""}${await packed(page.campaign)}`;
+  history.replaceState(null, "", `#${fragment}`);
+  $("link").value = location.href;
+  $("shared").hidden = false;
+  $("link").select();
+  const isCopied = await (navigator.clipboard?.writeText(location.href) ?? Promise.reject()).then(() => true, () => false);
+  $("copied").textContent = isCopied ? "The link is copied." : "Copy the link from here.";
+}
+
+async function save(command, name, type) {
+  const text = scenario(page.campaign);
+  if (command === null) return download(name, type, text);
+  const { schedule } = page.campaign;
+  const answer = await ask(command, schedule === null ? { text } : { text, schedule });
+  if (answer.ok) return download(name, type, answer.text);
+  $("fault").hidden = false;
+  $("fault").firstElementChild.textContent = answer.why;
+  return undefined;
+}
+
+/* Opens what the link's fragment says: nothing, `predict`, a campaign, or `predict,` and a campaign. */
+async function openLink() {
+  const [mode, rest] = /^(predict(?:,|$))?(.*)$/s.exec(location.hash.slice(1)).slice(1);
+  let campaign = first();
+  let isDamaged = false;
+  if (rest) campaign = await unpacked(rest).catch(() => ((isDamaged = true), first()));
+  else if (mode) campaign = setup.story("three_generals") ?? first();
+  page.predict = mode !== undefined;
+  load(campaign);
+  if (isDamaged) {
+    $("fault").hidden = false;
+    $("fault").firstElementChild.textContent = "The link is damaged. This is a new campaign.";
+  }
+}
+
+/* Shows another campaign from its beginning. */
+function load(campaign) {
+  page.campaign = campaign;
+  page.step = 0;
+  $("predict").checked = page.predict;
+  $("fault").hidden = true;
+  main.refresh();
+  other.refresh();
+  editor.close();
+  orders.clear();
+  breaking.forget();
+  setup.show();
+  return play();
+}
+
+/* ---- controls */
+
+/* The keys step, unless they mean something where the focus is. */
+function press(event) {
+  const isText = event.target.closest("textarea, select, input:not([type=checkbox])");
+  if (isText || event.altKey || event.ctrlKey || event.metaKey || event.defaultPrevented) return;
+  const isButton = event.target.closest("button, input, summary, a, [role=button]");
+  const by = { ArrowRight: 1, ArrowLeft: -1, " ": isButton ? 0 : 1 }[event.key];
+  if (!by) return;
+  event.preventDefault();
+  move(by);
+}
+
+function listen() {
+  const clicks = { next: () => move(1), back: () => move(-1), share: () => share(false), exercise: () => share(true), print: () => window.print(), again: play };
+  clicks["save-scenario"] = () => save(null, "campaign.toml", "application/toml");
+  clicks["save-chronicle"] = () => save("chronicle", "campaign.chronicle", "text/plain");
+  clicks["save-page"] = () => save("page", "campaign.html", "text/html");
+  clicks["save-picture"] = () => save("draw", "campaign.svg", "image/svg+xml");
+  clicks.punctual = changed;
+  for (const [id, act] of Object.entries(clicks)) $(id).addEventListener("click", act);
+  $("predict").addEventListener("change", () => {
+    page.predict = $("predict").checked;
+    page.guesses = {};
+    page.revealed = !page.predict;
+    show();
+  });
+  $("view").addEventListener("change", () => {
+    page.view = $("view").value;
+    show();
+  });
+  $("compare").addEventListener("change", play);
+  $("large").addEventListener("change", () => {
+    document.documentElement.classList.toggle("large", $("large").checked);
+    show();
+  });
+  $("open").addEventListener("change", openFile);
+  $("setup").addEventListener("submit", (event) => event.preventDefault());
+  document.addEventListener("keydown", press);
+  window.addEventListener("resize", later(200, show));
+  window.addEventListener("hashchange", openLink);
+}
+
+async function openFile() {
+  const [file] = $("open").files;
+  if (!file) return;
+  const campaign = fromScenario(await file.text());
+  if (campaign) return void load(campaign);
+  $("fault").hidden = false;
+  $("fault").firstElementChild.textContent = `${file.name} is not a scenario that this page can edit: its programs must be written in it as assembly.`;
+}
+
+async function begin() {
+  const known = await (await fetch("examples.json")).json();
+  useStrategies(known.strategies);
+  $("panes").append(main.element);
+  editor = new Editor(play, (general, text) => {
+    page.campaign.traitors[general] = { text };
+    page.campaign.schedule = null;
+    setup.show();
+  });
+  setup = new Setup(page, known, {
+    changed,
+    load,
+    edit: (general) => editor.open(general, program(page.campaign.traitors[general])),
+    strategy: FIRST_STRATEGY in known.strategies ? FIRST_STRATEGY : Object.keys(known.strategies)[0],
+  });
+  breaking = new Breaking(page, known.searches, load);
+  orders = new Orders(page, () => {
+    page.step = 0;
+    play();
+  });
+  listen();
+  new ResizeObserver(() => document.documentElement.style.setProperty("--controls", `${$("controls").offsetHeight}px`)).observe($("controls"));
+  $("more").open = innerWidth >= 900;
+  await openLink();
+}
+
+begin().catch(() => {
+  $("fault").hidden = false;
+  $("fault").firstElementChild.textContent = "The laboratory does not answer. Load this page again.";
+  $("again").hidden = true;
+});

@@ -1,0 +1,44 @@
+/* Asks the server, which has the proved program answer. */
+
+const LOST = "The laboratory does not answer. What you typed is kept.";
+const MOST_ATTEMPTS = 5;
+
+const pause = (seconds) => new Promise((done) => setTimeout(done, 1000 * seconds));
+
+/* Returns {ok, text} or, if there is no answer, {ok: false, lost, why}. An answer that refuses something has `refused`. */
+export async function ask(command, request) {
+  for (let attempt = 1; ; attempt += 1) {
+    let answer;
+    try {
+      answer = await fetch(`api/${command}`, { method: "POST", headers: { "Content-Type": "application/json" }, body: JSON.stringify(request) });
+      if (answer.status === 503 && attempt < MOST_ATTEMPTS) {
+        await pause((Number(answer.headers.get("Retry-After")) || 1) * (0.5 + Math.random()));
+        continue;
+      }
+      const text = await answer.text();
+      if (!answer.ok) return { ok: false, lost: answer.status === 503, why: reason(text, answer.status) };
+      if (answer.headers.get("Byzlab-Status") === "0") return { ok: true, text };
+      return { ok: false, ...refusal(text) };
+    } catch {
+      return { ok: false, lost: true, why: LOST };
+    }
+  }
+}
+
+function reason(text, status) {
+  try {
+    return JSON.parse(text).error;
+  } catch {
+    return `The server answered with status ${status}.`;
+  }
+}
+
+/* What the program says about a text that it refuses: a line of JSON, or lines of text. */
+function refusal(text) {
+  if (!text.startsWith("{")) return { refused: true, text, why: text.trim() };
+  const { code, fault, place = "", sentence = "" } = JSON.parse(text.split("\n")[0]);
+  const where = `${code ?? fault} ${place}`.trim();
+  return { refused: true, text, place, why: `${sentence ? capital(sentence) : "The program rejects this campaign"} (${where}).` };
+}
+
+const capital = (sentence) => sentence[0].toUpperCase() + sentence.slice(1);

@@ -1,0 +1,77 @@
+"""The commands that a browser may give: no word of a request becomes a word of a command line except by this table."""
+from .references import names_file
+from .refused import Refused
+
+TEXT, LINES, SVG, HTML = "text/plain", "application/x-ndjson", "image/svg+xml", "text/html"
+MOST_GENERALS = 13
+
+
+class Call:
+    """The words of a command line, with the text for standard input (None for the server's own) and a schedule (or None)."""
+
+    def __init__(self, words, text, schedule):
+        self.words, self.text, self.schedule = words, text, schedule
+
+
+class Command:
+    """A command: its program and words, and what a request may add. `numbers` gives each number's option, least and greatest value;
+    `switches` the words that a 1 adds."""
+
+    def __init__(self, words, kind, numbers=None, switches=None, program="byzlab", has_schedule=False, is_scenario=True):
+        self.words, self.kind, self.program, self.has_schedule = words, kind, program, has_schedule
+        self.numbers, self.switches, self.is_scenario = numbers or {}, switches or {}, is_scenario
+        self.kind_of_refusal = LINES if "--json" in words else TEXT
+
+    def call(self, request):
+        """Returns the call that a request asks for."""
+        words, text, schedule = list(self.words), None, None
+        for name, value in request.items():
+            if name == "text" and self.program == "byzlab":
+                text = encoded(value)
+            elif name == "schedule" and self.has_schedule:
+                schedule = encoded(value)
+                words += ["--schedule", None]
+            else:
+                words += self.option(name, value)
+        if text is None and self.program == "byzlab":
+            raise Refused("400 Bad Request", "A request has a text.")
+        if text is not None and self.is_scenario and names_file(request["text"]):
+            raise Refused("422 Unprocessable Content", "A scenario in the browser contains its programs, and refers to no file.")
+        return Call([*words, "-"] if self.program == "byzlab" else words, text, schedule)
+
+    def option(self, name, value):
+        """Returns the words for a number of a request."""
+        if type(value) is int:
+            if name in self.numbers:
+                option, least, most = self.numbers[name]
+                if least <= value <= most:
+                    return [option, str(value)]
+            elif name in self.switches and value in (0, 1):
+                return self.switches[name] * value
+        raise Refused("400 Bad Request", "The command does not take this word or number.")
+
+
+def encoded(value):
+    """Returns a text of a request in UTF-8."""
+    if not isinstance(value, str):
+        raise Refused("400 Bad Request", "A text is a string.")
+    try:
+        return value.encode("utf-8")
+    except UnicodeEncodeError:
+        raise Refused("400 Bad Request", "The text is not Unicode.") from None
+
+
+OF = {"of": ("--of", 0, MOST_GENERALS - 1)}
+CAMPAIGNS = {"generals": ("--generals", 2, MOST_GENERALS), "bound": ("--bound", 0, 4)}
+KINDS_OF_CAMPAIGNS = {"median": ["--rule", "median"], "signed": ["--signed", "--adversary", "-"]}
+
+COMMANDS = {
+    "check": Command(["check", "--asm", "--explain"], TEXT, is_scenario=False),
+    "play": Command(["play", "--json", "--explain"], LINES, OF, has_schedule=True),
+    "chronicle": Command(["play"], TEXT, has_schedule=True),
+    "tree": Command(["tree", "--svg"], SVG, {**OF, "depth": ("--depth", 0, 4)}, {"fold": ["--fold"]}),
+    "draw": Command(["draw"], SVG, has_schedule=True),
+    "page": Command(["page"], HTML, has_schedule=True),
+    "explore": Command(["explore"], TEXT, {"most": ("--most", 1, 100000)}),
+    "break": Command(["--break", "--seeds", "1..300"], TEXT, CAMPAIGNS, KINDS_OF_CAMPAIGNS, program="surveyor"),
+}

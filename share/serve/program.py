@@ -1,0 +1,122 @@
+"""Runs the proved program: a process for each request, with limits, in the order in which requests arrive."""
+import os
+import resource
+import signal
+import subprocess
+import tempfile
+import threading
+from concurrent.futures import ThreadPoolExecutor
+
+from .refused import Refused
+
+# The most bytes of an answer, the seconds that a program may take by the clock, and how many requests may wait.
+MOST_ANSWER = 4 * 1024 * 1024
+WALL = 5
+QUEUE = 64
+MEGABYTE = 1024 * 1024
+# What a process may use: seconds of the processor (it is ended softly, and a second later in any case), memory, bytes that it
+# writes. It has its standard streams, and can open no file.
+LIMITS = {
+    resource.RLIMIT_CPU: (2, 3),
+    resource.RLIMIT_AS: (256 * MEGABYTE, 256 * MEGABYTE),
+    resource.RLIMIT_FSIZE: (MOST_ANSWER, MOST_ANSWER),
+    resource.RLIMIT_CORE: (0, 0),
+}
+STREAMS = 3
+
+
+class Answer:
+    """What a program answered: its exit status and its text."""
+
+    def __init__(self, status, text):
+        self.status, self.text = status, text
+
+
+class Programs:
+    """The programs byzlab and surveyor (None if it is not built), with the empty folder in which they run."""
+
+    def __init__(self, byzlab, surveyor):
+        self.paths = {"byzlab": byzlab, "surveyor": surveyor}
+        # Nobody can make a file in a folder that has been removed, not even root, and it stays as long as it is open.
+        folder = tempfile.mkdtemp()
+        self.folder = os.open(folder, os.O_RDONLY | os.O_DIRECTORY)
+        os.rmdir(folder)
+
+    def has(self, name):
+        return self.paths[name] is not None
+
+    def run(self, name, words, text, schedule=None):
+        """Returns the answer of a program that reads this text from standard input.
+
+        A word None means the file with the schedule, which is the only file that the process can open."""
+        out, err = os.memfd_create("out"), os.memfd_create("err")
+        extra = [os.memfd_create("schedule")] if schedule is not None else []
+        try:
+            for file in extra:
+                write_all(file, schedule)
+            named = [f"/dev/fd/{extra[0]}" if word is None else word for word in words]
+            status = self.ended([self.paths[name], *named], text, (out, err), extra)
+            length = os.fstat(out).st_size
+            if length >= MOST_ANSWER or status == -signal.SIGXFSZ:
+                raise Refused("422 Unprocessable Content", "The answer is too long for the laboratory in a browser.")
+            if status < 0:
+                raise ended_by(-status)
+            return Answer(status, os.pread(out, length, 0) or os.pread(err, MOST_ANSWER, 0))
+        finally:
+            for file in (out, err, *extra):
+                os.close(file)
+
+    def ended(self, command, text, streams, extra):
+        """Starts a process, sets its limits, gives it the text and returns its exit status."""
+        out, err = streams
+        how = {"stdin": subprocess.PIPE, "stdout": out, "stderr": err, "pass_fds": extra, "env": {}}
+        how.update(cwd=f"/proc/self/fd/{self.folder}", start_new_session=True)
+        with subprocess.Popen(command, **how) as child:
+            try:
+                # It waits for its text, so it has read nothing from the request yet. (A preexec_fn is not safe among threads.)
+                limit(child.pid, STREAMS + len(extra))
+                child.communicate(text, timeout=WALL)
+            except subprocess.TimeoutExpired:
+                raise Refused("422 Unprocessable Content", f"The program took more than {WALL} seconds.") from None
+            except ProcessLookupError:
+                pass  # (it has ended before its limits were set)
+            finally:
+                child.kill()
+        return child.returncode
+
+
+def limit(process, files):
+    for what, most in LIMITS.items():
+        resource.prlimit(process, what, most)
+    resource.prlimit(process, resource.RLIMIT_NOFILE, (files, files))
+
+
+def write_all(file, data):
+    while data:
+        data = data[os.write(file, data) :]
+
+
+def ended_by(number):
+    """Returns what to answer if a signal ended a program."""
+    if number == signal.SIGXCPU:
+        return Refused("422 Unprocessable Content", "The program took too much time.")
+    if number == signal.SIGKILL:  # (somebody ended it, or the machine is out of memory: this request may be sent again)
+        return Refused("503 Service Unavailable", "The program was ended from outside.", ("Retry-After", "1"))
+    return Refused("422 Unprocessable Content", "The program took too much memory.")
+
+
+class Turns:
+    """Lets a number of calls run at once and up to 64 wait, in the order in which they came."""
+
+    def __init__(self, workers):
+        self.places = threading.BoundedSemaphore(workers + QUEUE)
+        self.pool = ThreadPoolExecutor(workers)
+
+    def take(self, *call):
+        """Returns what the call returns. Refuses it if too many wait."""
+        if not self.places.acquire(blocking=False):
+            raise Refused("503 Service Unavailable", "Too many requests are waiting.", ("Retry-After", "1"))
+        try:
+            return self.pool.submit(*call).result()
+        finally:
+            self.places.release()
