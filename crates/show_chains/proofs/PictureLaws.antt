@@ -178,9 +178,9 @@ foot_content c marks wide top =
 abbrev key_words : List ℕ
 key_words =
     codes "There is a column for each general, and a band for each round, from above. In a band a line leads "
-    ++ codes "from the sender of chains to their receiver, one line for each order. The number of chains is the line's "
-    ++ codes "width. Below, in the receiver's column, is what he received: the order and its signers, the commander "
-    ++ codes "first and the sender last."
+    ++ codes "from the sender of chains to their receiver, one line for each order. The width of the line is its number "
+    ++ codes "of chains. Below, in the column of the receiver, is what he received: the order and its signers, the "
+    ++ codes "commander first and the sender last."
 
 stroke_key_text : (marks : DiagramMarks) → IsText (stroke_key marks)
 stroke_key_text marks =

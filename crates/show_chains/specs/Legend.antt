@@ -13,7 +13,7 @@ unfoldable pub missing_meaning : List ℕ
 missing_meaning = codes "not sent, but a loyal general would send it"
 
 unfoldable pub wide_meaning : List ℕ
-wide_meaning = codes "A line's width is its number of chains, up to 5; its row has the first, and how many."
+wide_meaning = codes "A line is as wide as it has chains, up to 5; its row has the first, and how many."
 
 abbrev pub legend : DiagramMarks → List ℕ
 legend marks = legend_of marks sent_meaning differs_meaning missing_meaning wide_meaning

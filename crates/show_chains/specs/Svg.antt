@@ -24,9 +24,9 @@ signed_words s = campaign_words s.generals s.bound s.commander s.order ++ codes 
 unfoldable pub key_start : List ℕ
 key_start =
     codes "<desc>There is a column for each general, and a band for each round, from above. In a band a line leads "
-    ++ codes "from the sender of chains to their receiver, one line for each order. The number of chains is the line's "
-    ++ codes "width. Below, in the receiver's column, is what he received: the order and its signers, the commander "
-    ++ codes "first and the sender last."
+    ++ codes "from the sender of chains to their receiver, one line for each order. The width of the line is its number "
+    ++ codes "of chains. Below, in the column of the receiver, is what he received: the order and its signers, the "
+    ++ codes "commander first and the sender last."
 
 -- The meaning of each mark of strokes that occurs in a signed campaign's diagram.
 abbrev pub stroke_key : DiagramMarks → List ℕ

@@ -50,5 +50,5 @@ fn missing_meaning() -> &'static str
 fn wide_meaning() -> &'static str
     ensures { result.now ≡ wide_meaning }
 {
-    "A line's width is its number of chains, up to 5; its row has the first, and how many."
+    "A line is as wide as it has chains, up to 5; its row has the first, and how many."
 }

@@ -166,8 +166,8 @@ fn key_start() -> &'static str
     ensures { result.now ≡ key_start }
 {
     "<desc>There is a column for each general, and a band for each round, from above. In a band a line leads from \
-     the sender of chains to their receiver, one line for each order. The number of chains is the line's width. \
-     Below, in the receiver's column, is what he received: the order and its signers, the commander first and the \
+     the sender of chains to their receiver, one line for each order. The width of the line is its number of chains. \
+     Below, in the column of the receiver, is what he received: the order and its signers, the commander first and the \
      sender last."
 }
 

@@ -543,8 +543,8 @@ foot_content c marks wide top =
 abbrev key_words : List ℕ
 key_words =
     codes "There is a column for each general, and a band for each round, from above. In a band a line leads "
-    ++ codes "down from the sender of an order to its receiver. The number of labels is the line's width, up to 5. "
-    ++ codes "Below, in the receiver's column, is what he received."
+    ++ codes "down from the sender of an order to its receiver. The width of the line is its number of labels, up to 5. "
+    ++ codes "Below, in the column of the receiver, is what he received."
 
 pub said_text : (stands : Bool) (words : List ℕ) → IsText words → IsText (said_if stands words)
 unfolding said_if

@@ -38,8 +38,8 @@ campaign_words n m c order =
 unfoldable pub key_start : List ℕ
 key_start =
     codes "<desc>There is a column for each general, and a band for each round, from above. In a band a line leads "
-    ++ codes "down from the sender of an order to its receiver. The number of labels is the line's width, up to 5. "
-    ++ codes "Below, in the receiver's column, is what he received."
+    ++ codes "down from the sender of an order to its receiver. The width of the line is its number of labels, up to 5. "
+    ++ codes "Below, in the column of the receiver, is what he received."
 
 -- The meaning of each mark of strokes that occurs in an oral campaign's diagram.
 abbrev pub stroke_key : DiagramMarks → List ℕ

@@ -196,8 +196,8 @@ fn key_start() -> &'static str
     ensures { result.now ≡ key_start }
 {
     "<desc>There is a column for each general, and a band for each round, from above. In a band a line leads down \
-     from the sender of an order to its receiver. The number of labels is the line's width, up to 5. Below, in the \
-     receiver's column, is what he received."
+     from the sender of an order to its receiver. The width of the line is its number of labels, up to 5. Below, in the \
+     column of the receiver, is what he received."
 }
 
 /// Appends the meanings of the marks of strokes in an oral campaign's diagram.

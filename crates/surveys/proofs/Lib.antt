@@ -11,9 +11,9 @@ pub mod Heads
 pub mod PartLemmas
 pub mod Walks
 pub mod Written
-pub mod Parts
+pub mod SmallerCampaigns
 pub mod Ranks
-pub mod Found
+pub mod BreachesFound
 pub mod Narrowing
 pub mod Reducing
 pub mod Comparing

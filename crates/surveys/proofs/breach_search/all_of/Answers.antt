@@ -5,7 +5,7 @@ use Rattle.std.proofs.lemmas.Iterator.Consumers.{YieldsList-so_far, YieldsList-t
 use Rattle.std.proofs.lemmas.Result.{err_from_is_err_and}
 use Rattle.scenario.specs.declared.fault.ScenarioError.{ScenarioError}
 use Rattle.surveys.specs.declared.breach.Breach.{Breach}
-use Rattle.surveys.proofs.Found.{first_error}
+use Rattle.surveys.proofs.BreachesFound.{first_error}
 use Rattle.surveys.proofs.breach_search.all_of.Goals as goal
 
 pub returns-in_err-answer-clause-refused : goal.returns-in_err-answer-clause-refused

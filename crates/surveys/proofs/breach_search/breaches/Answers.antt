@@ -4,7 +4,7 @@ use Rattle.rayon.specs.Numbers.{nat_range}
 use Rattle.scenario.specs.declared.fault.ScenarioError.TheVariants.{Memory}
 use Rattle.surveys.specs.Plotting.{plot_of}
 use Rattle.surveys.specs.Breaches.{IsFirstError, IsRefusedIn}
-use Rattle.surveys.proofs.Found.{all_found, first_refused}
+use Rattle.surveys.proofs.BreachesFound.{all_found, first_refused}
 use Rattle.surveys.proofs.breach_search.breaches.Goals as goal
 
 pub returns-clause-shrunk : goal.returns-clause-shrunk

@@ -2,7 +2,7 @@ use Rattle.std.proofs.Common.{ℕ, None, Some, subst, arith}
 use Rattle.surveys.specs.Plot.{Plot}
 use Rattle.surveys.specs.Plotting.{plot_of}
 use Rattle.surveys.specs.Breaches.{AreAllSound, IsLeastBreach, narrowed, IsRefusedIn}
-use Rattle.surveys.proofs.Found.{none_broken, upto_this}
+use Rattle.surveys.proofs.BreachesFound.{none_broken, upto_this}
 use Rattle.std.proofs.lemmas.Result.{err_from_is_err_and}
 use Rattle.surveys.proofs.breach_search.breaking.Goals as goal
 

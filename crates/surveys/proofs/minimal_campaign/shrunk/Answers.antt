@@ -1,6 +1,6 @@
 use Rattle.std.proofs.Common.{Bool, subst}
 use Rattle.surveys.specs.Shrinking.{Comes, IsStillBroken, IsWithoutFirst, nothing_more, whole}
-use Rattle.surveys.proofs.Parts.{less_then, out_on, part_on, some_of, refused_here, refused_on}
+use Rattle.surveys.proofs.SmallerCampaigns.{less_then, out_on, part_on, some_of, refused_here, refused_on}
 use Rattle.surveys.proofs.Reducing.{walked_on}
 use Rattle.std.proofs.lemmas.Result.{err_from_is_err_and}
 use Rattle.surveys.proofs.minimal_campaign.shrunk.Goals as goal

@@ -1,6 +1,6 @@
 use Rattle.std.proofs.lemmas.Result.{IfOk-weaker, IfErr-weaker}
 use Rattle.surveys.specs.Shrinking.{IsPartOf, IsRefusedOf, IsWalked, LieWalks}
-use Rattle.surveys.proofs.Parts.{part_on, refused_on}
+use Rattle.surveys.proofs.SmallerCampaigns.{part_on, refused_on}
 use Rattle.std.proofs.Common.{◌≢◌}
 use Rattle.scenario.specs.declared.fault.ScenarioError.TheVariants.{Memory}
 use Rattle.surveys.proofs.minimal_campaign.walked.Goals as goal

@@ -1,7 +1,7 @@
 use Rattle.std.proofs.Common.{ℕ, ◌≡◌, arith}
 use Rattle.std.proofs.lemmas.Grind.{common_steps}
 use Rattle.surveys.specs.Shrinking.{ComesWell, without_lie}
-use Rattle.surveys.proofs.Parts.{none_of, some_of, upto_more}
+use Rattle.surveys.proofs.SmallerCampaigns.{none_of, some_of, upto_more}
 use Rattle.surveys.proofs.reductions.fewer_lies_of.Goals as goal
 
 pub loop-index-preserved : goal.loop-index-preserved

@@ -1,7 +1,7 @@
 use Rattle.std.proofs.Common.{ℕ, ◌≡◌, arith}
 use Rattle.std.proofs.lemmas.Grind.{common_steps}
 use Rattle.surveys.specs.Shrinking.{ComesWell, without_traitor}
-use Rattle.surveys.proofs.Parts.{none_of, some_of, upto_more}
+use Rattle.surveys.proofs.SmallerCampaigns.{none_of, some_of, upto_more}
 use Rattle.surveys.proofs.reductions.fewer_traitors.Goals as goal
 
 pub loop-place-preserved : goal.loop-place-preserved

@@ -1,6 +1,6 @@
 use Rattle.std.proofs.Common.{◌∙◌, arith, refl}
 use Rattle.surveys.specs.Shrinking.{all_end, whole}
-use Rattle.surveys.proofs.Parts.{part_on, refused_on}
+use Rattle.surveys.proofs.SmallerCampaigns.{part_on, refused_on}
 use Rattle.surveys.proofs.Reducing.{one_more, walk_keeps}
 use Rattle.std.proofs.lemmas.Grind.{common_steps}
 use Rattle.std.proofs.lemmas.Result.{err_from_is_err_and}

@@ -1,6 +1,6 @@
 use Rattle.surveys.specs.Shrinking.{IsStillBroken, lies_end, whole, without_lie}
 use Rattle.std.proofs.Common.{◌≡◌, arith}
-use Rattle.surveys.proofs.Parts.{none_of, out_on, some_of, refused_on}
+use Rattle.surveys.proofs.SmallerCampaigns.{none_of, out_on, some_of, refused_on}
 use Rattle.surveys.proofs.Reducing.{fewer_lies_left, still_there, with_lie_of, without_lie_of}
 use Rattle.std.proofs.lemmas.Grind.{common_steps}
 use Rattle.std.proofs.lemmas.Result.{err_from_is_err_and}

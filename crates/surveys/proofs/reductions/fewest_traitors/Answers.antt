@@ -1,6 +1,6 @@
 use Rattle.surveys.specs.Shrinking.{IsStillBroken, traitors_end, whole, without_traitor}
 use Rattle.std.proofs.Common.{◌≡◌, arith}
-use Rattle.surveys.proofs.Parts.{none_of, out_on, some_of, refused_on}
+use Rattle.surveys.proofs.SmallerCampaigns.{none_of, out_on, some_of, refused_on}
 use Rattle.surveys.proofs.Reducing.{fewer_left, with_one, without_one}
 use Rattle.std.proofs.lemmas.Grind.{common_steps}
 use Rattle.std.proofs.lemmas.Result.{err_from_is_err_and}

@@ -1,4 +1,4 @@
-use Rattle.surveys.proofs.Parts.{still_lie, refused_lie}
+use Rattle.surveys.proofs.SmallerCampaigns.{still_lie, refused_lie}
 use Rattle.std.proofs.lemmas.Result.{err_from_is_err_and}
 use Rattle.surveys.proofs.reductions.less_lie.Goals as goal
 

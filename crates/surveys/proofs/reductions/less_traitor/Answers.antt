@@ -1,4 +1,4 @@
-use Rattle.surveys.proofs.Parts.{still_traitor, refused_traitor}
+use Rattle.surveys.proofs.SmallerCampaigns.{still_traitor, refused_traitor}
 use Rattle.std.proofs.lemmas.Result.{err_from_is_err_and}
 use Rattle.surveys.proofs.reductions.less_traitor.Goals as goal
 
