@@ -7,11 +7,13 @@ import { Breaking } from "./breaking.js";
 import { Orders } from "./orders.js";
 import { Pane, ending, narration, values } from "./pane.js";
 import { Setup } from "./setup.js";
+import { Tools } from "./tools.js";
 import { ask } from "./server.js";
 
 const WAIT = 60; // milliseconds after the last change
 const PREDICT = "predict";
-const FIRST_STRATEGY = "splits";
+const FIRST_STRATEGY = "inverts";
+const EXERCISE = "exercise=";
 
 const page = {
   campaign: first(),
@@ -26,7 +28,7 @@ const page = {
 };
 const main = new Pane(page);
 const other = new Pane(page);
-let setup, editor, breaking, orders;
+let setup, editor, breaking, orders, tools;
 
 /* ---- playing */
 
@@ -174,8 +176,9 @@ async function save(command, name, type) {
   return answer.ok ? download(name, type, answer.text) : complain(answer);
 }
 
-/* Opens what the link's fragment says: nothing, `predict`, a campaign, or `predict,` and a campaign. */
+/* Opens what the link's fragment says: nothing, `predict`, a campaign, `predict,` and a campaign, or an exercise. */
 async function openLink() {
+  if (location.hash.startsWith(`#${EXERCISE}`)) return openExercise(location.hash.slice(1 + EXERCISE.length));
   const [mode, rest] = /^(predict(?:,|$))?(.*)$/s.exec(location.hash.slice(1)).slice(1);
   let campaign = first();
   let isDamaged = false;
@@ -185,6 +188,22 @@ async function openLink() {
   await load(campaign);
   if (isDamaged && !main.failed) complain({ why: "The link is damaged. This is a new campaign." });
 }
+
+/* Opens an exercise's file of examples/exercises: a campaign, a traitor's program, a message table, or a chronicle. */
+async function openExercise(name) {
+  const file = Object.keys(setup.exercises).find((one) => one.replace(/\.\w+$/, "") === name);
+  const text = setup.exercises[file];
+  const ending = file?.split(".").pop();
+  page.predict = false;
+  await load((ending === "toml" && fromScenario(text)) || (ending === "asm" && mended(text)) || (ending === "chronicle" && setup.story("two_faced")) || first());
+  if (file === undefined) complain({ why: `There is no exercise ${name.slice(0, 40)}. This is a new campaign.` });
+  if (ending === "asm") editor.open(3, text);
+  if (ending === "table") await tools.table(text);
+  if (ending === "chronicle") tools.chronicle(text);
+}
+
+/* A campaign of four generals, the last of whom has this program. */
+const mended = (text) => ({ ...first(), n: 4, traitors: { 3: { text } } });
 
 /* Shows another campaign from its beginning. */
 function load(campaign) {
@@ -268,6 +287,7 @@ async function begin() {
     strategy: FIRST_STRATEGY in known.strategies ? FIRST_STRATEGY : Object.keys(known.strategies)[0],
   });
   breaking = new Breaking(page, known.searches, load);
+  tools = new Tools(page);
   orders = new Orders(page, () => {
     page.step = 0;
     play();

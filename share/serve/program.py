@@ -45,15 +45,15 @@ class Programs:
     def has(self, name):
         return self.paths[name] is not None
 
-    def run(self, name, words, text, schedule=None):
+    def run(self, name, words, text, second=None):
         """Returns the answer of a program that reads this text from standard input.
 
-        A word None means the file with the schedule, which is the only file that the process can open."""
+        A word None means a file with the second text. The process can have only one file open, so it opens this one."""
         out, err = os.memfd_create("out"), os.memfd_create("err")
-        extra = [os.memfd_create("schedule")] if schedule is not None else []
+        extra = [os.memfd_create("second")] if second is not None else []
         try:
             for file in extra:
-                write_all(file, schedule)
+                write_all(file, second)
             named = [f"/dev/fd/{extra[0]}" if word is None else word for word in words]
             status = self.ended([self.paths[name], *named], text, (out, err), extra)
             length = os.fstat(out).st_size
