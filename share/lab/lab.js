@@ -6,7 +6,7 @@ import { Editor } from "./editor.js";
 import { Breaking } from "./breaking.js";
 import { Orders } from "./orders.js";
 import { Pane, ending, narration, values } from "./pane.js";
-import { Setup } from "./setup.js";
+import { Setup, comments } from "./setup.js";
 import { Tools } from "./tools.js";
 import { ask } from "./server.js";
 
@@ -196,6 +196,8 @@ async function openExercise(name) {
   const ending = file?.split(".").pop();
   page.predict = false;
   await load((ending === "toml" && fromScenario(text)) || (ending === "asm" && mended(text)) || (ending === "chronicle" && setup.story("two_faced")) || first());
+  $("task").textContent = file === undefined ? "" : comments(text, ending === "asm" ? ";" : "#");
+  $("task").hidden = $("task").textContent === "";
   if (file === undefined) complain({ why: `There is no exercise ${name.slice(0, 40)}. This is a new campaign.` });
   if (ending === "asm") editor.open(3, text);
   if (ending === "table") await tools.table(text);
@@ -210,6 +212,7 @@ function load(campaign) {
   page.campaign = campaign;
   page.step = 0;
   $("predict").checked = page.predict;
+  $("task").hidden = true;
   main.refresh();
   other.refresh();
   editor.close();

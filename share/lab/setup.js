@@ -7,7 +7,7 @@ const MOST_WORDS = 64;
 const label = (name) => name.replaceAll("_", " ");
 
 /* The comments at the head of a text, without their marks. */
-function comments(text, mark) {
+export function comments(text, mark) {
   const lines = text.split("\n");
   const end = lines.findIndex((line) => !line.startsWith(mark));
   return lines.slice(0, end < 0 ? lines.length : end).map((line) => line.slice(mark.length).trim()).join(" ");
