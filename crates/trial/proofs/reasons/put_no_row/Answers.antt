@@ -15,5 +15,5 @@ returns c =
     let few = c.labels-labels.ensures.relayed in
     let lt : c.args.rank < length (relayed c.args.outbox.now.relay) = omega (arith, past, from, few) in
     on_ok_weaker c.write.result
-    (λ e. unreceived c.args.outbox.now.relay c.args.rank c.args.orders (string_bytes c.args.out.now) (string_bytes c.write.new.self) (string_bytes c.in_ok-label.label) lt (ne_eqb c.args.orders 0 c.if-orders-eq0.false) (c.in_ok-label.ensures tt) e)
+    (λ e. unreceived c.args.outbox.now.relay c.args.rank c.args.orders (string_bytes c.args.out.now) (string_bytes c.write.new.self) (string_bytes c.in_ok-label.label) lt (ne_eqb c.args.orders 0 c.if-orders-eq0.false) c.in_ok-label.ensures e)
     c.write.ensures.bytes
