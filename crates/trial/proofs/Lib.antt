@@ -11,3 +11,4 @@ pub mod ExitLemmas
 pub mod TraceLaws
 pub mod SlipLemmas
 pub mod ReasonLaws
+pub mod RowReasons
