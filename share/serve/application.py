@@ -86,7 +86,7 @@ class Laboratory:
         """Has a program make an answer. What it refuses is an answer too; the header Byzlab-Status is its exit status."""
         if not self.programs.has(command.program):
             raise Refused("404 Not Found", "The program that searches for campaigns is not built: run `./byzlab survey` once.")
-        text = self.late_order if call.text is None else call.text
+        text = self.late_order if call.has_late_order() else call.text or b""
         answer = self.turns.take(self.programs.run, command.program, call.words, text, call.second)
         if answer.status not in (0, 1):
             raise Refused("422 Unprocessable Content", "The program could not answer with the memory that it has.")

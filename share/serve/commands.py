@@ -7,11 +7,15 @@ MOST_GENERALS = 13
 
 
 class Call:
-    """The words of a command line, the text for standard input (None for the server's own), and that of a second file (or None).
-    The word None is the name of that file."""
+    """The words of a command line, the text for standard input (or None), and that of a second file (or None). The word None is
+    the name of that file."""
 
     def __init__(self, words, text, second):
         self.words, self.text, self.second = words, text, second
+
+    def has_late_order(self):
+        """Returns whether a survey's traitors have the program of examples/surveys/late_order.asm, as standard input."""
+        return "--adversary" in self.words
 
 
 class Command:
@@ -52,6 +56,23 @@ class Command:
         raise Refused("400 Bad Request", "The command does not take this word or number.")
 
 
+class Search(Command):
+    """The search for a campaign that breaks. It takes both numbers, and plays as many campaigns as the time allows."""
+
+    def call(self, request):
+        found = super().call(request)
+        if not {"generals", "bound"} <= set(request):
+            raise Refused("400 Bad Request", "A search needs the generals and the bound.")
+        found.words += ["--seeds", f"1..{seeds(request['generals'], request['bound'])}"]
+        return found
+
+
+def seeds(generals, bound):
+    if bound < 4:
+        return 300
+    return 30 if generals < 12 else 10
+
+
 def encoded(value):
     """Returns a text of a request in UTF-8."""
     if not isinstance(value, str):
@@ -77,5 +98,5 @@ COMMANDS = {
     "audit": Command(["audit", "--explain"], TEXT, files={"chronicle": [None]}),
     "book": Command(["book", "--explain"], TEXT, {"traitor": ("--traitors", 0, MOST_GENERALS - 1)}, is_scenario=False),
     "explore": Command(["explore"], TEXT, {"most": ("--most", 1, 100000)}),
-    "break": Command(["--break", "--seeds", "1..300"], TEXT, CAMPAIGNS, KINDS_OF_CAMPAIGNS, program="surveyor"),
+    "break": Search(["--break"], TEXT, CAMPAIGNS, KINDS_OF_CAMPAIGNS, program="surveyor"),
 }
