@@ -21,6 +21,7 @@ export class Editor {
     $("program").addEventListener("scroll", () => this.place());
     for (const event of ["keyup", "click", "focus"]) $("program").addEventListener(event, () => this.place());
     $("close").addEventListener("click", () => this.close());
+    $("apply").addEventListener("click", () => this.apply());
   }
 
   open(general, text) {
@@ -61,6 +62,16 @@ export class Editor {
     $("under").style.top = `${start + height * this.fault.line - (isAbove ? height + $("under").offsetHeight : 0)}px`;
   }
 
+  /* Makes the edit that the program's help describes. */
+  apply() {
+    const lines = $("program").value.split("\n");
+    lines.splice(this.edit.line - 1, this.edit.removed, ...this.edit.added);
+    $("program").value = lines.join("\n");
+    $("apply").hidden = true;
+    $("program").dispatchEvent(new Event("input"));
+    $("program").focus({ preventScroll: true });
+  }
+
   async check() {
     const text = $("program").value;
     const answer = await ask("check", { text });
@@ -70,12 +81,25 @@ export class Editor {
     $("verdict").textContent = said.verdict;
     $("verdict").classList.toggle("refused", !answer.ok);
     $("program").setAttribute("aria-invalid", String(!answer.ok));
+    this.edit = said.fault ? editOf(said.fault.more, said.facts, text.split("\n")) : null;
+    $("apply").hidden = this.edit === null;
     $("facts").hidden = said.facts === "";
     $("facts").lastElementChild.textContent = said.facts;
     const more = (said.fault?.more ?? []).map((line) => make("span", {}, line));
     $("under").replaceChildren(...(said.fault ? [make("b", {}, said.fault.sentence), ...more] : []));
     this.number();
   }
+}
+
+/* The edit of a help such as "with `and r2, 7` before unit 4 the program is accepted", or null. Facts say which line a unit has.
+   A line with a name is left to the writer. */
+function editOf(more, facts, lines) {
+  const found = more.map((line) => /^help: with (`.*`) (before|in place of) unit (\d+)/.exec(line)).find(Boolean);
+  const line = Number(found ? new RegExp(`^${found[3]} \\(line (\\d+)\\)`, "m").exec(facts)?.[1] : NaN);
+  if (!line || /^\s*\w+:/.test(lines[line - 1])) return null;
+  const indent = /^\s*/.exec(lines[line - 1])[0];
+  const added = [...found[1].matchAll(/`([^`]+)`/g)].map(([, instruction]) => indent + instruction);
+  return { line, removed: found[2] === "before" ? 0 : 1, added };
 }
 
 function accepted(text) {

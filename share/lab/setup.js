@@ -37,6 +37,7 @@ export class Setup {
   choose(name) {
     const campaign = this.story(name);
     if (campaign === null) return;
+    $("told").open = true;
     this.on.load(campaign);
   }
 
