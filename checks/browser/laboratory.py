@@ -457,10 +457,35 @@ def strange_links(browser, address, wrong):
     for fragment in ("x", "%00", "eyJ9", "A" * 5000, "predict,zz", "%F0%9F", "a b"):
         with Led(browser, f"{address}#{fragment}") as tab:
             wrong.unless(f"the link {fragment[:9]}: generals", len(tab.all("#generals button", "1")), 3)
-            wrong.unless(f"the link {fragment[:9]}: a fault", tab.ask("!document.querySelector('#fault').hidden"))
+            wrong.unless(f"the link {fragment[:9]}: a fault", tab.until("!document.querySelector('#fault').hidden"))
     with Led(browser, f"{address}#predict") as tab:
         tab.to_the_end()
         wrong.unless("#predict", set(tab.decisions().values()), {"?"})
+
+
+def exercises(browser, address, wrong):
+    """Each exercise's link opens its file, and the program answers what it contains."""
+    folder = os.path.join(TOP, "examples", "exercises")
+    for file in sorted(one for one in os.listdir(folder) if os.path.isfile(os.path.join(folder, one))):
+        name, ending = os.path.splitext(file)
+        with open(os.path.join(folder, file), encoding="utf-8") as opened:
+            text = opened.read()
+        with Led(browser, f"{address}#exercise={name}") as tab:
+            wrong.unless(f"the exercise {name}: no fault", tab.ask("document.querySelector('#fault').hidden") or ending == ".asm")
+            if ending == ".toml":
+                numbers = [re.search(rf"^{key} = (\d+)", text, re.M)[1] for key in ("generals", "bound", "commander", "order")]
+                wrong.unless(f"the exercise {name}: numbers", tab.ask("['n', 'm', 'c', 'o'].map((id) => document.querySelector(`#${id}`).value)"), numbers)
+                wrong.unless(f"the exercise {name}: traitors", len(tab.all("#generals [aria-pressed=true]", "1")) > 0 or "[[traitor]]" not in text)
+            elif ending == ".asm":
+                wrong.unless(f"the exercise {name}: its program", tab.until("document.querySelector('#verdict').classList.contains('refused')"))
+            elif ending == ".table":
+                wrong.unless(f"the exercise {name}: its table", tab.until("/decision|refused/.test(document.querySelector('#decided').textContent)"))
+            else:
+                tab.click("#audit")
+                wrong.unless(f"the exercise {name}: its chronicle", tab.until("document.querySelector('#audited').textContent.startsWith('refused X3')"))
+            wrong.add(*messages(tab))
+            if ending in (".table", ".chronicle"):
+                wrong.look(tab, f"the exercise {name}")
 
 
 def lost(browser, wrong):
@@ -507,7 +532,7 @@ def judge(browser, asked, questions, keep):
             wrong.look(tab, "large type")
         for place, (name, text) in enumerate(stories().items()):
             story(browser, address, name, text, wrong, place)
-        for part in (edited, compared, explored, broken, by_keys, strange_links, on_paper):
+        for part in (edited, compared, explored, broken, by_keys, strange_links, exercises, on_paper):
             part(browser, address, wrong)
     lost(browser, wrong)
     return wrong.lines, wrong.looked

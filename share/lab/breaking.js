@@ -2,7 +2,7 @@
 import { fromScenario, isEnough, isWithinBound, scenario, traitors } from "./campaign.js";
 import { isBroken } from "./chronicle.js";
 import { $, make } from "./dom.js";
-import { about, counted } from "./pane.js";
+import { about, counted, needed } from "./pane.js";
 import { ask } from "./server.js";
 
 const THEOREM = {
@@ -51,7 +51,7 @@ export class Breaking {
     } else if (isEnough(campaign)) {
       $("promise").textContent = "With the bound 0 the generals provide for no traitor: each obeys what the commander sends.";
     } else {
-      $("promise").textContent = `Nothing is promised: with oral messages ${counted(campaign.m, "traitor")} ${campaign.m === 1 ? "takes" : "take"} at least ${3 * campaign.m + 1} generals, and there are ${campaign.n}.`;
+      $("promise").textContent = `Nothing is promised: ${needed(campaign)}.`;
     }
   }
 

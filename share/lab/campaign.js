@@ -60,12 +60,28 @@ export function fromScenario(text) {
   read.rule = head.match(/^rule *= *"(\w+)"/m)?.[1] ?? "majority";
   read.signed = /^messages *= *"signed"/m.test(head);
   for (const table of tables) {
-    const asm = table.match(/^asm *= *"""\r?\n?((?:[^"\\]|\\.|"(?!""))*)"""/ms)?.[1];
-    if (asm === undefined) return null;
-    read.traitors[number("general", table)] = { text: asm.replace(/\\(["\\])/g, "$1") };
+    const traitor = fromTable(table);
+    if (traitor === null) return null;
+    const several = table.match(/^generals *= *\[([^\]]*)\]/m)?.[1].match(/\d+/g);
+    for (const general of several ?? [number("general", table)]) read.traitors[general] = { ...traitor };
   }
   const found = inRange(read);
   return found.n === read.n && found.m === read.m && found.c === read.c && found.o === read.o ? found : null;
+}
+
+/* The program of a traitor's table: assembly in it, or a strategy that it names, or null. */
+function fromTable(table) {
+  const asm = table.match(/^asm *= *"""\r?\n?((?:[^"\\]|\\.|"(?!""))*)"""/ms)?.[1];
+  if (asm !== undefined) return { text: asm.replace(/\\(["\\])/g, "$1") };
+  const name = table.match(/^asm_file *= *"(?:[./\w]*\/)?strategies\/(\w+)\.asm"/m)?.[1];
+  return name !== undefined && Object.hasOwn(strategies, name) ? { name } : null;
+}
+
+/* A schedule as a line that one can type, with a slash between rounds, and back. */
+export const inLine = (schedule) => (schedule ?? "").trimEnd().replaceAll("\n", " / ");
+export function fromLine(line) {
+  const lines = line.split("/").map((part) => part.trim().replace(/\s+/g, " "));
+  return lines.every((part) => part === "") ? null : `${lines.join("\n")}\n`;
 }
 
 /* ---- links */

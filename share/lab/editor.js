@@ -1,6 +1,6 @@
 /* The editor of a traitor's program: assembly with line numbers, checked as one types. */
 import { $, later, make } from "./dom.js";
-import { ask } from "./server.js";
+import { ask, capital } from "./server.js";
 
 const WAIT = 300; // milliseconds after the last key
 
@@ -99,7 +99,7 @@ function refused(text) {
 function byLine(lines) {
   const sentence = lines.find((line) => line.startsWith("error: "))?.slice("error: ".length);
   const more = lines.filter((line) => /^\s*= (?:help|note): /.test(line)).map((line) => line.replace(/^\s*= /, ""));
-  return { sentence, more, facts: [] };
+  return { sentence: sentence && capital(sentence), more, facts: [] };
 }
 
 /* A refusal of the verifier: facts about each unit, then `UNIT (line LINE) INSTRUCTION: SENTENCE`, and lines of note and help. */
@@ -108,5 +108,5 @@ function byUnit(lines, unit) {
   const at = lines.findLastIndex((one) => one.startsWith(`${unit} (line `) && !one.includes(" ; ") && !one.includes(" -> ") && one.includes(": "));
   if (at < 0) return { line, more: [], facts: lines.slice(1) };
   const sentence = lines[at].slice(lines[at].indexOf(": ") + 2);
-  return { line, sentence: sentence[0].toUpperCase() + sentence.slice(1), more: lines.slice(at + 1), facts: lines.slice(1, at) };
+  return { line, sentence: capital(sentence), more: lines.slice(at + 1), facts: lines.slice(1, at) };
 }

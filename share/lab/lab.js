@@ -6,12 +6,14 @@ import { Editor } from "./editor.js";
 import { Breaking } from "./breaking.js";
 import { Orders } from "./orders.js";
 import { Pane, ending, narration, values } from "./pane.js";
-import { Setup } from "./setup.js";
+import { Setup, comments } from "./setup.js";
+import { Tools } from "./tools.js";
 import { ask } from "./server.js";
 
 const WAIT = 60; // milliseconds after the last change
 const PREDICT = "predict";
-const FIRST_STRATEGY = "splits";
+const FIRST_STRATEGY = "inverts";
+const EXERCISE = "exercise=";
 
 const page = {
   campaign: first(),
@@ -26,7 +28,7 @@ const page = {
 };
 const main = new Pane(page);
 const other = new Pane(page);
-let setup, editor, breaking, orders;
+let setup, editor, breaking, orders, tools;
 
 /* ---- playing */
 
@@ -34,9 +36,7 @@ async function play() {
   breaking.show();
   const failures = await Promise.all([main.play(page.campaign), compared() ? other.play(compared()) : null]);
   const failure = failures.find(Boolean);
-  $("fault").hidden = !failure;
-  $("fault").firstElementChild.textContent = failure?.why ?? "";
-  $("again").hidden = !failure?.lost;
+  complain(failure);
   page.guesses = {};
   page.revealed = !page.predict;
   if (main.course) page.step = Math.min(page.step, last());
@@ -44,6 +44,17 @@ async function play() {
   show();
 }
 const playSoon = later(WAIT, play);
+
+/* Says what went wrong (a failure with `why`, or null), and what can be done about it. */
+function complain(failure) {
+  const culprit = Number(/^traitor (\d+) /.exec(failure?.place ?? "")?.[1] ?? NaN);
+  const isProgram = isTraitor(page.campaign, culprit);
+  $("fault").hidden = !failure;
+  $("fault").firstElementChild.textContent = !failure ? "" : isProgram ? `The program of general ${culprit} is rejected. ${failure.why}` : failure.why;
+  $("again").hidden = !failure?.lost;
+  $("culprit").hidden = !isProgram || editor.general === culprit;
+  $("culprit").dataset.general = culprit;
+}
 
 const last = () => main.course.rounds.length + 1;
 const hasDecisions = () => main.course !== null && page.step >= last();
@@ -162,33 +173,46 @@ async function save(command, name, type) {
   if (command === null) return download(name, type, text);
   const { schedule } = page.campaign;
   const answer = await ask(command, schedule === null ? { text } : { text, schedule });
-  if (answer.ok) return download(name, type, answer.text);
-  $("fault").hidden = false;
-  $("fault").firstElementChild.textContent = answer.why;
-  return undefined;
+  return answer.ok ? download(name, type, answer.text) : complain(answer);
 }
 
-/* Opens what the link's fragment says: nothing, `predict`, a campaign, or `predict,` and a campaign. */
+/* Opens what the link's fragment says: nothing, `predict`, a campaign, `predict,` and a campaign, or an exercise. */
 async function openLink() {
+  if (location.hash.startsWith(`#${EXERCISE}`)) return openExercise(location.hash.slice(1 + EXERCISE.length));
   const [mode, rest] = /^(predict(?:,|$))?(.*)$/s.exec(location.hash.slice(1)).slice(1);
   let campaign = first();
   let isDamaged = false;
   if (rest) campaign = await unpacked(rest).catch(() => ((isDamaged = true), first()));
   else if (mode) campaign = setup.story("three_generals") ?? first();
   page.predict = mode !== undefined;
-  load(campaign);
-  if (isDamaged) {
-    $("fault").hidden = false;
-    $("fault").firstElementChild.textContent = "The link is damaged. This is a new campaign.";
-  }
+  await load(campaign);
+  if (isDamaged && !main.failed) complain({ why: "The link is damaged. This is a new campaign." });
 }
+
+/* Opens an exercise's file of examples/exercises: a campaign, a traitor's program, a message table, or a chronicle. */
+async function openExercise(name) {
+  const file = Object.keys(setup.exercises).find((one) => one.replace(/\.\w+$/, "") === name);
+  const text = setup.exercises[file];
+  const ending = file?.split(".").pop();
+  page.predict = false;
+  await load((ending === "toml" && fromScenario(text)) || (ending === "asm" && mended(text)) || (ending === "chronicle" && setup.story("two_faced")) || first());
+  $("task").textContent = file === undefined ? "" : comments(text, ending === "asm" ? ";" : "#");
+  $("task").hidden = $("task").textContent === "";
+  if (file === undefined) complain({ why: `There is no exercise ${name.slice(0, 40)}. This is a new campaign.` });
+  if (ending === "asm") editor.open(3, text);
+  if (ending === "table") await tools.table(text);
+  if (ending === "chronicle") tools.chronicle(text);
+}
+
+/* A campaign of four generals, the last of whom has this program. */
+const mended = (text) => ({ ...first(), n: 4, traitors: { 3: { text } } });
 
 /* Shows another campaign from its beginning. */
 function load(campaign) {
   page.campaign = campaign;
   page.step = 0;
   $("predict").checked = page.predict;
-  $("fault").hidden = true;
+  $("task").hidden = true;
   main.refresh();
   other.refresh();
   editor.close();
@@ -218,6 +242,7 @@ function listen() {
   clicks["save-page"] = () => save("page", "campaign.html", "text/html");
   clicks["save-picture"] = () => save("draw", "campaign.svg", "image/svg+xml");
   clicks.punctual = changed;
+  clicks.culprit = () => setup.on.edit(Number($("culprit").dataset.general));
   for (const [id, act] of Object.entries(clicks)) $(id).addEventListener("click", act);
   $("predict").addEventListener("change", () => {
     page.predict = $("predict").checked;
@@ -245,9 +270,8 @@ async function openFile() {
   const [file] = $("open").files;
   if (!file) return;
   const campaign = fromScenario(await file.text());
-  if (campaign) return void load(campaign);
-  $("fault").hidden = false;
-  $("fault").firstElementChild.textContent = `${file.name} is not a scenario that this page can edit: its programs must be written in it as assembly.`;
+  if (campaign) load(campaign);
+  else complain({ why: `${file.name} is not a scenario that this page can edit: its programs must be written in it as assembly.` });
 }
 
 async function begin() {
@@ -266,6 +290,7 @@ async function begin() {
     strategy: FIRST_STRATEGY in known.strategies ? FIRST_STRATEGY : Object.keys(known.strategies)[0],
   });
   breaking = new Breaking(page, known.searches, load);
+  tools = new Tools(page);
   orders = new Orders(page, () => {
     page.step = 0;
     play();
@@ -279,5 +304,5 @@ async function begin() {
 begin().catch(() => {
   $("fault").hidden = false;
   $("fault").firstElementChild.textContent = "The laboratory does not answer. Load this page again.";
-  $("again").hidden = true;
+  $("again").hidden = $("culprit").hidden = true;
 });

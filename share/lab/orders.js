@@ -1,5 +1,5 @@
 /* "All orders": every order in which the traitors can use the board, and a schedule for each outcome. */
-import { lieutenants, scenario } from "./campaign.js";
+import { fromLine, inLine, lieutenants, scenario } from "./campaign.js";
 import { $, make } from "./dom.js";
 import { ask } from "./server.js";
 
@@ -11,11 +11,19 @@ export class Orders {
     this.page = page;
     this.play = play;
     $("explore").addEventListener("click", () => this.explore());
+    $("schedule").addEventListener("change", () => this.choose(fromLine($("schedule").value)));
   }
 
   clear() {
     $("explored").textContent = "";
     $("outcomes").replaceChildren();
+    $("schedule").value = inLine(this.page.campaign.schedule);
+  }
+
+  choose(schedule) {
+    this.page.campaign.schedule = schedule;
+    $("schedule").value = inLine(schedule);
+    this.play();
   }
 
   async explore() {
@@ -40,11 +48,7 @@ export class Orders {
   outcome({ count, alike, obeyed, decisions, schedule }) {
     const said = lieutenants(this.page.campaign).map((general, place) => `${general}: ${decisions[place]}`).join(", ");
     const end = alike === "no" ? "broken, they decide differently" : obeyed === "no" ? "broken, they disobey" : "they agree";
-    const choose = () => {
-      this.page.campaign.schedule = schedule;
-      this.play();
-    };
-    return make("li", {}, `${count === "1" ? "1 order" : `${count} orders`}: ${end}. Decisions: ${said}. `, make("button", { type: "button", onclick: choose }, "Step through"));
+    return make("li", {}, `${count === "1" ? "1 order" : `${count} orders`}: ${end}. Decisions: ${said}. `, make("button", { type: "button", onclick: () => this.choose(schedule) }, "Step through"));
   }
 }
 

@@ -202,9 +202,12 @@ export function ending({ verdict: { alike, obeyed } }) {
 /* What was promised of a campaign. */
 function promise(course, campaign) {
   if (course.verdict.bound) return "With so few traitors they always agree, and obey a loyal commander: this is proved.";
-  if (!isEnough(campaign)) return `Nothing was promised: with oral messages ${counted(campaign.m, "traitor")} ${campaign.m === 1 ? "takes" : "take"} at least ${3 * campaign.m + 1} generals.`;
+  if (!isEnough(campaign)) return `Nothing was promised: ${needed(campaign)}.`;
   return `Nothing was promised: there are more traitors than the bound of ${campaign.m}.`;
 }
+
+/* How many generals the bound takes. */
+export const needed = ({ m }) => `with oral messages it takes at least ${3 * m + 1} generals to tolerate ${counted(m, "traitor")}`;
 
 export const counted = (count, what) => `${count === 1 ? "one" : count} ${what}${count === 1 ? "" : "s"}`;
 

@@ -38,7 +38,8 @@ function refusal(text) {
   if (!text.startsWith("{")) return { refused: true, text, why: text.trim() };
   const { code, fault, place = "", sentence = "" } = JSON.parse(text.split("\n")[0]);
   const where = `${code ?? fault} ${place}`.trim();
-  return { refused: true, text, place, why: `${sentence ? capital(sentence) : "The program rejects this campaign"} (${where}).` };
+  return { refused: true, text, place, sentence, why: `${sentence ? capital(sentence) : "The program rejects this campaign"} (${where}).` };
 }
 
-const capital = (sentence) => sentence[0].toUpperCase() + sentence.slice(1);
+/* Begins a sentence with a capital letter, unless a register is its first word. */
+export const capital = (sentence) => (/^r\d/.test(sentence) ? sentence : sentence[0].toUpperCase() + sentence.slice(1));

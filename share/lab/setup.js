@@ -1,5 +1,5 @@
 /* The form in which a campaign is set up. */
-import { all, fromScenario, isTraitor, traitors } from "./campaign.js";
+import { MOST_GENERALS, all, fromScenario, isTraitor, traitors } from "./campaign.js";
 import { $, make, refill } from "./dom.js";
 
 const OWN = "own program";
@@ -7,7 +7,7 @@ const MOST_WORDS = 64;
 const label = (name) => name.replaceAll("_", " ");
 
 /* The comments at the head of a text, without their marks. */
-function comments(text, mark) {
+export function comments(text, mark) {
   const lines = text.split("\n");
   const end = lines.findIndex((line) => !line.startsWith(mark));
   return lines.slice(0, end < 0 ? lines.length : end).map((line) => line.slice(mark.length).trim()).join(" ");
@@ -15,12 +15,12 @@ function comments(text, mark) {
 
 export class Setup {
   /* `on` has what the form does: changed(), load(campaign), edit(general), and the first `strategy` of a traitor. */
-  constructor(page, { stories, strategies }, on) {
+  constructor(page, { stories, strategies, exercises }, on) {
     this.page = page;
     this.on = on;
     this.stories = stories;
     this.strategies = strategies;
-    this.told = null; // the campaign that the chosen story has told
+    this.exercises = exercises;
     const names = Object.keys(stories).filter((name) => fromScenario(stories[name]) !== null);
     $("story").append(make("option", { value: "" }, "a campaign of your own"), ...names.map((name) => make("option", { value: name }, label(name))));
     $("story").addEventListener("change", () => this.choose($("story").value));
@@ -37,7 +37,6 @@ export class Setup {
   choose(name) {
     const campaign = this.story(name);
     if (campaign === null) return;
-    this.told = JSON.stringify(campaign);
     this.on.load(campaign);
   }
 
@@ -64,6 +63,7 @@ export class Setup {
     $("c").replaceChildren(...all(campaign).map((general) => make("option", {}, String(general))));
     $("c").value = campaign.c;
     this.showStory();
+    if ($("liar").length === 1) $("liar").append(...[...Array(MOST_GENERALS).keys()].map((general) => make("option", {}, String(general))));
     refill($("generals"), ...all(campaign).map((general) => this.general(general)));
     refill($("traitors"), ...traitors(campaign).map((general) => this.traitor(general)));
   }
@@ -101,13 +101,14 @@ export class Setup {
     const list = make("select", { id, "data-key": id, onchange: choose }, ...options);
     list.value = traitor.text === undefined ? traitor.name : "";
     const edit = make("button", { type: "button", "data-key": `edit ${general}`, "aria-label": `Program of general ${general}`, onclick: () => this.on.edit(general) }, "Program");
-    const about = traitor.text === undefined ? this.about(traitor.name) : "He follows his own program.";
-    return make("div", { class: "card" }, make("label", { for: id }, `Traitor ${general}`), list, edit, make("p", {}, about));
+    const about = traitor.text === undefined ? this.about(traitor.name) : [make("p", {}, "He follows his own program.")];
+    return make("div", { class: "card" }, make("label", { for: id }, `Traitor ${general}`), list, edit, ...about);
   }
 
-  /* What a strategy's first comment says. */
+  /* What a strategy's comments say: the first sentence, and the rest to unfold. */
   about(name) {
-    const text = comments(this.strategies[name] ?? "", ";").replace(/^[^:.]{1,30}: /, "");
-    return text ? text[0].toUpperCase() + text.slice(1) : "";
+    const [, first, rest] = /^(.*?\.)(?:\s+(.*))?$/s.exec(comments(this.strategies[name] ?? "", ";")) ?? [];
+    if (!first) return [];
+    return [make("p", {}, first), rest ? make("details", {}, make("summary", {}, "More"), make("p", {}, rest)) : null];
   }
 }

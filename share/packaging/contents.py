@@ -21,6 +21,20 @@ DEBIAN = Layout("share/doc/byzlab", "lib/x86_64-linux-gnu", "/usr", "share/zsh/v
 
 TOOLS = {"git": "git", "strip": "binutils", "objdump": "binutils", **library.TOOLS}
 PROGRAMS = {"byzlab": "bin/byzlab", "surveyor": "bin/byzlab-survey"}
+# The server of the laboratory in a browser, and its page.
+LABORATORY = {"share/serve": "share/byzlab/serve", "share/lab": "share/byzlab/lab"}
+SERVE = """#!/usr/bin/env python3
+\"\"\"Serves the laboratory to browsers (docs/LABORATORY.md). It needs Python 3.8 or later.\"\"\"
+import os
+import runpy
+
+BIN = os.path.dirname(os.path.realpath(__file__))
+TOP = os.path.dirname(BIN)
+os.environ.setdefault("BYZLAB", os.path.join(BIN, "byzlab"))
+os.environ.setdefault("SURVEYOR", os.path.join(BIN, "byzlab-survey"))
+os.environ.setdefault("BYZLAB_EXAMPLES", os.path.join(TOP, "{examples}"))
+runpy.run_path(os.path.join(TOP, "share", "byzlab", "serve"), run_name="__main__")
+"""
 PAGES = ("README.md", "CHANGELOG.md", "CONTRIBUTING.md", "SECURITY.md", "docs", "examples")
 COPIES = {
     "share/byzlab.h": "include/byzlab.h",
@@ -47,7 +61,8 @@ def binaries(layout):
 def fill(tree, made, layout, is_changed=False):
     """Puts all files of a release into an empty folder. `is_changed` says whether the checkout differs from its commit."""
     copied = {name: os.path.normpath(os.path.join(layout.pages, name)) for name in files(*PAGES)}
-    for source, target in {**copied, **COPIES}.items():
+    served = {name: target + name[len(source) :] for source, target in LABORATORY.items() for name in files(source)}
+    for source, target in {**copied, **COPIES, **served}.items():
         shutil.copyfile(os.path.join(TOP, source), room(tree, target))
     for name, target in PROGRAMS.items():
         call(["strip", "--strip-all", "-o", room(tree, target), getattr(made, name)])
@@ -55,6 +70,7 @@ def fill(tree, made, layout, is_changed=False):
     glibc = provenance.needed_glibc([os.path.join(tree, path) for path in binaries(layout)])
     fish = "share/fish/vendor_completions.d"
     written = {
+        "bin/byzlab-serve": SERVE.format(examples=os.path.normpath(os.path.join(layout.pages, "examples"))),
         os.path.join(layout.zsh, "_byzlab"): completions.zsh(),
         os.path.join(fish, "byzlab.fish"): completions.fish(),
         os.path.join(fish, "byzlab-survey.fish"): completions.fish_survey(),

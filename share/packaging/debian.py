@@ -20,6 +20,7 @@ Architecture: amd64
 Maintainer: {maintainer}
 Installed-Size: {kilobytes}
 Depends: {depends}
+Recommends: python3, python3-waitress
 Section: science
 Priority: optional
 Description: Byzantine generals laboratory whose program is proved
@@ -27,8 +28,9 @@ Description: Byzantine generals laboratory whose program is proved
  Loyal generals follow the authors' algorithms, with oral or with signed
  messages, and each traitor is a program in BPF bytecode, which a proved
  verifier checks before it runs. byzlab-survey plays many campaigns and counts
- how they end. The library byzlab_sandbox gives the verifier and the machine
- to programs in C.
+ how they end, and byzlab-serve, which needs Python, serves the laboratory to
+ browsers. The library byzlab_sandbox gives the verifier and the machine to
+ programs in C.
 """
 COPYRIGHT = """byzlab has no licence yet: none has been granted, and the owner decides.
 
@@ -41,6 +43,8 @@ CHANGELOG = """byzlab ({version}) unstable; urgency=medium
 
  -- {maintainer}  {day}
 """
+# Only byzlab-serve needs Python, and says so, so the package recommends it and does not depend on it.
+OVERRIDES = "byzlab: python3-script-but-no-python3-dep\n"
 PAGES = "usr/share/doc/byzlab"
 
 
@@ -89,6 +93,7 @@ def describe(tree, seconds):
     write(tree, f"{PAGES}/copyright", COPYRIGHT.format(year=time.gmtime(seconds).tm_year))
     write(tree, f"{PAGES}/changelog", CHANGELOG.format(version=version(), maintainer=MAINTAINER, day=day))
     packed(os.path.join(tree, PAGES, "changelog"))
+    write(tree, "usr/share/lintian/overrides/byzlab", OVERRIDES)
     kilobytes, sums = 0, ""
     for path in plain_files(tree):
         with open(os.path.join(tree, path), "rb") as file:

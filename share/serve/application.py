@@ -10,6 +10,7 @@ from .refused import Refused
 MOST_BODY = 256 * 1024
 # What a browser sends anyway is read up to this size: otherwise it would not see the answer.
 MOST_READ = 4 * MOST_BODY
+EXERCISES = (".toml", ".asm", ".table", ".chronicle")
 KINDS = {".html": "text/html", ".css": "text/css", ".js": "text/javascript", ".svg": "image/svg+xml"}
 POLICY = "; ".join(
     (
@@ -41,7 +42,7 @@ class Laboratory:
         self.hosts = frozenset(name.lower() for name in hosts)
         self.files = pages(page)
         known = {"stories": texts(examples, ".toml", is_story), "strategies": texts(os.path.join(examples, "strategies"), ".asm")}
-        known.update(searches=programs.has("surveyor"))
+        known.update(exercises=exercises(os.path.join(examples, "exercises")), searches=programs.has("surveyor"))
         self.files["/examples.json"] = "application/json", json.dumps(known).encode()
         self.late_order = text_of(os.path.join(examples, "surveys", "late_order.asm"))
 
@@ -85,8 +86,8 @@ class Laboratory:
         """Has a program make an answer. What it refuses is an answer too; the header Byzlab-Status is its exit status."""
         if not self.programs.has(command.program):
             raise Refused("404 Not Found", "The program that searches for campaigns is not built: run `./byzlab survey` once.")
-        text = self.late_order if call.text is None else call.text
-        answer = self.turns.take(self.programs.run, command.program, call.words, text, call.schedule)
+        text = self.late_order if call.has_late_order() else call.text or b""
+        answer = self.turns.take(self.programs.run, command.program, call.words, text, call.second)
         if answer.status not in (0, 1):
             raise Refused("422 Unprocessable Content", "The program could not answer with the memory that it has.")
         kind = command.kind if answer.status == 0 else command.kind_of_refusal
@@ -150,6 +151,11 @@ def texts(folder, ending, is_wanted=lambda text: True):
             if is_wanted(text):
                 found[name[: -len(ending)]] = text
     return found
+
+
+def exercises(folder):
+    """Returns the texts of the exercises' files by their names."""
+    return {name + ending: text for ending in EXERCISES for name, text in texts(folder, ending).items()}
 
 
 def text_of(path):

@@ -7,37 +7,42 @@ MOST_GENERALS = 13
 
 
 class Call:
-    """The words of a command line, with the text for standard input (None for the server's own) and a schedule (or None)."""
+    """The words of a command line, the text for standard input (or None), and that of a second file (or None). The word None is
+    the name of that file."""
 
-    def __init__(self, words, text, schedule):
-        self.words, self.text, self.schedule = words, text, schedule
+    def __init__(self, words, text, second):
+        self.words, self.text, self.second = words, text, second
+
+    def has_late_order(self):
+        """Returns whether a survey's traitors have the program of examples/surveys/late_order.asm, as standard input."""
+        return "--adversary" in self.words
 
 
 class Command:
     """A command: its program and words, and what a request may add. `numbers` gives each number's option, least and greatest value;
-    `switches` the words that a 1 adds."""
+    `switches` the words that a 1 adds; `files` the words after the first file for the text of a second one."""
 
-    def __init__(self, words, kind, numbers=None, switches=None, program="byzlab", has_schedule=False, is_scenario=True):
-        self.words, self.kind, self.program, self.has_schedule = words, kind, program, has_schedule
+    def __init__(self, words, kind, numbers=None, switches=None, program="byzlab", files=None, is_scenario=True):
+        self.words, self.kind, self.program, self.files = words, kind, program, files or {}
         self.numbers, self.switches, self.is_scenario = numbers or {}, switches or {}, is_scenario
         self.kind_of_refusal = LINES if "--json" in words else TEXT
 
     def call(self, request):
         """Returns the call that a request asks for."""
-        words, text, schedule = list(self.words), None, None
+        words, files, text, second = list(self.words), ["-"], None, None
         for name, value in request.items():
             if name == "text" and self.program == "byzlab":
                 text = encoded(value)
-            elif name == "schedule" and self.has_schedule:
-                schedule = encoded(value)
-                words += ["--schedule", None]
+            elif name in self.files:
+                second = encoded(value)
+                files += self.files[name]
             else:
                 words += self.option(name, value)
         if text is None and self.program == "byzlab":
             raise Refused("400 Bad Request", "A request has a text.")
         if text is not None and self.is_scenario and names_file(request["text"]):
             raise Refused("422 Unprocessable Content", "A scenario in the browser contains its programs, and refers to no file.")
-        return Call([*words, "-"] if self.program == "byzlab" else words, text, schedule)
+        return Call(words + files if self.program == "byzlab" else words, text, second)
 
     def option(self, name, value):
         """Returns the words for a number of a request."""
@@ -49,6 +54,23 @@ class Command:
             elif name in self.switches and value in (0, 1):
                 return self.switches[name] * value
         raise Refused("400 Bad Request", "The command does not take this word or number.")
+
+
+class Search(Command):
+    """The search for a campaign that breaks. It takes both numbers, and plays as many campaigns as the time allows."""
+
+    def call(self, request):
+        found = super().call(request)
+        if not {"generals", "bound"} <= set(request):
+            raise Refused("400 Bad Request", "A search needs the generals and the bound.")
+        found.words += ["--seeds", f"1..{seeds(request['generals'], request['bound'])}"]
+        return found
+
+
+def seeds(generals, bound):
+    if bound < 4:
+        return 300
+    return 30 if generals < 12 else 10
 
 
 def encoded(value):
@@ -63,15 +85,18 @@ def encoded(value):
 
 OF = {"of": ("--of", 0, MOST_GENERALS - 1)}
 CAMPAIGNS = {"generals": ("--generals", 2, MOST_GENERALS), "bound": ("--bound", 0, 4)}
+SCHEDULE = {"schedule": ["--schedule", None]}
 KINDS_OF_CAMPAIGNS = {"median": ["--rule", "median"], "signed": ["--signed", "--adversary", "-"]}
 
 COMMANDS = {
     "check": Command(["check", "--asm", "--explain"], TEXT, is_scenario=False),
-    "play": Command(["play", "--json", "--explain"], LINES, OF, has_schedule=True),
-    "chronicle": Command(["play"], TEXT, has_schedule=True),
+    "play": Command(["play", "--json", "--explain"], LINES, OF, files=SCHEDULE),
+    "chronicle": Command(["play"], TEXT, files=SCHEDULE),
     "tree": Command(["tree", "--svg"], SVG, {**OF, "depth": ("--depth", 0, 4)}, {"fold": ["--fold"]}),
-    "draw": Command(["draw"], SVG, has_schedule=True),
-    "page": Command(["page"], HTML, has_schedule=True),
+    "draw": Command(["draw"], SVG, files=SCHEDULE),
+    "page": Command(["page"], HTML, files=SCHEDULE),
+    "audit": Command(["audit", "--explain"], TEXT, files={"chronicle": [None]}),
+    "book": Command(["book", "--explain"], TEXT, {"traitor": ("--traitors", 0, MOST_GENERALS - 1)}, is_scenario=False),
     "explore": Command(["explore"], TEXT, {"most": ("--most", 1, 100000)}),
-    "break": Command(["--break", "--seeds", "1..300"], TEXT, CAMPAIGNS, KINDS_OF_CAMPAIGNS, program="surveyor"),
+    "break": Search(["--break"], TEXT, CAMPAIGNS, KINDS_OF_CAMPAIGNS, program="surveyor"),
 }

@@ -1,10 +1,14 @@
 """Runs the proved program: a process for each request, with limits, in the order in which requests arrive."""
+import fcntl
 import os
 import resource
 import signal
+import struct
 import subprocess
 import tempfile
+import termios
 import threading
+import time
 from concurrent.futures import ThreadPoolExecutor
 
 from .refused import Refused
@@ -15,14 +19,17 @@ WALL = 5
 QUEUE = 64
 MEGABYTE = 1024 * 1024
 # What a process may use: seconds of the processor (it is ended softly, and a second later in any case), memory, bytes that it
-# writes. It has its standard streams, and can open no file.
+# writes.
 LIMITS = {
     resource.RLIMIT_CPU: (2, 3),
-    resource.RLIMIT_AS: (256 * MEGABYTE, 256 * MEGABYTE),
+    resource.RLIMIT_DATA: (256 * MEGABYTE, 256 * MEGABYTE),
+    resource.RLIMIT_AS: (1024 * MEGABYTE, 1024 * MEGABYTE),  # (with what its threads reserve and never use)
     resource.RLIMIT_FSIZE: (MOST_ANSWER, MOST_ANSWER),
     resource.RLIMIT_CORE: (0, 0),
 }
+# A process that has begun to read has opened its libraries and its second file. From then on it can open nothing more.
 STREAMS = 3
+BEGUN, PAUSE = 2, 0.0005
 
 
 class Answer:
@@ -45,15 +52,15 @@ class Programs:
     def has(self, name):
         return self.paths[name] is not None
 
-    def run(self, name, words, text, schedule=None):
+    def run(self, name, words, text, second=None):
         """Returns the answer of a program that reads this text from standard input.
 
-        A word None means the file with the schedule, which is the only file that the process can open."""
+        A word None means a file with the second text."""
         out, err = os.memfd_create("out"), os.memfd_create("err")
-        extra = [os.memfd_create("schedule")] if schedule is not None else []
+        extra = [os.memfd_create("second")] if second is not None else []
         try:
             for file in extra:
-                write_all(file, schedule)
+                write_all(file, second)
             named = [f"/dev/fd/{extra[0]}" if word is None else word for word in words]
             status = self.ended([self.paths[name], *named], text, (out, err), extra)
             length = os.fstat(out).st_size
@@ -73,22 +80,34 @@ class Programs:
         how.update(cwd=f"/proc/self/fd/{self.folder}", start_new_session=True)
         with subprocess.Popen(command, **how) as child:
             try:
-                # It waits for its text, so it has read nothing from the request yet. (A preexec_fn is not safe among threads.)
-                limit(child.pid, STREAMS + len(extra))
-                child.communicate(text, timeout=WALL)
+                limit(child, text)
+                child.communicate(text[1:], timeout=WALL)
             except subprocess.TimeoutExpired:
                 raise Refused("422 Unprocessable Content", f"The program took more than {WALL} seconds.") from None
-            except ProcessLookupError:
-                pass  # (it has ended before its limits were set)
+            except (ProcessLookupError, BrokenPipeError):
+                pass  # (it has ended without reading)
             finally:
                 child.kill()
         return child.returncode
 
 
-def limit(process, files):
+def limit(child, text):
+    """Sets the limits of a process, and gives it the first byte of its text, so that it has read nothing from the request without
+    all of them. (A preexec_fn is not safe among threads.)"""
     for what, most in LIMITS.items():
-        resource.prlimit(process, what, most)
-    resource.prlimit(process, resource.RLIMIT_NOFILE, (files, files))
+        resource.prlimit(child.pid, what, most)
+    if text:
+        child.stdin.write(text[:1])
+        child.stdin.flush()
+        end = time.monotonic() + BEGUN
+        while unread(child.stdin) and child.poll() is None and time.monotonic() < end:
+            time.sleep(PAUSE)
+        resource.prlimit(child.pid, resource.RLIMIT_NOFILE, (STREAMS, STREAMS))
+
+
+def unread(pipe):
+    """Returns how many bytes of a pipe have not been read."""
+    return struct.unpack("i", fcntl.ioctl(pipe, termios.FIONREAD, bytes(4)))[0]
 
 
 def write_all(file, data):

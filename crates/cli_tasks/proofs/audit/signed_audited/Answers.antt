@@ -1,0 +1,11 @@
+-- The lines of the audit.
+use Rattle.std.proofs.Common.{◌∙◌, ap}
+use Rattle.world.specs.declared.verdict.Verdict.{Verdict}
+use Rattle.cli_tasks.specs.AuditLines.{sound_lines}
+use Rattle.cli_tasks.proofs.CampaignLemmas.{is_signed_audited}
+use Rattle.cli_tasks.proofs.audit.signed_audited.Goals as goal
+
+pub returns-clause-audited : goal.returns-clause-audited
+returns-clause-audited c =
+    is_signed_audited c.args.scenario.now c.args.explained c.args.bytes.now c.in_ok-chronicle.chronicle c.in_ok-front.front.items c.in_ok-with_signed_decisions.field-0.items c.recall.ensures
+    c.in_ok-chronicle.ensures.sound c.in_ok-chronicle.ensures.chronicle (c.in_ok-front.ensures ∙ ap (λ (v : Verdict). sound_lines v) c.verdict.ensures) c.in_ok-with_signed_decisions.ensures
