@@ -13,8 +13,8 @@ from collections import namedtuple
 from checkout import TOP, Failure, files, read, version
 
 # The pages that come first, in the order in which README lists them for those who use the program.
-FIRST = ("README.md", "docs/RELEASES.md", "docs/CAMPAIGNS.md", "docs/SURVEYS.md", "docs/SANDBOX.md", "docs/SANDBOX-C.md",
-         "docs/EMBEDDING.md", "docs/FORMATS.md", "docs/PERFORMANCE.md", "docs/TRUSTED.md")
+FIRST = ("README.md", "docs/RELEASES.md", "docs/CAMPAIGNS.md", "docs/EXERCISES.md", "docs/EXERCISES-ANSWERS.md", "docs/SURVEYS.md",
+         "docs/SANDBOX.md", "docs/SANDBOX-C.md", "docs/EMBEDDING.md", "docs/FORMATS.md", "docs/PERFORMANCE.md", "docs/TRUSTED.md")
 STYLE = """
 :root { color-scheme: light dark; }
 body { margin: 0 auto; max-width: 52rem; padding: 1rem; font: 1rem/1.5 sans-serif; }
@@ -45,7 +45,7 @@ Heading = namedtuple("Heading", "level text place")
 
 def pages():
     """Returns the names of the pages in the manual's order."""
-    found = files(":(glob)*.md", ":(glob)docs/*.md", "examples/README.md")
+    found = files(":(glob)*.md", ":(glob)docs/*.md", ":(glob)examples/**/README.md")
     return [name for name in FIRST if name in found] + [name for name in found if name not in FIRST]
 
 
