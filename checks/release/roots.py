@@ -34,6 +34,11 @@ class Root:
         done = subprocess.run(words, preexec_fn=enter, env=settings, **how)
         return done.returncode, done.stdout
 
+    def with_proc(self, words):
+        """Returns the words that run a command of the system with /proc, which is mounted for this command only."""
+        script = 'mount -t proc none "$0/proc" && exec chroot "$0" "$@"'
+        return ["unshare", "--mount", "sh", "-c", script, self.folder, *words]
+
 
 def with_glibc(folder, suite):
     """Returns a system that has glibc and nothing else: no shell and no command."""
@@ -46,5 +51,5 @@ def with_glibc(folder, suite):
 
 
 def with_apt(folder, suite):
-    """Returns a minimal system that can install packages."""
-    return Root(folder, suite, ["--variant=apt"])
+    """Returns a minimal system that can install packages, with Python for byzlab-serve."""
+    return Root(folder, suite, ["--variant=apt", "--include=python3"])

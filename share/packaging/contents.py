@@ -27,7 +27,9 @@ SERVE = """#!/usr/bin/env python3
 \"\"\"Serves the laboratory to browsers (docs/LABORATORY.md). It needs Python 3.8 or later.\"\"\"
 import os
 import runpy
+import sys
 
+sys.dont_write_bytecode = True
 BIN = os.path.dirname(os.path.realpath(__file__))
 TOP = os.path.dirname(BIN)
 os.environ.setdefault("BYZLAB", os.path.join(BIN, "byzlab"))
@@ -43,6 +45,7 @@ COPIES = {
     "share/byzlab.bash": "share/bash-completion/completions/byzlab",
 }
 LINKS = {
+    "share/man/man1/byzlab-serve.1": "byzlab.1",
     "share/man/man1/byzlab-survey.1": "byzlab.1",
     "share/bash-completion/completions/byzlab-survey": "byzlab",
 }
@@ -58,6 +61,11 @@ def binaries(layout):
     return [*PROGRAMS.values(), os.path.join(layout.lib, library.soname())]
 
 
+def serve(layout):
+    """Returns the text of bin/byzlab-serve."""
+    return SERVE.format(examples=os.path.normpath(os.path.join(layout.pages, "examples")))
+
+
 def fill(tree, made, layout, is_changed=False):
     """Puts all files of a release into an empty folder. `is_changed` says whether the checkout differs from its commit."""
     copied = {name: os.path.normpath(os.path.join(layout.pages, name)) for name in files(*PAGES)}
@@ -70,7 +78,7 @@ def fill(tree, made, layout, is_changed=False):
     glibc = provenance.needed_glibc([os.path.join(tree, path) for path in binaries(layout)])
     fish = "share/fish/vendor_completions.d"
     written = {
-        "bin/byzlab-serve": SERVE.format(examples=os.path.normpath(os.path.join(layout.pages, "examples"))),
+        "bin/byzlab-serve": serve(layout),
         os.path.join(layout.zsh, "_byzlab"): completions.zsh(),
         os.path.join(fish, "byzlab.fish"): completions.fish(),
         os.path.join(fish, "byzlab-survey.fish"): completions.fish_survey(),
