@@ -13,7 +13,7 @@ export function read(text, campaign) {
     else if (line.line === "access") course.rounds.at(-1).accesses.push(line);
     else if (line.line === "row") addRow(course, campaign, line);
     else if (line.line === "chain") addChain(course, campaign, line);
-    else if (line.line === "decision") course.decisions.set(line.general, line.decision);
+    else if (line.line === "decision") explained = addDecision(course, line, explained);
     else if (line.line === "verdict") course.verdict = line;
     else if (line.line === "text") explained = addExplanation(course, line.text, explained);
   }
@@ -49,6 +49,13 @@ function add(course, message) {
   if (!course.byLabel.has(key)) course.byLabel.set(key, round.messages.at(-1));
 }
 
+/* Once more at the end of an explanation, which then explains no one. */
+function addDecision(course, { general, traitor, decision }, explained) {
+  course.decisions.set(general, decision);
+  if (explained !== null) course.why.get(explained).push(`decision ${general} ${traitor ? "traitor " : ""}${decision}`);
+  return null;
+}
+
 /* The lines about a lieutenant follow `lieutenant G` and end with his decision. */
 function addExplanation(course, text, explained) {
   const begun = /^lieutenant (\d+)$/.exec(text);
@@ -58,7 +65,7 @@ function addExplanation(course, text, explained) {
   }
   if (explained === null) return null;
   course.why.get(explained).push(text);
-  return text.startsWith("decision ") ? null : explained;
+  return explained;
 }
 
 /* The messages of a round, in groups of the same sender and receiver. */
