@@ -49,14 +49,14 @@ function add(course, message) {
   if (!course.byLabel.has(key)) course.byLabel.set(key, round.messages.at(-1));
 }
 
-/* Once more at the end of an explanation, which then explains no one. */
+/* Without signatures, the last line of an explanation is a decision too. */
 function addDecision(course, { general, traitor, decision }, explained) {
   course.decisions.set(general, decision);
   if (explained !== null) course.why.get(explained).push(`decision ${general} ${traitor ? "traitor " : ""}${decision}`);
   return null;
 }
 
-/* The lines about a lieutenant follow `lieutenant G` and end with his decision. */
+/* The lines about a lieutenant follow `lieutenant G` and end with his decision, with signatures as `decision 1 1: one order`. */
 function addExplanation(course, text, explained) {
   const begun = /^lieutenant (\d+)$/.exec(text);
   if (begun) {
@@ -65,7 +65,7 @@ function addExplanation(course, text, explained) {
   }
   if (explained === null) return null;
   course.why.get(explained).push(text);
-  return explained;
+  return text.startsWith("decision ") ? null : explained;
 }
 
 /* The messages of a round, in groups of the same sender and receiver. */
