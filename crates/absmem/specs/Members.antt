@@ -5,7 +5,8 @@ use Rattle.std.specs.List.{range_with_len}
 use Rattle.std.specs.Simd.Lanes.{mask_l}
 use Rattle.semantics.specs.Limits.{stack_size}
 
--- Returns the word with a number.
+-- Returns the word at index `number` of a cell set, which is a list of 64-bit words with one bit for each cell. Returns
+-- 0 past the last word.
 abbrev pub word_at : List ℕ → ℕ → ℕ
 word_at words number = slice_index_or words number 0
 
@@ -13,11 +14,11 @@ word_at words number = slice_index_or words number 0
 abbrev pub is_member : List ℕ → ℕ → Bool
 is_member words k = bit_at (word_at words (k / 64)) (k % 64) == 1
 
--- The list that says for each cell whether it belongs to the set.
+-- Returns a list with one flag for each cell of the stack, which says whether the cell belongs to the set.
 unfoldable pub members : List ℕ → List Bool
 members words = map (is_member words) (range_with_len 0 stack_size)
 
--- The words of a set, computed from that list.
+-- Returns the 8 words of a set, given a list with a flag for each cell of the stack, as `members` returns it.
 unfoldable pub words_of : List Bool → List ℕ
 words_of flags = map (λ number. mask_l (slice_range flags (64 * number) (64 * number + 64))) (range_with_len 0 8)
 

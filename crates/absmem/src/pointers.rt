@@ -74,7 +74,8 @@ fn left(spill: Spill, b: usize, place: usize, end: usize) -> Spill
     spill
 }
 
-/// Joins the pointers of two stacks: keeps those that both have at the same place.
+/// Joins the spilled pointers of two abstract stacks, where two paths meet. Each of the 64 eight-byte blocks of
+/// `spills` is joined with the block of `other` at the same place.
 pub(crate) fn join(spills: &mut Blocks, other: &Blocks)
     ensures size { length spills.new ≡ 64 }
     ensures each { (b : ℕ) → b < 64 →

@@ -20,11 +20,11 @@ pub record Has (numbers : NumberSet) (x : ℕ) : Type 0 where
   pub range : IsIn numbers.range.0 numbers.range.1 x
   pub bits : HasBits numbers.bits x
 
--- The set of one number.
+-- Returns the number set that contains only `n`.
 abbrev pub single : ℕ → NumberSet
 single n = record { range = range.single n; bits = known.single n }
 
--- The set of all numbers of an interval.
+-- Returns the number set with the given least and greatest number. None of the numbers' bits is known.
 abbrev pub within : ℕ × ℕ → NumberSet
 within p = record { range = p; bits = unknown W64 }
 

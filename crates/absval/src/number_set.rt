@@ -30,7 +30,7 @@ impl Model for NumberSet {
 }
 
 impl NumberSet {
-    /// Returns the set of one number.
+    /// Returns the number set that contains only `n`.
     pub fn exactly(n: u64) -> NumberSet
         ensures exact { result ≡ single n }
         ensures holds { Has result n }
@@ -41,7 +41,7 @@ impl NumberSet {
         }
     }
 
-    /// Returns the set of all numbers of a range. None of their bits is known.
+    /// Returns the number set that contains all numbers of `range`. None of their bits is known.
     pub fn within(range: Range) -> NumberSet
         ensures exact { result ≡ within range }
         ensures holds { (x : ℕ) → IsIn range.0 range.1 x → Has result x }
@@ -105,7 +105,8 @@ impl NumberSet {
         Some((row.low, row.high))
     }
 
-    /// Joins two sets: the ranges and the known bits are joined separately, so the result may have further numbers.
+    /// Returns a number set that contains every number of both sets. The ranges and the known bits are joined
+    /// separately, so the result may contain further numbers.
     pub fn join(self, other: NumberSet) -> NumberSet
         ensures exact { result ≡ joined self other }
         ensures left { (x : ℕ) → Has self x → Has result x }

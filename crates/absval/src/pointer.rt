@@ -81,7 +81,7 @@ fn difference(offset: i32, by: i64) -> Option<i32>
     within(i64::from(offset).checked_sub(by)?)
 }
 
-/// Returns the offset, or `None` if it exceeds the limit.
+/// Returns `offset` if it is from -65,536 to 65,536, and otherwise `None`.
 fn within(offset: i64) -> Option<i32>
     ensures same { IfSome result (λ r. r ≡ offset) }
     ensures limits { IfSome result IsOffset }

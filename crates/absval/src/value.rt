@@ -49,7 +49,7 @@ impl Model for Offsets {
 }
 
 impl Offsets {
-    /// Returns the offsets that consist of only one offset.
+    /// Returns the pair of bounds for a pointer whose offset is known exactly: both bounds are `offset`.
     pub fn exactly(offset: Offset) -> Offsets
         ensures { result ≡ (offset, offset) }
     {

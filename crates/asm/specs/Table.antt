@@ -151,11 +151,11 @@ mnemonics =
     words.Swap Reversed swap.Half ∷ words.Swap Reversed swap.Word ∷ words.Swap Reversed swap.Double ∷
     words.Arithmetic W64 op.Xor ∷ words.Arithmetic W32 op.Xor ∷ []
 
--- the first mnemonic of the list that has this word
+-- Returns the first mnemonic of a list that is written as `word`, if there is one.
 abbrev pub first_named : List ℕ → List Mnemonic → Option Mnemonic
 first_named word [] = None
 first_named word (m ∷ ms) = if bytes_eq (name_of m) word then Some m else first_named word ms
 
--- the mnemonic that has this word
+-- Returns the mnemonic that is written as `word`, if there is one.
 unfoldable pub mnemonic_of : List ℕ → Option Mnemonic
 mnemonic_of word = first_named word mnemonics

@@ -61,7 +61,7 @@ pub fn fit(raw: Raw) -> Option<Operand>
     }
 }
 
-/// Reads a number that is written as `+k` or `-k`.
+/// Parses a number that is written with its sign, as `+k` or `-k`. Returns `None` if the text is not such a number.
 #[tactic(auto, unfolding(crate::specs::Operand::signed_of))]
 fn signed(text: &[u8]) -> Option<Number>
     ensures { result ≡ signed_of text.now }

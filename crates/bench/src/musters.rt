@@ -13,7 +13,8 @@ use std::thread::Threads;
 use std::time::Instant;
 use threads::{Open, muster};
 
-/// Measures how long a campaign takes once with a thread for each general through all rounds, in nanoseconds.
+/// Plays a campaign once, in which each general has one thread through all rounds. Returns how long this takes, in
+/// nanoseconds. Fails if the campaign cannot be played, the clock cannot be read, or memory runs out.
 pub fn muster_once<R: Clock + Threads + Wait + Sync + AllocGlobal>(
     rt: &R,
     scenario: &Scenario,
@@ -28,9 +29,9 @@ pub fn muster_once<R: Clock + Threads + Wait + Sync + AllocGlobal>(
     }
 }
 
-/// Measures how long it takes to start a thread that does nothing for each general in each round, in nanoseconds. A
-/// campaign avoids most of this time because each general keeps his thread. The number of started threads is added to
-/// `count`.
+/// Starts `generals` threads that do nothing and waits for them, once in each of `rounds` rounds. Returns how long this
+/// takes, in nanoseconds, and adds the number of started threads to `count`. The result is to be compared with
+/// `muster_once`: there, each general keeps one thread through all rounds. Fails if the clock cannot be read.
 pub fn start_once<R: Clock + Threads + Wait + Sync>(
     rt: &R,
     generals: u8,

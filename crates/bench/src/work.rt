@@ -66,7 +66,8 @@ pub struct Material {
 }
 
 impl Material {
-    /// Creates the material for a program of this shape.
+    /// Builds the measured program of the given shape, in each form that the work needs, and a context that consists of
+    /// zero bytes.
     pub fn of(alloc: Global, shape: &MeasuredProgram) -> Result<Material> {
         let bytecode = bytecode(alloc, shape)?;
         let units = units_of(alloc, bytecode.as_slice())?;

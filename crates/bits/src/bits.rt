@@ -29,7 +29,7 @@ impl Model for Bits {
 }
 
 impl Bits {
-    /// Returns the known bits of one number: all of them.
+    /// Returns the known bits of the number `n`. All 64 bits are known, so the result contains only `n`.
     pub fn exactly(n: u64) -> Bits
         ensures exact { result ≡ single n }
         ensures holds { HasBits result n }
@@ -73,8 +73,8 @@ impl Bits {
         self.value | self.mask
     }
 
-    /// Returns the bits that both know, and know to be equal. The result contains every word that one of the two
-    /// contains.
+    /// Returns the known bits that describe both arguments: a bit is known if both know it and have the same value for
+    /// it. The result contains every word that one of the two contains.
     pub fn join(self, other: Bits) -> Bits
         ensures exact { result ≡ joined self other }
         ensures left { (x : ℕ) → HasBits self x → HasBits result x }

@@ -54,8 +54,9 @@ fn place(commander: u8, general: u8) -> usize
 }
 
 impl<'a> TreeTable<'a> {
-    /// Returns the table of these trees, which are all filled from the same messages. It is the table that `read_table`
-    /// returns for its text.
+    /// Returns the message table with the messages that `trees` contain. `trees` has one tree for each lieutenant, in
+    /// ascending order, and all of them are filled from the same messages. The result is the table that `read_table`
+    /// returns for this table's text.
     pub fn of(
         trees: &'a [Tree],
         generals: u8,

@@ -18,7 +18,8 @@ pub struct ProgressLine<'a> {
 }
 
 impl<'a> ProgressLine<'a> {
-    /// Returns the progress of a call with `all` files. Nothing is shown if there is at most one.
+    /// Returns the progress line of a call with `all` files, and starts its clock. The line is never shown if there is
+    /// at most one file.
     pub fn of(rt: &'a HostRuntime, all: usize) -> ProgressLine<'a>
         ensures all { result.all ≡ all }
         ensures alone { all ≤ 1 → result.start ≡ None }

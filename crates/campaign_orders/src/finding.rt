@@ -27,7 +27,7 @@ impl Model for DecisionGroup {
 }
 
 impl DecisionGroup {
-    /// Returns a finding whose decisions come from one order so far, which is the example.
+    /// Returns the group of the orders that lead to `decisions`, with `order` as its only order and its example.
     pub(crate) fn first(
         alloc: Global,
         decisions: &[u32],
@@ -46,7 +46,7 @@ impl DecisionGroup {
         })
     }
 
-    /// Returns a finding whose decisions come from `count` orders so far, of which the example is given.
+    /// Returns the group of the orders that lead to `decisions`, with `count` orders so far. `order` is its example.
     pub(crate) fn of(
         alloc: Global,
         decisions: &[u32],

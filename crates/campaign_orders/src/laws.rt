@@ -40,7 +40,9 @@ pub fn alike_worlds_go_on_alike()
     ensures { AlikeWorldsGoOnAlike }
 {}
 
-/// Does nothing. Its contract says that the same orders can follow in alike worlds.
+/// Does nothing. Its contract says that alike worlds have the same list of orders that can follow, both for one round
+/// and for all remaining rounds. So one state can represent both worlds. Worlds are alike if their words and parts are
+/// the same and their letters send the same.
 pub fn alike_worlds_have_one_list()
     ensures { AlikeWorldsHaveOneList }
 {}

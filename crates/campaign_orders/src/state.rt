@@ -87,8 +87,8 @@ impl State {
         Ok(State::new(world, 1, Vec::new(alloc), Vec::new(alloc)))
     }
 
-    /// Joins this state with one whose world is alike. Their numbers of beginnings are added. The world and the
-    /// beginning are those of the state with the lesser beginning.
+    /// Merges another state, whose world is alike, into this one. The result counts the beginnings of both. It has the
+    /// world and the beginning of the state whose beginning is less.
     pub(crate) fn join(&mut self, other: State)
         ensures { self.new ≡ joined self.old other }
     {

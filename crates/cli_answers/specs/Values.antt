@@ -11,19 +11,19 @@ use Rattle.text.specs.Stop.{dot}
 abbrev pub Word : Type 0
 Word = List ℕ
 
--- Returns the number, if it has at most 64 bits.
+-- Returns `n` if it is below 2^64, and otherwise nothing.
 abbrev pub within : ℕ → Option ℕ
 within n = if nat_lt n (2 ^ 64) then Some n else None
 
--- Returns a number of 64 bits, in decimal without leading zeros.
+-- Returns the number that a word is, if it is in decimal without leading zeros and below 2^64.
 abbrev pub small : Word → Option ℕ
 small word = option_and_then within (decimal_of word)
 
--- Returns a number as a value.
+-- Returns the JSON number that a word is, if it is in decimal without leading zeros and below 2^64.
 abbrev pub number_of : Word → Option Data
 number_of word = option_map (λ n. number (unsigned n)) (small word)
 
--- Returns a number as a value, or null for a dash.
+-- Returns the JSON number that a word is, or null if the word is `-`.
 abbrev pub place_of : Word → Option Data
 place_of word = if bytes_eq word (codes "-") then Some null else number_of word
 

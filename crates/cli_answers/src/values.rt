@@ -20,7 +20,8 @@ fn small(word: &[u8]) -> Option<u64>
     u64::try_from(number).ok()
 }
 
-/// Returns a number as a value, or `None` for any other word.
+/// Returns the JSON number that `word` is: decimal, without leading zeros, and below 2^64. Returns `None` for any other
+/// word.
 fn number(word: &[u8]) -> Option<Value>
     ensures { option_map view result ≡ number_of word.now }
 {

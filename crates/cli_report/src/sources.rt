@@ -43,7 +43,9 @@ pub(crate) fn document_of(alloc: Global, bytes: &[u8]) -> Result<Option<Table>, 
     }
 }
 
-/// Returns the program of this general in a scenario's table, if there is one.
+/// Returns the program's text that the first `[[traitor]]` table of `general` contains: its `asm`, or else its `code`.
+/// `tables` is the scenario, or `None` if it is not TOML. Returns `None` if the general has no such table, or if the
+/// table contains no program.
 pub(crate) fn source_in(tables: Option<&Table>, general: u8) -> Option<ProgramText<'_>>
     ensures { option_map source_of result
         ≡ option_and_then (source_by general) (option_map (λ t. table_view t.now) tables.entry) }

@@ -40,7 +40,8 @@ impl fmt::Display for TaskFailure<'_> {
 }
 
 impl<'a> TaskFailure<'a> {
-    /// Returns the failure for a rejected file of this name. It has no hint.
+    /// Returns the failure of a task that rejects the file named `file` for the reason `refusal`. The failure has no
+    /// hint.
     pub(crate) fn of(refusal: InputRefusal, file: &'a str) -> TaskFailure<'a>
         ensures { result ≡ fault_of refusal file.entry }
     {

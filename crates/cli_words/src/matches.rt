@@ -24,7 +24,7 @@ pub(crate) struct ParsedWords<'m, 'a> {
 }
 
 impl<'m, 'a> ParsedWords<'m, 'a> {
-    /// Returns the subcommand that `clap` parsed.
+    /// Returns the name of the subcommand that `clap` parsed and the values of its words. There must be a subcommand.
     pub(crate) fn of(matches: &'m ArgMatches<'a>) -> ParsedWords<'m, 'a>
         requires { IsSome (subcommand_rows_of matches.now) }
         ensures { Some (told_by result) ≡ task_met (subcommand_rows_of matches.now) }

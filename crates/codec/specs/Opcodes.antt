@@ -36,8 +36,8 @@ IsLeftOut f =
     ⊎ ((f.opcode ≡ 0x18) × (f.dst ≤ 10) × (f.src ≢ 0)
     ⊎ (f.opcode ≡ 0x85) × (f.src ≢ 0))
 
--- the opcode is reported as unknown exactly if no well-formed instruction is encoded with it and it is not one of the
--- unsupported ones; an instruction is reported as unsupported exactly if it is
+-- States that an opcode is reported as unknown exactly if no well-formed instruction has it and it is not left out as
+-- unsupported. An instruction is reported as unsupported exactly if it is an unsupported one.
 pub record OpcodesAreTold : Type 0 where
   pub unknown : (bytes : List ℕ) →
       (fault_at bytes ≡ Some faults.Opcode)

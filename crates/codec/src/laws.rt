@@ -27,8 +27,9 @@ pub fn no_fault_in_programs()
     ensures { NoFaultInPrograms }
 {}
 
-/// States that an opcode is reported as unknown exactly if no instruction is encoded with it and it is not one of the
-/// unsupported ones. An instruction is reported as unsupported exactly if it is.
+/// States when each of two faults of an encoded instruction is reported. `Opcode`, for an unknown opcode, is reported
+/// exactly if no well-formed instruction has this opcode and byzlab does not list it as unsupported. `LeftOut` is
+/// reported exactly if the instruction is an unsupported one.
 pub fn opcodes_are_told()
     ensures { OpcodesAreTold }
 {}

@@ -57,7 +57,7 @@ fn is_any(range: Range) -> bool
     range.lo == 0 && range.hi == u64::MAX
 }
 
-/// Returns the ends of the range, read as signed numbers.
+/// Returns the span whose two ends are those of `range`, each read as a signed 64-bit number in two's complement.
 fn signed(range: Range) -> NumberSpan
     ensures { result ≡ record { low = cast_signed w64 range.0; high = cast_signed w64 range.1 } }
 {

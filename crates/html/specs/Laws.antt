@@ -55,9 +55,10 @@ abbrev pub IsToldOrTooLong : ℕ → Section → List (List ℕ) → List ℕ �
 IsToldOrTooLong room s ahead own behind =
     (own ≡ s.told) ⊎ ((own ≡ s.instead) × (room < bytes_of ahead + length s.told + bytes_of behind))
 
--- Sections whose own rooms fit into the room take at most the room and their headings. A section within its own room is
--- written in full, and so are all sections if the room suffices for all. A section that is left out is longer than what
--- the others leave. Each section's text or its replacement is in the result, which is content if each section is.
+-- States how sections share the room of a page, in bytes. If their own rooms fit into it, they take at most that room
+-- and the bytes of their headings. A section that fits into its own room is written in full, and so are all sections if
+-- the page's room suffices for all. A section is replaced only if its text is longer than what the others leave. Each
+-- section's text or its replacement is in the result, which is content if each section is.
 pub record SectionsAreFitted : Type 0 where
   pub short :
       (room : ℕ) (ss : List Section) → rooms ss ≤ room → All IsRoomy ss

@@ -23,13 +23,16 @@ pub fn pages_are_elements()
     ensures { PagesAreElements }
 {}
 
-/// States how sections share a page's room.
+/// States how the sections of a page share its room, which is a number of bytes. Each section has a room of its own,
+/// and a short replacement for a text that does not fit.
 ///
-/// - All sections together take at most the room and their headings.
-/// - A section that fits in its own room is written in full, and so are all sections if the room suffices for all.
-/// - A section that is left out is longer than what the others leave.
-/// - Either the section's full text or its replacement is in the page, and the result is well-formed content if each
-///   section is.
+/// - If the sections' own rooms together fit into the page's room, all sections together take at most that room and the
+///   bytes of their headings.
+/// - A section that fits into its own room is written in full. All sections are if the page's room suffices for all of
+///   them.
+/// - A section is replaced only if its text is longer than the room that the other sections leave.
+/// - For each section, either its full text or its replacement is in the page. The result is well-formed content if
+///   each section is.
 pub fn sections_are_fitted()
     ensures { SectionsAreFitted }
 {}

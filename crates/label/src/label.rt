@@ -24,7 +24,7 @@ impl Model for Label {
 }
 
 impl Label {
-    /// Makes the label of one general, who must be below 13.
+    /// Returns the label that consists of only `general`, whose number must be below 13.
     pub fn of(general: u8) -> Label
         requires { general < 13 }
         ensures { result ≡ general ∷ [] }

@@ -31,7 +31,8 @@ impl Model for Waiting {
 }
 
 impl Waiting {
-    /// Makes a waiting program of a machine that has just made this request.
+    /// Returns the program that waits for the answer to `request`. `machine` is its state, and it must have just made a
+    /// request.
     pub(crate) fn of(request: Request, machine: Machine) -> Waiting
         requires { HasAsked machine.state }
         ensures request { result.request ≡ request }

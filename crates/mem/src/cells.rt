@@ -44,7 +44,8 @@ fn half_at(stack: &Stack, place: usize) -> Option<u16>
     Some(u16::from(low) + 256 * u16::from(high))
 }
 
-/// Reads the little-endian number in the 4 cells from `place` on. Returns `None` if one of them is not a byte.
+/// Reads the 32-bit little-endian number in the 4 cells of the stack that begin at index `place`. Returns `None` if one
+/// of the cells does not hold a byte.
 pub fn word_at(stack: &Stack, place: usize) -> Option<u32>
     requires { place + 4 ≤ 512 }
     ensures { Reads stack.now place 4 result }

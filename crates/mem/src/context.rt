@@ -59,7 +59,8 @@ impl<'a> Context<'a> {
         self.bytes
     }
 
-    /// Reads the little-endian number in the `size` bytes from `place` on.
+    /// Reads the little-endian number in the bytes of the context that begin at index `place`. `size` says how many
+    /// they are.
     pub(crate) fn number(&self, place: usize, size: Size) -> u64
         requires { place + bytes_of size ≤ 4096 }
         ensures { result ≡ little_number (take (bytes_of size) (drop place self.now)) }

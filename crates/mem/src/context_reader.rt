@@ -6,7 +6,7 @@ ghost use Rattle.mem.specs.ContextLayout.{number_told};
 
 use byteorder::{ByteOrder, LittleEndian};
 
-/// Reads the little-endian number in the 4 bytes from `place` on.
+/// Reads the 32-bit little-endian number in the 4 bytes of `bytes` that begin at index `place`.
 #[inline(always)]
 pub fn word_at(bytes: &[u8], place: usize) -> u32
     requires { place + 4 ≤ length bytes.now }
@@ -23,8 +23,9 @@ pub fn number_told(context: &[u8], word: usize) -> u32
     word_at(context, 4 * word)
 }
 
-/// Reads the value that the general took for the label with this rank. The values follow the context's eight header
-/// numbers.
+/// Reads from a context the order that the general took for the label with this rank. It is the little-endian number in
+/// the 4 bytes from index 32 + 4 * `rank` on: the context begins with eight numbers of 4 bytes, and then has one for
+/// each rank.
 #[inline(always)]
 pub fn taken_value(context: &[u8], rank: usize) -> u32
     requires { 36 + 4 * rank ≤ length context.now }

@@ -147,7 +147,8 @@ impl Stack {
         }
     }
 
-    /// Loads the number in the window of `size` bytes at `place`. Returns `NoBytes` if one of its cells is not a byte.
+    /// Reads the little-endian number in the cells of the stack that begin at index `place`. `size` says how many they
+    /// are. Fails with `NoBytes` if one of the cells does not hold a byte.
     pub(crate) fn number(&self, place: usize, size: Size) -> Result<u64, MemoryFault>
         requires { place + bytes_of size ≤ 512 }
         ensures { IsAnswer (number_in (take (bytes_of size) (drop place self.now))) result }

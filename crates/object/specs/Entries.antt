@@ -16,7 +16,7 @@ size_of form =
     if form == 0x0b then 1 else if form == 0x05 then 2 else if (form == 0x06) || (form == 0x0e) || (form == 0x1f) then 4
     else if form == 0x07 then 8 else if form == 0x1e then 16 else 0
 
--- the place, if it is not past the end
+-- Returns `place` if it is at most the length of `bytes`.
 abbrev pub within : List ℕ → ℕ → Option ℕ
 within bytes place = if nat_le place (length bytes) then Some place else None
 

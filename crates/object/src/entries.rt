@@ -58,7 +58,7 @@ fn size_of(form: u64) -> usize
     }
 }
 
-/// Returns the place `size` bytes after a place, or `None` if it is past the end.
+/// Returns `place` + `size`, or `None` if that is greater than the length of `bytes`.
 fn within(bytes: &[u8], place: usize, size: u64) -> Option<usize>
     requires { place ≤ length bytes.now }
     ensures read { result ≡ within bytes.now (place + size) }

@@ -11,7 +11,7 @@ fn has(bytes: &[u8], place: usize, size: usize) -> bool
     size <= bytes.len() && place <= bytes.len() - size
 }
 
-/// Returns the byte at a place, or 0 if there is none.
+/// Returns the byte at index `place`, or 0 if `bytes` ends before it.
 pub fn byte_at(bytes: &[u8], place: usize) -> u8
     ensures { result ≡ number_at 1 place bytes.now }
 {
@@ -22,7 +22,8 @@ pub fn byte_at(bytes: &[u8], place: usize) -> u8
     }
 }
 
-/// Returns the number in two bytes at a place, the lowest first, or 0 if they do not exist.
+/// Returns the 16-bit little-endian number in the 2 bytes from index `place` on, or 0 if `bytes` ends before the last
+/// of them.
 pub fn half_at(bytes: &[u8], place: usize) -> u16
     ensures { result ≡ number_at 2 place bytes.now }
 {
@@ -33,7 +34,8 @@ pub fn half_at(bytes: &[u8], place: usize) -> u16
     }
 }
 
-/// Returns the number in four bytes at a place, the lowest first, or 0 if they do not exist.
+/// Returns the 32-bit little-endian number in the 4 bytes from index `place` on, or 0 if `bytes` ends before the last
+/// of them.
 pub fn word_at(bytes: &[u8], place: usize) -> u32
     ensures { result ≡ number_at 4 place bytes.now }
 {
@@ -44,7 +46,8 @@ pub fn word_at(bytes: &[u8], place: usize) -> u32
     }
 }
 
-/// Returns the number in eight bytes at a place, the lowest first, or 0 if they do not exist.
+/// Returns the 64-bit little-endian number in the 8 bytes from index `place` on, or 0 if `bytes` ends before the last
+/// of them.
 pub fn double_at(bytes: &[u8], place: usize) -> u64
     ensures { result ≡ number_at 8 place bytes.now }
 {

@@ -102,7 +102,8 @@ fn first_fault(
     None
 }
 
-/// Returns the first fault of a section's relocations, if they change the function's section.
+/// Returns the fault of the first relocation in the section at `index` that changes the code of `function`. Returns
+/// `None` if there is none, or if the section does not hold relocations of the function's section.
 fn section_fault(
     object: &[u8],
     table: &[u8],
@@ -127,7 +128,8 @@ fn section_fault(
     }
 }
 
-/// Returns the first fault of all relocations that change the function's code.
+/// Returns the fault of the first relocation that changes the code of `function`, or `None` if there is none. The
+/// `count` sections of `table` are searched in ascending order. `symbols` are the bytes of the symbol table.
 pub fn first_named(
     object: &[u8],
     table: &[u8],

@@ -40,7 +40,8 @@ fn section_names(object: &[u8]) -> &[u8]
     SectionHeader::read(read_table(object), index).bytes(object)
 }
 
-/// Returns the index of a section, if it has this name.
+/// Returns `index` if the section at this index is named `name`, and otherwise `None`. `names` is the string table with
+/// the sections' names.
 fn named_here(table: &[u8], names: &[u8], name: &[u8], index: usize) -> Option<usize>
     requires { index < 2 ^ 32 }
     ensures here { result ≡ named_here table.now names.now name.now index }
@@ -54,7 +55,8 @@ fn named_here(table: &[u8], names: &[u8], name: &[u8], index: usize) -> Option<u
     }
 }
 
-/// Returns the index of the first section with this name, if there is one.
+/// Returns the index of the first of `count` sections whose name is `name`, or `None` if there is none. `table` is the
+/// section header table, and `names` is the string table with the sections' names.
 fn first_named(table: &[u8], count: usize, names: &[u8], name: &[u8]) -> Option<usize>
     requires { count < 2 ^ 16 }
     ensures first { result ≡ first_some (named_here table.now names.now name.now) count }
@@ -160,8 +162,9 @@ fn symbols_in(object: &[u8]) -> &[u8]
     SectionHeader::read(table, home).bytes(object)
 }
 
-/// Returns what the line number program in these bytes needs of its object, for a function in the section with this
-/// index.
+/// Returns the line number program in `bytes` with what is needed to resolve its addresses: the symbols of `object` and
+/// the relocations of its .debug_line section. `section` is the index of the section that contains the function whose
+/// lines are wanted.
 pub fn source_in<'a>(object: &'a [u8], bytes: &'a [u8], section: u16) -> LineSections<'a>
     ensures whole { IsSource result }
     ensures bytes { result.bytes.now ≡ bytes.now }

@@ -59,8 +59,9 @@ impl Outbox {
         })
     }
 
-    /// Creates an empty outbox for signed messages. `held` has the signers of each chain that the general holds: bit g
-    /// is set if general g has signed. The outbox has no places, and entries need no further memory.
+    /// Creates an empty outbox for a campaign with signed messages. `shape` is the general's relay. `held` has an entry
+    /// for each chain that the general holds, with bit g set if general g has signed the chain. The outbox has no
+    /// places for oral orders, and entering a signed order needs no further memory.
     ///
     /// # Errors
     ///

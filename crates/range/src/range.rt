@@ -38,7 +38,7 @@ impl Range {
         }
     }
 
-    /// Returns the range that holds only `n`.
+    /// Returns the range that contains only `n`: its least and its greatest number are `n`.
     pub fn exactly(n: u64) -> Range
         ensures exact { result ≡ single n }
         ensures holds { IsIn result.0 result.1 n }
@@ -60,7 +60,7 @@ impl Range {
         self.lo == self.hi
     }
 
-    /// Returns the smallest range that contains both ranges.
+    /// Returns the smallest range that contains every number of both ranges.
     pub fn join(self, other: Range) -> Range
         ensures exact { result ≡ joined self.0 self.1 other.0 other.1 }
         ensures left { (x : ℕ) → IsIn self.0 self.1 x → IsIn result.0 result.1 x }

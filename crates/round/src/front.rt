@@ -16,7 +16,7 @@ pub(crate) struct LabelPrefix {
 }
 
 impl LabelPrefix {
-    /// Returns the label that has only the commander.
+    /// Returns the label that consists of only the commander, whose number must be below 13.
     pub fn of(commander: u8) -> LabelPrefix
         requires { commander < 13 }
         ensures { (n : ℕ) → commander < n → n ≤ 13 → IsFront n commander (commander ∷ []) result }

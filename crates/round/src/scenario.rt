@@ -135,7 +135,8 @@ impl Scenario {
         &self.board
     }
 
-    /// Returns a reference to the general's player: his program, or none.
+    /// Returns a reference to the player of `general`, which says whether he has a program. Only traitors have one.
+    /// `general` must be below the number of generals.
     pub fn seat(&self, general: u8) -> &Player
         requires { general < self.now.generals }
         ensures { result.now ≡ program_of self.now general }

@@ -48,8 +48,8 @@ impl Running {
         }
     }
 
-    /// Takes turns until the activation makes a request next, has ended, or has taken `limit` steps in all. The board
-    /// is not used.
+    /// Takes turns until the next turn would be a request to the board, the activation has ended, or it has taken at
+    /// least `limit` steps since it began. The board is not used.
     pub fn ahead(&mut self, limit: u32)
         ensures went { Silently self.old self.new }
         ensures pauses { Pauses limit self.new (turn self.new) }

@@ -106,7 +106,7 @@ pub struct Item {
 }
 
 impl Item {
-    /// Creates an item without a text below it.
+    /// Returns the item with this key and value, and without a text below its line. Fails if memory runs out.
     pub fn of(alloc: Global, key: ItemKey, value: &str) -> Result<Item, AllocError> {
         Ok(Item {
             key,

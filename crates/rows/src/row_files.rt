@@ -83,7 +83,7 @@ fn change(alloc: Global, bytes: &mut Vec<u8>, item: &Item) -> Result<()> {
     Ok(())
 }
 
-/// Parses a number, and fails if the word is not one.
+/// Parses a decimal number. Fails if `word` is not one, or if it does not fit into `usize`.
 pub fn number(word: &str) -> Result<usize> {
     match word.parse::<usize>() {
         Ok(number) => Ok(number),

@@ -41,11 +41,11 @@ abbrev pub natural : ScenarioFault → ScenarioPlace → ℤ → Result ℕ Flaw
 natural f s (pos n) = Ok n
 natural f s (negsuc n) = Err (faulty f s)
 
--- the check of a condition, which fails with this fault at this place
+-- Fails with this fault at this place unless the condition holds.
 abbrev pub test : Bool → ScenarioFault → ScenarioPlace → Result (Unit {0}) Flaw
 test b f s = cond b (Ok tt) (Err (faulty f s))
 
--- the number from `least` to `most` at a required key
+-- Returns the number at a required key, which must be from `least` to `most`.
 unfoldable pub number : ScenarioPlace → ℕ → ℕ → Option Data → Result ℕ Flaw
 number s least most o = do
   d ← required s o
@@ -54,7 +54,7 @@ number s least most o = do
   within ← test (nat_le least n && nat_le n most) faults.Range s
   Ok n
 
--- the number from `least` to `most` at an optional key
+-- Returns the number at an optional key, which must be from `least` to `most`, or `None` if the key is missing.
 unfoldable pub optional_number : ScenarioPlace → ℕ → ℕ → Option Data → Result (Option ℕ) Flaw
 optional_number s least most None = Ok None
 optional_number s least most (Some d) = do

@@ -11,7 +11,7 @@ put k d no_members = member k d no_members
 put k d (member l e ms) =
     match_ordering (slice_cmp nat_cmp k l) (member k d (member l e ms)) (member l d ms) (member l e (put k d ms))
 
--- the items of the first list, and then those of the second
+-- Returns the concatenation of two lists: the items of the first list, and then those of the second.
 abbrev pub join : Items → Items → Items
 join no_items es = es
 join (item d ds) es = item d (join ds es)

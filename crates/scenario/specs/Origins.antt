@@ -19,8 +19,8 @@ by_table (Some ms) = by_sharers (seats ms)
 abbrev pub stands_for : Data → ℕ
 stands_for d = by_table (as_table d)
 
--- the number of the element from which the table of this number comes, where the elements are counted from `at`. If
--- there are too few tables, it is the number after the last element.
+-- Returns the index of the list's element from which the expanded table at index `number` comes, where the list's first
+-- element has the index `at`. If there are too few tables, it is the index after the last element.
 abbrev pub origin_from : ℕ → ℕ → Items → ℕ
 origin_from at number no_items = at
 origin_from at number (item d ds) =
@@ -30,11 +30,12 @@ abbrev pub origin_in : ℕ → Option Items → ℕ
 origin_in number None = number
 origin_in number (Some ds) = origin_from 0 number ds
 
--- the element from which a table comes, where the text's document is given, or `None` for a text that is not TOML
+-- Returns the index of the element from which the expanded table at index `number` comes, in the document's list of
+-- traitors. The document is `None` for a text that is not TOML.
 abbrev pub origin : ℕ → Option Members → ℕ
 origin number document = origin_in number (option_and_then traitors document)
 
--- whether a value is this general's number
+-- Returns whether a value is the number of general g.
 abbrev pub is_number : ℕ → Option ℤ → Bool
 is_number g (Some (pos n)) = n == g
 is_number g z = false
@@ -46,7 +47,7 @@ abbrev pub has_general : ℕ → Items → Bool
 has_general g no_items = false
 has_general g (item d ds) = is_general g d || has_general g ds
 
--- whether a table is for this general, who may share it with others
+-- Returns whether a table names general g. It may also name others.
 abbrev pub is_named : ℕ → Option Data → Bool
 is_named g None = false
 is_named g (Some d) = is_general g d
@@ -59,7 +60,8 @@ abbrev pub is_seat : ℕ → Option Members → Bool
 is_seat g None = false
 is_seat g (Some ms) = is_among g ms (seats ms)
 
--- the number of the first element that is a table for this general, where the elements are counted from `at`
+-- Returns the index of the first element that is a table for this general, where the list's first element has the index
+-- `at`.
 abbrev pub seat_from : ℕ → ℕ → Items → Option ℕ
 seat_from at g no_items = None
 seat_from at g (item d ds) = if is_seat g (as_table d) then Some at else seat_from (at + 1) g ds
@@ -68,6 +70,7 @@ abbrev pub seat_in : ℕ → Option Items → Option ℕ
 seat_in g None = None
 seat_in g (Some ds) = seat_from 0 g ds
 
--- the number of the first traitor's table for this general, where the text's document is given
+-- Returns the index, counted from 0, of the first table for this general in the document's list of traitors. The
+-- document is `None` for a text that is not TOML.
 abbrev pub seat : ℕ → Option Members → Option ℕ
 seat g document = seat_in g (option_and_then traitors document)

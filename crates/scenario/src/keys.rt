@@ -169,11 +169,13 @@ pub fn natural(
     }
 }
 
-/// Returns the number from `least` to `most` at a required key.
+/// Returns the number at a required key, which must be from `least` to `most`. `value` is the key's value, or `None` if
+/// the scenario does not have the key. `place` is the key's place, which errors name.
 ///
 /// # Errors
 ///
-/// `At` with `Key` if the key is missing, `Kind` if its value is not an integer, or `Range` if that is out of range.
+/// Fails with `At` and the place. The fault is `Key` if the key is missing, `Kind` if its value is not an integer, or
+/// `Range` if the integer is out of range.
 #[tactic(auto, unfolding(crate::specs::Checks::number))]
 pub fn number(
     place: ScenarioPlace,

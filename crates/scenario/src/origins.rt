@@ -118,8 +118,8 @@ pub fn origin(alloc: Global, text: &str, number: usize) -> Result<usize, AllocEr
     }
 }
 
-/// Returns the number of the first traitor's table for this general in a scenario's text, counted from 0. He may share
-/// it with others. Returns `None` if there is no such table.
+/// Returns the index, counted from 0, of the first `[[traitor]]` table of a scenario's text that names `general`. The
+/// table may name further generals. Returns `None` if no table names him, or if the text is not TOML.
 ///
 /// # Errors
 ///

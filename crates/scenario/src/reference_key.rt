@@ -35,7 +35,7 @@ impl ReferenceKey {
         }
     }
 
-    /// Returns the kind of file that a key of this name names, or `None` if it names no file.
+    /// Returns the key named `text`, which is `asm_file`, `code_file` or `elf`. Returns `None` for any other text.
     pub(crate) fn of(text: &str) -> Option<ReferenceKey>
         ensures { result ≡ key_of text.now }
     {

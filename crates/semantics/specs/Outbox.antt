@@ -58,8 +58,8 @@ along_row rank orders place = if place.rank == rank then slice_get orders place.
 abbrev pub at_receiver : ℕ → ℕ → Choice
 at_receiver receiver order place = if place.receiver == receiver then Some order else None
 
--- Returns the value that the general took for the label of a rank. The context has it after eight numbers of 4 bytes,
--- with 4 bytes for each rank.
+-- Returns the order that the general took for the label with this rank. The context begins with eight numbers of 4
+-- bytes, and then has one for each rank.
 abbrev pub taken_value : List ℕ → ℕ → ℕ
 taken_value context rank = little_number (slice_range context (32 + 4 * rank) (36 + 4 * rank))
 

@@ -46,20 +46,21 @@ drawn_in c round p = filter (λ x. is_to round p x.stroke) (with_rows (strokes_o
 abbrev pub is_lie_by : ℕ → Drawn → Bool
 is_lie_by g x = is_lie x && x.stroke.teller == g
 
--- What a stroke says of a chain is true. The stroke says whether the chain was sent. It differs if exactly one of two
--- generals sends the chain: its sender, or a loyal general in his place.
+-- States that what a stroke says of a chain is true: whether the chain was sent, and whether this differs from what a
+-- loyal general in the sender's place would have done.
 pub record IsTold (c : Chronicle) (stroke : Stroke) (ch : Chain) : Type 0 where
   pub sent : is_some stroke.told ≡ is_among (sent_to c stroke.round stroke.teller stroke.receiver) ch
   pub differs : stroke.differs
       ≡ not (beq (is_among (sent_to c stroke.round stroke.teller stroke.receiver) ch)
       (is_among (owed_to c stroke.round stroke.teller stroke.receiver) ch))
 
--- This stroke is one of g, and has this chain.
+-- Returns whether general g is the sender of a stroke that has this chain.
 abbrev pub tells_of : ℕ → Chain → Drawn → Bool
 tells_of g ch x = x.stroke.teller == g && is_among x.chains ch
 
--- For each chain that g sent p in a round, or owed him, there is exactly one stroke, and for any other chain there is
--- none. What each stroke says of its chains is true, and it has the number of its chains.
+-- States that a chain that g sent p in a round, or that a loyal general in g's place would have sent, is in exactly one
+-- stroke of that round, sender and receiver, and that any other chain is in none. Each stroke has the number of its
+-- chains, and says of each of them what is true.
 pub record StrokesAreExact : Type 0 where
   pub once : (c : Chronicle) (round g p : ℕ) (ch : Chain) → g < c.scenario.generals → p < c.scenario.generals →
       0 < round → round ≤ c.scenario.bound + 1 →

@@ -12,8 +12,11 @@ pub fn only_traitors_differ()
     ensures { OnlyTraitorsDiffer }
 {}
 
-/// States that each chain that was sent or owed is in exactly one stroke. A stroke has the number of its chains, says
-/// whether they were sent, and differs exactly if a loyal general would do otherwise.
+/// States which chains the strokes of a signed campaign's diagram have. A chain that one general sent another in a
+/// round, or that a loyal general in his place would have sent, is in exactly one stroke of that round, sender and
+/// receiver. Any other chain is in none. Each stroke has the number of its chains and says whether they were sent. It
+/// is marked as differing exactly if a loyal general would have withheld chains that were sent, or sent chains that
+/// were not.
 pub fn strokes_are_exact()
     ensures { StrokesAreExact }
 {}

@@ -39,7 +39,7 @@ impl SignedOrder {
         Ok(SignedOrder { order, signers })
     }
 
-    /// Returns the order and the signers of a chain.
+    /// Copies a chain's order and signers. Fails if memory runs out.
     pub(crate) fn of(alloc: Global, chain: &Chain) -> Result<SignedOrder, AllocError>
         ensures { IfOk result (λ signed. signed ≡ chain.now) }
     {

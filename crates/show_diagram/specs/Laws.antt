@@ -61,8 +61,9 @@ is_of p telling stroke = stroke.receiver == p && is_same telling (told_by stroke
 abbrev pub labels_told : MessageTable → ℕ → Stroke → ℕ
 labels_told t order stroke = labels_of (tellings_of t order stroke.receiver) (told_by stroke)
 
--- There is exactly one stroke for all labels of a round for which one general sent a lieutenant the same, and none for
--- what was not sent. The stroke's number of labels is the number for which it was sent.
+-- States that there is exactly one stroke for each message to lieutenant p, where messages with the same round, sender,
+-- order and value of `differs` are the same, and none for any other message. A stroke's `labels` is the number of
+-- labels for which its receiver was sent its message.
 pub record StrokesAreExact : Type 0 where
   pub once : (t : MessageTable) (order p : ℕ) (telling : Telling) → p < t.generals → p ≢ t.commander →
       count_by (is_of p telling) (strokes_of t order)

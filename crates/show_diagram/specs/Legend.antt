@@ -36,7 +36,8 @@ marks_of s accesses strokes = record {
 abbrev pub one_if : Bool → ℕ
 one_if stands = if stands then 1 else 0
 
--- The number of rows for the marks of strokes, the number of all rows, and the height of the foot with its legend.
+-- Each mark that occurs has a row in the legend. `stroke_rows` counts the rows for marks of strokes, and `rows` all
+-- rows. `foot_height` returns the height of the diagram's foot in SVG user units, including the legend.
 abbrev pub stroke_rows : DiagramMarks → ℕ
 stroke_rows marks = one_if marks.circle + one_if marks.diamond + one_if marks.cross
 

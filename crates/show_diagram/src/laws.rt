@@ -12,8 +12,9 @@ pub fn only_traitors_differ()
     ensures { OnlyTraitorsDiffer }
 {}
 
-/// States that there is one stroke for each round, sender, receiver and order, and for whether an honest relay would
-/// send that order. The stroke's number of labels is the number for which it was sent.
+/// States that the messages to a lieutenant are grouped into strokes. Messages are in the same group if they have the
+/// same round, sender, order (or none, if nothing was sent) and `differs`. There is exactly one stroke for each group,
+/// and no other stroke to a lieutenant. The stroke's `labels` is the number of labels of its group.
 pub fn strokes_are_exact()
     ensures { StrokesAreExact }
 {}

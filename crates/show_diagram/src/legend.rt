@@ -82,7 +82,7 @@ fn one_if(stands: bool) -> u128
     if stands { 1 } else { 0 }
 }
 
-/// Returns the number of legend rows for the marks of strokes, at most 3.
+/// Returns how many of the marks circle, diamond and cross occur, at most 3. Each has a row in the legend.
 fn stroke_rows(marks: DiagramMarks) -> u128
     ensures value { result ≡ stroke_rows marks }
     ensures few { result ≤ 3 }
@@ -90,7 +90,7 @@ fn stroke_rows(marks: DiagramMarks) -> u128
     one_if(marks.circle) + one_if(marks.diamond) + one_if(marks.cross)
 }
 
-/// Returns the number of legend rows, at most 6.
+/// Returns how many of all marks occur, at most 6. Each has a row in the legend.
 fn rows(marks: DiagramMarks) -> u128
     ensures value { result ≡ rows marks }
     ensures few { result ≤ 6 }
@@ -98,7 +98,8 @@ fn rows(marks: DiagramMarks) -> u128
     stroke_rows(marks) + one_if(marks.square) + one_if(marks.loyal) + one_if(marks.point)
 }
 
-/// Returns the height of the foot with its legend, at most 272 units.
+/// Returns the height of the diagram's foot in SVG user units: 152, and 20 for each legend row that these marks need.
+/// There are at most 6 rows, so the result is at most 272.
 pub fn foot_height(marks: DiagramMarks) -> u128
     ensures value { result ≡ foot_height marks }
     ensures few { result ≤ 272 }

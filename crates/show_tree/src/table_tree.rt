@@ -12,8 +12,9 @@ use crate::svg::tree_svg;
 use book::{Heard, TableError, read_table};
 use std::alloc::{AllocError, Global};
 
-/// Returns what a general received by the message table in `text`, drawn in the given form. `traitors` are the generals
-/// named as traitors. The result is empty if the general is not a lieutenant of the table.
+/// Reads a message table from `text`, and draws the tree of the orders that the lieutenant `general` received, in the
+/// given form. `traitors` are the generals named as traitors in the picture. The result is empty if `general` is not a
+/// lieutenant of the table.
 ///
 /// # Errors
 ///
@@ -33,8 +34,9 @@ pub fn drawn(
     Ok(tree_drawn(alloc, &table, traitors, view, form, general)?)
 }
 
-/// Returns what a general received by a message table, drawn in the given form. `traitors` are the generals named as
-/// traitors. The result is empty if the general is not a lieutenant of the table.
+/// Draws the tree of the orders that the lieutenant `general` received, in the given form. `table` has the messages,
+/// and `traitors` are the generals named as traitors in the picture. `view` says which part of the tree is drawn. The
+/// result is empty if `general` is not a lieutenant of the table.
 ///
 /// # Errors
 ///

@@ -27,7 +27,7 @@ pub(crate) fn without(bits: u16, others: u16) -> u16
     bits & !others
 }
 
-/// Returns the set of the generals from 0 to `generals` - 1.
+/// Returns the set of the generals from 0 to `generals` - 1 as a bit mask. `generals` is at most 13.
 pub(crate) fn below(generals: u8) -> u16
     requires { generals ≤ 13 }
     ensures { (g : ℕ) → bit_at result g ≡ cond (nat_lt g generals) 1 0 }
@@ -35,7 +35,7 @@ pub(crate) fn below(generals: u8) -> u16
     (1 << generals) - 1
 }
 
-/// Returns the set of these generals.
+/// Returns the set of the listed generals as a bit mask: bit g is set exactly if general g is in the list.
 pub(crate) fn of(generals: &[u8]) -> u16
     requires { IsGenerals generals.now }
     ensures same { result ≡ sum_by (λ g. 2 ^ g) generals.now }

@@ -21,7 +21,7 @@ impl Model for Signer {
 }
 
 impl Signer {
-    /// Returns the signer of a general under a commander. Both are below 13.
+    /// Returns the signer with which `general` signs in a campaign of `commander`. Both numbers must be below 13.
     pub(crate) fn of(general: u8, commander: u8) -> Signer
         requires general { general < 13 }
         requires commander { commander < 13 }

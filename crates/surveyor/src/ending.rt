@@ -28,7 +28,8 @@ pub struct SurveyEnding<O, K> {
 }
 
 impl<O: Output, K: Keeper> SurveyEnding<O, K> {
-    /// Does what is asked for, or reports why nothing is asked for.
+    /// Does the task in `asked`, or reports the error if `asked` is one. Returns how the call ended, with its output
+    /// and the keeper of its campaigns.
     ///
     /// # Errors
     ///

@@ -4,7 +4,9 @@ ghost use Rattle.std.specs.Prelude.{◌≡◌, ◌≢◌, ◌<◌, ◌≤◌, �
 use crate::fault::SurveyFailure;
 use scenario::ScenarioError;
 
-/// Returns how many campaigns with at most `generals` generals are played before their outcomes are processed.
+/// Returns the number of campaigns in one piece of a survey: they are played, and only then are their outcomes
+/// processed. `generals` is the greatest number of generals in a campaign of the survey. A piece has 16,384 campaigns
+/// if it is below 8, and 1,024 otherwise.
 pub fn at_once(generals: u8) -> u64
     ensures least { 1024 ≤ result }
     ensures few { generals < 8 → result ≡ 16384 }
@@ -13,7 +15,8 @@ pub fn at_once(generals: u8) -> u64
     if generals < 8 { 16_384 } else { 1_024 }
 }
 
-/// Returns the failure for a rejected campaign among those of the seeds from `first` up to `end`, which is excluded.
+/// Returns the failure of a survey whose campaign of some seed was rejected with `error`. The failure names the seeds
+/// from `first` to `end` - 1, among which that seed is, unless memory ran out.
 pub fn refused(first: u64, end: u64, error: ScenarioError) -> SurveyFailure
     ensures memory { error ≡ ScenarioError.Memory → result ≡ SurveyFailure.Memory }
     ensures campaign { error ≢ ScenarioError.Memory → result ≡ SurveyFailure.Campaign first (end - 1) error }

@@ -24,7 +24,8 @@ pub struct SurveyProgress<'a> {
 }
 
 impl<'a> SurveyProgress<'a> {
-    /// Returns the progress of a survey of these seeds that begins now.
+    /// Returns the progress of a survey of the seeds from `first` to `last`, both included. The survey begins now, so 0
+    /// minutes have passed.
     pub fn of(rt: &'a HostRuntime, first: u64, last: u64) -> SurveyProgress<'a>
         ensures first { result.first ≡ first }
         ensures last { result.last ≡ last }

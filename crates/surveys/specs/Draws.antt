@@ -12,10 +12,11 @@ mixed z =
     let y = folded (folded z 30 0xbf58476d1ce4e5b9) 27 0x94d049bb133111eb in
     bit_xor y (y / 2 ^ 31)
 
--- Returns the number of 64 bits at an index of those that a seed gives. Indices are counted from 0.
+-- Returns the random number of 64 bits at index `place` of the sequence that `seed` determines. Indices are counted
+-- from 0.
 unfoldable pub draw : ℕ → ℕ → ℕ
 draw seed place = mixed ((seed + (place + 1) * 0x9e3779b97f4a7c15) % 2 ^ 64)
 
--- Returns the number of a range that a drawn number selects.
+-- Returns the number of `span` that the random number `drawn` selects.
 abbrev pub within : CountRange → ℕ → ℕ
 within span drawn = span.low + drawn % (span.high + 1 - span.low)

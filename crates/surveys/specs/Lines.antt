@@ -66,7 +66,8 @@ front_text f =
     codes "{\"alike\":" ++ (flag_text f.verdict.alike ++ (codes ",\"bound\":" ++ (decimal f.bound
     ++ (codes ",\"generals\":" ++ (decimal f.generals ++ (codes ",\"kept\":" ++ flag_text f.verdict.bound))))))
 
--- Writes the second half of a campaign's line.
+-- Returns the second half of a campaign's line: the members `line`, `obeyed`, `seed` and `traitors`, the closing brace
+-- of the JSON object, and a line feed.
 abbrev pub back_text : Finding → List ℕ
 back_text f =
     codes ",\"line\":\"campaign\",\"obeyed\":"

@@ -75,7 +75,8 @@ fn all_of(
     Ok(found)
 }
 
-/// Returns the reduced campaign of each seed from `first` up to but not including `end`, if it is broken.
+/// Plays the campaign that `family` makes from each seed from `first` to `end` - 1. Returns an entry for each seed in
+/// ascending order: the reduced campaign if the seed's campaign is broken, and otherwise `None`.
 ///
 /// # Errors
 ///

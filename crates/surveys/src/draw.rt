@@ -25,7 +25,8 @@ fn mixed(word: u64) -> u64
     twice ^ (twice >> 31)
 }
 
-/// Returns the number at an index of those that a seed gives. Indices are counted from 0.
+/// Returns the random number of 64 bits at index `place` of the sequence that `seed` determines. Indices are counted
+/// from 0.
 #[tactic(auto, unfolding(crate::specs::Draws::draw))]
 pub(crate) fn draw(seed: u64, place: u16) -> u64
     ensures { result ≡ draw seed place }
@@ -33,7 +34,8 @@ pub(crate) fn draw(seed: u64, place: u16) -> u64
     mixed(seed.wrapping_add((u64::from(place) + 1).wrapping_mul(STEP)))
 }
 
-/// Returns the number of a range that a drawn number selects.
+/// Returns the number of `span` that the random number `drawn` selects: the least number of the span, plus `drawn`
+/// modulo the count of its numbers.
 pub(crate) fn within(span: CountRange, drawn: u64) -> u8
     requires { span.low ≤ span.high }
     ensures number { result ≡ within span drawn }

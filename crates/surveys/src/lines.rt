@@ -39,7 +39,8 @@ fn put_answer(out: &mut String, name: &str, answer: Option<bool>) -> Result<(), 
     out.push_str(answer_text(answer))
 }
 
-/// Writes the first half of a campaign's line.
+/// Appends the first half of a campaign's line, the beginning of a JSON object: the members `alike`, `bound`,
+/// `generals` and `kept`.
 fn put_front(out: &mut String, finding: &Finding) -> Result<(), AllocError>
     ensures { OnOk result (string_bytes out.new ≡ string_bytes out.old ++ front_text finding.now) }
 {
@@ -50,7 +51,8 @@ fn put_front(out: &mut String, finding: &Finding) -> Result<(), AllocError>
     Ok(())
 }
 
-/// Writes the second half of a campaign's line.
+/// Appends the second half of a campaign's line: the members `line`, `obeyed`, `seed` and `traitors`, the closing brace
+/// of the JSON object, and a line feed.
 fn put_back(out: &mut String, finding: &Finding) -> Result<(), AllocError>
     ensures { OnOk result (string_bytes out.new ≡ string_bytes out.old ++ back_text finding.now) }
 {

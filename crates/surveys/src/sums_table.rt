@@ -10,7 +10,7 @@ use crate::finding::Finding;
 use crate::group::Group;
 use std::alloc::{AllocError, Global};
 
-/// Returns a cell with a number.
+/// Returns the table cell that shows `number`, `width` characters wide.
 fn of(width: usize, number: u64) -> NumberCell
     ensures { result ≡ record { width = width; number = Some number } }
 {

@@ -10,7 +10,7 @@ pub enum Base {
 }
 
 impl Base {
-    /// Returns the number of digits of the base: 10 or 16.
+    /// Returns the radix of the base: 10 for `Ten`, and 16 for `Sixteen`.
     pub fn radix(self) -> u8
         ensures radix { result ≡ radix_of self }
         ensures bound { result ≤ 16 }

@@ -112,7 +112,7 @@ fn alike_words(text: &[u8], piece: &[u8]) -> usize
     8 * words
 }
 
-/// Returns the eight bytes from `place` on as a little-endian number.
+/// Reads the 64-bit little-endian number in the 8 bytes of `bytes` that begin at index `place`.
 fn word_at(bytes: &[u8], place: usize) -> u64
     requires { place + 8 ≤ length bytes.now }
     ensures { to_le_bytes w64 result ≡ eight place bytes.now }

@@ -139,7 +139,8 @@ pub fn natural(fault: SettingFault, place: SettingPlace, integer: i64) -> Result
     }
 }
 
-/// Returns the number of a required key, at least `least` and at most `most`.
+/// Returns the number at a required key, which must be from `least` to `most`. `value` is the key's value, or `None` if
+/// the setting does not have the key. `place` is the key's place, which errors name.
 ///
 /// # Errors
 ///

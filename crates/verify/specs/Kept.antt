@@ -28,7 +28,8 @@ pub record HasRoom (places capacity units : ℕ) : Type 0 where
   pub inside : places ≤ units
   pub room : units ≤ capacity
 
--- What is known at one unit has been taken out, and what is known at the other units is kept.
+-- States that `hand` is the state of `unit` in `reached`, and that `kept` is `reached` without it: `None` at `unit`,
+-- and the same at all other units.
 pub record AtHand (reached : KnownSoFar) (unit : ℕ) (hand : Option (Box AbsState Global)) (kept : KnownSoFar)
     : Type 0 where
   pub here : unboxed hand ≡ reached_at reached unit

@@ -70,7 +70,7 @@ fn check_arguments(
     check_taken(third, known_at(registers, 3))
 }
 
-/// Returns the numbers of a value that is known to be a number.
+/// Returns the set of the numbers that `value` may be. `value` must be known to be a number, and not a pointer.
 fn number(value: AbsVal) -> NumberSet
     requires { is_number value ≡ true }
     ensures { value ≡ AbsVal.Number result }

@@ -228,7 +228,8 @@ pub fn flow(pending: &mut Pending, unit: usize, state: Box<AbsState>)
     keep_inside(pending, unit, state);
 }
 
-/// Takes out what is kept for a unit, if there is such a unit.
+/// Returns the state that is kept for a unit, which is then kept no longer. Returns `None` if no state is kept for the
+/// unit, or if there is no such unit.
 #[inline(always)]
 pub fn take_next(pending: &mut Pending, unit: usize) -> Option<Box<AbsState>>
     ensures value { unboxed result ≡ reached_at pending.old.items unit }
@@ -240,7 +241,8 @@ pub fn take_next(pending: &mut Pending, unit: usize) -> Option<Box<AbsState>>
     take(pending, unit)
 }
 
-/// Keeps a state again that was taken out.
+/// Undoes `take_next`: keeps `state` for the unit from which it was taken. Does nothing if `state` is `None`. The
+/// result is what was kept before it was taken.
 pub fn put_back(pending: &mut Pending, unit: usize, state: Option<Box<AbsState>>)
     ensures { (reached : KnownSoFar) → AtHand reached unit state pending.old.items → pending.new.items ≡ reached }
 {

@@ -79,7 +79,8 @@ pub fn write(registers: &mut [AbsVal; 11], r: Reg, value: AbsVal)
     registers[r.number() as usize] = value;
 }
 
-/// Joins the registers of two states that meet at a unit.
+/// Joins the registers of two abstract states that reach the same unit: sets each of `registers` to the join of its
+/// value and that of the same register in `other`.
 pub fn join(registers: &mut [AbsVal; 11], other: &[AbsVal; 11])
     ensures { registers.new ≡ joined_all registers.old other.now }
 {

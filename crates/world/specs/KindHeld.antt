@@ -46,8 +46,9 @@ abbrev pub posted_of : ℕ → List Progress → Option Progress → List Progre
 posted_of general parts (Some Silent) = slice_set parts general Posted
 posted_of general parts _ = parts
 
--- States that `new` has the parts after `taken` turns of a general without an access. He has then taken at most `limit`
--- steps in all, and his activation pauses there.
+-- States that `new` is `parts` after `taken` turns of general `g`, none of which is a request to the board. His
+-- activation pauses there: the next turn would be a request, it has ended, or it has taken at least `limit` steps since
+-- it began. If his part is not a running activation, `taken` is 0 and `new` is `parts`.
 abbrev pub AheadTo : ℕ → ℕ → List Progress → ℕ → Option Progress → List Progress → Type 0
 AheadTo limit taken parts g (Some (Acting a)) new =
     (b : Activation) × Runs taken a [] b × (taken ≤ limit - a.state.steps) × Pauses limit b (turn b)

@@ -34,8 +34,9 @@ impl Model for Chronicle {
 }
 
 impl Chronicle {
-    /// Returns the chronicle with these accesses in the board's order, these letters by round and general, and the
-    /// decisions of the lieutenants, ascending by number. The verdict is computed from the scenario and the decisions.
+    /// Returns the chronicle of a campaign. `accesses` are in the board's order, `letters` has a round's letters by
+    /// general in each entry, and `decisions` has the decision of each lieutenant, in ascending order of the
+    /// lieutenants. The verdict is computed from the scenario and the decisions.
     pub fn of(
         scenario: Scenario,
         accesses: Vec<Access>,

@@ -52,8 +52,9 @@ pub fn turn(
     }
 }
 
-/// Takes turns of a traitor's activation until it makes a request next, has ended, or has taken `limit` steps in all.
-/// Returns how many turns it took, which is 0 for any other general.
+/// Takes turns of the traitor `general` until his next turn would be a request to the board, his activation has ended,
+/// or it has taken at least `limit` steps since it began. Returns the number of turns taken, which is 0 if the general
+/// is not a traitor with a running activation.
 pub fn ahead(parts: &mut Vec<Progress>, general: u32, limit: u32) -> u32
     ensures { AheadTo limit result parts.old.items general (slice_get parts.old.items general) parts.new.items }
 {

@@ -132,8 +132,9 @@ impl World {
         parts::turn(&mut self.parts, &mut self.board, general, round)
     }
 
-    /// Takes turns of a traitor's activation until it makes a request next, has ended, or has taken `limit` steps in
-    /// all. Returns how many turns it took, which is 0 for any other general.
+    /// Takes turns of the traitor `general` until his next turn would be a request to the board, his activation has
+    /// ended, or it has taken at least `limit` steps since it began. Returns the number of turns taken, which is 0 if
+    /// the general is not a traitor with a running activation.
     pub(crate) fn ahead(&mut self, general: u32, limit: u32) -> u32
         ensures same { self.new ≡ run self.old (replicate result (Tick general)) }
         ensures far { AheadTo limit result self.old.parts general (slice_get self.old.parts general) self.new.parts }

@@ -51,7 +51,7 @@ impl Counts {
         }
     }
 
-    /// Returns the count of a round.
+    /// Returns the counter of the round with this number. The third counter counts round 3 and all later rounds.
     fn of(&self, round: u32) -> &AtomicU32 {
         match round {
             1 => &self.first,

@@ -32,7 +32,7 @@ const SIGNED: &str = "signed messages have no rule";
 
 const SHAPE: &str = "only one of --lines, --table, --svg, --shrink and --break can be used";
 
-/// Parses a span of numbers from `least` to `most`.
+/// Parses one number or a span of numbers, all of them from `least` to `most`.
 ///
 /// # Errors
 ///
