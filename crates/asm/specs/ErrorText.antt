@@ -6,7 +6,7 @@ use Rattle.asm.specs.declared.fault.AsmFault.TheVariants.{Line, Mnemonic, Operan
 use Rattle.asm.specs.declared.fault.AsmError.{AsmError}
 use Rattle.asm.specs.declared.fault.AsmError.TheVariants.{At, Memory}
 
--- the code of a fault
+-- Returns the code of a fault.
 abbrev pub code_of : AsmFault → List ℕ
 code_of Line = codes "A1"
 code_of Mnemonic = codes "A2"
@@ -16,7 +16,7 @@ code_of Twice = codes "A5"
 code_of Range = codes "A6"
 code_of Count = codes "A7"
 
--- the text of an error: the code of its fault and the line, or `out of memory`
+-- Returns the text of an error: the code of its fault and the line, or `out of memory`.
 abbrev pub told : AsmError → List ℕ
 told (At fault line) = code_of fault ++ codes " line " ++ decimal line
 told Memory = codes "out of memory"

@@ -18,57 +18,59 @@ use Rattle.asm.specs.Distance.{defined}
 use Rattle.asm.specs.Program.{Read, units_in, placed_units, lines_of}
 use Rattle.asm.specs.Views.{Fails, kept_view}
 
--- the map has the same names and units as the list
+-- States that the map has the same names and units as the list.
 abbrev pub Finds : BTreeMap (Bor (List ℕ)) ℕ → List (List ℕ × ℕ) → Type 0
 Finds map names = (name : List ℕ) → get_by (λ k. slice_cmp nat_cmp name k.now) map ≡ defined names name
 
--- the stored reading is this one; its statements are stored as long as they take at most 4,096 units
+-- States that the stored reading is this one. Its statements are stored only if they take at most 4,096 units.
 pub record Keeps (kept : Reading) (r : Read) : Type 0 where
   pub units : kept.units ≡ units_in r
   pub sources : kept.units ≤ most_units → map kept_view kept.sources.items ≡ r.sources
   pub few : length kept.sources.items ≤ most_units
   pub names : Finds kept.names r.names
 
--- the number of units that the stored statements take
+-- Returns the number of units that the stored statements take.
 abbrev pub units_kept : List Kept → ℕ
 units_kept sources = sum_by (λ k. placed_units (kept_view k)) sources
 
--- what was read is stored, if there is no error; the only error is out of memory
+-- States that what was read is stored, if there is no error. The only error is out of memory.
 abbrev pub KeepsRead : {X : Type 0} → Result X LineError → Reading → Read → Type 0
 KeepsRead (Ok x) kept r = Keeps kept r
 KeepsRead (Err e) kept r = e ≡ Memory
 
--- the lines are read without a fault and the reading is stored, or the error is their fault
+-- States that the lines are read without a fault and the reading is stored, or the error is their fault.
 abbrev pub GivesRead : {X : Type 0} → Result X LineError → Reading → Result Read AsmFault → Type 0
 GivesRead (Ok x) kept read = (r : Read) × (read ≡ Ok r) × Keeps kept r
 GivesRead (Err e) kept read = Fails e read
 
--- the stored statements are well formed: none sign-extends 32 bits to 32
+-- States that the stored statements are well formed: none sign-extends 32 bits to 32.
 abbrev pub AreWellKept : List Kept → Type 0
 AreWellKept sources = AllByRecursion (λ k. IsWellSource (kept_view k).source) sources
 
--- the lines of a text are the first line and the lines of the text after it, or there are none
+-- States that the lines of a text are the first line and the lines of the text after it, or there are none.
 abbrev pub GivesLines : Option (Bor (List ℕ) × Bor (List ℕ)) → List (List ℕ) → Type 0
 GivesLines None all = all ≡ []
 GivesLines (Some cut) all = all ≡ cut.0.now ∷ lines_of cut.1.now
 
--- an error other than out of memory is the first fault with its line
+-- States that an error other than out of memory is the first fault with its line.
 abbrev pub Refuses : {Y : Type 0} → AsmError → Result Y AsmError → Type 0
 Refuses answers.Memory read = Unit {0}
 Refuses (answers.At fault line) read = read ≡ Err (answers.At fault line)
 
--- the lines of a text are read without a fault and the reading is stored, or the error is their first fault
+-- States that the lines of a text are read without a fault and the reading is stored, or the error is their first
+-- fault.
 abbrev pub GivesGathered : Result Reading AsmError → Result Read AsmError → Type 0
 GivesGathered (Ok kept) read = (r : Read) × (read ≡ Ok r) × Keeps kept r
 GivesGathered (Err e) read = Refuses e read
 
--- the answer is the program, or an error; an error other than out of memory is the first fault with its line
+-- States that the answer is the program, or an error. An error other than out of memory is the first fault with its
+-- line.
 abbrev pub Answers : {X : Type 0} → Result X AsmError → Result X AsmError → Type 0
 Answers (Ok x) said = said ≡ Ok x
 Answers (Err e) said = Refuses e said
 
--- the answer is the program as `view` shows it, or an error; an error other than out of memory is the first fault with
--- its line
+-- States that the answer is the program as `view` shows it, or an error. An error other than out of memory is the first
+-- fault with its line.
 abbrev pub AnswersBy : {X Y : Type 0} → (X → Y) → Result X AsmError → Result Y AsmError → Type 0
 AnswersBy view (Ok x) said = said ≡ Ok (view x)
 AnswersBy view (Err e) said = Refuses e said

@@ -13,24 +13,24 @@ use Rattle.asm.specs.Table.{IsMnemonic, name_of, mnemonic_of}
 use Rattle.asm.specs.Program.{Placed, Read, placed_units, units_in, line_read, read_on, nothing, insn_of, insns_on, lines_of, said}
 use Rattle.asm.specs.Printing.{register_text}
 
--- a register is written as its letter and its number, 0 to 10, and read from that text only
+-- States that a register is written as its letter and its number, 0 to 10, and read from that text only.
 pub record RegistersAreNumbered : Type 0 where
   pub read : (text : List ℕ) (r : ℕ) → register_of text ≡ Some r → (r ≤ 10) × (text ≡ register_text r)
   pub written : (r : ℕ) → r ≤ 10 → register_of (register_text r) ≡ Some r
 
--- each mnemonic of the table is read from its word, and from no other word
+-- States that each mnemonic of the table is read from its word, and from no other word.
 pub record MnemonicsAreNamed : Type 0 where
   pub read : (word : List ℕ) (m : Mnemonic) → mnemonic_of word ≡ Some m → IsMnemonic m × (word ≡ name_of m)
   pub written : (m : Mnemonic) → IsMnemonic m → mnemonic_of (name_of m) ≡ Some m
 
--- the names of the helpers are distinct: each name of the list is read as its number, from 1 on, and no other word is
--- read as a helper
+-- States that the names of the helpers are distinct. Each name of the list is read as its number, from 1 on, and no
+-- other word is read as a helper.
 pub record HelpersAreNumbered : Type 0 where
   pub read : (word : List ℕ) (number : ℤ) → helper_of word ≡ Some number →
       (k : ℕ) × (slice_get helpers k ≡ Some word) × (number ≡ pos (k + 1))
   pub written : (k : ℕ) (word : List ℕ) → slice_get helpers k ≡ Some word → helper_of word ≡ Some (pos (k + 1))
 
--- the line of this number has a fault of its own, and no earlier line has one
+-- States that the line of this number has a fault of its own, and no earlier line has one.
 pub record IsFirstLine (lines : List (List ℕ)) (fault : AsmFault) (number : ℕ) : Type 0 where
   pub front : List (List ℕ)
   pub line : List ℕ
@@ -41,15 +41,15 @@ pub record IsFirstLine (lines : List (List ℕ)) (fault : AsmFault) (number : �
   pub faultless : read_on nothing 1 front ≡ Ok before
   pub own : line_read before number line ≡ Err fault
 
--- no line has a fault of its own, and the program has no unit or too many
+-- States that no line has a fault of its own, and the program has no unit or too many.
 pub record IsMiscounted (lines : List (List ℕ)) (fault : AsmFault) (number : ℕ) : Type 0 where
   pub read : Read
   pub faultless : read_on nothing 1 lines ≡ Ok read
   pub units : (units_in read ≡ 0) ⊎ (most_units < units_in read)
   pub is : (fault ≡ Count) × (number ≡ max 1 (length lines))
 
--- no line has a fault of its own, the number of units is allowed, and the jump on this line is the first that cannot be
--- resolved
+-- States that no line has a fault of its own, the number of units is allowed, and the jump on this line is the first
+-- that cannot be resolved.
 pub record IsFirstJump (lines : List (List ℕ)) (fault : AsmFault) (number : ℕ) : Type 0 where
   pub read : Read
   pub faultless : read_on nothing 1 lines ≡ Ok read
@@ -63,8 +63,9 @@ pub record IsFirstJump (lines : List (List ℕ)) (fault : AsmFault) (number : �
   pub own : insn_of read.names (sum_by placed_units front) jump.source ≡ Err fault
   pub is : number ≡ jump.line
 
--- a text is rejected with its first fault and that fault's line: that of the first faulty line; if no line is faulty,
--- the number of units; and if that is allowed, the first jump that cannot be resolved
+-- States that a text is rejected with its first fault and that fault's line. If a line is faulty, that is the fault of
+-- the first faulty line. Otherwise, it is the number of units if that is not allowed, and else the first jump that
+-- cannot be resolved.
 pub record FaultsAreFirst : Type 0 where
   pub only : (text : List ℕ) (fault : AsmFault) (number : ℕ) → said text ≡ Err (At fault number)
       → IsFirstLine (lines_of text) fault number

@@ -6,36 +6,36 @@ use Rattle.text.specs.Stop.{is_within, comma, colon, semicolon}
 use Rattle.text.specs.Parts.{until, before, from, pieces}
 use Rattle.asm.specs.Operand.{is_letter, is_name}
 
--- the text has only ASCII characters and no carriage return
+-- Returns whether the text has only ASCII characters and no carriage return.
 abbrev pub is_token : List ℕ → Bool
 is_token [] = true
 is_token (c ∷ cs) = nat_lt c 128 && not (c == 13) && is_token cs
 
--- the text has only letters, digits, `_` and `.`
+-- Returns whether the text has only letters, digits, `_` and `.`.
 abbrev pub is_word : List ℕ → Bool
 is_word [] = true
 is_word (c ∷ cs) = (is_letter c || is_within 48 57 c || c == 46) && is_word cs
 
--- the text has only spaces and tabs
+-- Returns whether the text has only spaces and tabs.
 abbrev pub is_all_blank : List ℕ → Bool
 is_all_blank text = length (from Solid text) == 0
 
--- the single word of an operand, with optional white space after it
+-- Returns the single word of an operand, with optional white space after it.
 abbrev pub one_word : List ℕ → Option (List ℕ)
 one_word solid =
     if length (before Blank solid) == 0 then None
     else if is_all_blank (from Blank solid) && is_token (before Blank solid) then Some (before Blank solid) else None
 
--- the single word of an operand, with optional white space around it
+-- Returns the single word of an operand, with optional white space around it.
 abbrev pub token_of : List ℕ → Option (List ℕ)
 token_of piece = one_word (from Solid piece)
 
--- the words `done`, and after them the operands in these pieces
+-- Returns the words `done`, and after them the operands in these pieces.
 abbrev pub tokens_on : List (List ℕ) → List (List ℕ) → Option (List (List ℕ))
 tokens_on done [] = Some done
 tokens_on done (piece ∷ pieces) = token_of piece >>= λ token. tokens_on (done ++ token ∷ []) pieces
 
--- the first word of a line's code, and its operands, which commas separate
+-- Returns the first word of a line's code, and its operands, which commas separate.
 unfoldable pub line_words : List ℕ → Option (List (List ℕ))
 line_words body =
     if length body == 0 then Some []
@@ -44,12 +44,12 @@ line_words body =
     else tokens_on (before Blank body ∷ []) (pieces comma (from Blank body))
     else None
 
--- the outline of a line: its name, if it has one, and its mnemonic with its operands
+-- The outline of a line: its name, if it has one, and its mnemonic with its operands.
 pub record Outline : Type 0 where
   pub name : Option (List ℕ)
   pub words : List (List ℕ)
 
--- the outline of a line that begins with a name and a colon
+-- Returns the outline of a line that begins with a name and a colon.
 unfoldable pub named : List ℕ → Option Outline
 named code =
     if is_name (before colon code)
@@ -60,12 +60,12 @@ named code =
     }))
     else None
 
--- the outline of a line without its comment; the line has a name if there is a colon in its first word
+-- Returns the outline of a line without its comment. The line has a name if there is a colon in its first word.
 unfoldable pub outlined : List ℕ → Option Outline
 outlined code =
     if nat_lt (until colon (before Blank code)) (length (before Blank code)) then named code
     else (line_words code >>= λ words. Some (record { name = None; words = words }))
 
--- the outline of a line, without its comment and leading white space
+-- Returns the outline of a line, without its comment and leading white space.
 unfoldable pub outline_of : List ℕ → Option Outline
 outline_of line = outlined (from Solid (before semicolon line))

@@ -6,17 +6,17 @@ use Rattle.codec.specs.declared.fault.CodecFault.{CodecFault}
 use Rattle.codec.specs.Spelling.{instruction_bytes}
 use Rattle.codec.specs.Reading.{fault_at}
 
--- a piece: an instruction, or the eight bytes of a unit with which no instruction begins, and the fault
+-- A piece: an instruction, or the eight bytes of a unit with which no instruction begins, and the fault.
 pub data Piece : Type 0 where
   Spelled : Insn → Piece
   Raw : List ℕ → CodecFault → Piece
 
--- the bytes begin with the piece, and `rest` is what follows
+-- States that the bytes begin with the piece, and that `rest` is what follows it.
 abbrev pub IsFirst : List ℕ → Piece → List ℕ → Type 0
 IsFirst bytes (Spelled insn) rest = IsInsn insn × (bytes ≡ instruction_bytes insn ++ rest)
 IsFirst bytes (Raw unit fault) rest = (length unit ≡ 8) × (fault_at bytes ≡ Some fault) × (bytes ≡ unit ++ rest)
 
--- the bytes consist of these pieces, in order
+-- States that the bytes consist of these pieces, in order.
 abbrev pub ArePieces : List Piece → List ℕ → Type 0
 ArePieces [] bytes = bytes ≡ []
 ArePieces (piece ∷ pieces) bytes = (rest : List ℕ) × IsFirst bytes piece rest × ArePieces pieces rest

@@ -11,25 +11,25 @@ use Rattle.asm.specs.declared.mnemonic.Mnemonic.{Mnemonic}
 use Rattle.asm.specs.declared.mnemonic.Mnemonic.TheVariants as words
 use Rattle.asm.specs.Table.{name_of}
 
--- the text of a register: `r` and its number
+-- Returns the text of a register: `r` and its number.
 abbrev pub register_text : ℕ → List ℕ
 register_text r = 114 ∷ decimal r
 
--- the text of an operand: a register or a number
+-- Returns the text of an operand: a register or a number.
 abbrev pub operand_text : Operand → List ℕ
 operand_text (Register r) = register_text r
 operand_text (Immediate z) = signed_decimal z
 
--- the text of a distance or offset: `+k` or `-k`
+-- Returns the text of a distance or offset: `+k` or `-k`.
 abbrev pub signed_text : ℤ → List ℕ
 signed_text (pos n) = 43 ∷ decimal n
 signed_text (negsuc n) = 45 ∷ decimal (suc n)
 
--- the text of a memory operand: `[rN+k]` or `[rN-k]`
+-- Returns the text of a memory operand: `[rN+k]` or `[rN-k]`.
 abbrev pub place_text : ℕ → ℤ → List ℕ
 place_text base offset = 91 ∷ (register_text base ++ signed_text offset ++ 93 ∷ [])
 
--- the mnemonic of an instruction
+-- Returns the mnemonic of an instruction.
 abbrev pub word_of : Insn → Mnemonic
 word_of (insns.Arithmetic width operation dst operand) = words.Arithmetic width operation
 word_of (insns.Negate width dst) = words.Negate width
@@ -46,7 +46,7 @@ word_of (insns.Store size base offset (Immediate number)) = words.StoreNumber si
 word_of (insns.Call helper) = words.Call
 word_of insns.Exit = words.Exit
 
--- the texts of an instruction's operands
+-- Returns the texts of an instruction's operands.
 abbrev pub operands_of : Insn → List (List ℕ)
 operands_of (insns.Arithmetic width operation dst operand) = register_text dst ∷ operand_text operand ∷ []
 operands_of (insns.Negate width dst) = register_text dst ∷ []
@@ -63,30 +63,30 @@ operands_of (insns.Store size base offset source) = place_text base offset ∷ o
 operands_of (insns.Call helper) = signed_decimal helper ∷ []
 operands_of insns.Exit = []
 
--- the text of the operands after the first, each after a comma and a space
+-- Returns the text of the operands after the first, each after a comma and a space.
 abbrev pub more_text : List (List ℕ) → List ℕ
 more_text [] = []
 more_text (a ∷ rest) = codes ", " ++ a ++ more_text rest
 
--- the text of the operands: a space, then the operands with commas between them
+-- Returns the text of the operands: a space, then the operands with commas between them.
 abbrev pub operands_text : List (List ℕ) → List ℕ
 operands_text [] = []
 operands_text (a ∷ rest) = codes " " ++ a ++ more_text rest
 
--- the text of an instruction: `mnemonic a, b, c`
+-- Returns the text of an instruction: `mnemonic a, b, c`.
 unfoldable pub insn_text : Insn → List ℕ
 insn_text insn = name_of (word_of insn) ++ operands_text (operands_of insn)
 
--- the text of an instruction and a line feed
+-- Returns the text of an instruction and a line feed.
 abbrev pub line_text : Insn → List ℕ
 line_text insn = insn_text insn ++ codes "\n"
 
--- the text of instructions, one on each line, with the unit before each; the first one is at `unit`
+-- Returns the text of instructions, one on each line, with the unit before each. The first one is at `unit`.
 abbrev pub unit_lines : ℕ → List Insn → List ℕ
 unit_lines unit [] = []
 unit_lines unit (insn ∷ insns) =
     (decimal unit ++ codes " " ++ line_text insn) ++ unit_lines (unit + units_of insn) insns
 
--- the text of instructions, one on each line, with a line feed after each
+-- Returns the text of instructions, one on each line, with a line feed after each.
 abbrev pub text_of : List Insn → List ℕ
 text_of insns = flat_map line_text insns

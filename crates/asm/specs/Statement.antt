@@ -18,39 +18,39 @@ use Rattle.asm.specs.Helper.{helper_of}
 use Rattle.asm.specs.Number.{number_of, signed_within, bits_within}
 use Rattle.asm.specs.Operand.{register_of, raw_of, fitted, place_of, Goal, goal_of, is_letter}
 
--- a statement: an instruction, or a jump whose distance is not yet known
+-- A statement: an instruction, or a jump whose distance is not yet known.
 pub data Source : Type 0 where
   Plain : Insn → Source
   Jump : Goal → Source
   LongJump : Goal → Source
   Branch : Width → Condition → ℕ → Operand → Goal → Source
 
--- the statement does not sign-extend 32 bits to 32
+-- States that the statement does not sign-extend 32 bits to 32.
 abbrev pub IsWellSource : Source → Type 0
 IsWellSource (Plain insn) = IsWell insn
 IsWellSource (Jump goal) = Unit {0}
 IsWellSource (LongJump goal) = Unit {0}
 IsWellSource (Branch width condition dst operand goal) = Unit {0}
 
--- the empty list, if there are no operands
+-- Returns the empty list, if there are no operands.
 unfoldable pub none_of : List (List ℕ) → Option (List ℕ)
 none_of [] = Some []
 none_of (a ∷ rest) = None
 
--- the operand, if there is exactly one
+-- Returns the operand, if there is exactly one.
 unfoldable pub one_of : List (List ℕ) → Option (List ℕ)
 one_of [] = None
 one_of (a ∷ []) = Some a
 one_of (a ∷ b ∷ rest) = None
 
--- the operands, if there are exactly two
+-- Returns the operands, if there are exactly two.
 unfoldable pub two_of : List (List ℕ) → Option (List ℕ × List ℕ)
 two_of [] = None
 two_of (a ∷ []) = None
 two_of (a ∷ b ∷ []) = Some (a, b)
 two_of (a ∷ b ∷ c ∷ rest) = None
 
--- the operands, if there are exactly three
+-- Returns the operands, if there are exactly three.
 unfoldable pub three_of : List (List ℕ) → Option (List ℕ × List ℕ × List ℕ)
 three_of [] = None
 three_of (a ∷ []) = None
@@ -58,7 +58,8 @@ three_of (a ∷ b ∷ []) = None
 three_of (a ∷ b ∷ c ∷ []) = Some (a, b, c)
 three_of (a ∷ b ∷ c ∷ d ∷ rest) = None
 
--- the statement of a mnemonic and its operands: their number and kinds are checked first (A3), then their ranges (A6)
+-- Returns the statement of a mnemonic and its operands: their number and kinds are checked first (A3), then their
+-- ranges (A6).
 abbrev pub source_of : Mnemonic → List (List ℕ) → Result Source AsmFault
 source_of (words.Arithmetic width operation) operands =
     ok_or (two_of operands) faults.Operand >>= λ o.
@@ -133,7 +134,7 @@ source_of words.Call operands =
     (Plain (insns.Call helper)))
 source_of words.Exit operands = ok_or (none_of operands) faults.Operand >>= λ o. Ok (Plain insns.Exit)
 
--- the statement of these words, if there are any: the mnemonic is checked first (A2), then its operands
+-- Returns the statement of these words, if there are any: the mnemonic is checked first (A2), then its operands.
 abbrev pub statement_of : List (List ℕ) → Result (Option Source) AsmFault
 statement_of [] = Ok None
 statement_of (word ∷ operands) =

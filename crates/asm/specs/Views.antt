@@ -17,58 +17,59 @@ use Rattle.asm.specs.Statement.{Source, Plain, Jump, LongJump, Branch}
 use Rattle.asm.specs.Line.{Outline}
 use Rattle.asm.specs.Program.{Placed}
 
--- the code's option is the specified one, if `view` is applied to its value
+-- States that the code's option is the specified one, if `view` is applied to its value.
 abbrev pub GivesOption : {X Y : Type 0} → (X → Y) → Option X → Option Y → Type 0
 GivesOption view None read = read ≡ None
 GivesOption view (Some x) read = read ≡ Some (view x)
 
--- the code's result is the specified one, if `view` is applied to its value; the errors are equal
+-- States that the code's result is the specified one, if `view` is applied to its value. The errors are equal.
 abbrev pub GivesResult : {X Y E : Type 0} → (X → Y) → Result X E → Result Y E → Type 0
 GivesResult view (Err e) read = read ≡ Err e
 GivesResult view (Ok x) read = read ≡ Ok (view x)
 
--- an error other than out of memory is the specified fault
+-- States that an error other than out of memory is the specified fault.
 abbrev pub Fails : {Y : Type 0} → LineError → Result Y AsmFault → Type 0
 Fails failures.Memory read = Unit {0}
 Fails (failures.Fault f) read = read ≡ Err f
 
--- the goal of a jump, whose name is stored separately
+-- Returns the goal of a jump, whose name is stored separately.
 abbrev pub aim_view : Aim → List ℕ → Goal
 aim_view (aims.Away n) name = Away n
 aim_view aims.Named name = Named name
 
--- a statement, whose jump's name is stored separately
+-- Returns a statement, whose jump's name is stored separately.
 abbrev pub draft_view : DraftInstruction → List ℕ → Source
 draft_view (drafts.Plain insn) name = Plain insn
 draft_view (drafts.Jump aim) name = Jump (aim_view aim name)
 draft_view (drafts.LongJump aim) name = LongJump (aim_view aim name)
 draft_view (drafts.Branch width condition dst operand aim) name = Branch width condition dst operand (aim_view aim name)
 
--- the statement with the name that is stored next to it
+-- Returns the statement with the name that is stored next to it.
 abbrev pub source_view : Statement → Source
 source_view s = draft_view s.draft s.name.now
 
--- the stored statement and its line
+-- Returns the stored statement and its line.
 abbrev pub kept_view : Kept → Placed
 kept_view kept = record { source = source_view kept.statement; line = kept.line }
 
--- the statement, if there is one
+-- Returns the statement, if there is one.
 abbrev pub statement_view : Option Statement → Option Source
 statement_view None = None
 statement_view (Some s) = Some (source_view s)
 
--- the words are those specified, or there are none and the error is the fault of the line (A1) or out of memory
+-- States that the words are those specified, or there are none and the error is the fault of the line (A1) or out of
+-- memory.
 abbrev pub GivesWords : {X : Type 0} → List (Bor (List ℕ)) → Result X LineError → Option (List (List ℕ)) → Type 0
 GivesWords words (Err e) read = Fails e (ok_or read faults.Line)
 GivesWords words (Ok x) read = read ≡ Some (map (λ r. r.now) words)
 
--- the bytes of the name, if there is one
+-- Returns the bytes of the name, if there is one.
 abbrev pub name_view : Option (Bor (List ℕ)) → Option (List ℕ)
 name_view None = None
 name_view (Some name) = Some name.now
 
--- the name and words are those of the outline, or there is none and the error is the fault of the line (A1) or out of
--- memory
+-- States that the name and words are those of the outline, or there is none and the error is the fault of the line (A1)
+-- or out of memory.
 abbrev pub GivesOutline : List (Bor (List ℕ)) → Result (Option (Bor (List ℕ))) LineError → Option Outline → Type 0
 GivesOutline words (Err e) read = Fails e (ok_or read faults.Line)
 GivesOutline words (Ok name) read = read ≡ Some (record { name = name_view name; words = map (λ r. r.now) words })

@@ -3,12 +3,12 @@ use Rattle.std.specs.Prelude.{ℕ, ◌≡◌, ◌<◌, ◌+◌, ◌%◌, ◌^◌
 use Rattle.semantics.specs.declared.request.Request.{Request}
 use Rattle.semantics.specs.declared.request.Request.TheVariants.{Get, Swap, Add, Cas, Copy}
 
--- a board has 64 words of 64 bits
+-- States that a board has 64 words of 64 bits.
 pub record IsBoard (words : List ℕ) : Type 0 where
   pub long : length words ≡ 64
   pub each : All (λ word. word < 2 ^ 64) words
 
--- the board's reply to a request: the word as it was before, or the words copied
+-- Returns the board's reply to a request: the word as it was before, or the words copied.
 abbrev pub reply : List ℕ → Request → List ℕ
 reply words (Get slot) = slice_index words slot ∷ []
 reply words (Swap slot value) = slice_index words slot ∷ []
@@ -16,7 +16,7 @@ reply words (Add slot value) = slice_index words slot ∷ []
 reply words (Cas slot expected new) = slice_index words slot ∷ []
 reply words (Copy span) = take span.1 (drop span.0 words)
 
--- the board's words after a request
+-- Returns the board's words after a request.
 abbrev pub next : List ℕ → Request → List ℕ
 next words (Get slot) = words
 next words (Swap slot value) = slice_set words slot value
@@ -24,19 +24,19 @@ next words (Add slot value) = slice_set words slot ((slice_index words slot + va
 next words (Cas slot expected new) = if slice_index words slot == expected then slice_set words slot new else words
 next words (Copy span) = words
 
--- one access: the general, the round, his request, and the board's reply
+-- An access: the general, the round, his request, and the board's reply.
 pub record Access : Type 0 where
   pub general : ℕ
   pub round : ℕ
   pub request : Request
   pub reply : List ℕ
 
--- the board's words after all accesses of a ledger
+-- Returns the board's words after all accesses of a ledger.
 abbrev pub words_after : List ℕ → List Access → List ℕ
 words_after words [] = words
 words_after words (a ∷ ledger) = words_after (next words a.request) ledger
 
--- the ledger is legal: each reply is the board's, given the words that the earlier accesses left
+-- States that the ledger is legal: each reply is the board's, given the words that the earlier accesses left.
 abbrev pub IsLegal : List ℕ → List Access → Type 0
 IsLegal words [] = Unit {0}
 IsLegal words (a ∷ ledger) = (a.reply ≡ reply words a.request) × IsLegal (next words a.request) ledger

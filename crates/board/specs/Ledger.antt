@@ -2,7 +2,7 @@
 use Rattle.std.specs.Prelude.{ℕ, ◌≡◌, List}
 use Rattle.board.specs.Board.{IsBoard, Access, IsLegal, words_after}
 
--- a board: its opening words, its words now, and the ledger of all accesses so far
+-- A board: its opening words, its words now, and the ledger of all accesses so far.
 pub record RecordedBoard : Type 0 where
   pub opening : List ℕ
   pub words : List ℕ

@@ -6,7 +6,7 @@ use Rattle.semantics.specs.declared.request.Request.{Request}
 use Rattle.semantics.specs.declared.request.Request.TheVariants.{Copy}
 pub use Rattle.semantics.specs.Call.{IsRequest}
 
--- the reply has the form that the request asks for: as many words as a copy names, else one word
+-- States that the reply has the form that the request asks for: as many words as a copy names, and otherwise one word.
 abbrev pub IsReplyTo : Request → Reply → Type 0
 IsReplyTo (Copy span) (Words words) = length words ≡ span.1
 IsReplyTo (Copy span) (Word word) = ⊥

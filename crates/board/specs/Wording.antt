@@ -14,7 +14,7 @@ pub record Row : Type 0 where
   pub sentence : List (List ℕ × ℕ)
   pub copies : Bool
 
--- the row that an entry of the code's table means
+-- Returns the row that an entry of the code's table means.
 abbrev pub row_of : Wording → Row
 row_of w = record {
   word = w.word.now;
@@ -30,15 +30,15 @@ abbrev pub shape_by : List ℕ → List (List ℕ) → Bool → List ℕ
 shape_by word names true = codes "access N " ++ word ++ flat_map (λ _. codes " N") (drop 1 names)
 shape_by word names false = codes "access N " ++ word ++ flat_map (λ _. codes " N") names ++ codes " = N"
 
--- the words of the line with their names, or a dash for a word that is not reported; a star means the words of the
--- answer
+-- Returns the words of the line with their names, or a dash for a word that is not reported. A star means the words of
+-- the answer.
 abbrev pub parts_by : List ℕ → List (List ℕ) → List (List ℕ × List ℕ)
 parts_by word names =
     (codes "access", codes "-") ∷ (codes "N", codes "general") ∷ (word, codes "request")
     ∷ map (λ name. (codes "N", name)) names ++ (codes "=", codes "-") ∷ (codes "*", codes "answer") ∷ []
 
--- a row from the request's word, the names of its numbers and a sentence; each piece is followed by the number with its
--- index
+-- Returns a row from the request's word, the names of its numbers and a sentence. Each piece is followed by the number
+-- with its index.
 abbrev pub row : List ℕ → List (List ℕ) → List (List ℕ × ℕ) → Bool → Row
 row word names sentence copies = record {
   word = word;
@@ -48,7 +48,7 @@ row word names sentence copies = record {
   copies = copies;
 }
 
--- the table: one row for each kind of request
+-- Returns the table: one row for each kind of request.
 abbrev pub rows : List Row
 rows =
     row (codes "get") (codes "slot" ∷ []) ((codes "reads word ", 0) ∷ []) false
@@ -61,11 +61,11 @@ rows =
     ((codes "copies ", 1) ∷ (codes " words from word ", 0) ∷ []) true
     ∷ []
 
--- the row for a kind of request that does not exist: it describes nothing
+-- Returns the row for a kind of request that does not exist: it describes nothing.
 abbrev pub no_row : Row
 no_row = row [] [] [] false
 
--- the index of a request's row in the table, and the request's numbers
+-- Returns the index of a request's row in the table, and the request's numbers.
 abbrev pub asked : Request → ℕ × List ℕ
 asked (Get slot) = (0, slot ∷ [])
 asked (Swap slot value) = (1, slot ∷ value ∷ [])
@@ -73,18 +73,18 @@ asked (Add slot value) = (2, slot ∷ value ∷ [])
 asked (Cas slot expected new) = (3, slot ∷ expected ∷ new ∷ [])
 asked (Copy span) = (4, span.0 ∷ span.1 ∷ [])
 
--- the row of a request
+-- Returns the row of a request.
 abbrev pub row_asked : Request → Row
 row_asked request = slice_index_or rows (asked request).0 no_row
 
--- the numbers of a request
+-- Returns the numbers of a request.
 abbrev pub numbers_asked : Request → List ℕ
 numbers_asked request = (asked request).1
 
--- the words of the board that a request names: the index of the first, and how many
+-- Returns the words of the board that a request names: the index of the first, and how many.
 abbrev pub span_by : Bool → List ℕ → ℕ × ℕ
 span_by copies numbers = (slice_index_or numbers 0 0, if copies then slice_index_or numbers 1 0 else 1)
 
--- the words of the board that this request names: the index of the first, and how many
+-- Returns the words of the board that this request names: the index of the first, and how many.
 abbrev pub span_asked : Request → ℕ × ℕ
 span_asked request = span_by (row_asked request).copies (numbers_asked request)

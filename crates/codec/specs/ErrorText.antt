@@ -6,7 +6,7 @@ use Rattle.codec.specs.declared.fault.CodecFault.TheVariants.{Length, Opcode, Re
 use Rattle.codec.specs.declared.fault.CodecError.{CodecError}
 use Rattle.codec.specs.declared.fault.CodecError.TheVariants.{At, Memory}
 
--- the code of a fault
+-- Returns the code of a fault.
 abbrev pub code_of : CodecFault → List ℕ
 code_of Length = codes "C1"
 code_of Opcode = codes "C2"
@@ -17,7 +17,7 @@ code_of LeftOut = codes "C6"
 code_of Operand = codes "C7"
 code_of Count = codes "C8"
 
--- the text of an error: the code of its fault and the unit, or `out of memory`
+-- Returns the text of an error: the code of its fault and the unit, or `out of memory`.
 abbrev pub told : CodecError → List ℕ
 told (At fault unit) = code_of fault ++ codes " unit " ++ decimal unit
 told Memory = codes "out of memory"

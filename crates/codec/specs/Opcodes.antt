@@ -9,27 +9,27 @@ use Rattle.codec.specs.declared.fields.Fields.{Fields}
 use Rattle.codec.specs.Spelling.{spelling}
 use Rattle.codec.specs.Reading.{fields_of, fault_at}
 
--- the opcode of the first unit
+-- Returns the opcode of the first unit.
 abbrev pub opcode_in : List Fields → ℕ
 opcode_in [] = 0
 opcode_in (first ∷ rest) = first.opcode
 
--- some well-formed instruction is encoded with this opcode
+-- States that some well-formed instruction is encoded with this opcode.
 abbrev pub IsUsed : ℕ → Type 0
 IsUsed n = (insn : Insn) × IsInsn insn × (opcode_in (spelling insn) ≡ n)
 
--- the unsupported opcodes: packet access at an absolute and an indirect place (section 5.5), and atomic operations of 4
--- and 8 bytes (section 5.3)
+-- Returns the unsupported opcodes: packet access at an absolute and an indirect place (section 5.5), and atomic
+-- operations of 4 and 8 bytes (section 5.3).
 abbrev pub left_out : List ℕ
 left_out = 0x20 ∷ 0x28 ∷ 0x30 ∷ 0x40 ∷ 0x48 ∷ 0x50 ∷ 0xc3 ∷ 0xdb ∷ []
 
--- the opcode is one of the unsupported ones
+-- Returns whether the opcode is one of the unsupported ones.
 abbrev pub is_left_out : ℕ → Bool
 is_left_out n = list_any (λ opcode. n == opcode) left_out
 
--- the instruction is not supported. Its opcode is one of the unsupported ones, or its src field is not zero: then a
--- wide instruction loads something other than a number (section 5.4), and a call calls something other than a helper
--- (section 4.3.1)
+-- States that the instruction is not supported. Its opcode is one of the unsupported ones, or its src field is not
+-- zero: then a wide instruction loads something other than a number (section 5.4), and a call calls something other
+-- than a helper (section 4.3.1).
 abbrev pub IsLeftOut : Fields → Type 0
 IsLeftOut f =
     (is_left_out f.opcode ≡ true)

@@ -21,7 +21,7 @@ use Rattle.insn.specs.declared.insn.Size.TheVariants as size
 use Rattle.insn.specs.Insn.{part_bytes}
 use Rattle.codec.specs.declared.fields.Fields.{Fields}
 
--- the fields of one unit, as unsigned numbers (section 3.1)
+-- Returns the fields of one unit, as unsigned numbers (section 3.1).
 abbrev pub fields : ℕ → ℕ → ℕ → ℕ → ℕ → Fields
 fields opcode dst src offset imm = record { opcode = opcode; dst = dst; src = src; offset = offset; imm = imm }
 
@@ -55,7 +55,7 @@ operation_code op.Xor = 0xa0
 operation_code op.Move = 0xb0
 operation_code op.ArithmeticShiftRight = 0xc0
 
--- the offset of an operation: 1 for signed division and modulo, else 0 (section 4.1)
+-- Returns the offset of an operation: 1 for signed division and modulo, else 0 (section 4.1).
 abbrev pub operation_offset : Operation → ℕ
 operation_offset op.SignedDiv = 1
 operation_offset op.SignedMod = 1
@@ -91,7 +91,7 @@ part_code narrow.Word = 0x00
 part_code narrow.Half = 0x08
 part_code narrow.Byte = 0x10
 
--- the opcodes of swaps (section 4.2): END is 0xd0; in ALU the source bit selects the byte order
+-- Returns the opcodes of swaps (section 4.2): END is 0xd0. In ALU the source bit selects the byte order.
 abbrev pub swap_code : ByteOrder → ℕ
 swap_code Little = 0xd4
 swap_code Big = 0xdc
@@ -128,19 +128,19 @@ spelling (Store bytes base offset (Register src)) =
 spelling (Call helper) = fields 0x85 0 0 0 (cast_unsigned w32 helper) ∷ []
 spelling Exit = fields 0x95 0 0 0 0 ∷ []
 
--- a pair of a unit and an optional second one, as a list
+-- Returns a pair of a unit and an optional second one, as a list.
 abbrev pub units_list : Fields × Option Fields → List Fields
 units_list (first, None) = first ∷ []
 units_list (first, Some second) = first ∷ second ∷ []
 
--- the eight bytes of a unit (section 3.1: the registers in one byte, numbers with the lowest byte first)
+-- Returns the eight bytes of a unit (section 3.1: the registers in one byte, numbers with the lowest byte first).
 abbrev pub unit_bytes : Fields → List ℕ
 unit_bytes f = f.opcode ∷ (f.dst + 16 * f.src) ∷ (to_le_bytes w16 f.offset ++ to_le_bytes w32 f.imm)
 
--- the bytes of an instruction: those of its units, in order
+-- Returns the bytes of an instruction: those of its units, in order.
 abbrev pub instruction_bytes : Insn → List ℕ
 instruction_bytes insn = flat_map unit_bytes (spelling insn)
 
--- the bytes of a program: those of its instructions, in order
+-- Returns the bytes of a program: those of its instructions, in order.
 abbrev pub program_bytes : List Insn → List ℕ
 program_bytes program = flat_map instruction_bytes program

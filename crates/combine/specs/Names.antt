@@ -5,29 +5,29 @@ use Rattle.combine.specs.declared.campaign_rule.Rule.{Rule}
 use Rattle.combine.specs.declared.campaign_rule.Rule.TheVariants.{Majority}
 use Rattle.combine.specs.Rule.{every_rule, rule_name}
 
--- the rule with this name, if there is one
+-- Returns the rule with this name, if there is one.
 abbrev pub rule_named : List ℕ → Option Rule
 rule_named word = find (λ rule. bytes_eq (rule_name rule) word) every_rule
 
--- the names of all rules, as a sentence lists them
+-- Returns the names of all rules, as a sentence lists them.
 abbrev pub rule_names : List ℕ
 rule_names = join_by rule_name (codes " or ") every_rule
 
--- the rule of a campaign that names none
+-- Returns the rule of a campaign that names none.
 abbrev pub default_rule : Rule
 default_rule = Majority
 
--- the rule is the default rule
+-- Returns whether the rule is the default rule.
 abbrev pub is_default : Rule → Bool
 is_default Majority = true
 is_default _ = false
 
--- the byte is a lower-case letter of ASCII
+-- Returns whether the byte is a lower-case letter of ASCII.
 abbrev pub is_small : ℕ → Bool
 is_small c = nat_le 97 c && nat_le c 122
 
--- the name of each rule consists of lower-case letters, names that rule, and is the only name of it; each rule is
--- listed once, and exactly one rule is the default
+-- States that the name of each rule consists of lower-case letters, and that this rule is the only one with that name.
+-- Each rule is listed once, and exactly one rule is the default.
 pub record NamesAreWords : Type 0 where
   pub letters : (rule : Rule) → list_all is_small (rule_name rule) ≡ true
   pub read : (rule : Rule) → rule_named (rule_name rule) ≡ Some rule

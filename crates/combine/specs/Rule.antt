@@ -7,55 +7,56 @@ use Rattle.combine.specs.declared.campaign_rule.Rule.TheVariants.{Majority, Medi
 use Rattle.combine.specs.declared.outcome.Outcome.{Outcome}
 use Rattle.combine.specs.declared.outcome.Outcome.TheVariants.{Middle}
 
--- the order is in more than half of the places
+-- Returns whether the order is in more than half of the places.
 abbrev pub is_most : List ℕ → ℕ → Bool
 is_most xs v = nat_lt (length xs) (2 * count_by (λ x. x == v) xs)
 
--- the order in more than half of the places, or 0 if there is none
+-- Returns the order in more than half of the places, or 0 if there is none.
 unfoldable pub majority : List ℕ → ℕ
 majority xs = unwrap_or (find (is_most xs) xs) 0
 
--- the order is in the middle: at most half of the places have less, and more than half have at most as much
+-- Returns whether the order is in the middle: at most half of the places have less, and more than half have at most as
+-- much.
 unfoldable pub is_middle : List ℕ → ℕ → Bool
 is_middle xs v =
     nat_le (count_by (λ x. nat_lt x v) xs) (length xs / 2) && nat_lt (length xs / 2) (count_by (λ x. nat_le x v) xs)
 
--- the median of a list, or 0 if the list is empty
+-- Returns the median of a list, or 0 if the list is empty.
 unfoldable pub median : List ℕ → ℕ
 median xs = unwrap_or (find (is_middle xs) xs) 0
 
--- all rules, in the order in which their names are listed
+-- Returns all rules, in the order in which their names are listed.
 abbrev pub every_rule : List Rule
 every_rule = Majority ∷ Median ∷ []
 
--- the name of a rule
+-- Returns the name of a rule.
 abbrev pub rule_name : Rule → List ℕ
 rule_name Majority = codes "majority"
 rule_name Median = codes "median"
 
--- the order to which a rule combines a list of orders
+-- Returns the order to which a rule combines a list of orders.
 abbrev pub combined_by : Rule → List ℕ → ℕ
 combined_by Majority = majority
 combined_by Median = median
 
--- the outcome to which a rule combines a list of orders: the order, and how the rule found it
+-- Returns the outcome to which a rule combines a list of orders: the order, and how the rule found it.
 abbrev pub outcome_of : Rule → List ℕ → Outcome
 outcome_of Majority orders = agreed_or 0 (find (is_most orders) orders)
 outcome_of Median orders = Middle (median orders)
 
--- the function returns the order in more than half of the places, whenever there is one
+-- States that the function returns the order in more than half of the places, whenever there is one.
 abbrev pub IsMajorityRule : (List ℕ → ℕ) → Type 0
 IsMajorityRule f = (xs : List ℕ) (v : ℕ) → length xs < 2 * count_by (λ x. x == v) xs → f xs ≡ v
 
--- if no order is in more than half of the places, the majority is RETREAT, which is 0
+-- States that if no order is in more than half of the places, the majority is RETREAT, which is 0.
 abbrev pub NoMajorityIsRetreat : Type 0
 NoMajorityIsRetreat = (xs : List ℕ) → ((v : ℕ) → 2 * count_by (λ x. x == v) xs ≤ length xs) → majority xs ≡ 0
 
--- the median is the middle of the sorted list
+-- States that the median is the middle of the sorted list.
 abbrev pub MedianIsMiddle : Type 0
 MedianIsMiddle = (xs ys : List ℕ) → IsPermutation xs ys → IsNonDecreasing ys → 0 < length xs →
     median xs ≡ slice_index ys (length xs / 2)
 
--- the outcome of a rule has the order to which the rule combines the list
+-- States that the outcome of a rule has the order to which the rule combines the list.
 abbrev pub OutcomesCombine : Type 0
 OutcomesCombine = (rule : Rule) (orders : List ℕ) → outcome_order (outcome_of rule orders) ≡ combined_by rule orders

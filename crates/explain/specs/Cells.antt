@@ -21,73 +21,73 @@ use Rattle.explain.specs.Values.{region_text}
 use Rattle.explain.specs.Shortfalls.{reach_of}
 use Rattle.explain.specs.Sources.{Holding, same_holding, from_text}
 
--- the content of a cell
+-- Writes the content of a cell.
 abbrev pub content_text : CellContent → List ℕ
 content_text Unset = codes "perhaps unset"
 content_text Byte = codes "bytes"
 content_text (Piece region offset) = codes "pointer: " ++ region_text region ++ codes " " ++ signed_decimal offset
 
--- the last of a run of cells, by offset from the end of the stack, and the closing bracket
+-- Writes the last of a run of cells, by offset from the end of the stack, and the closing bracket.
 unfoldable pub last_text : ℤ → ℤ → List ℕ
 last_text first last = if int_eq first last then codes "]" else codes ".." ++ signed_decimal last ++ codes "]"
 
--- a run of cells, by the offsets of the first and the last from the end of the stack
+-- Writes a run of cells, by the offsets of the first and the last from the end of the stack.
 unfoldable pub cells_text : ℤ → ℤ → List ℕ
 cells_text first last = codes "[" ++ signed_decimal first ++ last_text first last
 
--- a run of cells, from place `first` up to and excluding place `end`, and its content
+-- Writes a run of cells, from place `first` up to and excluding place `end`, and its content.
 abbrev pub run_text : ℕ → ℕ → CellContent → List ℕ
 run_text first end held = cells_text (pos first -ℤ pos 512) (pos end -ℤ pos 513) ++ codes " " ++ content_text held
 
--- a run of cells, its content, and the units that set it
+-- Writes a run of cells, its content, and the units that set it.
 abbrev pub sourced_text : ℕ → ℕ → Holding → List ℕ
 sourced_text first end held = run_text first end held.0 ++ from_text held.1
 
--- a run of cells that is followed by another
+-- Writes a run of cells that is followed by another.
 abbrev pub ended_text : ℕ → ℕ → Holding → List ℕ
 ended_text first end held = sourced_text first end held ++ codes ", "
 
--- the runs of cells from `first` on: those up to `place` all hold `held`, and the given number of cells follow
+-- Writes the runs of cells from `first` on: those up to `place` all hold `held`, and the given number of cells follow.
 abbrev pub runs_text : (ℕ → Holding) → ℕ → Holding → ℕ → ℕ → List ℕ
 runs_text holds first held place zero = sourced_text first place held
 runs_text holds first held place (suc n) =
     if same_holding held (holds place) then runs_text holds first held (suc place) n
     else ended_text first place held ++ runs_text holds place (holds place) (suc place) n
 
--- the runs of the given number of cells from a place on
+-- Returns the runs of the given number of cells from a place on.
 abbrev pub of_cells : (ℕ → Holding) → ℕ → ℕ → List ℕ
 of_cells holds place zero = []
 of_cells holds place (suc n) = codes " ; " ++ runs_text holds place (holds place) (suc place) n
 
--- the runs of the cells of a window, if there is one
+-- Returns the runs of the cells of a window, if there is one.
 abbrev pub of_window : (ℕ → Holding) → Option Window → List ℕ
 of_window holds None = []
 of_window holds (Some w) = of_cells holds w.place w.size
 
--- the runs of the cells that an access through this pointer touches, if it is a pointer into the stack
+-- Returns the runs of the cells that an access through this pointer touches, if it is a pointer into the stack.
 abbrev pub of_reach : (ℕ → Holding) → Reach → AbsVal → List ℕ
 of_reach holds reach (Pointer Stack o) = of_window holds (window_known Stack o.0 o.1 reach.distance reach.size)
 of_reach holds reach value = []
 
 -- ---- the cells that an instruction reads
 
--- the helper reads a row of orders from memory
+-- Returns whether the helper reads a row of orders from memory.
 abbrev pub is_row : Option Helper → Bool
 is_row (Some SendRow) = true
 is_row helper = false
 
--- the instruction reads memory
+-- Returns whether the instruction reads memory.
 abbrev pub reads_cells : Insn → Bool
 reads_cells (Load size dst base offset) = true
 reads_cells (LoadSigned part dst base offset) = true
 reads_cells (Call number) = is_row (helper_of number)
 reads_cells i = false
 
--- the runs of the cells that an access touches, if there is an access
+-- Returns the runs of the cells that an access touches, if there is an access.
 abbrev pub reached_cells : (ℕ → Holding) → Option Reach → List AbsVal → List ℕ
 reached_cells holds None registers = []
 reached_cells holds (Some reach) registers = of_reach holds reach (known_at registers reach.base)
 
--- the runs of the cells that an instruction reads, where `holds` gives what each cell holds at the unit
+-- Returns the runs of the cells that an instruction reads, where `holds` gives what each cell holds at the unit.
 abbrev pub cells_read : (ℕ → Holding) → Insn → List AbsVal → List ℕ
 cells_read holds i registers = if reads_cells i then reached_cells holds (reach_of i registers) registers else []

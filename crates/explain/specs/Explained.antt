@@ -32,62 +32,62 @@ use Rattle.reaching.specs.Marks.{KnownByUnit, known_by, marks}
 
 -- ---- what is known at a unit
 
--- a register that an instruction reads, and what is known of it
+-- Writes a register that an instruction reads, and what is known of it.
 abbrev pub read_text : List AbsVal → Option ℕ → List ℕ
 read_text registers None = []
 read_text registers (Some r) = codes " ; " ++ named_text r (known_at registers r)
 
--- the registers that an instruction reads, and what is known of each
+-- Writes the registers that an instruction reads, and what is known of each.
 abbrev pub reads_text : List AbsVal → List (Option ℕ) → List ℕ
 reads_text registers (first ∷ second ∷ third ∷ []) =
     read_text registers first ++ read_text registers second ++ read_text registers third
 reads_text registers _ = []
 
--- what is known at a unit, given what `survey` knows at each unit of the program
+-- Writes what is known at a unit, given what `survey` knows at each unit of the program.
 abbrev pub known_text : List Insn → KnownByUnit → ℕ → Insn → Option AbsState → List ℕ
 known_text program survey unit i None = codes " ; no path leads here"
 known_text program survey unit i (Some a) =
     reads_text a.registers (read_by i) ++ cells_read (holding program survey unit a.stack) i a.registers
 
--- a unit and its instruction, on a new line
+-- Writes a unit and its instruction, on a new line.
 abbrev pub place_text : Writing → ℕ → Insn → List ℕ
 place_text written unit i = codes "\n" ++ insn_at written unit i
 
--- the line of a unit: its instruction, and what is known of what it reads
+-- Writes the line of a unit: its instruction, and what is known of what it reads.
 abbrev pub unit_line : Writing → List Insn → KnownByUnit → ℕ → Insn → Option AbsState → List ℕ
 unit_line written program survey unit i known = place_text written unit i ++ known_text program survey unit i known
 
--- the register that an instruction sets, and what is known of it after the instruction
+-- Writes the register that an instruction sets, and what is known of it after the instruction.
 abbrev pub result_text : Option ℕ → AbsState → List ℕ
 result_text None a = []
 result_text (Some r) a = codes " -> " ++ named_text r (known_at a.registers r)
 
--- the result of an instruction, if a path leads to it
+-- Writes the result of an instruction, if a path leads to it.
 abbrev pub given_text : Insn → Option AbsState → List ℕ
 given_text i None = []
 given_text i (Some a) = result_text (result_of i) (left i a)
 
--- the fault is at this unit
+-- Returns whether the fault is at this unit.
 abbrev pub is_at : Option VerifyError → ℕ → Bool
 is_at (Some (At r place)) unit = place == unit
 is_at _ unit = false
 
--- the result of an instruction; nothing at the unit of the fault
+-- Writes the result of an instruction. Nothing at the unit of the fault.
 abbrev pub behind_text : Option VerifyError → ℕ → Insn → Option AbsState → List ℕ
 behind_text fault unit i known = if is_at fault unit then [] else given_text i known
 
--- the line of a unit, with the result of its instruction
+-- Writes the line of a unit, with the result of its instruction.
 abbrev pub whole_line : Writing → List Insn → KnownByUnit → Option VerifyError → ℕ → Insn → Option AbsState → List ℕ
 whole_line written program survey fault unit i known =
     unit_line written program survey unit i known ++ behind_text fault unit i known
 
--- the line of a unit, if the verifier reaches the unit
+-- Returns the line of a unit, if the verifier reaches the unit.
 abbrev pub line_if : Writing → List Insn → KnownByUnit → Option VerifyError → ℕ → Insn → Option (Option AbsState) →
     List ℕ
 line_if written program survey fault unit i None = []
 line_if written program survey fault unit i (Some known) = whole_line written program survey fault unit i known
 
--- the lines of the instructions from a unit on
+-- Writes the lines of the instructions from a unit on.
 abbrev pub known_lines : Writing → List Insn → KnownByUnit → Option VerifyError → ℕ → List Insn → List ℕ
 known_lines written program survey fault unit [] = []
 known_lines written program survey fault unit (i ∷ is) =
@@ -96,14 +96,15 @@ known_lines written program survey fault unit (i ∷ is) =
 
 -- ---- why the program is rejected
 
--- the unit that a jump leads to
+-- Returns the unit that a jump leads to.
 abbrev pub target_of : ℕ → Insn → Option ℤ
 target_of unit (Jump distance) = Some (pos (unit + 1) +ℤ distance)
 target_of unit (LongJump distance) = Some (pos (unit + 1) +ℤ distance)
 target_of unit (Branch w condition dst operand distance) = Some (pos (unit + 1) +ℤ distance)
 target_of unit i = None
 
--- the sentence that says why an instruction is rejected, in a program of `units` units, from what is known at the unit
+-- Returns the sentence that says why an instruction is rejected, in a program of `units` units, from what is known at
+-- the unit.
 abbrev pub sentence_of : ℕ → Reason → ℕ → Insn → Option AbsState → Option Sentence
 sentence_of units reason.BackJump unit i known =
     option_map (λ to. sentence.Structure (structure.Back to)) (target_of unit i)
@@ -127,39 +128,39 @@ about_text written survey program unit i s (Some asked) =
     ++ number_notes written program survey unit (other_number i (known_by (survey unit)) s)
     ++ help_on program unit (wanted program (marks program survey asked unit) unit i s)
 
--- the line with the sentence, and the notes and the help about it
+-- Writes the line with the sentence, and the notes and the help about it.
 abbrev pub told_text : Writing → KnownByUnit → List Insn → ℕ → Insn → Option Sentence → List ℕ
 told_text written survey program unit i None = []
 told_text written survey program unit i (Some s) =
     sentence_line written unit i s ++ about_text written survey program unit i s (subject_of s)
 
--- why the instruction at a unit is rejected
+-- Returns why the instruction at a unit is rejected.
 abbrev pub refused_at : Writing → KnownByUnit → List Insn → Reason → ℕ → Option Insn → List ℕ
 refused_at written survey program r unit None = []
 refused_at written survey program r unit (Some i) =
     told_text written survey program unit i (sentence_of (length (slots_of program)) r unit i (known_by (survey unit)))
 
--- why a program is rejected, if it is
+-- Writes why a program is rejected, if it is.
 abbrev pub refused_text : Writing → KnownByUnit → List Insn → Option VerifyError → List ℕ
 refused_text written survey program (Some (At r unit)) =
     refused_at written survey program r unit (instruction_at program unit)
 refused_text written survey program _ = []
 
--- the lines of the units, and then those that say why the program is rejected
+-- Returns the lines of the units, and then those that say why the program is rejected.
 abbrev pub lines_by : Writing → KnownByUnit → List Insn → Option VerifyError → List ℕ
 lines_by written survey program fault =
     known_lines written program survey fault 0 program ++ refused_text written survey program fault
 
 -- ---- the explanation of a whole program
 
--- what the verifier knows before each unit of the program; nothing for units after its end
+-- Returns what the verifier knows before each unit of the program. Nothing for units after its end.
 abbrev pub known_in : List Insn → KnownByUnit
 known_in program unit = if nat_lt unit (length (slots_of program)) then known_before program unit else None
 
--- the explanation, where `written` says how each unit is written
+-- Returns the explanation, where `written` says how each unit is written.
 abbrev pub explained_at : Writing → List Insn → List ℕ
 explained_at written program = lines_by written (known_in program) program (judged program)
 
--- the explanation, where it is not known how the units are written
+-- Returns the explanation, where it is not known how the units are written.
 abbrev pub explained : List Insn → List ℕ
 explained program = explained_at (in_lists [] []) program

@@ -31,37 +31,38 @@ use Rattle.explain.specs.declared.edit_choices.Choice.TheVariants.{Mask, One, Ei
 
 -- ---- which edits are tried for a sentence, and at which unit
 
--- a mask of register `r` before a unit
+-- Returns the edit that masks register `r` before the instruction at `unit`.
 abbrev pub mask_at : ℕ → ℕ → Option (ℕ × Choice)
 mask_at unit r = Some (unit, Mask r)
 
--- a mask of the number that moves a pointer
+-- Returns a mask of the number that moves a pointer.
 abbrev pub moving_mask : ℕ → Insn → Option (ℕ × Choice)
 moving_mask unit (Arithmetic w operation dst (Register src)) = mask_at unit src
 moving_mask unit i = None
 
--- the sum of a number and a pointer, computed in the pointer's register instead of the number's
+-- Returns the edit that computes the sum of a number and a pointer in the pointer's register instead of the number's.
 abbrev pub exchanged : ℕ → Insn → Option (ℕ × Choice)
 exchanged unit (Arithmetic W64 Add dst (Register src)) = Some (unit, Exchanged dst src)
 exchanged unit i = None
 
--- the register to which an instruction copies register `r`
+-- Returns the register to which an instruction copies register `r`.
 abbrev pub copy_of : ℕ → Insn → Option ℕ
 copy_of r (Arithmetic W64 Move dst (Register src)) = if src == r then Some dst else None
 copy_of r i = None
 
--- the copy of `r` that the instruction of a unit makes, if a path leads from there to the rejected one on which `r` is
--- not set
+-- Returns the copy of `r` that the instruction of a unit makes, if a path leads from there to the rejected one on which
+-- `r` is not set.
 abbrev pub copy_at : List Insn → List UnitMark → ℕ → ℕ → Option ℕ
 copy_at program marks r unit =
     if is_open (slice_get marks unit) then option_and_then (copy_of r) (instruction_at program unit) else None
 
--- the first option, if it has a copy, else the second
+-- Returns the first option if it has a copy, and otherwise the second.
 abbrev pub or_else : Option ℕ → Option ℕ → Option ℕ
 or_else (Some copy) other = Some copy
 or_else None other = other
 
--- the last copy of `r` below unit `n` from which a path leads to the rejected instruction on which `r` is not set
+-- Returns the last copy of `r` below unit `n` from which a path leads to the rejected instruction on which `r` is not
+-- set.
 unfoldable pub last_copy : List Insn → List UnitMark → ℕ → ℕ → Option ℕ
 last_copy program marks r zero = None
 last_copy program marks r (suc n) = or_else (copy_at program marks r n) (last_copy program marks r n)
@@ -73,7 +74,7 @@ by_copy unit (Arithmetic w operation dst operand) r (Some copy) =
     Some (unit, Either (Instead operation dst (Register copy)) r)
 by_copy unit i r copy = mask_at unit r
 
--- the edits for a misuse of a register
+-- Returns the edits for a misuse of a register.
 abbrev pub for_misuse : List Insn → List UnitMark → ℕ → Insn → RegisterMisuse → Option (ℕ × Choice)
 for_misuse program marks unit i (misuse.EitherSign r value) = by_copy unit i r (last_copy program marks r unit)
 for_misuse program marks unit i (misuse.Far r region span) = moving_mask unit i
@@ -81,26 +82,26 @@ for_misuse program marks unit i (misuse.Computed r value) = exchanged unit i
 for_misuse program marks unit i (misuse.Exit value) = Some (unit, One (Before Move 0 (Immediate (pos 0))))
 for_misuse program marks unit i m = None
 
--- the edit for an argument that may be too large: a mask, if it is a number
+-- Returns the edit for an argument that may be too large: a mask, if it is a number.
 abbrev pub for_argument : ℕ → ℕ → AbsVal → Option (ℕ × Choice)
 for_argument unit r (Number n) = mask_at unit r
 for_argument unit r value = None
 
--- the edits for a call
+-- Returns the edits for a call.
 abbrev pub for_misfit : ℕ → Misfit → Option (ℕ × Choice)
 for_misfit unit (misfit.Above called r value most) = for_argument unit r value
 for_misfit unit m = None
 
--- a mask of the number that moves a pointer at a unit
+-- Returns a mask of the number that moves a pointer at a unit.
 abbrev pub moved_at : List Insn → ℕ → Option (ℕ × Choice)
 moved_at program unit = option_and_then (moving_mask unit) (instruction_at program unit)
 
--- the edit for an access by a pointer that leads too far: a mask of the number that moved the pointer last
+-- Returns the edit for an access by a pointer that leads too far: a mask of the number that moved the pointer last.
 abbrev pub for_access : List Insn → List UnitMark → ℕ → AccessMisuse → Option (ℕ × Choice)
 for_access program marks unit (access.Outside r region span) = option_and_then (moved_at program) (last_set marks unit)
 for_access program marks unit a = None
 
--- the edits to try for a sentence, and the unit at which they are made
+-- Returns the edits to try for a sentence, and the unit at which they are made.
 abbrev pub wanted : List Insn → List UnitMark → ℕ → Insn → Sentence → Option (ℕ × Choice)
 wanted program marks unit i (sentence.Structure s) = None
 wanted program marks unit i (sentence.Register m) = for_misuse program marks unit i m
@@ -109,19 +110,19 @@ wanted program marks unit i (sentence.Call m) = for_misfit unit m
 
 -- ---- trials
 
--- the masks, the widest first
+-- Returns the masks, the widest first.
 abbrev pub masks : List ℕ
 masks = 63 ∷ 31 ∷ 15 ∷ 7 ∷ 3 ∷ 1 ∷ []
 
--- the edits that mask register `r`
+-- Returns the edits that mask register `r`.
 abbrev pub masks_of : ℕ → List Edit
 masks_of r = map (λ m. Before And r (Immediate (pos m))) masks
 
--- the edits that mask a number, and compute its sum with a pointer in the pointer's register
+-- Returns the edits that mask a number, and compute its sum with a pointer in the pointer's register.
 abbrev pub moves_of : ℕ → ℕ → List Edit
 moves_of number pointer = map (λ m. Moved (Some (pos m)) number pointer) masks
 
--- the edits of a choice, in the order in which they are tried
+-- Returns the edits of a choice, in the order in which they are tried.
 abbrev pub edits_of : Choice → List Edit
 edits_of (Mask r) = masks_of r
 edits_of (One edit) = edit ∷ []
@@ -129,17 +130,17 @@ edits_of (Either edit r) = edit ∷ masks_of r
 edits_of (Exchanged number pointer) =
     Instead Add pointer (Register number) ∷ Moved None number pointer ∷ moves_of number pointer
 
--- an edit, and how far the verifier gets with it
+-- An edit, and how far the verifier gets with it.
 abbrev pub Help : Type 0
 Help = Edit × Trial
 
--- a later edit with which the program is accepted, else this edit, with which the verifier gets past the fault
+-- Returns a later edit with which the program is accepted, else this edit, with which the verifier gets past the fault.
 abbrev pub accepted_or : Edit → Option Help → Option Help
 accepted_or edit (Some (other, Accepted)) = Some (other, Accepted)
 accepted_or edit rest = Some (edit, Passes)
 
--- of this edit and the best of the later ones: the first with which the program is accepted, else the first with which
--- the verifier gets past the fault
+-- Compares an edit with the best of the later ones. Returns the first with which the program is accepted, or else the
+-- first with which the verifier gets past the fault.
 abbrev pub better : Edit → Trial → Option Help → Option Help
 better edit Accepted rest = Some (edit, Accepted)
 better edit Passes rest = accepted_or edit rest
@@ -154,39 +155,39 @@ best program place unit (edit ∷ edits) =
 
 -- ---- text
 
--- an instruction in backquotes
+-- Returns an instruction in backquotes.
 unfoldable pub quoted : Insn → List ℕ
 quoted i = codes "`" ++ insn_text i ++ codes "`"
 
--- the instruction that masks a number, if there is a mask
+-- Writes the instruction that masks a number, if there is a mask.
 abbrev pub mask_text : Option ℤ → ℕ → List ℕ
 mask_text None number = []
 mask_text (Some mask) number = quoted (wide And number (Immediate mask)) ++ codes ", "
 
--- the instructions that add a number to a pointer, and copy the sum to the number's register
+-- Writes the instructions that add a number to a pointer, and copy the sum to the number's register.
 unfoldable pub sum_text : ℕ → ℕ → List ℕ
 sum_text number pointer =
     quoted (wide Add pointer (Register number)) ++ codes " and " ++ quoted (wide Move number (Register pointer))
 
--- an edit, up to the unit at which it is made
+-- Writes an edit, up to the unit at which it is made.
 abbrev pub edit_text : Edit → List ℕ
 edit_text (Before operation dst operand) = quoted (wide operation dst operand) ++ codes " before"
 edit_text (Instead operation dst operand) = quoted (wide operation dst operand) ++ codes " in place of"
 edit_text (Moved mask number pointer) = mask_text mask number ++ sum_text number pointer ++ codes " in place of"
 
--- how far the verifier gets with an edit
+-- Writes how far the verifier gets with an edit.
 abbrev pub trial_text : Trial → List ℕ
 trial_text Accepted = codes " the program is accepted"
 trial_text Passes = codes " this passes"
 trial_text Refused = []
 
--- the help line, if an edit helps
+-- Returns the help line, if an edit helps.
 abbrev pub told_help : ℕ → Option Help → List ℕ
 told_help place None = []
 told_help place (Some help) =
     codes "\nhelp: with " ++ edit_text help.0 ++ codes " unit " ++ decimal place ++ trial_text help.1
 
--- the help line for the edits to try, if there are any
+-- Returns the help line for the edits to try, if there are any.
 abbrev pub help_on : List Insn → ℕ → Option (ℕ × Choice) → List ℕ
 help_on program unit None = []
 help_on program unit (Some want) = told_help want.0 (best program want.0 unit (edits_of want.1))

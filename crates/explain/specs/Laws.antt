@@ -31,7 +31,7 @@ pub record Mends (program : List Insn) (place unit : ℕ) (edit : Edit) (trial :
   pub past : (r : Reason) (at : ℕ) → judged (mended edit place 0 program) ≡ Some (At r at) → unit + grown edit < at
   pub accepted : trial ≡ Accepted → judged (mended edit place 0 program) ≡ None
 
--- every edit that is chosen as a help mends the fault
+-- States that every edit that is chosen as a help mends the fault.
 abbrev pub HelpsMend : Type 0
 HelpsMend = (program : List Insn) (place unit : ℕ) (edits : List Edit) (edit : Edit) (trial : Trial) →
     best program place unit edits ≡ Some (edit, trial) → Mends program place unit edit trial

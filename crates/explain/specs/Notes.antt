@@ -30,7 +30,7 @@ use Rattle.explain.specs.Origins.{origin_of, from_origin}
 
 -- ---- the subject of a sentence
 
--- the subject of a misuse of a register
+-- Returns the subject of a misuse of a register.
 abbrev pub of_misuse : RegisterMisuse → Option Subject
 of_misuse (misuse.Unset r) = Some (subject.Register r)
 of_misuse misuse.Frame = None
@@ -42,20 +42,20 @@ of_misuse (misuse.Stored r value base at) = Some (subject.Register r)
 of_misuse (misuse.NoBase r value) = Some (subject.Register r)
 of_misuse (misuse.Exit value) = Some (subject.Register 0)
 
--- the subject of a misuse of memory
+-- Returns the subject of a misuse of memory.
 abbrev pub of_access : AccessMisuse → Option Subject
 of_access (access.Outside r region span) = Some (subject.Register r)
 of_access (access.Empty r span cell) = Some (subject.Cell cell)
 of_access (access.Context r value) = Some (subject.Register r)
 
--- the subject of a misfit of a call
+-- Returns the subject of a misfit of a call.
 abbrev pub of_misfit : Misfit → Option Subject
 of_misfit (misfit.Helper number) = None
 of_misfit (misfit.Above called r value most) = Some (subject.Register r)
 of_misfit (misfit.NoPointer called r value) = Some (subject.Register r)
 of_misfit (misfit.Board sum) = None
 
--- the subject of a sentence: the register or the cell that it is about
+-- Returns the subject of a sentence: the register or the cell that it is about.
 abbrev pub subject_of : Sentence → Option Subject
 subject_of (sentence.Structure s) = None
 subject_of (sentence.Register m) = of_misuse m
@@ -64,52 +64,52 @@ subject_of (sentence.Call m) = of_misfit m
 
 -- ---- notes
 
--- what is known of the subject
+-- Writes what is known of the subject.
 abbrev pub found_text : Subject → AbsState → List ℕ
 found_text (subject.Register r) a = named_text r (known_at a.registers r)
 found_text (subject.Cell place) a = run_text place (suc place) (held_at a.stack place)
 
--- the beginning of a note on an instruction
+-- Writes the beginning of a note on an instruction.
 abbrev pub noted_text : Writing → ℕ → Insn → List ℕ
 noted_text written unit i = codes "\nnote: " ++ insn_at written unit i
 
--- the verifier's rule that made the value of the subject uncertain, if it is a register
+-- Returns the verifier's rule that made the value of the subject uncertain, if it is a register.
 abbrev pub rule_behind : Subject → Insn → AbsState → List ℕ
 rule_behind (subject.Register r) i a = rule_text i (known_at a.registers r)
 rule_behind (subject.Cell place) i a = []
 
--- the note on an instruction that set the subject: the value that it left
+-- Writes the note on an instruction that set the subject: the value that it left.
 abbrev pub set_note : Writing → Subject → ℕ → Insn → AbsState → List ℕ
 set_note written asked unit i a =
     noted_text written unit i ++ codes " -> " ++ found_text asked (left i a) ++ rule_behind asked i (left i a)
 
--- the note that an instruction says nothing about the subject, if there is a reason why it does not
+-- Returns the note that an instruction says nothing about the subject, if there is a reason why it does not.
 abbrev pub noted_if : Writing → ℕ → Insn → Option Passing → List ℕ
 noted_if written unit i None = []
 noted_if written unit i (Some tells) = noted_text written unit i ++ passing_text tells
 
--- the note on an instruction that tests or copies the subject, if the verifier learns nothing about it there
+-- Writes the note on an instruction that tests or copies the subject, if the verifier learns nothing about it there.
 abbrev pub passing_note : Writing → Subject → ℕ → Insn → AbsState → List ℕ
 passing_note written (subject.Register r) unit i a = noted_if written unit i (passed_by r i (known_at a.registers r))
 passing_note written (subject.Cell place) unit i a = []
 
--- the note on an instruction, if its mark says that it sets the subject or lets it pass
+-- Returns the note on an instruction, if its mark says that it sets the subject or lets it pass.
 abbrev pub note_by : Writing → Subject → ℕ → Insn → AbsState → Option UnitMark → List ℕ
 note_by written asked unit i a (Some Sets) = set_note written asked unit i a
 note_by written asked unit i a (Some Open) = passing_note written asked unit i a
 note_by written asked unit i a _ = []
 
--- the note on a unit, if an instruction starts there and a path leads to it
+-- Writes the note on a unit, if an instruction starts there and a path leads to it.
 abbrev pub note_text : Writing → Subject → ℕ → Option Insn → Option AbsState → Option UnitMark → List ℕ
 note_text written asked unit (Some i) (Some a) mark = note_by written asked unit i a mark
 note_text written asked unit i known mark = []
 
--- the note on the entry, if a path leads from there on which nothing sets the subject
+-- Writes the note on the entry, if a path leads from there on which nothing sets the subject.
 abbrev pub entry_note : Subject → Option AbsState → Option UnitMark → List ℕ
 entry_note asked (Some a) (Some Open) = codes "\nnote: at the entry " ++ found_text asked a
 entry_note asked known mark = []
 
--- the notes on the entry and on the units below `n`
+-- Returns the notes on the entry and on the units below `n`.
 abbrev pub notes_below : Writing → List Insn → KnownByUnit → Subject → List UnitMark → ℕ → List ℕ
 notes_below written program survey asked marked zero = entry_note asked (known_by (survey 0)) (slice_get marked 0)
 notes_below written program survey asked marked (suc n) =
@@ -127,12 +127,12 @@ origin_notes (suc n) written program survey marked unit =
     ++ notes_below written program survey (subject.Register r) (marks program survey (subject.Register r) place) place)
     (origin_of program survey marked unit)
 
--- all notes on the subject at a unit, those on its origins first
+-- Returns all notes on the subject at a unit, those on its origins first.
 abbrev pub notes_on : Writing → List Insn → KnownByUnit → Subject → List UnitMark → ℕ → List ℕ
 notes_on written program survey asked marked unit =
     origin_notes 8 written program survey marked unit ++ notes_below written program survey asked marked unit
 
--- the notes on a number that is not the subject of the sentence, if there is one
+-- Returns the notes on a number that is not the subject of the sentence, if there is one.
 abbrev pub number_notes : Writing → List Insn → KnownByUnit → ℕ → Option ℕ → List ℕ
 number_notes written program survey unit None = []
 number_notes written program survey unit (Some r) =

@@ -21,54 +21,55 @@ use Rattle.explain.specs.declared.sentence.Sentence.TheVariants.{Register}
 use Rattle.explain.specs.declared.sentence.RegisterMisuse.TheVariants.{Computed}
 use Rattle.helper.specs.Reads.{of_first, of_operand}
 
--- the value is a number that, read as signed, may be above or below 0
+-- Returns whether the value is a number that, read as signed, may be above or below 0.
 abbrev pub is_either_sign : AbsVal → Bool
 is_either_sign (Number n) = is_none (in_a_row n.range)
 is_either_sign value = false
 
--- the register, if it holds a number that may be above or below 0
+-- Returns the register, if it holds a number that may be above or below 0.
 abbrev pub number_at : List AbsVal → Option ℕ → Option ℕ
 number_at registers None = None
 number_at registers (Some r) = if is_either_sign (known_at registers r) then Some r else None
 
--- the first register that an operation reads whose number may be above or below 0; `arsh` has a rule of its own
+-- Returns the first register that an operation reads whose number may be above or below 0. `arsh` has a rule of its
+-- own.
 abbrev pub computed_of : Insn → List AbsVal → Option ℕ
 computed_of (Arithmetic w ArithmeticShiftRight dst operand) registers = None
 computed_of (Arithmetic w operation dst operand) registers =
     option_or (number_at registers (of_first operation dst)) (number_at registers (of_operand operand))
 computed_of i registers = None
 
--- the unit sets the subject
+-- Returns whether the unit sets the subject.
 abbrev pub is_set : Option UnitMark → Bool
 is_set (Some Sets) = true
 is_set _ = false
 
--- the last of the units below `n` that sets the subject
+-- Returns the last of the units below `n` that sets the subject.
 abbrev pub last_set : List UnitMark → ℕ → Option ℕ
 last_set marks zero = None
 last_set marks (suc n) = if is_set (slice_get marks n) then Some n else last_set marks n
 
--- the register from which the instruction of a unit computes its result, and the unit
+-- Returns the register from which the instruction of a unit computes its result, and the unit.
 abbrev pub origin_at : ℕ → Option Insn → Option AbsState → Option (ℕ × ℕ)
 origin_at unit (Some i) (Some a) = option_map (λ r. (r, unit)) (computed_of i a.registers)
 origin_at unit i known = None
 
--- the register from which the last unit that set the subject computed it, and that unit
+-- Returns the register from which the last unit that set the subject computed it, and that unit.
 abbrev pub origin_of : List Insn → KnownByUnit → List UnitMark → ℕ → Option (ℕ × ℕ)
 origin_of program survey marks unit =
     option_and_then (λ n. origin_at n (instruction_at program n) (known_by (survey n))) (last_set marks unit)
 
--- the text about an origin, if there is one
+-- Returns the text about an origin, if there is one.
 abbrev pub from_origin : (ℕ → ℕ → List ℕ) → Option (ℕ × ℕ) → List ℕ
 from_origin tells None = []
 from_origin tells (Some origin) = tells origin.0 origin.1
 
--- the register of the number, if an instruction adds a pointer to a number in the number's register
+-- Returns the register of the number, if an instruction adds a pointer to a number in the number's register.
 abbrev pub summed : Insn → Sentence → Option ℕ
 summed (Arithmetic W64 Add dst (Source src)) (Register (Computed r value)) = Some dst
 summed i s = None
 
--- the register of that number, if the number may be above or below 0
+-- Returns the register of that number, if the number may be above or below 0.
 abbrev pub other_number : Insn → Option AbsState → Sentence → Option ℕ
 other_number i None s = None
 other_number i (Some a) s = number_at a.registers (summed i s)

@@ -10,12 +10,12 @@ use Rattle.reaching.specs.Contents.{held_at, same_content}
 use Rattle.reaching.specs.Marks.{KnownByUnit, marks}
 use Rattle.explain.specs.Origins.{is_set}
 
--- a list of this unit, if it sets the cell
+-- Returns the list of only this unit if the unit sets the cell, and otherwise the empty list.
 abbrev pub if_set : Bool → ℕ → List ℕ
 if_set true unit = unit ∷ []
 if_set false unit = []
 
--- the units below `n` that set the cell, ascending
+-- Returns the units below `n` that set the cell, ascending.
 abbrev pub set_below : List UnitMark → ℕ → List ℕ
 set_below marks zero = []
 set_below marks (suc n) = set_below marks n ++ if_set (is_set (slice_get marks n)) n
@@ -25,27 +25,27 @@ set_below marks (suc n) = set_below marks n ++ if_set (is_set (slice_get marks n
 abbrev pub sources : List Insn → KnownByUnit → ℕ → ℕ → List ℕ
 sources program survey unit cell = set_below (marks program survey (Cell cell) unit) unit
 
--- what a cell holds, and the units that set it
+-- What a cell holds, and the units that set it.
 abbrev pub Holding : Type 0
 Holding = CellContent × List ℕ
 
--- what a cell holds at a unit, given what is known of the stack there, and the units that set it
+-- Returns what a cell holds at a unit, given what is known of the stack there, and the units that set it.
 abbrev pub holding : List Insn → KnownByUnit → ℕ → Known → ℕ → Holding
 holding program survey unit known cell = (held_at known cell, sources program survey unit cell)
 
--- two cells hold the same content from the same units
+-- Returns whether two cells hold the same content from the same units.
 abbrev pub same_holding : Holding → Holding → Bool
 same_holding one other = same_content one.0 other.0 && bytes_eq one.1 other.1
 
 -- ---- as text: ` (from 5)`, ` (from 5 or 7)`; the first eight units if there are more
 
--- the units after the first, at most `most` of them
+-- Writes the units after the first, at most `most` of them.
 abbrev pub further_text : ℕ → List ℕ → List ℕ
 further_text most [] = codes ")"
 further_text zero (unit ∷ units) = codes " or others)"
 further_text (suc most) (unit ∷ units) = codes " or " ++ decimal unit ++ further_text most units
 
--- the units that set a cell, if there are any
+-- Writes the units that set a cell, if there are any.
 abbrev pub from_text : List ℕ → List ℕ
 from_text [] = []
 from_text (unit ∷ units) = codes " (from " ++ decimal unit ++ further_text 7 units

@@ -6,33 +6,33 @@ use Rattle.insn.specs.declared.insn.Insn.{Insn}
 use Rattle.asm.specs.Printing.{insn_text}
 use Rattle.explain.specs.declared.units.UnitTexts.{UnitTexts}
 
--- the place of each unit, and its instruction as written; an empty text if that is not known
+-- The place of each unit, and its instruction as written: an empty text if that is not known.
 abbrev pub Writing : Type 0
 Writing = ℕ → List ℕ × List ℕ
 
--- the text, or an empty one if there is none
+-- Returns the text, or an empty one if there is none.
 abbrev pub text_or_none : Option (String Global) → List ℕ
 text_or_none None = []
 text_or_none (Some text) = string_bytes text
 
--- the places and instructions from two lists; they are not known for units after the ends of the lists
+-- Returns the places and instructions from two lists. They are not known for units after the ends of the lists.
 abbrev pub in_lists : List (String Global) → List (String Global) → Writing
 in_lists places statements unit = (text_or_none (slice_get places unit), text_or_none (slice_get statements unit))
 
--- the places and instructions that the code's lists have
+-- Returns the places and instructions that the code's lists have.
 abbrev pub written_in : UnitTexts → Writing
 written_in w = in_lists w.places.now w.statements.now
 
--- a text in brackets, if it is not empty
+-- Returns a text in brackets, if it is not empty.
 abbrev pub in_brackets : List ℕ → List ℕ
 in_brackets [] = []
 in_brackets (c ∷ cs) = codes " (" ++ (c ∷ cs) ++ codes ")"
 
--- the number of a unit and, if it is known, its place
+-- Writes the number of a unit and, if it is known, its place.
 abbrev pub unit_text : Writing → ℕ → List ℕ
 unit_text written unit = decimal unit ++ in_brackets (written unit).0
 
--- an instruction as written or, if that is not known, as printed from its bytecode
+-- Writes an instruction as written or, if that is not known, as printed from its bytecode.
 abbrev pub statement_text : List ℕ → Insn → List ℕ
 statement_text [] i = insn_text i
 statement_text (c ∷ cs) i = c ∷ cs

@@ -9,7 +9,7 @@ use Rattle.semantics.specs.State.{State, Next, Ask, value_at}
 use Rattle.semantics.specs.Call.{called, fits, resumed}
 pub use Rattle.helper.specs.Table.{returned_range}
 
--- r0 holds a number of the interval.
+-- States that r0 holds a number of the interval.
 abbrev pub HoldsResult : ℕ → ℕ → State → Type 0
 HoldsResult lo hi s = (n : ℕ) × (value_at s.registers 0 ≡ Number n) × IsIn lo hi n
 

@@ -3,7 +3,7 @@ use Rattle.std.specs.Prelude.{ℕ, List, codes}
 use Rattle.label.specs.declared.space.LabelError.{LabelError}
 use Rattle.label.specs.declared.space.LabelError.TheVariants.{NotALabel, Rank}
 
--- the code that an error is displayed as
+-- Returns the code that an error is displayed as.
 abbrev pub told : LabelError → List ℕ
 told NotALabel = codes "L1"
 told Rank = codes "L2"

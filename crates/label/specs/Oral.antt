@@ -3,64 +3,65 @@
 use Rattle.std.specs.Prelude.{ℕ, zero, suc, ◌*◌, ◌<◌, ◌≤◌, ◌≡◌, ◌≢◌, ◌==◌, Bool, true, false, cond, List, [], ◌∷◌, ◌++◌, map, length, count_by, Option, None, Some}
 use Rattle.label.specs.Labels.{on, is_distinct, generals, others}
 
--- each number in the list is that of a general
+-- States that each number in the list is that of a general.
 abbrev pub AllBelow : ℕ → List ℕ → Type 0
 AllBelow n [] = Unit {0}
 AllBelow n (x ∷ xs) = (x < n) × AllBelow n xs
 
--- the list begins with the commander
+-- States that the list begins with the commander.
 abbrev pub BeginsWith : ℕ → List ℕ → Type 0
 BeginsWith c [] = ⊥
 BeginsWith c (x ∷ xs) = x ≡ c
 
--- a label: the commander, then distinct generals
+-- States that w is a label: it consists of the commander and then distinct generals.
 pub record IsLabel (n c : ℕ) (w : List ℕ) : Type 0 where
   pub first : BeginsWith c w
   pub below : AllBelow n w
   pub distinct : is_distinct w ≡ true
 
--- the order in a message; a missing message counts as RETREAT, which is 0
+-- Returns the order in a message. A missing message counts as RETREAT, which is 0.
 abbrev pub order_of : Option ℕ → ℕ
 order_of None = 0
 order_of (Some v) = v
 
--- all messages: for a label and a receiver, the order that the last general of the label sent to the receiver about the
--- rest of the label, or nothing
+-- The messages of a campaign: for a label and a receiver, the order that the last general of the label sent to the
+-- receiver about the rest of the label, or nothing.
 abbrev pub Messages : Type 0
 Messages = List ℕ → ℕ → Option ℕ
 
--- the order that a receiver takes from the message about a label
+-- Returns the order that a receiver takes from the message about a label.
 abbrev pub taken : Messages → List ℕ → ℕ → ℕ
 taken M w p = order_of (M w p)
 
--- the order that a general took for a label; for the empty label, which only the commander relays, it is his own order
+-- Returns the order that a general took for a label. For the empty label, which only the commander relays, it is his
+-- own order.
 abbrev pub heard : Messages → ℕ → List ℕ → ℕ → ℕ
 heard M order [] g = order
 heard M order (x ∷ xs) g = taken M (x ∷ xs) g
 
--- the decision of p about the label w by OM(k), with k relays left
+-- Returns the decision of p about the label w by OM(k), with k relays left.
 unfoldable pub om : (List ℕ → ℕ) → ℕ → Messages → ℕ → List ℕ → ℕ → ℕ
 om f n M zero w p = taken M w p
 om f n M (suc k) w p = f (map (λ j. cond (j == p) (taken M w p) (om f n M k (w ++ j ∷ []) p)) (others n w))
 
--- general g follows the protocol: he sends each receiver the order that he took
+-- States that general g follows the protocol: he sends each receiver the order that he took.
 abbrev pub IsFaithful : ℕ → ℕ → ℕ → ℕ → Messages → ℕ → Type 0
 IsFaithful n c m order M g =
     (u : List ℕ) (p : ℕ) → IsLabel n c (u ++ g ∷ []) → length u ≤ m → p < n → on (u ++ g ∷ []) p ≡ false
     → M (u ++ g ∷ []) p ≡ Some (heard M order u g)
 
--- the general is a loyal lieutenant
+-- States that the general is a loyal lieutenant.
 pub record IsLoyalLieutenant (n c : ℕ) (traitor : ℕ → Bool) (p : ℕ) : Type 0 where
   pub general : p < n
   pub lieutenant : p ≢ c
   pub loyal : traitor p ≡ false
 
--- all loyal lieutenants decide alike, and they obey the order of a loyal commander
+-- States that all loyal lieutenants decide alike, and they obey the order of a loyal commander.
 pub record Agree (n c order : ℕ) (traitor : ℕ → Bool) (decision : ℕ → ℕ) : Type 0 where
   pub alike : (p q : ℕ) → IsLoyalLieutenant n c traitor p → IsLoyalLieutenant n c traitor q → decision p ≡ decision q
   pub obeyed : traitor c ≡ false → (p : ℕ) → IsLoyalLieutenant n c traitor p → decision p ≡ order
 
--- the bound holds: there are more than 3m generals, and at most m of them are traitors
+-- States that the bound holds: there are more than 3m generals, and at most m of them are traitors.
 pub record IsBound (n m : ℕ) (traitor : ℕ → Bool) : Type 0 where
   pub enough : 3 * m < n
   pub few : count_by traitor (generals n) ≤ m

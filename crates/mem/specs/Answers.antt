@@ -4,7 +4,7 @@ use Rattle.semantics.specs.State.{Cause, UnsetRegister, PointerUse, OutOfBounds,
 use Rattle.mem.specs.declared.fault.MemoryFault.{MemoryFault}
 use Rattle.mem.specs.declared.fault.MemoryFault.TheVariants as fault
 
--- the cause of a trap that a fault names
+-- Returns the cause of a trap that a fault names.
 abbrev pub cause_of : MemoryFault → Cause
 cause_of fault.UnsetRegister = UnsetRegister
 cause_of fault.PointerUse = PointerUse
@@ -12,7 +12,7 @@ cause_of fault.OutOfBounds = OutOfBounds
 cause_of fault.NoBytes = NoBytes
 cause_of fault.ContextWrite = ContextWrite
 
--- the code's result is the defined one: the same value, or the fault that names the defined cause
+-- States that the code's result is the defined one: the same value, or the fault that names the defined cause.
 abbrev pub IsAnswer : {A : Type 0} → Result A Cause → Result A MemoryFault → Type 0
 IsAnswer written (Ok a) = written ≡ Ok a
 IsAnswer written (Err f) = written ≡ Err (cause_of f)

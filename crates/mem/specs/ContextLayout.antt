@@ -4,36 +4,37 @@ use Rattle.semantics.specs.Limits.{context_size}
 use Rattle.word.specs.Bytes.{little_bytes, little_number}
 use Rattle.label.specs.declared.shape.Shape.{Shape}
 
--- the bytes of a context: 4,096, which begin with 32-bit little-endian numbers and end with zeros
+-- Returns the bytes of a context: 4,096, which begin with 32-bit little-endian numbers and end with zeros.
 unfoldable pub context_bytes : List ℕ → List ℕ
 context_bytes numbers = take context_size (flat_map (little_bytes 4) numbers ++ replicate context_size 0)
 
--- the numbers of a context: eight that describe the relay and its campaign, then the value taken for each label relayed
+-- Returns the numbers of a context: eight that describe the relay and its campaign, then the value taken for each label
+-- relayed.
 abbrev pub context_numbers : Shape → ℕ → List ℕ → List ℕ
 context_numbers shape bound values =
     shape.generals ∷ bound ∷ shape.general ∷ shape.commander ∷ shape.round ∷ length values ∷
     (shape.generals - shape.round) ∷ 0 ∷ values
 
--- the number in word `word` of a context, 4 bytes long
+-- Returns the number in word `word` of a context, 4 bytes long.
 abbrev pub number_told : List ℕ → ℕ → ℕ
 number_told context word = little_number (slice_range context (4 * word) (4 * word + 4))
 
--- the index, in `context_numbers`, of the number of generals
+-- Returns the index, in `context_numbers`, of the number of generals.
 abbrev pub at_generals : ℕ
 at_generals = 0
 
--- the index, in `context_numbers`, of the general
+-- Returns the index, in `context_numbers`, of the general's number.
 abbrev pub at_general : ℕ
 at_general = 2
 
--- the index, in `context_numbers`, of the commander
+-- Returns the index, in `context_numbers`, of the commander's number.
 abbrev pub at_commander : ℕ
 at_commander = 3
 
--- the index, in `context_numbers`, of the round
+-- Returns the index, in `context_numbers`, of the round's number.
 abbrev pub at_round : ℕ
 at_round = 4
 
--- the index, in `context_numbers`, of the kind of messages: 0 if they are oral, 1 if they are signed
+-- Returns the index, in `context_numbers`, of the kind of messages: 0 if they are oral, 1 if they are signed.
 abbrev pub at_kind : ℕ
 at_kind = 7

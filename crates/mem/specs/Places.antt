@@ -7,13 +7,13 @@ use Rattle.semantics.specs.declared.value.Cell.{Cell}
 use Rattle.semantics.specs.State.{Cause, UnsetRegister, PointerUse, given}
 use Rattle.semantics.specs.Memory.{window, region_cells}
 
--- the region of the window at a pointer plus a distance, and its place in that region, or the cause of a trap
+-- Returns the region of the window at a pointer plus a distance, and its place in that region, or the cause of a trap.
 abbrev pub place_at : Value → ℤ → ℕ → Result (Region × ℕ) Cause
 place_at Unset distance size = Err UnsetRegister
 place_at (Number n) distance size = Err PointerUse
 place_at (Pointer region offset) distance size =
     given (window region (offset +ℤ distance) size) (λ place. Ok (region, place))
 
--- the cells of a window, by its region and its place there
+-- Returns the cells of a window, by its region and its place there.
 abbrev pub part_at : List ℕ → List Cell → ℕ → Region × ℕ → List Cell
 part_at context stack size p = take size (drop p.1 (region_cells context stack p.0))

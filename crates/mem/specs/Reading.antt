@@ -8,16 +8,17 @@ use Rattle.semantics.specs.declared.value.Cell.TheVariants.{Empty, Byte, Piece}
 use Rattle.semantics.specs.State.{Cause, NoBytes, given}
 use Rattle.semantics.specs.Memory.{bytes_in, is_same_region}
 
--- the little-endian number in cells that are all bytes; `NoBytes` if one is not
+-- Returns the little-endian number in cells that are all bytes, or `NoBytes` if one is not.
 abbrev pub number_in : List Cell → Result ℕ Cause
 number_in cells = given (bytes_in cells) (λ bytes. Ok (little_number bytes))
 
--- the option is the number read from `size` cells from `place` on: `None` if one of them is not a byte
+-- States that the option is the little-endian number in the `size` cells from `place` on, or `None` if one of them is
+-- not a byte.
 abbrev pub Reads : List Cell → ℕ → ℕ → Option ℕ → Type 0
 Reads cells place size None = number_in (take size (drop place cells)) ≡ Err NoBytes
 Reads cells place size (Some n) = number_in (take size (drop place cells)) ≡ Ok n
 
--- the cell is piece `number` of the pointer with this region and offset
+-- Returns whether the cell is piece `number` of the pointer with this region and offset.
 abbrev pub is_piece : ℕ → Region → ℤ → Cell → Bool
 is_piece number region offset Empty = false
 is_piece number region offset (Byte b) = false

@@ -6,7 +6,7 @@ use Rattle.semantics.specs.State.{Cause, given}
 use Rattle.semantics.specs.Memory.{cells_at, bytes_in}
 use Rattle.semantics.specs.Call.{orders_of}
 
--- the `count` numbers at a pointer, 4 bytes each
+-- Returns the `count` numbers at a pointer, 4 bytes each.
 abbrev pub row_at : List ℕ → List Cell → Value → ℕ → Result (List ℕ) Cause
 row_at context stack base count = given (cells_at context stack base (pos 0) (4 * count))
     (λ cells. given (bytes_in cells) (λ bytes. Ok (orders_of bytes)))

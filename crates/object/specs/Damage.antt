@@ -10,33 +10,33 @@ use Rattle.object.specs.Section.{section_at, section_bytes, has_no_bytes, is_rel
 use Rattle.object.specs.Symbol.{symbol_at, is_function}
 use Rattle.object.specs.Relocation.{relocation_size, relocation_at}
 
--- the section has no bytes in the file, or its bytes are within the file
+-- Returns whether the section has no bytes in the file, or its bytes are within the file.
 abbrev pub is_section_whole : List ℕ → SectionHeader → Bool
 is_section_whole object section = has_no_bytes section || nat_le (section.start + section.size) (length object)
 
--- the damage of a section, if it is not whole
+-- Returns the damage of a section, if it is not whole.
 abbrev pub section_damage : List ℕ → List ℕ → ℕ → Option Damage
 section_damage object table index =
     if is_section_whole object (section_at index table) then None else Some (damages.Section index)
 
--- the symbol's name begins within the strings, and its code is within its section
+-- Returns whether the symbol's name begins within the strings, and its code is within its section.
 abbrev pub is_symbol_whole : List ℕ → List ℕ → Symbol → Bool
 is_symbol_whole table strings symbol =
     nat_lt symbol.name (length strings) && nat_le (symbol.value + symbol.size) (section_at symbol.section table).size
 
--- the damage of a symbol; only functions are checked
+-- Returns the damage of a symbol. Only functions are checked.
 abbrev pub symbol_damage : List ℕ → List ℕ → List ℕ → ℕ → Option Damage
 symbol_damage table symbols strings index =
     if is_function table (symbol_at index symbols) && not (is_symbol_whole table strings (symbol_at index symbols))
     then Some (damages.Symbol index) else None
 
--- the damage of a relocation, if the symbol that it names does not exist
+-- Returns the damage of a relocation, if the symbol that it names does not exist.
 abbrev pub relocation_damage : ℕ → ℕ → ℕ → List ℕ → ℕ → Option Damage
 relocation_damage section symbols size relocations index =
     if nat_lt (relocation_at size index relocations).symbol symbols then None else Some (damages.Relocations section)
 
--- the damage of a section with relocations: it must link to the table of symbols, and each of its relocations must name
--- one of the `symbols` symbols
+-- Returns the damage of a section with relocations: it must link to the table of symbols, and each of its relocations
+-- must name one of the `symbols` symbols.
 abbrev pub relocations_damage : List ℕ → List ℕ → ℕ → ℕ → ℕ → Option Damage
 relocations_damage object table home symbols index =
     if is_relocations (section_at index table) then
@@ -48,8 +48,8 @@ relocations_damage object table home symbols index =
     else Some (damages.Relocations index))
     else None
 
--- the first damage of an object: the sections are checked first, then the functions among the symbols, then the
--- relocations
+-- Returns the first damage of an object: the sections are checked first, then the functions among the symbols, then the
+-- relocations.
 abbrev pub tables_damage : List ℕ → List ℕ → ℕ → ℕ → List ℕ → List ℕ → Option Damage
 tables_damage object table count home symbols strings =
     or_else (first_some (section_damage object table) count)

@@ -9,8 +9,8 @@ use Rattle.object.specs.declared.entries.EntryTable.{EntryTable}
 use Rattle.object.specs.declared.entries.Path.{Path}
 use Rattle.object.specs.Numbers.{unsigned_at, string_at}
 
--- the number of bytes of a value in a form of fixed size, else 0: DW_FORM_data1, data2, data4, data8 and data16, and
--- the offsets of DW_FORM_strp and DW_FORM_line_strp
+-- Returns the number of bytes of a value in a form of fixed size, else 0: DW_FORM_data1, data2, data4, data8 and
+-- data16, and the offsets of DW_FORM_strp and DW_FORM_line_strp.
 abbrev pub size_of : ℕ → ℕ
 size_of form =
     if form == 0x0b then 1 else if form == 0x05 then 2 else if (form == 0x06) || (form == 0x0e) || (form == 0x1f) then 4
@@ -20,19 +20,20 @@ size_of form =
 abbrev pub within : List ℕ → ℕ → Option ℕ
 within bytes place = if nat_le place (length bytes) then Some place else None
 
--- the place after a block whose size was read
+-- Returns the byte index after a block, where `size` has the block's size and the index after that size.
 abbrev pub block_end : List ℕ → Read → Option ℕ
 block_end bytes size = within bytes (size.next + size.value)
 
--- the place after a block, which begins with its size
+-- Returns the byte index after a block that begins with its size at index `place`.
 abbrev pub behind_block : ℕ → List ℕ → Option ℕ
 behind_block place bytes = option_and_then (block_end bytes) (unsigned_at place bytes)
 
--- the place after a number in LEB128
+-- Returns the byte index after the LEB128 number at index `place`.
 abbrev pub behind_number : ℕ → List ℕ → Option ℕ
 behind_number place bytes = option_map (λ number. number.next) (unsigned_at place bytes)
 
--- the place after a value of no fixed size: DW_FORM_string, with the zero after it, DW_FORM_udata, or DW_FORM_block
+-- Returns the byte index after a value of no fixed size at index `place`: DW_FORM_string, with the zero after it,
+-- DW_FORM_udata, or DW_FORM_block.
 abbrev pub behind_varying : ℕ → ℕ → List ℕ → Option ℕ
 behind_varying form place bytes =
     if form == 0x08 then within bytes (place + length (string_at place bytes) + 1)
@@ -40,69 +41,70 @@ behind_varying form place bytes =
     else if form == 0x09 then behind_block place bytes
     else None
 
--- the place after a value in a form
+-- Returns the byte index after a value of this form at index `place`.
 abbrev pub behind_value : ℕ → ℕ → List ℕ → Option ℕ
 behind_value form place bytes =
     if nat_lt 0 (size_of form) then within bytes (place + size_of form) else behind_varying form place bytes
 
--- the format with this content and this form
+-- Returns the format with this content and this form.
 abbrev pub format_by : ℕ → Read → Format
 format_by content form = record { content = content; form = form.value; next = form.next }
 
--- the format whose content was read, with the form after it
+-- Returns the format whose content was read, with the form after it.
 abbrev pub format_behind : List ℕ → Read → Option Format
 format_behind formats content = option_map (format_by content.value) (unsigned_at content.next formats)
 
--- the format at a place
+-- Returns the format at the byte index `place`.
 abbrev pub format_at : ℕ → List ℕ → Option Format
 format_at place formats = option_and_then (format_behind formats) (unsigned_at place formats)
 
--- the place after `n` formats
+-- Returns the byte index after the `n` formats that begin at index `place`.
 unfoldable pub behind_formats : ℕ → ℕ → List ℕ → Option ℕ
 behind_formats zero place formats = Some place
 behind_formats (suc n) place formats =
     option_and_then (λ format. behind_formats n format.next formats) (format_at place formats)
 
--- what `next` finds at the place after a value in a format
+-- Returns what `next` finds at the byte index after a value of this format.
 abbrev pub behind_then : {A : Type 0} → (ℕ → ℕ → Option A) → List ℕ → ℕ → Format → Option A
 behind_then next bytes place format = option_and_then (next format.next) (behind_value format.form place bytes)
 
--- the place after an entry with `n` formats, which begin at `from`
+-- Returns the byte index after an entry with `n` formats. The formats begin at index `from`, and the entry at index
+-- `place`.
 unfoldable pub behind_entry : ℕ → List ℕ → ℕ → List ℕ → ℕ → Option ℕ
 behind_entry zero formats from bytes place = Some place
 behind_entry (suc n) formats from bytes place =
     option_and_then (behind_then (λ next. behind_entry n formats next bytes) bytes place) (format_at from formats)
 
--- the value in this format, if it is the path, else what `next` finds after it
+-- Returns the value of this format if it is the path, and otherwise what `next` finds after it.
 abbrev pub path_by : (ℕ → ℕ → Option Path) → List ℕ → ℕ → Format → Option Path
 path_by next bytes place format =
     if format.content == 1 then Some (record { form = format.form; place = place })
     else behind_then next bytes place format
 
--- the path of an entry: its value whose content is the path (DW_LNCT_path)
+-- Returns the path of an entry: its value whose content is the path (DW_LNCT_path).
 unfoldable pub path_in : ℕ → List ℕ → ℕ → List ℕ → ℕ → Option Path
 path_in zero formats from bytes place = None
 path_in (suc n) formats from bytes place =
     option_and_then (path_by (λ next. path_in n formats next bytes) bytes place) (format_at from formats)
 
--- the place after `n` entries
+-- Returns the byte index after `n` entries, the first of which begins at index `place`.
 unfoldable pub behind_entries : ℕ → ℕ → List ℕ → ℕ → List ℕ → ℕ → Option ℕ
 behind_entries zero count formats from bytes place = Some place
 behind_entries (suc n) count formats from bytes place =
     option_and_then (behind_entries n count formats from bytes) (behind_entry count formats from bytes place)
 
--- a table of version 5 whose number of entries was read; there cannot be more entries than bytes
+-- Returns the table of version 5 whose number of entries was read. There cannot be more entries than bytes.
 abbrev pub entries_by : ℕ → ℕ → List ℕ → Read → Option EntryTable
 entries_by formats from bytes count =
     if nat_le count.value (length bytes)
     then Some (record { formats = formats; from = from; count = count.value; first = count.next }) else None
 
--- a table of version 5 whose formats end at a place
+-- Returns the table of version 5 whose formats end at the byte index `next`.
 abbrev pub entries_behind : ℕ → ℕ → List ℕ → ℕ → Option EntryTable
 entries_behind formats from bytes next = option_and_then (entries_by formats from bytes) (unsigned_at next bytes)
 
--- the table of version 5 at a place: a byte with the number of the formats, the formats, the number of the entries, and
--- the entries
+-- Returns the table of version 5 at the byte index `place`: a byte with the number of the formats, the formats, the
+-- number of the entries, and the entries.
 abbrev pub entries_at : ℕ → List ℕ → Option EntryTable
 entries_at place bytes =
     option_and_then (entries_behind (number_at 1 place bytes) (place + 1) bytes)

@@ -12,8 +12,8 @@ use Rattle.object.specs.Symbol.{symbols_section, symbol_at, entry_here}
 use Rattle.object.specs.Relocation.{relocations_fault, call_fault}
 use Rattle.object.specs.Damage.{tables_damage}
 
--- the parts of an object that are read: the headers of its sections, their number, the section of the symbols, the
--- symbols, and the strings of their names
+-- The parts of an object that are read: the headers of its sections, their number, the section of the symbols, the
+-- symbols, and the strings of their names.
 pub record Parts : Type 0 where
   pub table : List ℕ
   pub count : ℕ
@@ -21,15 +21,15 @@ pub record Parts : Type 0 where
   pub symbols : List ℕ
   pub strings : List ℕ
 
--- the table of symbols, in the section `home`
+-- Returns the table of symbols, in the section `home`.
 abbrev pub symbols_in : List ℕ → List ℕ → ℕ → List ℕ
 symbols_in object table home = section_bytes object (section_at home table)
 
--- the strings of the symbols' names, in the section to which the table of symbols links
+-- Returns the strings of the symbols' names, in the section to which the table of symbols links.
 abbrev pub strings_in : List ℕ → List ℕ → ℕ → List ℕ
 strings_in object table home = section_bytes object (section_at (section_at home table).link table)
 
--- the parts of an object with these headers of sections and this table of symbols
+-- Returns the parts of an object with these headers of sections and this table of symbols.
 abbrev pub parts_at : List ℕ → List ℕ → ℕ → ℕ → Parts
 parts_at object table count home = record {
   table = table;
@@ -39,80 +39,82 @@ parts_at object table count home = record {
   strings = strings_in object table home;
 }
 
--- the parts of an object
+-- Returns the parts of an object.
 abbrev pub parts_of : List ℕ → Parts
 parts_of object =
     parts_at object (section_table object) (section_count object)
     (symbols_section (section_table object) (section_count object))
 
--- the damage as a fault, if there is one
+-- Returns the damage as a fault, if there is one.
 abbrev pub as_fault : Option Damage → Option ObjectFault
 as_fault None = None
 as_fault (Some damage) = Some (Damaged damage)
 
--- the first damage of an object with these parts
+-- Returns the first damage of an object with these parts.
 abbrev pub parts_damage : List ℕ → Parts → Option Damage
 parts_damage object parts = tables_damage object parts.table parts.count parts.home parts.symbols parts.strings
 
--- the fault of an object: it is not an object for BPF, or it is damaged
+-- Returns the fault of an object: it is not an object for BPF, or it is damaged.
 abbrev pub object_fault : List ℕ → Option ObjectFault
 object_fault object =
     if not (is_bpf_object object) then Some NoObject
     else (if is_table_whole object then as_fault (parts_damage object (parts_of object)) else Some (Damaged Sections))
 
--- the index, unless a second function fits
+-- Returns the index, or the error `Several` if a second function fits.
 abbrev pub only : ℕ → Option ℕ → Result ℕ ObjectFault
 only index None = Ok index
 only index (Some other) = Err Several
 
--- the first index, unless no function fits or a second one does
+-- Returns the first index, or an error if no function fits or a second one does.
 abbrev pub first_only : Option ℕ → (ℕ → Option ℕ) → Result ℕ ObjectFault
 first_only None beside = Err NoFunction
 first_only (Some index) beside = only index (beside (index + 1))
 
--- the first function from the index `least` on that fits
+-- Returns the first function from the index `least` on that fits.
 abbrev pub entry_from : List ℕ → List ℕ → List ℕ → Option (List ℕ) → ℕ → Option ℕ
 entry_from table symbols strings name least =
     first_some (entry_here table symbols strings name least) (length symbols / 24)
 
--- the index of the only function that fits
+-- Returns the index of the only function that fits.
 abbrev pub chosen : List ℕ → List ℕ → List ℕ → Option (List ℕ) → Result ℕ ObjectFault
 chosen table symbols strings name =
     first_only (entry_from table symbols strings name 0) (entry_from table symbols strings name)
 
--- the code of a function
+-- Returns the code of a function.
 abbrev pub code_in : List ℕ → List ℕ → Symbol → List ℕ
 code_in object table function =
     window function.value function.size (section_bytes object (section_at function.section table))
 
--- the fault of a function: the first relocation that changes its code, else the first unit that calls a function
+-- Returns the fault of a function: the first relocation that changes its code, else the first unit that calls a
+-- function.
 abbrev pub function_fault : List ℕ → List ℕ → ℕ → List ℕ → Symbol → Option ObjectFault
 function_fault object table count symbols function =
     or_else (first_some (relocations_fault object table symbols function) count)
     (first_some (call_fault (code_in object table function)) (length (code_in object table function) / 8))
 
--- the fault, if there is one, else the value
+-- Returns the error `fault` if there is one, and otherwise the value.
 abbrev pub unless : {A : Type 0} → Option ObjectFault → A → Result A ObjectFault
 unless None a = Ok a
 unless (Some fault) a = Err fault
 
--- the next step applied to the result, if it is not a fault
+-- Applies the next step to the value of a result. If the result is a fault, returns that fault.
 abbrev pub then_by : {A B : Type 0} → Result A ObjectFault → (A → Result B ObjectFault) → Result B ObjectFault
 then_by (Ok a) next = next a
 then_by (Err fault) next = Err fault
 
--- the entry function of an object with these parts, or the first fault
+-- Returns the entry function of an object with these parts, or the first fault.
 abbrev pub found_in : List ℕ → Parts → Option (List ℕ) → Result Symbol ObjectFault
 found_in object parts name =
     then_by (chosen parts.table parts.symbols parts.strings name) (λ index.
     unless (function_fault object parts.table parts.count parts.symbols (symbol_at index parts.symbols))
     (symbol_at index parts.symbols))
 
--- the entry function of an object, or the first fault: those of the object come first, then those of the function
+-- Returns the entry function of an object, or the first fault: those of the object come first, then those of the
+-- function.
 abbrev pub function_of : List ℕ → Option (List ℕ) → Result Symbol ObjectFault
 function_of object name = then_by (unless (object_fault object) (parts_of object)) (λ parts. found_in object parts name)
 
--- the code of an object's entry function, or the first fault
+-- Returns the code of an object's entry function, or the first fault.
 abbrev pub entry_of : List ℕ → Option (List ℕ) → Result (List ℕ) ObjectFault
 entry_of object name =
     then_by (function_of object name) (λ function. Ok (code_in object (section_table object) function))

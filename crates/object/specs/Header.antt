@@ -4,15 +4,16 @@ use Rattle.std.specs.Prelude.{Option, Some, None}
 use Rattle.object.specs.Number.{number_at}
 use Rattle.object.specs.declared.header.Header.{Header}
 
--- the place of minimum_instruction_length; version 5 has two more bytes before it
+-- Returns the byte index of the header's field minimum_instruction_length. Version 5 has two more bytes before it.
 abbrev pub fields_of : ℕ → ℕ
 fields_of version = if version == 5 then 12 else 10
 
--- a signed byte, modulo 2^64
+-- Returns a byte, read as a signed number, modulo 2^64.
 abbrev pub widened : ℕ → ℕ
 widened byte = if nat_lt byte 128 then byte else byte + (2 ^ 64 - 256)
 
--- the header, read from the place of minimum_instruction_length; header_length is before that place
+-- Returns the header, where `fields` is the byte index of its field minimum_instruction_length. The field header_length
+-- is before that index.
 abbrev pub header_from : ℕ → ℕ → List ℕ → Header
 header_from version fields bytes = record {
   version = version;
@@ -25,12 +26,12 @@ header_from version fields bytes = record {
   end = 4 + number_at 4 0 bytes;
 }
 
--- the fields of the header at the beginning of the bytes
+-- Returns the fields of the header at the beginning of the bytes.
 abbrev pub header_in : List ℕ → Header
 header_in bytes = header_from (number_at 2 4 bytes) (fields_of (number_at 2 4 bytes)) bytes
 
--- the header is supported: its version is 4 or 5, an instruction has one operation, there are no opcodes other than the
--- standard's, and the tables and the program are within the bytes
+-- Returns whether the header is supported: its version is 4 or 5, an instruction has one operation, there are no
+-- opcodes other than the standard's, and the tables and the program are within the bytes.
 abbrev pub is_read : Header → List ℕ → Bool
 is_read header bytes =
     ((header.version == 4) || (header.version == 5)) && (number_at 1 (fields_of header.version + 1) bytes == 1)
@@ -38,6 +39,6 @@ is_read header bytes =
     nat_lt 0 header.opcodes && nat_le header.opcodes 13 &&
     nat_le header.tables header.program && nat_le header.program header.end && nat_le header.end (length bytes)
 
--- the header at the beginning of the bytes, if it is supported
+-- Returns the header at the beginning of the bytes, if it is supported.
 abbrev pub header_of : List ℕ → Option Header
 header_of bytes = if is_read (header_in bytes) bytes then Some (header_in bytes) else None

@@ -12,11 +12,11 @@ use Rattle.object.specs.Entries.{entries_at, behind_entries, path_in}
 
 -- ---- version 5: two tables of entries, the directories and the files, which are counted from 0
 
--- the path of the entry at a place
+-- Returns the path of the entry at the byte index `place`.
 abbrev pub path_of_entry : List ℕ → EntryTable → ℕ → Option Path
 path_of_entry bytes files place = path_in files.formats bytes files.from bytes place
 
--- the path of the file with this number
+-- Returns the path of the file with this number.
 abbrev pub path_among : List ℕ → ℕ → EntryTable → Option Path
 path_among bytes file files =
     if nat_lt file files.count
@@ -24,43 +24,44 @@ path_among bytes file files =
     (behind_entries file files.formats bytes files.from bytes files.first)
     else None
 
--- the table of files, which follows the table of directories
+-- Returns the table of files, which follows the table of directories.
 abbrev pub files_behind : List ℕ → EntryTable → Option EntryTable
 files_behind bytes directories =
     option_and_then (λ place. entries_at place bytes)
     (behind_entries directories.count directories.formats bytes directories.from bytes directories.first)
 
--- the table of files, where the two tables begin at `tables`
+-- Returns the table of files, where the two tables begin at `tables`.
 abbrev pub files_at : ℕ → List ℕ → Option EntryTable
 files_at tables bytes = option_and_then (files_behind bytes) (entries_at tables bytes)
 
--- the path of a file in version 5
+-- Returns the path of a file in version 5.
 abbrev pub path_in_five : ℕ → List ℕ → ℕ → Option Path
 path_in_five tables bytes file = option_and_then (path_among bytes file) (files_at tables bytes)
 
 -- ---- version 4: the directories are strings up to an empty one; the files follow, which are counted from 1
 
--- the formats of version 4's files, as version 5 writes them: the path (DW_FORM_string), and directory, time and size
--- (DW_FORM_udata)
+-- Returns the formats of version 4's files, as version 5 writes them: the path (DW_FORM_string), and directory, time
+-- and size (DW_FORM_udata).
 abbrev pub file_formats : List ℕ
 file_formats = 1 ∷ 8 ∷ 2 ∷ 15 ∷ 3 ∷ 15 ∷ 4 ∷ 15 ∷ []
 
--- the place `n` bytes after the beginning of a list of strings, if there is an empty string of the list
+-- Returns the byte index `tables` + `n` if an empty string of the list of strings that begins at index `tables` is
+-- there.
 abbrev pub empty_here : ℕ → List ℕ → ℕ → Option ℕ
 empty_here tables bytes n =
     if (number_at 1 (tables + n) bytes == 0) && ((n == 0) || (number_at 1 (tables + n - 1) bytes == 0))
     then Some (tables + n) else None
 
--- the place of the empty string that ends the directories
+-- Returns the byte index of the empty string that ends the directories.
 abbrev pub directories_end : ℕ → List ℕ → Option ℕ
 directories_end tables bytes = first_some (empty_here tables bytes) (length bytes - tables)
 
--- the path of the file after `before` others, where the directories end at a place
+-- Returns the path of the file after `before` others, where the directories end at the byte index `end`.
 abbrev pub path_behind : List ℕ → ℕ → ℕ → Option Path
 path_behind bytes before end =
     option_and_then (path_in 4 file_formats 0 bytes) (behind_entries before 4 file_formats 0 bytes (end + 1))
 
--- the path of a file in version 4
+-- Returns the path of a file in version 4.
 abbrev pub path_in_four : ℕ → List ℕ → ℕ → Option Path
 path_in_four tables bytes file =
     if (file == 0) || nat_lt (length bytes) file then None
@@ -68,13 +69,13 @@ path_in_four tables bytes file =
 
 -- ---- the name
 
--- the path of a file, in the version of the header
+-- Returns the path of a file, in the version of the header.
 abbrev pub path_of : Header → List ℕ → ℕ → Option Path
 path_of header bytes file =
     if header.version == 5 then path_in_five header.tables bytes file else path_in_four header.tables bytes file
 
--- the name of a path: it is at its place (DW_FORM_string), or in a section of strings (DW_FORM_line_strp, DW_FORM_strp)
--- at an offset, to which a relocation adds the section's symbol, which is 0
+-- Returns the name of a path. It is at the path's place (DW_FORM_string), or in a section of strings
+-- (DW_FORM_line_strp, DW_FORM_strp) at an offset, to which a relocation adds the section's symbol, which is 0.
 abbrev pub name_at : List ℕ → List ℕ → List ℕ → Path → List ℕ
 name_at bytes line_strings strings path =
     if path.form == 0x08 then string_at path.place bytes
@@ -82,15 +83,15 @@ name_at bytes line_strings strings path =
     else if path.form == 0x0e then string_at (number_at 4 path.place bytes) strings
     else []
 
--- the name of a path, if there is one
+-- Returns the name of a path, if there is one.
 abbrev pub name_by : List ℕ → List ℕ → List ℕ → Option Path → List ℕ
 name_by bytes line_strings strings None = []
 name_by bytes line_strings strings (Some path) = name_at bytes line_strings strings path
 
--- the byte is a visible character of ASCII or a space
+-- Returns whether the byte is a visible character of ASCII or a space.
 abbrev pub is_visible : ℕ → Bool
 is_visible byte = nat_le 32 byte && nat_lt byte 127
 
--- the name can be printed on a line: it has 1 to 255 visible characters or spaces
+-- Returns whether the name can be printed on a line: it has 1 to 255 visible characters or spaces.
 abbrev pub is_plain : List ℕ → Bool
 is_plain name = nat_lt 0 (length name) && nat_le (length name) 255 && list_all is_visible name

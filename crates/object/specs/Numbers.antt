@@ -6,16 +6,16 @@ use Rattle.text.specs.Parts.{before}
 use Rattle.object.specs.Number.{number_at}
 use Rattle.object.specs.declared.leb128.Read.{Read}
 
--- the value of the last byte of a number, which is below 128; in a signed number its bit of value 64 is the sign, and
--- the value is taken modulo 2^64
+-- Returns the value of the last byte of a LEB128 number, which is below 128. In a signed number its bit of value 64 is
+-- the sign, and the value is taken modulo 2^64.
 abbrev pub last_byte : Bool → ℕ → ℕ
 last_byte signed byte = if signed && nat_le 64 byte then byte + (2 ^ 64 - 128) else byte
 
--- the number whose lowest seven bits are in this byte, which is 128 or more, and whose other bits follow
+-- Returns the number whose lowest seven bits are in this byte, which is 128 or more, and whose other bits follow.
 abbrev pub joined : ℕ → Read → Read
 joined byte more = record { value = (more.value * 128 % 2 ^ 64 + (byte - 128)) % 2 ^ 64; next = more.next }
 
--- the number that begins with the byte at a place, given the number that the bytes after it encode
+-- Returns the number that begins with the byte at index `place`, given the number that the bytes after it encode.
 abbrev pub number_on : Bool → ℕ → List ℕ → Option Read → Option Read
 number_on signed place bytes more =
     if nat_le (length bytes) place then None
@@ -23,19 +23,20 @@ number_on signed place bytes more =
     then Some (record { value = last_byte signed (number_at 1 place bytes); next = place + 1 })
     else option_map (joined (number_at 1 place bytes)) more
 
--- the number in LEB128 at a place, of at most `most` bytes and modulo 2^64, and the place after it
+-- Returns the LEB128 number at the byte index `place`, of at most `most` bytes and modulo 2^64, and the byte index
+-- after it.
 unfoldable pub number_in : Bool → ℕ → ℕ → List ℕ → Option Read
 number_in signed zero place bytes = None
 number_in signed (suc most) place bytes = number_on signed place bytes (number_in signed most (place + 1) bytes)
 
--- the unsigned number in LEB128 at a place, of at most 10 bytes
+-- Returns the unsigned LEB128 number at the given byte index, of at most 10 bytes, and the byte index after it.
 abbrev pub unsigned_at : ℕ → List ℕ → Option Read
 unsigned_at = number_in false 10
 
--- the signed number in LEB128 at a place, of at most 10 bytes
+-- Returns the signed LEB128 number at the given byte index, of at most 10 bytes, and the byte index after it.
 abbrev pub signed_at : ℕ → List ℕ → Option Read
 signed_at = number_in true 10
 
--- the bytes from a place on, up to the first zero
+-- Returns the bytes from index `place` on, up to but not including the first zero.
 abbrev pub string_at : ℕ → List ℕ → List ℕ
 string_at place bytes = before (Byte 0) (drop place bytes)

@@ -14,72 +14,73 @@ use Rattle.object.specs.Tables.{lines_in, line_strings_in, strings_in, origins_i
 
 -- ---- rows
 
--- the rows of a program with this header; there are none if the program breaks off
+-- States that these are the rows of a program with this header. There are none if the program breaks off.
 abbrev pub AreRowsBy : Header → List ℕ → Origins → List LineRow → Type 0
 AreRowsBy header bytes origins rows = HasRows header bytes origins rows ⊎ (BreaksOff header bytes origins × (rows ≡ []))
 
--- the rows of an object's line number program; there are none if it has no supported header
+-- States that these are the rows of an object's line number program. There are none if it has no supported header.
 abbrev pub AreRows : List ℕ → ℕ → Option Header → List LineRow → Type 0
 AreRows object section None rows = rows ≡ []
 AreRows object section (Some header) rows =
     AreRowsBy header (take header.end (lines_in object))
     (origins_in object (take header.end (lines_in object)) section) rows
 
--- the address is at the row or after it and before the next row, in one sequence and in the function's section
+-- Returns whether the address is at the row or between it and the next row, in one sequence and in the function's
+-- section.
 abbrev pub is_of : ℕ → LineRow → LineRow → Bool
 is_of address row next =
     row.registers.inside && not row.last && nat_le row.registers.address address
     && nat_lt address next.registers.address
 
--- the row, if the address is between it and the next row
+-- Returns the row, if the address is at the row or between it and the next row.
 abbrev pub row_by : ℕ → Option LineRow → Option LineRow → Option LineRow
 row_by address (Some row) (Some next) = if is_of address row next then Some row else None
 row_by address _ _ = None
 
--- the row with this index, if the address is between it and the next row
+-- Returns the row with this index, if the address is at this row or between it and the next row.
 abbrev pub row_here : List LineRow → ℕ → ℕ → Option LineRow
 row_here rows address index = row_by address (slice_get rows index) (slice_get rows (index + 1))
 
--- the first row to which an address belongs
+-- Returns the first row to which an address belongs.
 abbrev pub row_of : List LineRow → ℕ → Option LineRow
 row_of rows address = first_some (row_here rows address) (length rows - 1)
 
 -- ---- text
 
--- the name of a file by its number
+-- Returns the name of a file by its number.
 abbrev pub name_in : List ℕ → Option Header → ℕ → List ℕ
 name_in object None file = []
 name_in object (Some header) file =
     name_by (take header.program (lines_in object)) (line_strings_in object) (strings_in object)
     (path_of header (take header.program (lines_in object)) file)
 
--- the text `FILE:LINE`, or nothing if the name cannot be printed on a line
+-- Returns the text `FILE:LINE`, or nothing if the name cannot be printed on a line.
 abbrev pub told : List ℕ → ℕ → List ℕ
 told name line = if is_plain name then name ++ codes ":" ++ decimal line else []
 
--- the text of a row, or nothing if there is no row or no line
+-- Returns the text of a row, or nothing if there is no row or no line.
 abbrev pub told_of : (ℕ → List ℕ) → Option LineRow → List ℕ
 told_of names None = []
 told_of names (Some row) = if row.registers.line == 0 then [] else told (names row.registers.file) row.registers.line
 
--- the text of a unit of a function that begins at the address `start`
+-- Returns the text of a unit of a function that begins at the address `start`.
 abbrev pub text_at : (ℕ → List ℕ) → List LineRow → ℕ → ℕ → List ℕ
 text_at names rows start unit = told_of names (row_of rows ((start + 8 * unit) % 2 ^ 64))
 
--- the texts of the first `n` units of a function
+-- Returns the texts of the first `n` units of a function.
 unfoldable pub texts_of : (ℕ → List ℕ) → List LineRow → ℕ → ℕ → List (List ℕ)
 texts_of names rows start zero = []
 texts_of names rows start (suc n) = texts_of names rows start n ++ text_at names rows start n ∷ []
 
--- the texts are the file and line of each unit of the function, up to 4,096 units; a text is empty if they are not
--- known
+-- States that the texts are the file and line of each unit of the function, up to 4,096 units. A text is empty if they
+-- are not known.
 abbrev pub TellsPlaces : List ℕ → Symbol → List (List ℕ) → Type 0
 TellsPlaces object function texts =
     (rows : List LineRow) × AreRows object function.section (header_of (lines_in object)) rows
     × (texts ≡ texts_of (name_in object (header_of (lines_in object))) rows function.value
     (min (function.size / 8) 4096))
 
--- the texts are those of the entry function's units, or there are none if the object has no such entry
+-- States that the texts are those of the entry function's units, or there are none if the object has no such entry.
 abbrev pub AreEntryPlaces : List ℕ → Result Symbol ObjectFault → List (List ℕ) → Type 0
 AreEntryPlaces object (Ok function) texts = TellsPlaces object function texts
 AreEntryPlaces object (Err fault) texts = texts ≡ []

@@ -13,28 +13,28 @@ use Rattle.object.specs.First.{first_some}
 use Rattle.object.specs.Section.{section_at, section_bytes, is_code, is_relocations}
 use Rattle.object.specs.Symbol.{symbol_at}
 
--- the size of a relocation in bytes: 16 in SHT_REL, and 24 in SHT_RELA
+-- Returns the size of a relocation in bytes: 16 in SHT_REL, and 24 in SHT_RELA.
 abbrev pub relocation_size : SectionHeader → ℕ
 relocation_size section = if section.kind == 9 then 16 else 24
 
--- the relocation with this index: r_offset, and the symbol in the upper half of r_info
+-- Returns the relocation with this index: r_offset, and the symbol in the upper half of r_info.
 abbrev pub relocation_at : ℕ → ℕ → List ℕ → Relocation
 relocation_at size index relocations = record {
   place = number_at 8 (size * index) relocations;
   symbol = number_at 4 (size * index + 12) relocations;
 }
 
--- the relocation changes the function's code
+-- Returns whether the relocation changes the function's code.
 abbrev pub is_within : Relocation → Symbol → Bool
 is_within relocation function =
     nat_le function.value relocation.place && nat_lt relocation.place (function.value + function.size)
 
--- the fault of a unit whose code names the symbol: it leaves the function if the symbol is code, because the machine
--- has no calls of functions, and otherwise it names data, which the machine does not have
+-- Returns the fault of a unit whose code names the symbol: it leaves the function if the symbol is code, because the
+-- machine has no calls of functions, and otherwise it names data, which the machine does not have.
 abbrev pub named_at : List ℕ → Symbol → ℕ → ObjectFault
 named_at table symbol unit = if is_code (section_at symbol.section table) then Leaves unit else Names unit
 
--- the fault of a relocation, if it changes the function's code
+-- Returns the fault of a relocation, if it changes the function's code.
 abbrev pub relocation_fault : List ℕ → List ℕ → Symbol → ℕ → List ℕ → ℕ → Option ObjectFault
 relocation_fault table symbols function size relocations index =
     if is_within (relocation_at size index relocations) function
@@ -42,7 +42,7 @@ relocation_fault table symbols function size relocations index =
     (((relocation_at size index relocations).place - function.value) / 8))
     else None
 
--- the first fault of a section's relocations, if they change the function's section
+-- Returns the first fault of a section's relocations, if they change the function's section.
 abbrev pub relocations_fault : List ℕ → List ℕ → List ℕ → Symbol → ℕ → Option ObjectFault
 relocations_fault object table symbols function index =
     if is_relocations (section_at index table) && ((section_at index table).info == function.section)
@@ -52,10 +52,11 @@ relocations_fault object table symbols function index =
     (length (section_bytes object (section_at index table)) / relocation_size (section_at index table))
     else None
 
--- the unit calls a function of the program: its opcode is 0x85, and its src is 1 (RFC 9669, section 4.3.2)
+-- Returns whether the unit calls a function of the program: its opcode is 0x85, and its src is 1 (RFC 9669, section
+-- 4.3.2).
 abbrev pub is_call : List ℕ → ℕ → Bool
 is_call code unit = (number_at 1 (8 * unit) code == 133) && (number_at 1 (8 * unit + 1) code / 16 == 1)
 
--- the fault of a unit that calls a function of the program
+-- Returns the fault of a unit that calls a function of the program.
 abbrev pub call_fault : List ℕ → ℕ → Option ObjectFault
 call_fault code unit = if is_call code unit then Some (Leaves unit) else None

@@ -11,24 +11,24 @@ use Rattle.object.specs.declared.registers.LineRegisters.{LineRegisters}
 use Rattle.object.specs.declared.registers.LineRow.{LineRow}
 use Rattle.object.specs.Steps.{step_at}
 
--- for the place of an operand, its address in the function's section, if it is in that section
+-- A function from the byte index of an operand to its address, if that address is in the function's section.
 abbrev pub Origins : Type 0
 Origins = ℕ → Option ℕ
 
--- the registers at the beginning of a sequence
+-- Returns the registers at the beginning of a sequence.
 abbrev pub at_start : LineRegisters
 at_start = record { address = 0; inside = false; file = 1; line = 1 }
 
--- the registers with address and line advanced, modulo 2^64
+-- Returns the registers with address and line advanced, modulo 2^64.
 abbrev pub advanced : LineRegisters → ℕ → ℕ → LineRegisters
 advanced r address line = record r { address = (r.address + address) % 2 ^ 64; line = (r.line + line) % 2 ^ 64 }
 
--- the registers with the address that an operand sets, if it is in the function's section
+-- Returns the registers with the address that an operand sets, if it is in the function's section.
 abbrev pub started : LineRegisters → Option ℕ → LineRegisters
 started r None = record r { inside = false }
 started r (Some address) = record r { address = address; inside = true }
 
--- the registers after an instruction
+-- Returns the registers after an instruction.
 abbrev pub after : Origins → LineRegisters → Step → LineRegisters
 after origins r (steps.Row address line) = advanced r address line
 after origins r (steps.Address by) = advanced r by 0
@@ -38,24 +38,24 @@ after origins r (steps.Start place) = started r (origins place)
 after origins r steps.End = at_start
 after origins r steps.Other = r
 
--- a row with these registers; `last` says whether it ends a sequence
+-- Returns a row with these registers. `last` says whether it ends a sequence.
 abbrev pub row_with : LineRegisters → Bool → LineRow
 row_with r last = record { registers = r; last = last }
 
--- the row that an instruction appends; that of a special opcode has the registers after it, and that of the end of a
--- sequence has those before it
+-- Returns the row that an instruction appends. The row of a special opcode has the registers after it, and the row of
+-- the end of a sequence has the registers before it.
 abbrev pub row_by : LineRegisters → Step → Option LineRow
 row_by r (steps.Row address line) = Some (row_with (advanced r address line) false)
 row_by r steps.End = Some (row_with r true)
 row_by r _ = None
 
--- the state of the machine: the place of the next instruction, the registers, and the rows so far
+-- The state of the machine: the byte index of the next instruction, the registers, and the rows so far.
 pub record Machine : Type 0 where
   pub place : ℕ
   pub registers : LineRegisters
   pub rows : List LineRow
 
--- the state after an instruction that was read
+-- Returns the state after an instruction that was read.
 abbrev pub moved : Origins → Machine → Stepped → Machine
 moved origins m s = record {
   place = s.next;
@@ -63,31 +63,31 @@ moved origins m s = record {
   rows = m.rows ++ option_to_list (row_by m.registers s.step);
 }
 
--- the state after the next instruction, if there is an instruction
+-- Returns the state after the next instruction, if there is an instruction.
 abbrev pub next_of : Header → List ℕ → Origins → Machine → Option Machine
 next_of header bytes origins m = option_map (moved origins m) (step_at header m.place bytes)
 
--- the state after `n` instructions
+-- Returns the state after `n` instructions.
 unfoldable pub machine_after : Header → List ℕ → Origins → ℕ → Option Machine
 machine_after header bytes origins zero = Some (record { place = header.program; registers = at_start; rows = [] })
 machine_after header bytes origins (suc n) =
     option_and_then (next_of header bytes origins) (machine_after header bytes origins n)
 
--- the machine reaches this state after some number of instructions
+-- States that the machine reaches this state after some number of instructions.
 abbrev pub Comes : Header → List ℕ → Origins → Machine → Type 0
 Comes header bytes origins m = (n : ℕ) × (machine_after header bytes origins n ≡ Some m)
 
--- the program ends exactly at the end of the bytes, and these are its rows
+-- States that the program ends exactly at the end of the bytes, and these are its rows.
 abbrev pub HasRows : Header → List ℕ → Origins → List LineRow → Type 0
 HasRows header bytes origins rows =
     (m : Machine) × Comes header bytes origins m × (length bytes ≡ m.place) × (m.rows ≡ rows)
 
--- before the end of the bytes, the program reaches a place with no instruction
+-- States that the program reaches a place with no instruction before the end of the bytes.
 abbrev pub BreaksOff : Header → List ℕ → Origins → Type 0
 BreaksOff header bytes origins =
     (m : Machine) × Comes header bytes origins m × (m.place < length bytes) × (step_at header m.place bytes ≡ None)
 
--- the result has the rows of the program, or it is empty because the program breaks off
+-- States that the result has the rows of the program, or it is empty because the program breaks off.
 abbrev pub GivesRows : Header → List ℕ → Origins → Option (Vec LineRow Global) → Type 0
 GivesRows header bytes origins None = BreaksOff header bytes origins
 GivesRows header bytes origins (Some rows) = HasRows header bytes origins rows.items

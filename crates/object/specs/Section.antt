@@ -4,29 +4,29 @@ use Rattle.std.specs.Prelude.{ℕ, ◌+◌, ◌*◌, ◌/◌, ◌%◌, List, [],
 use Rattle.object.specs.declared.section.SectionHeader.{SectionHeader}
 use Rattle.object.specs.Number.{number_at, window}
 
--- the file is an object for BPF: 7f 45 4c 46 (e_ident), 64 bits (2), little-endian (1), relocatable (e_type 1), for BPF
--- (e_machine 247)
+-- Returns whether the file is an object for BPF: 7f 45 4c 46 (e_ident), 64 bits (2), little-endian (1), relocatable
+-- (e_type 1), for BPF (e_machine 247).
 abbrev pub is_bpf_object : List ℕ → Bool
 is_bpf_object object =
     (number_at 4 0 object == 1179403647) && (number_at 1 4 object == 2) && (number_at 1 5 object == 1) &&
     (number_at 2 16 object == 1) && (number_at 2 18 object == 247)
 
--- the number of sections (e_shnum)
+-- Returns the number of sections (e_shnum).
 abbrev pub section_count : List ℕ → ℕ
 section_count object = number_at 2 60 object
 
--- the headers of the sections, of 64 bytes each, from e_shoff on
+-- Returns the headers of the sections, of 64 bytes each, from e_shoff on.
 abbrev pub section_table : List ℕ → List ℕ
 section_table object = window (number_at 8 40 object) (64 * section_count object) object
 
--- the object has a header, e_shentsize is 64, and the headers of the sections are within the file
+-- Returns whether the object has a header, e_shentsize is 64, and the headers of the sections are within the file.
 abbrev pub is_table_whole : List ℕ → Bool
 is_table_whole object =
     nat_le 64 (length object) && (number_at 2 58 object == 64)
     && (length (section_table object) == 64 * section_count object)
 
--- the header of the section with this index: sh_type, sh_flags, sh_offset, sh_size, sh_link and sh_info; past the table
--- the fields are zero
+-- Returns the header of the section with this index: sh_type, sh_flags, sh_offset, sh_size, sh_link and sh_info. Past
+-- the table the fields are zero.
 abbrev pub section_at : ℕ → List ℕ → SectionHeader
 section_at index table = record {
   kind = number_at 4 (64 * index + 4) table;
@@ -37,18 +37,18 @@ section_at index table = record {
   info = number_at 4 (64 * index + 44) table;
 }
 
--- the section has no bytes in the file (SHT_NULL or SHT_NOBITS)
+-- Returns whether the section has no bytes in the file (SHT_NULL or SHT_NOBITS).
 abbrev pub has_no_bytes : SectionHeader → Bool
 has_no_bytes section = (section.kind == 0) || (section.kind == 8)
 
--- the bytes of a section, or none if they are not within the file
+-- Returns the bytes of a section, or none if they are not within the file.
 unfoldable pub section_bytes : List ℕ → SectionHeader → List ℕ
 section_bytes object section = if has_no_bytes section then [] else window section.start section.size object
 
--- the section has executable code (SHT_PROGBITS with SHF_EXECINSTR)
+-- Returns whether the section has executable code (SHT_PROGBITS with SHF_EXECINSTR).
 abbrev pub is_code : SectionHeader → Bool
 is_code section = (section.kind == 1) && (section.flags / 4 % 2 == 1)
 
--- the section has relocations (SHT_REL or SHT_RELA)
+-- Returns whether the section has relocations (SHT_REL or SHT_RELA).
 abbrev pub is_relocations : SectionHeader → Bool
 is_relocations section = (section.kind == 9) || (section.kind == 4)

@@ -9,43 +9,45 @@ use Rattle.object.specs.declared.step.Step.TheVariants.{Row, Address, Line, File
 use Rattle.object.specs.declared.step.Stepped.{Stepped}
 use Rattle.object.specs.Numbers.{unsigned_at, signed_at}
 
--- an instruction, and the place after it
+-- Returns an instruction with the byte index after it.
 abbrev pub stepped : Step → ℕ → Stepped
 stepped step next = record { step = step; next = next }
 
--- the distance by which a special opcode advances the address; `above` is its distance from the first special opcode
+-- Returns the distance by which a special opcode advances the address. `above` is its distance from the first special
+-- opcode.
 abbrev pub address_advance : Header → ℕ → ℕ
 address_advance header above = header.shortest * (above / header.range)
 
--- the instruction of a special opcode, which advances address and line and appends a row
+-- Returns the instruction of a special opcode, which advances address and line and appends a row.
 abbrev pub special : Header → ℕ → Step
 special header above = Row (address_advance header above) ((header.base + above % header.range) % 2 ^ 64)
 
--- the instruction whose operand was read
+-- Returns the instruction whose operand was read, with the byte index after it.
 abbrev pub by_number : (ℕ → Step) → Option Read → Option Stepped
 by_number step = option_map (λ number. stepped (step number.value) number.next)
 
--- the instruction DW_LNS_advance_pc
+-- Returns the instruction DW_LNS_advance_pc.
 abbrev pub advance_step : Header → ℕ → Step
 advance_step header n = Address (header.shortest * n % 2 ^ 64)
 
--- the instruction that has no effect on addresses, files and lines
+-- Returns the instruction that has no effect on addresses, files and lines.
 abbrev pub no_step : ℕ → Step
 no_step n = Other
 
--- the instruction DW_LNS_fixed_advance_pc, whose operand has two bytes
+-- Returns the instruction DW_LNS_fixed_advance_pc, whose operand is the 2 bytes at index `place`.
 abbrev pub fixed_advance : ℕ → List ℕ → Option Stepped
 fixed_advance place bytes =
     if nat_le (place + 2) (length bytes) then Some (stepped (Address (number_at 2 place bytes)) (place + 2)) else None
 
--- a standard opcode without operands: DW_LNS_copy, DW_LNS_const_add_pc, or one without effect
+-- Returns the instruction of a standard opcode without operands: DW_LNS_copy, DW_LNS_const_add_pc, or one without
+-- effect.
 abbrev pub alone : Header → ℕ → Step
 alone header opcode =
     if opcode == 1 then Row 0 0 else if opcode == 8 then Address (address_advance header (255 - header.opcodes))
     else Other
 
--- a standard opcode, whose operands are at a place: DW_LNS_advance_pc, DW_LNS_advance_line, DW_LNS_set_file, then
--- DW_LNS_set_column and DW_LNS_set_isa
+-- Returns the instruction of a standard opcode, whose operands begin at the byte index `place`: DW_LNS_advance_pc,
+-- DW_LNS_advance_line, DW_LNS_set_file, then DW_LNS_set_column and DW_LNS_set_isa.
 abbrev pub standard : Header → ℕ → ℕ → List ℕ → Option Stepped
 standard header opcode place bytes =
     if opcode == 2 then by_number (advance_step header) (unsigned_at place bytes)
@@ -55,12 +57,13 @@ standard header opcode place bytes =
     else if opcode == 9 then fixed_advance place bytes
     else Some (stepped (alone header opcode) place)
 
--- an extended opcode: DW_LNE_end_sequence, DW_LNE_set_address with an address of 8 bytes, or one without effect on rows
+-- Returns the instruction of an extended opcode: DW_LNE_end_sequence, DW_LNE_set_address with an address of 8 bytes, or
+-- one without effect on rows.
 abbrev pub extended_step : ℕ → ℕ → ℕ → Step
 extended_step size opcode place =
     if opcode == 1 then End else if (opcode == 2) && (size == 9) then Start place else Other
 
--- an extended opcode whose size was read
+-- Returns the instruction of an extended opcode whose size was read.
 abbrev pub extended_of : List ℕ → Read → Option Stepped
 extended_of bytes size =
     if nat_lt 0 size.value && nat_le (size.next + size.value) (length bytes)
@@ -68,17 +71,17 @@ extended_of bytes size =
     (size.next + size.value))
     else None
 
--- an extended opcode, whose size is at a place
+-- Returns the instruction of an extended opcode, whose size is at the byte index `place`.
 abbrev pub extended : ℕ → List ℕ → Option Stepped
 extended place bytes = option_and_then (extended_of bytes) (unsigned_at place bytes)
 
--- the instruction with this opcode, whose operands are at a place
+-- Returns the instruction with this opcode, whose operands begin at the byte index `place`.
 abbrev pub step_by : Header → ℕ → ℕ → List ℕ → Option Stepped
 step_by header opcode place bytes =
     if nat_le header.opcodes opcode then Some (stepped (special header (opcode - header.opcodes)) place)
     else if opcode == 0 then extended place bytes
     else standard header opcode place bytes
 
--- the instruction at a place
+-- Returns the instruction at the byte index `place`.
 unfoldable pub step_at : Header → ℕ → List ℕ → Option Stepped
 step_at header place bytes = step_by header (number_at 1 place bytes) (place + 1) bytes

@@ -11,67 +11,68 @@ use Rattle.object.specs.Numbers.{string_at}
 use Rattle.object.specs.Origin.{origin_of}
 use Rattle.object.specs.Rows.{Origins}
 
--- the bytes, or none if there are more than 2^16
+-- Returns the bytes, or none if there are more than 2^16.
 abbrev pub short : List ℕ → List ℕ
 short bytes = if nat_le (length bytes) 65536 then bytes else []
 
--- the bytes of the section with this index, or none if there are more than 2^16
+-- Returns the bytes of the section with this index, or none if there are more than 2^16.
 abbrev pub bytes_of : List ℕ → ℕ → List ℕ
 bytes_of object index = short (section_bytes object (section_at index (section_table object)))
 
--- the names of the sections (e_shstrndx)
+-- Returns the names of the sections (e_shstrndx).
 abbrev pub section_names : List ℕ → List ℕ
 section_names object = section_bytes object (section_at (number_at 2 62 object) (section_table object))
 
--- the index of the section, if it has this name (sh_name)
+-- Returns the index of the section if it has this name (sh_name), and otherwise nothing.
 abbrev pub named_here : List ℕ → List ℕ → List ℕ → ℕ → Option ℕ
 named_here table names name index =
     if bytes_eq (string_at (number_at 4 (64 * index) table) names) name then Some index else None
 
--- the index of the first section with this name, or 0, the index of a section without bytes, if there is none
+-- Returns the index of the first section with this name, or 0, the index of a section without bytes, if there is none.
 abbrev pub section_named : List ℕ → List ℕ → ℕ
 section_named object name =
     unwrap_or (first_some (named_here (section_table object) (section_names object) name) (section_count object)) 0
 
--- the index of the section, if it has relocations of the section `home`
+-- Returns the index of the section if it has relocations of the section `home`, and otherwise nothing.
 abbrev pub relocates_here : List ℕ → ℕ → ℕ → Option ℕ
 relocates_here table home index =
     if is_relocations (section_at index table) && ((section_at index table).info == home) then Some index else None
 
--- the index of the first section with relocations of the section `home`, or 0 if there is none
+-- Returns the index of the first section with relocations of the section `home`, or 0 if there is none.
 abbrev pub relocations_of : List ℕ → ℕ → ℕ
 relocations_of object home =
     unwrap_or (first_some (relocates_here (section_table object) home) (section_count object)) 0
 
 -- ---- line number information
 
--- the index of .debug_line, or 0 if there is no such section
+-- Returns the index of .debug_line, or 0 if there is no such section.
 abbrev pub lines_section : List ℕ → ℕ
 lines_section object = section_named object (codes ".debug_line")
 
--- the bytes of .debug_line
+-- Returns the bytes of .debug_line.
 abbrev pub lines_in : List ℕ → List ℕ
 lines_in object = bytes_of object (lines_section object)
 
--- the bytes of .debug_line_str
+-- Returns the bytes of .debug_line_str.
 abbrev pub line_strings_in : List ℕ → List ℕ
 line_strings_in object = bytes_of object (section_named object (codes ".debug_line_str"))
 
--- the bytes of .debug_str
+-- Returns the bytes of .debug_str.
 abbrev pub strings_in : List ℕ → List ℕ
 strings_in object = bytes_of object (section_named object (codes ".debug_str"))
 
--- the table of symbols
+-- Returns the table of symbols.
 abbrev pub symbols_in : List ℕ → List ℕ
 symbols_in object = section_bytes object
     (section_at (symbols_section (section_table object) (section_count object)) (section_table object))
 
--- the addresses of operands in the section with this number, by the relocations of another section
+-- Returns the addresses of operands in the section with this number, by the relocations of another section.
 abbrev pub origins_by : List ℕ → List ℕ → ℕ → ℕ → Origins
 origins_by object bytes section relocations =
     origin_of bytes (symbols_in object) section (relocation_size (section_at relocations (section_table object)))
     (bytes_of object relocations)
 
--- the address of an operand of the line number program in the section with this number, if it is in that section
+-- Returns the address of an operand of the line number program in the section with this number, if it is in that
+-- section.
 abbrev pub origins_in : List ℕ → List ℕ → ℕ → Origins
 origins_in object bytes section = origins_by object bytes section (relocations_of object (lines_section object))

@@ -8,51 +8,51 @@ use Rattle.semantics.specs.State.{Outbox}
 use Rattle.semantics.specs.Outbox.{Place, places}
 use Rattle.outbox.specs.Rows.{RowOrders, receivers_in, orders_in}
 
--- an outbox: its relay, the order or nothing for each label (by rank) and receiver, and its entries
+-- An outbox: its relay, the order or nothing for each label (by rank) and receiver, and its entries.
 pub record Contents : Type 0 where
   pub relay : Relay
   pub rows : Outbox
   pub entries : List Entry
 
--- the part of an outbox for signed messages: the signers of each chain that the general holds, and the entries
+-- The part of an outbox for signed messages: the signers of each chain that the general holds, and the entries.
 pub record Signing : Type 0 where
   pub held : List ℕ
   pub entries : List Entry
 
--- the kind of relay: oral if there is no signing state, else signed with the chains held
+-- Returns the kind of relay: oral if there is no signing state, else signed with the chains held.
 abbrev pub kind_of : Option Signing → Kind
 kind_of None = Oral
 kind_of (Some s) = Signed s.held
 
--- the entries, or none if messages are oral
+-- Returns the entries of an outbox. There are none if messages are oral.
 abbrev pub entries_of : Option Signing → List Entry
 entries_of None = []
 entries_of (Some s) = s.entries
 
--- the relay with this shape, oral or signed
+-- Returns the relay with this shape, oral or signed.
 abbrev pub relay_of : Shape → Option Signing → Relay
 relay_of s signing = record { shape = s; kind = kind_of signing }
 
--- the contents with this relay, these entries and these rows
+-- Returns the contents with this relay, these entries and these rows.
 abbrev pub contents_of : Relay → List Entry → List RowOrders → Contents
 contents_of r entries rows = record { relay = r; rows = map orders_in rows; entries = entries }
 
--- the relay is within the limits, and each row has the receivers of its label
+-- States that the relay is within the limits, and each row has the receivers of its label.
 pub record IsOutbox (r : Relay) (rows : List RowOrders) : Type 0 where
   pub within : IsRelay r
   pub names : map receivers_in rows ≡ map (receivers r.shape) (relayed r)
 
--- the order of a receiver in a row, from the row's places and its orders in the same sequence
+-- Returns the order of a receiver in a row, from the row's places and its orders in the same sequence.
 abbrev pub order_among : ℕ → List Place → List (Option ℕ) → Option ℕ
 order_among receiver [] orders = None
 order_among receiver (p ∷ ps) [] = None
 order_among receiver (p ∷ ps) (o ∷ orders) = if p.receiver == receiver then o else order_among receiver ps orders
 
--- the order for a receiver of the label of that rank; nothing if there is no such place
+-- Returns the order for a receiver of the label with this rank, or nothing if there is no such place.
 abbrev pub order_at : Relay → Outbox → ℕ → ℕ → Option ℕ
 order_at r outbox rank receiver =
     order_among receiver (slice_index_or (places r) rank []) (slice_index_or outbox rank [])
 
--- each row has as many orders as its label has places
+-- States that each row has as many orders as its label has places.
 abbrev pub HasPlaces : Relay → Outbox → Type 0
 HasPlaces r outbox = map length outbox ≡ map length (places r)

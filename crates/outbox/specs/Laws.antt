@@ -5,16 +5,16 @@ use Rattle.semantics.specs.State.{Outbox}
 use Rattle.semantics.specs.Outbox.{Place, places, Choice, newer, written}
 use Rattle.outbox.specs.Contents.{HasPlaces, order_at}
 
--- the place of a receiver among the places of a row
+-- Returns the place of a receiver among the places of a row.
 abbrev pub place_among : ℕ → List Place → Option Place
 place_among receiver [] = None
 place_among receiver (p ∷ ps) = if p.receiver == receiver then Some p else place_among receiver ps
 
--- the place of a receiver of the label of that rank, if there is one
+-- Returns the place of a receiver of the label of that rank, if there is one.
 abbrev pub place_of : Relay → ℕ → ℕ → Option Place
 place_of relay rank receiver = place_among receiver (slice_index_or (places relay) rank [])
 
--- the order at a place after a helper's choice: the order put there, else the earlier one
+-- Returns the order at a place after a helper's choice: the order put there, else the earlier one.
 abbrev pub order_after : Choice → Option Place → Option ℕ → Option ℕ
 order_after choice None before = None
 order_after choice (Some place) before = newer (choice place) before

@@ -3,15 +3,15 @@ use Rattle.std.specs.Prelude.{ℕ, ◌+◌, ◌==◌, Bool, if◌then◌else◌,
 use Rattle.std.specs.Int.{bit_at}
 use Rattle.label.specs.Labels.{generals}
 
--- the number is in the set
+-- Returns whether the number is in the set.
 abbrev pub has_bit : ℕ → ℕ → Bool
 has_bit mask n = bit_at mask n == 1
 
--- the numbers below 13 in the set, ascending
+-- Returns the numbers below 13 in the set, ascending.
 unfoldable pub members : ℕ → List ℕ
 members mask = filter (has_bit mask) (generals 13)
 
--- the orders from a place on, each kept if its place is in the set and replaced by nothing otherwise
+-- Returns the orders from a place on, each kept if its place is in the set and replaced by nothing otherwise.
 abbrev pub kept_from : ℕ → ℕ → List ℕ → List (Option ℕ)
 kept_from mask place [] = []
 kept_from mask place (order ∷ orders) =

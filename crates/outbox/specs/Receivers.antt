@@ -2,11 +2,11 @@
 use Rattle.std.specs.Prelude.{ℕ, zero, suc, ◌==◌, not, List, [], ◌∷◌, filter, flat_map}
 use Rattle.outbox.specs.Rows.{RowOrders, empty_row}
 
--- the names without `j`
+-- Returns the names without `j`.
 abbrev pub struck : ℕ → List ℕ → List ℕ
 struck j names = filter (λ x. not (x == j)) names
 
--- the empty rows of the labels that extend a label by `more` of its receivers, without repetition
+-- Returns the empty rows of the labels that extend a label by `more` of its receivers, without repetition.
 abbrev pub rows_under : ℕ → List ℕ → List RowOrders
 rows_under zero names = empty_row names ∷ []
 rows_under (suc more) names = flat_map (λ j. rows_under more (struck j names)) names

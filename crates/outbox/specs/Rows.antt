@@ -5,81 +5,82 @@ use Rattle.label.specs.Labels.{on, is_distinct}
 use Rattle.label.specs.Oral.{AllBelow}
 use Rattle.label.specs.Relay.{receivers}
 
--- the receivers, ascending, each with his order or nothing
+-- A row: the receivers in ascending order, each with his order or nothing.
 abbrev pub RowOrders : Type 0
 RowOrders = List (ℕ × Option ℕ)
 
--- the receivers of a row
+-- Returns the receivers of a row.
 abbrev pub receivers_in : RowOrders → List ℕ
 receivers_in row = map (λ p. p.0) row
 
--- the orders of a row, one or nothing for each receiver
+-- Returns the orders of a row, one or nothing for each receiver.
 abbrev pub orders_in : RowOrders → List (Option ℕ)
 orders_in row = map (λ p. p.1) row
 
--- the row of these receivers, whose orders are stored by the receiver's number
+-- Returns the row of these receivers, whose orders are stored by the receiver's number.
 abbrev pub row_of : List (Option ℕ) → List ℕ → RowOrders
 row_of orders names = map (λ n. (n, slice_index_or orders n None)) names
 
--- the orders are stored for the numbers 0 to 12; the receivers are distinct; no other number has an order
+-- States that the orders are stored for the numbers 0 to 12, that the receivers are distinct, and that no other number
+-- has an order.
 pub record IsRow (orders : List (Option ℕ)) (names : List ℕ) : Type 0 where
   pub long : length orders ≡ 13
   pub below : AllBelow 13 names
   pub distinct : is_distinct names ≡ true
   pub absent : (n : ℕ) → on names n ≡ false → slice_index_or orders n None ≡ None
 
--- a row in which no order is put
+-- Returns a row in which no order is put.
 abbrev pub empty_row : List ℕ → RowOrders
 empty_row names = map (λ n. (n, None)) names
 
--- the empty row of a label
+-- Returns the empty row of a label.
 abbrev pub row_for : Shape → List ℕ → RowOrders
 row_for s label = empty_row (receivers s label)
 
--- the row's entry `p` after an order is put for one receiver
+-- Returns the entry `p` of a row after an order is put for one receiver.
 abbrev pub put_one : ℕ → ℕ → ℕ × Option ℕ → ℕ × Option ℕ
 put_one receiver order p = (p.0, (if p.0 == receiver then Some order else p.1))
 
--- the row after an order is put for one receiver
+-- Returns the row after an order is put for one receiver.
 abbrev pub put_in_row : ℕ → ℕ → RowOrders → RowOrders
 put_in_row receiver order row = map (put_one receiver order) row
 
--- an order put for receiver `r` in each of the first rows, where `f` gives the order by the row's rank
+-- Puts an order for receiver `r` in each of the first rows, where `f` gives the order by the row's rank.
 abbrev pub put_first : ℕ → (ℕ → ℕ) → ℕ → ℕ → List RowOrders → List RowOrders
 put_first r f a zero rows = rows
 put_first r f a (suc m) [] = []
 put_first r f a (suc m) (row ∷ rows) = put_in_row r (f a) row ∷ put_first r f (a + 1) m rows
 
--- how many of the first rows have receiver `r`
+-- Returns in how many of the first rows `r` is a receiver.
 abbrev pub found_first : ℕ → ℕ → List RowOrders → ℕ
 found_first r zero rows = 0
 found_first r (suc m) [] = 0
 found_first r (suc m) (row ∷ rows) = (if on (receivers_in row) r then 1 else 0) + found_first r m rows
 
--- each result is the value of `f` at its argument
+-- States that each result is the value of `f` at its argument.
 abbrev pub Tells : (ℕ → ℕ → Type 0) → (ℕ → ℕ) → Type 0
 Tells results f = (n result : ℕ) → results n result → result ≡ f n
 
--- the row after one order is put for all receivers
+-- Returns the row after one order is put for all receivers.
 abbrev pub all_put : ℕ → RowOrders → RowOrders
 all_put order row = map (λ p. (p.0, Some order)) row
 
--- the row after orders are put for its first receivers; surplus orders are ignored
+-- Returns the row after orders are put for its first receivers. Surplus orders are ignored.
 abbrev pub filled : List ℕ → RowOrders → RowOrders
 filled [] row = row
 filled (order ∷ orders) [] = []
 filled (order ∷ orders) (p ∷ row) = (p.0, Some order) ∷ filled orders row
 
--- a receiver's order in a row, if there is one
+-- Returns a receiver's order in a row, if there is one.
 abbrev pub order_in : ℕ → RowOrders → Option ℕ
 order_in receiver [] = None
 order_in receiver (p ∷ row) = if p.0 == receiver then p.1 else order_in receiver row
 
--- the row in which all receivers have one order, or all have none
+-- Returns the row in which all receivers have one order, or all have none.
 abbrev pub alike_row : Option ℕ → List ℕ → RowOrders
 alike_row order names = map (λ n. (n, order)) names
 
--- the rows of an outbox: the uniform ones, unless they have been set apart
+-- Returns the rows of an outbox: the uniform ones, unless they have been set apart.
 abbrev pub rows_seen : List RowOrders → List RowOrders → List RowOrders
 rows_seen alike [] = alike
 rows_seen alike (row ∷ rows) = row ∷ rows

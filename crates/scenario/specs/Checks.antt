@@ -17,26 +17,26 @@ use Rattle.scenario.specs.declared.fault.ScenarioFault.TheVariants as faults
 use Rattle.scenario.specs.Names.{is_top_key}
 use Rattle.scenario.specs.Flaws.{Flaw, unknown, faulty, ◌>>=◌}
 
--- the first key that is unknown, which is the least by bytes, since members ascend
+-- Returns the first key that is unknown, which is the least by bytes, since members ascend.
 abbrev pub first_unknown : (List ℕ → Bool) → Members → Option (List ℕ)
 first_unknown is_key no_members = None
 first_unknown is_key (member k d ms) = cond (is_key k) (first_unknown is_key ms) (Some k)
 
--- the check that there is no unknown key
+-- Fails if there is an unknown key.
 abbrev pub known : Option ℕ → Option (List ℕ) → Result (Unit {0}) Flaw
 known at None = Ok tt
 known at (Some k) = Err (unknown at k)
 
--- the value of a required key
+-- Returns the value of a required key.
 abbrev pub required : ScenarioPlace → Option Data → Result Data Flaw
 required s None = Err (faulty faults.Key s)
 required s (Some d) = Ok d
 
--- the integer that a value is
+-- Returns the integer that a value is.
 abbrev pub whole : ScenarioPlace → Data → Result ℤ Flaw
 whole s d = ok_or (as_integer d) (faulty faults.Kind s)
 
--- an integer that is not negative
+-- Returns an integer that is not negative.
 abbrev pub natural : ScenarioFault → ScenarioPlace → ℤ → Result ℕ Flaw
 natural f s (pos n) = Ok n
 natural f s (negsuc n) = Err (faulty f s)
@@ -61,7 +61,7 @@ optional_number s least most (Some d) = do
   n ← number s least most (Some d)
   Ok (Some n)
 
--- the number of one of `n` generals, where `low` is the fault of a negative number
+-- Returns the number of one of `n` generals, where `low` is the fault of a negative number.
 unfoldable pub general : ScenarioPlace → ScenarioFault → ℕ → Option Data → Result ℕ Flaw
 general s low n o = do
   d ← required s o
@@ -70,12 +70,12 @@ general s low n o = do
   within ← test (nat_lt g n) faults.General s
   Ok g
 
--- the result of a step for each item in turn, where the items are counted from `i`
+-- Returns the result of a step for each item in turn, where the items are counted from `i`.
 unfoldable pub over : {A : Type 0} → (ℕ → A → Data → Result A Flaw) → ℕ → A → Items → Result A Flaw
 over step i x no_items = Ok x
 over step i x (item d ds) = step i x d >>= λ y. over step (i + 1) y ds
 
--- a word of the board, which is not negative
+-- Returns a word of the board, which is not negative.
 unfoldable pub word : ℕ → Data → Result ℕ Flaw
 word i d = do
   z ← whole (places.Word i) d
@@ -87,41 +87,41 @@ is_integer i u d = whole (places.Word i) d >>= λ z. Ok tt
 abbrev pub set_word : ℕ → List ℕ → Data → Result (List ℕ) Flaw
 set_word i ws d = word i d >>= λ w. Ok (slice_set ws i w)
 
--- the number of items
+-- Returns the number of items.
 abbrev pub items_length : Items → ℕ
 items_length no_items = 0
 items_length (item d ds) = suc (items_length ds)
 
--- the items of the array that a value is
+-- Returns the items of the array that a value is.
 abbrev pub elements : ScenarioPlace → Data → Result Items Flaw
 elements s d = ok_or (as_array d) (faulty faults.Kind s)
 
--- the board's 64 words from at most 64 integers, of which none is negative
+-- Returns the board's 64 words from at most 64 integers, of which none is negative.
 unfoldable pub board_words : Items → Result (List ℕ) Flaw
 board_words ds = do
   all ← over is_integer 0 tt ds
   few ← test (nat_le (items_length ds) 64) faults.Range (places.Key names.Board)
   over set_word 0 (replicate 64 0) ds
 
--- the board's 64 words, which are 0 if the key is missing
+-- Returns the board's 64 words, which are 0 if the key is missing.
 unfoldable pub board : Option Data → Result (List ℕ) Flaw
 board None = Ok (replicate 64 0)
 board (Some d) = do
   ds ← elements (places.Key names.Board) d
   board_words ds
 
--- the rule that has this name
+-- Returns the rule that has this name.
 abbrev pub rule_by_name : List ℕ → Result Rule Flaw
 rule_by_name t = ok_or (rule_named t) (faulty faults.Range (places.Key names.Rule))
 
--- the rule, which is the default rule if the key is missing
+-- Returns the rule, which is the default rule if the key is missing.
 unfoldable pub rule : Option Data → Result Rule Flaw
 rule None = Ok default_rule
 rule (Some d) = do
   t ← ok_or (as_str d) (faulty faults.Kind (places.Key names.Rule))
   rule_by_name t
 
--- how orders are sent, as a text names it to a reader of these kinds
+-- Returns how orders are sent, as a text names it to a reader of these kinds.
 abbrev pub messages_by_name : Kinds → List ℕ → Result Messages Flaw
 messages_by_name OralAlone t =
     if bytes_eq t (codes "oral") then Ok Oral
@@ -131,7 +131,7 @@ messages_by_name Both t =
     else if bytes_eq t (codes "signed") then Ok Signed
     else Err (faulty faults.Range (places.Key names.Messages))
 
--- how orders are sent, which is orally if the key is missing
+-- Returns how orders are sent, which is orally if the key is missing.
 unfoldable pub messages : Kinds → Option Data → Result Messages Flaw
 messages kinds None = Ok Oral
 messages kinds (Some d) = do
@@ -143,7 +143,7 @@ abbrev pub fitting : Messages → Option Data → Result (Unit {0}) Flaw
 fitting Signed (Some rule) = Err (faulty faults.Key (places.Key names.Rule))
 fitting _ _ = Ok tt
 
--- a campaign's numbers, its rule, and how orders are sent
+-- A campaign's numbers, its rule, and how orders are sent.
 pub record Head : Type 0 where
   pub generals : ℕ
   pub bound : ℕ
@@ -163,7 +163,7 @@ pub record IsHeadWithin (generals bound commander : ℕ) (patience : Option ℕ)
   pub leads : commander < generals
   pub waits : IsPatience patience
 
--- everything in a scenario except the traitors, for a reader of these kinds of campaigns
+-- Returns everything in a scenario except the traitors, for a reader of these kinds of campaigns.
 unfoldable pub head : Kinds → Members → Result Head Flaw
 head kinds ms = do
   none ← known None (first_unknown is_top_key ms)
@@ -178,7 +178,7 @@ head kinds ms = do
   fits ← fitting w (get_member (codes "rule") ms)
   Ok (record { generals = n; bound = m; commander = c; order = o; board = b; patience = p; rule = r; messages = w })
 
--- the elements of the list of traitors, which are not checked yet
+-- Returns the elements of the list of traitors, which are not checked yet.
 unfoldable pub tables : Option Data → Result Items Flaw
 tables None = Ok no_items
 tables (Some d) = elements (places.Key names.Traitor) d

@@ -5,12 +5,12 @@ use Rattle.scenario.specs.declared.fault.ScenarioFault.{ScenarioFault}
 use Rattle.scenario.specs.declared.fault.ScenarioError.{ScenarioError}
 use Rattle.scenario.specs.declared.fault.ScenarioError.TheVariants as errors
 
--- an unknown key, at the top or of a traitor's table, or a fault at a place
+-- An unknown key, at the top or of a traitor's table, or a fault at a place.
 pub data Flaw : Type 0 where
   unknown : Option ℕ → List ℕ → Flaw
   faulty : ScenarioFault → ScenarioPlace → Flaw
 
--- a check, and then another one if the first found no fault
+-- Applies a second check to the result of the first one. If the first one found a fault, returns that fault.
 infixl 10 ◌>>=◌
 abbrev pub ◌>>=◌ : {A B : Type 0} → Result A Flaw → (A → Result B Flaw) → Result B Flaw
 (Ok x) >>= f = f x

@@ -18,7 +18,7 @@ text_of General = codes "general"
 text_of Asm = codes "asm"
 text_of Code = codes "code"
 
--- whether a scenario may have this key at its top
+-- Returns whether a scenario may have this key at its top.
 abbrev pub is_top_key : List ℕ → Bool
 is_top_key k =
     bytes_eq k (codes "generals") || (
@@ -31,6 +31,6 @@ is_top_key k =
     bytes_eq k (codes "messages") ||
     bytes_eq k (codes "traitor"))))))))
 
--- whether a traitor's table may have this key
+-- Returns whether a traitor's table may have this key.
 abbrev pub is_entry_key : List ℕ → Bool
 is_entry_key k = bytes_eq k (codes "general") || (bytes_eq k (codes "asm") || bytes_eq k (codes "code"))

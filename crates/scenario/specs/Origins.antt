@@ -7,7 +7,7 @@ abbrev pub count : Items → ℕ
 count no_items = 0
 count (item d ds) = suc (count ds)
 
--- the number of tables that replace an element: one for each general who shares it, otherwise one
+-- Returns the number of tables that replace an element: one for each general who shares it, otherwise one.
 abbrev pub by_sharers : Option Items → ℕ
 by_sharers None = 1
 by_sharers (Some gs) = count gs

@@ -61,7 +61,7 @@ Answers made n i seats (item d ds) r =
     ⊎ ((seated : ℕ × List Insn) × TableGives (table n seats i d) (Ok seated)
     × Answers made n (i + 1) (slice_set seats seated.0 (Some seated.1)) ds r)
 
--- the scenario with these numbers and these seats
+-- Returns the scenario with these numbers and these seats.
 abbrev pub scenario_of : Head → Seats → Scenario
 scenario_of h seats = record {
   generals = h.generals;
@@ -74,16 +74,16 @@ scenario_of h seats = record {
   rule = h.rule;
 }
 
--- a scenario as a campaign in which orders are sent in this way
+-- Returns a scenario as a campaign in which orders are sent in this way.
 abbrev pub campaign_by : Messages → Scenario → Campaign
 campaign_by messages.Oral s = Oral s
 campaign_by messages.Signed s = Signed s
 
--- the campaign with these numbers and these seats
+-- Returns the campaign with these numbers and these seats.
 abbrev pub campaign_of : Head → Seats → Campaign
 campaign_of h seats = campaign_by h.messages (scenario_of h seats)
 
--- the seats before any table is read, where no general has a program
+-- Returns the seats before any table is read, where no general has a program.
 abbrev pub unseated : Head → Seats
 unseated h = replicate h.generals None
 

@@ -4,19 +4,19 @@ use Rattle.toml.specs.Data.{Items, Members, get_member, as_array, as_str}
 use Rattle.scenario.specs.declared.reference_key.ReferenceKey.{ReferenceKey}
 use Rattle.scenario.specs.declared.reference_key.ReferenceKey.TheVariants.{Assembly, Bytecode, Object}
 
--- the key that names a file of this kind
+-- Returns the key that names a file of this kind.
 abbrev pub reference_of : ReferenceKey → List ℕ
 reference_of Assembly = codes "asm_file"
 reference_of Bytecode = codes "code_file"
 reference_of Object = codes "elf"
 
--- the key of the program that replaces the file's name
+-- Returns the key of the program that replaces the file's name.
 abbrev pub place_of : ReferenceKey → List ℕ
 place_of Assembly = codes "asm"
 place_of Bytecode = codes "code"
 place_of Object = codes "code"
 
--- the kind of file that a key names, if it names one
+-- Returns the kind of file that a key names, if it names one.
 abbrev pub key_of : List ℕ → Option ReferenceKey
 key_of k =
     if bytes_eq k (codes "asm_file") then Some Assembly
@@ -30,49 +30,49 @@ is_same Bytecode Bytecode = true
 is_same Object Object = true
 is_same _ _ = false
 
--- a file that was read: the key and the name by which a table refers to it, an object's function if one is named, and
--- the text that replaces the reference
+-- A file that was read: the key and the name by which a table refers to it, an object's function if one is named, and
+-- the text that replaces the reference.
 pub record File : Type 0 where
   pub key : ReferenceKey
   pub name : List ℕ
   pub function : Option (List ℕ)
   pub text : List ℕ
 
--- whether both functions are absent, or both have the same name
+-- Returns whether both functions are absent, or both have the same name.
 abbrev pub are_same : Option (List ℕ) → Option (List ℕ) → Bool
 are_same None None = true
 are_same (Some f) (Some g) = bytes_eq f g
 are_same _ _ = false
 
--- whether a file has this key, this name and this function
+-- Returns whether a file has this key, this name and this function.
 abbrev pub is_named : File → ReferenceKey → List ℕ → Option (List ℕ) → Bool
 is_named f key name function = is_same f.key key && (bytes_eq f.name name && are_same f.function function)
 
--- the text of the first file that has this key, this name and this function
+-- Returns the text of the first file that has this key, this name and this function.
 abbrev pub text_named : List File → ReferenceKey → List ℕ → Option (List ℕ) → Option (List ℕ)
 text_named [] key name function = None
 text_named (f ∷ fs) key name function =
     cond (is_named f key name function) (Some f.text) (text_named fs key name function)
 
--- whether the table has another source for the program that a file of this kind would give
+-- Returns whether the table has another source for the program that a file of this kind would give.
 abbrev pub is_taken : ReferenceKey → Members → Bool
 is_taken Object ms = is_some (get_member (codes "code") ms) || is_some (get_member (codes "code_file") ms)
 is_taken key ms = is_some (get_member (place_of key) ms)
 
--- the name of the file that a table gives for this key, if the table has no other source for the program
+-- Returns the name of the file that a table gives for this key, if the table has no other source for the program.
 abbrev pub name_at : ReferenceKey → Members → Option (List ℕ)
 name_at key ms = cond (is_taken key ms) None (option_and_then as_str (get_member (reference_of key) ms))
 
--- the name of the object's function that a table gives, if the file is an object
+-- Returns the name of the object's function that a table gives, if the file is an object.
 abbrev pub function_at : ReferenceKey → Members → Option (List ℕ)
 function_at Object ms = option_and_then as_str (get_member (codes "entry") ms)
 function_at key ms = None
 
--- the generals who share a table, unless it has a general of its own
+-- Returns the generals who share a table, unless it has a general of its own.
 abbrev pub seats : Members → Option Items
 seats ms = cond (is_some (get_member (codes "general") ms)) None
     (option_and_then as_array (get_member (codes "generals") ms))
 
--- the list of traitors
+-- Returns the list of traitors.
 abbrev pub traitors : Members → Option Items
 traitors ms = option_and_then as_array (get_member (codes "traitor") ms)

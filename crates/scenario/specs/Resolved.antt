@@ -7,42 +7,42 @@ use Rattle.scenario.specs.declared.reference_key.ReferenceKey.TheVariants.{Objec
 use Rattle.scenario.specs.ReferenceNames.{File, function_at, key_of, name_at, place_of, seats, text_named, traitors}
 use Rattle.scenario.specs.Members.{join, put}
 
--- the kind and the text of the file that a table names by the key `k`, if the file was read
+-- Returns the kind and the text of the file that a table names by the key `k`, if the file was read.
 abbrev pub program : List File → Members → List ℕ → Option (ReferenceKey × List ℕ)
 program files ms k =
     option_and_then (λ key. option_and_then
     (λ name. option_map (λ t. (key, t)) (text_named files key name (function_at key ms))) (name_at key ms))
     (key_of k)
 
--- whether the key names the function of an object whose code replaces it. Such an entry is dropped.
+-- Returns whether the key names the function of an object whose code replaces it. Such an entry is dropped.
 abbrev pub is_spent : List File → Members → List ℕ → Bool
 is_spent files ms k =
     bytes_eq k (codes "entry") && (is_some (function_at Object ms) && is_some (program files ms (codes "elf")))
 
--- the members with an entry that names no file, where a general may replace the generals who share the table
+-- Returns the members with an entry that names no file, where a general may replace the generals who share the table.
 abbrev pub kept : Option Data → List ℕ → Data → Members → Members
 kept None k d done = put k d done
 kept (Some g) k d done = if bytes_eq k (codes "generals") then put (codes "general") g done else put k d done
 
--- the members with an entry, where a program may replace the name of its file
+-- Returns the members with an entry, where a program may replace the name of its file.
 abbrev pub entry_by : Option (ReferenceKey × List ℕ) → Option Data → List ℕ → Data → Members → Members
 entry_by None general k d done = kept general k d done
 entry_by (Some p) general k d done = put (place_of p.0) (string p.1) done
 
--- the members with an entry of the table `ms`
+-- Returns the members with an entry of the table `ms`.
 abbrev pub entry : List File → Option Data → Members → List ℕ → Data → Members → Members
 entry files general ms k d done = cond (is_spent files ms k) done (entry_by (program files ms k) general k d done)
 
--- the members with the remaining entries of the table `ms`, put one after the other
+-- Returns the members with the remaining entries of the table `ms`, put one after the other.
 abbrev pub entries : List File → Option Data → Members → Members → Members → Members
 entries files general ms done no_members = done
 entries files general ms done (member k d more) = entries files general ms (entry files general ms k d done) more
 
--- a traitor's table in which programs replace the names of their files
+-- Returns a traitor's table in which programs replace the names of their files.
 abbrev pub rebuilt : List File → Option Data → Members → Members
 rebuilt files general ms = entries files general ms no_members ms
 
--- a table for each of the generals who share one
+-- Returns a table for each of the generals who share one.
 abbrev pub one_each : List File → Members → Items → Items
 one_each files ms no_items = no_items
 one_each files ms (item g gs) = item (table (rebuilt files (Some g) ms)) (one_each files ms gs)
@@ -51,11 +51,11 @@ abbrev pub by_seats : List File → Members → Option Items → Items
 by_seats files ms None = item (table (rebuilt files None ms)) no_items
 by_seats files ms (Some gs) = one_each files ms gs
 
--- the tables that replace a traitor's table
+-- Returns the tables that replace a traitor's table.
 abbrev pub tables : List File → Members → Items
 tables files ms = by_seats files ms (seats ms)
 
--- the tables that replace an element, or the element itself if it is not a table
+-- Returns the tables that replace an element, or the element itself if it is not a table.
 abbrev pub tables_by : List File → Data → Option Members → Items
 tables_by files d None = item d no_items
 tables_by files d (Some ms) = tables files ms
@@ -63,16 +63,16 @@ tables_by files d (Some ms) = tables files ms
 abbrev pub tables_of : List File → Data → Items
 tables_of files d = tables_by files d (as_table d)
 
--- the list of traitors in which each has a table of his own
+-- Returns the list of traitors in which each has a table of his own.
 abbrev pub resolved : List File → Items → Items
 resolved files no_items = no_items
 resolved files (item d ds) = join (tables_of files d) (resolved files ds)
 
--- the document whose list of traitors is replaced by the resolved list
+-- Returns the document whose list of traitors is replaced by the resolved list.
 abbrev pub with_traitors : List File → Items → Members → Members
 with_traitors files ds ms = put (codes "traitor") (array (resolved files ds)) ms
 
--- whether a table names a file, or generals who share it
+-- Returns whether a table names a file, or generals who share it.
 abbrev pub table_refers : Members → Bool
 table_refers ms =
     is_some (get_member (codes "asm_file") ms) || (is_some (get_member (codes "code_file") ms)
@@ -85,7 +85,7 @@ refers_by (Some ms) = table_refers ms
 abbrev pub element_refers : Data → Bool
 element_refers d = refers_by (as_table d)
 
--- whether any table of the list names a file, or generals who share it
+-- Returns whether any table of the list names a file, or generals who share it.
 abbrev pub refers : Items → Bool
 refers no_items = false
 refers (item d ds) = element_refers d || refers ds

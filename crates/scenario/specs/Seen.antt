@@ -19,7 +19,7 @@ use Rattle.scenario.specs.declared.fault.ScenarioError.TheVariants as errors
 use Rattle.scenario.specs.Tables.{Source, Assembly, Hex}
 use Rattle.scenario.specs.Reading.{IsProgramOf, IsFaultOf}
 
--- a program as it is written, with its text as bytes
+-- Returns a program as it is written, with its text as bytes.
 abbrev pub source_of : ProgramText → Source
 source_of (written.Asm text) = Assembly text.now
 source_of (written.Code text) = Hex text.now
@@ -37,22 +37,22 @@ Accepts g program (Err (errors.Program h (Verifier reason unit))) =
     (h ≡ g) × (judged program ≡ Some (verifier.At reason unit))
 Accepts g program (Err _) = ⊥
 
--- the scenario's error for an error of the assembler, which is out of memory only if that error is
+-- Returns the scenario's error for an error of the assembler, which is out of memory only if that error is.
 abbrev pub unassembled : ℕ → AsmError → ScenarioError
 unassembled g assembler.Memory = errors.Memory
 unassembled g (assembler.At fault line) = errors.Program g (Asm fault line)
 
--- the scenario's error for an error of the hex decoder
+-- Returns the scenario's error for an error of the hex decoder.
 abbrev pub unhexed : ℕ → FromHexError → ScenarioError
 unhexed g hex.OutOfMemory = errors.Memory
 unhexed g _ = errors.Program g faults.Hex
 
--- the scenario's error for an error of the decoder
+-- Returns the scenario's error for an error of the decoder.
 abbrev pub undecoded : ℕ → CodecError → ScenarioError
 undecoded g decoder.Memory = errors.Memory
 undecoded g (decoder.At fault unit) = errors.Program g (Code fault unit)
 
--- the scenario's error for an error of the verifier
+-- Returns the scenario's error for an error of the verifier.
 abbrev pub unverified : ℕ → VerifyError → ScenarioError
 unverified g verifier.Memory = errors.Memory
 unverified g (verifier.At reason unit) = errors.Program g (Verifier reason unit)

@@ -11,7 +11,7 @@ abbrev pub is_integer_of : ℕ → Option ℤ → Bool
 is_integer_of g None = false
 is_integer_of g (Some z) = is_number g z
 
--- whether a value is this general's number
+-- Returns whether a value is this general's number.
 abbrev pub is_general : ℕ → Option Data → Bool
 is_general g None = false
 is_general g (Some d) = is_integer_of g (as_integer d)

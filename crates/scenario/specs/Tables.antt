@@ -10,33 +10,33 @@ use Rattle.scenario.specs.Names.{is_entry_key}
 use Rattle.scenario.specs.Flaws.{Flaw, faulty, ◌>>=◌}
 use Rattle.scenario.specs.Checks.{first_unknown, known, general, test}
 
--- a program as a table gives it: assembly, or bytecode in hex
+-- A program as a table gives it: assembly, or bytecode in hex.
 pub data Source : Type 0 where
   Assembly : List ℕ → Source
   Hex : List ℕ → Source
 
--- the general of a traitor's table, and his program as it is written
+-- The general of a traitor's table, and his program as it is written.
 pub record Table : Type 0 where
   pub general : ℕ
   pub source : Source
 
--- the program of a table, which has exactly one of the keys `asm` and `code`, with a text
+-- Returns the program of a table, which has exactly one of the keys `asm` and `code`, with a text.
 unfoldable pub source : ℕ → Option Data → Option Data → Result Source Flaw
 source i None None = Err (faulty faults.Key (places.Entry i names.Asm))
 source i (Some a) (Some b) = Err (faulty faults.Key (places.Entry i names.Asm))
 source i (Some a) None = ok_or (as_str a) (faulty faults.Kind (places.Entry i names.Asm)) >>= λ t. Ok (Assembly t)
 source i None (Some b) = ok_or (as_str b) (faulty faults.Kind (places.Entry i names.Code)) >>= λ t. Ok (Hex t)
 
--- for each general, the program that an earlier table gave him, if any
+-- For each general, the program that an earlier table gave him, if any.
 abbrev pub Seats : Type 0
 Seats = List (Option (List Insn))
 
--- whether an earlier table gave this general a program
+-- Returns whether an earlier table gave this general a program.
 abbrev pub is_seated : Seats → ℕ → Bool
 is_seated seats g = is_some (slice_index_or seats g None)
 
--- the general and the program of table `i`, or its first fault. There are `n` generals, and `seats` has the programs of
--- the earlier tables.
+-- Returns the general and the program of table `i`, or its first fault. There are `n` generals, and `seats` has the
+-- programs of the earlier tables.
 unfoldable pub table_in : ℕ → Seats → ℕ → Members → Result Table Flaw
 table_in n seats i ms = do
   none ← known (Some i) (first_unknown is_entry_key ms)
@@ -45,7 +45,8 @@ table_in n seats i ms = do
   s ← source i (get_member (codes "asm") ms) (get_member (codes "code") ms)
   Ok (record { general = g; source = s })
 
--- the general and the program of element `i` of the list, or its first fault, which may be that it is not a table
+-- Returns the general and the program of element `i` of the list, or its first fault, which may be that it is not a
+-- table.
 unfoldable pub table : ℕ → Seats → ℕ → Data → Result Table Flaw
 table n seats i d = do
   ms ← ok_or (as_table d) (faulty faults.Kind (places.Table i))

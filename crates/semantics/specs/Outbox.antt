@@ -83,7 +83,7 @@ pub record FewPlacesAreSet : Type 0 where
   pub taken : (relay : Relay) (context : List ℕ) (receiver : ℕ) →
       places_set relay (as_taken context receiver) ≤ length (relayed relay)
 
--- send_row returns at most 13, and sway and honest at most 1016.
+-- States that send_row returns at most 13, and sway and honest at most 1016.
 pub record RangesAreKept : Type 0 where
   pub along : (relay : Relay) (label : ℕ) (orders : List ℕ) → length orders ≤ most_generals →
       places_set relay (along_row label orders) ≤ most_generals

@@ -6,30 +6,30 @@ use Rattle.logbook.specs.Pages.{Cell, Step, View, Book, Named}
 use Rattle.semantics.specs.declared.request.Request.TheVariants.{Get}
 use Rattle.board.specs.Board.{Access}
 
--- the two shared words: the first is the length of the history, the second is not used
+-- States what the two shared words are: the first is the length of the history, and the second is not used.
 pub record IsKept (cells : List Cell) (log : List Access) : Type 0 where
   pub words : cells ≡ (length log, true) ∷ (0, true) ∷ []
 
--- the first word of the history, which threads update
+-- Returns the first word of the history, which threads update.
 abbrev pub head_of : Book → Named
 head_of b = record { tracked = true; key = 0; book = b }
 
--- the history `after` has the access at its end, after `count` others that begin with those already seen
+-- States that the history `after` has the access at its end, after `count` others that begin with those already seen.
 pub record IsEntered (seen : List Access) (count : ℕ) (access : Access) (after : List Access) : Type 0 where
   pub before : List Access
   pub later : IsPrefix seen before
   pub number : length before ≡ count
   pub entered : after ≡ before ++ access ∷ []
 
--- a step that finds the length of the history, and enters its access if that is the expected length
+-- States that a step finds the length of the history, and enters its access if that is the expected length.
 abbrev pub Enters : Step Access → View Access ℕ → ℕ → View Access ℕ → Type 0
 Enters s v found w = (before : List Access) × IsPrefix v.0 before × (length before ≡ found)
     × (w.0 ≡ cond (found == s.old) (before ++ s.ask ∷ []) before)
 
--- a step that finds the length of the history, and enters nothing
+-- States that a step finds the length of the history, and enters nothing.
 abbrev pub Looks : Step Access → View Access ℕ → ℕ → View Access ℕ → Type 0
 Looks s v found w = length w.0 ≡ found
 
--- the access that is named by a step that enters none
+-- Returns the access that a step names if it enters none.
 abbrev pub no_access : Access
 no_access = record { general = 0; round = 0; request = Get 0; reply = [] }

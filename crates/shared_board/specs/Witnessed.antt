@@ -5,12 +5,12 @@ use Rattle.logbook.specs.Pages.{Book}
 use Rattle.semantics.specs.declared.request.Request.{Request}
 use Rattle.board.specs.Board.{Access, reply, words_after}
 
--- the prefix of the history that the thread has seen, and the number of accesses served to it
+-- The prefix of the history that the thread has seen, and the number of accesses served to it.
 pub record Witnessed : Type 0 where
   pub seen : List Access
   pub made : ℕ
 
--- a board that is not shared yet: its opening words, its history, the name of its ledger, and the number of threads
+-- A board that is not shared yet: its opening words, its history, the name of its ledger, and the number of threads.
 pub record UnsharedSeen : Type 0 where
   pub opening : List ℕ
   pub book : Book

@@ -25,7 +25,7 @@ abbrev pub DiagramsAreElements : Type 0
 DiagramsAreElements =
     (t : MessageTable) (c : Chronicle) → (text : List ℕ) × IsElement text × (svg_text t c ≡ text ++ codes "\n")
 
--- t is the message table of a finished campaign of s, and has its messages at all places.
+-- States that t is the message table of a finished campaign of s, and has its messages at all places.
 pub record IsFinishedTable (s : Scenario) (events : List Event) (t : MessageTable) : Type 0 where
   pub scenario : IsScenario s
   pub finished : IsFinished (run (opening s) events)

@@ -34,19 +34,20 @@ abbrev pub is_same : Option ℕ → Option ℕ → Bool
 is_same None other = is_none other
 is_same (Some order) other = is_told order other
 
--- p received the same for w as from j about w, and the latter is no lie.
+-- Returns whether p received the same for w as from j about w, and the latter is no lie.
 abbrev pub tells : MessageTable → List ℕ → List ℕ → ℕ → ℕ → Bool
 tells t traitors w j p =
     is_same (told t.messages (w ++ j ∷ []) p) (told t.messages w p) && is_honest (mark_at t traitors w j p)
 
--- p received the same for w and for all labels that extend w within k relays, and none of these extensions is a lie.
+-- Returns whether p received the same for w and for all labels that extend w within k relays, and none of these
+-- extensions is a lie.
 unfoldable pub is_alike : MessageTable → List ℕ → ℕ → List ℕ → ℕ → Bool
 is_alike t traitors zero w p = true
 is_alike t traitors (suc k) w p =
     list_all (λ j. tells t traitors w j p && is_alike t traitors k (w ++ j ∷ []) p) (others t.generals (p ∷ w))
 
--- p received the same for w, for w extended by j, and for all labels that extend the latter within k relays. None of
--- them except possibly w is a lie.
+-- Returns whether p received the same for w, for w extended by j, and for all labels that extend the latter within k
+-- relays. None of them except possibly w is a lie.
 abbrev pub is_alike_by : MessageTable → List ℕ → ℕ → List ℕ → ℕ → ℕ → Bool
 is_alike_by t traitors k w j p = tells t traitors w j p && is_alike t traitors k (w ++ j ∷ []) p
 

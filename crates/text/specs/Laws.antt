@@ -2,20 +2,20 @@
 use Rattle.std.specs.Prelude.{ℕ, ◌≡◌, ◌+◌, ◌*◌, ◌^◌, ◌<◌, ◌⊎◌, ◌↔◌, List, [], ◌∷◌, Some, codes, length, slice_get}
 use Rattle.text.specs.Number.{capped, digit_in, digits_on}
 
--- the characters are these digits, one by one
+-- States that the characters are these digits, one by one.
 abbrev pub AreDigits : ℕ → List ℕ → List ℕ → Type 0
 AreDigits base [] [] = Unit {0}
 AreDigits base (c ∷ cs) (d ∷ ds) = (digit_in base c ≡ Some d) × AreDigits base cs ds
 AreDigits base _ _ = ⊥
 
--- the value of a digit string: each digit counts for itself times the base to the power of the number of digits after
--- it
+-- Returns the value of a digit string: each digit counts for itself times the base to the power of the number of digits
+-- after it.
 abbrev pub worth : ℕ → List ℕ → ℕ
 worth base [] = 0
 worth base (d ∷ ds) = d * base ^ length ds + worth base ds
 
--- states which character is which digit, and that reading a digit string gives its value, or 2 ^ 64 if the value is
--- greater
+-- States which character is which digit, and that reading a digit string gives its value, or 2 ^ 64 if the value is
+-- greater.
 pub record DigitsAreWorth : Type 0 where
   pub ten : (c d : ℕ) → (digit_in 10 c ≡ Some d) ↔ (slice_get (codes "0123456789") d ≡ Some c)
   pub sixteen : (c d : ℕ) → (digit_in 16 c ≡ Some d)

@@ -16,7 +16,7 @@ use Rattle.threads.specs.declared.mishap.Mishap.{Mishap}
 use Rattle.threads.specs.declared.mishap.Mishap.TheVariants.{Memory as RefusedAnywhere, Uncollected as NotAll, Unlike}
 use Rattle.board.specs.Ledger.{RecordedBoard}
 
--- the error for a general's failure
+-- Returns the error for a general's failure.
 abbrev pub failure_as : Failure → MusterError
 failure_as RefusedToHim = Memory
 failure_as (Foreign task) = Unaccounted
@@ -28,7 +28,7 @@ IsFailureOf g RefusedToHim = Unit {0}
 IsFailureOf g (Foreign task) = task.general ≡ g
 IsFailureOf g (Returned letter) = letter.general ≡ g
 
--- the error for rounds that were not all conducted
+-- Returns the error for rounds that were not all conducted.
 abbrev pub halt_as : Halt → MusterError
 halt_as RefusedToAll = Memory
 halt_as (Unstarted refused) = refused.error
@@ -42,14 +42,14 @@ HasStrayedIn round (Unstarted refused) = Unit {0}
 HasStrayedIn round (Failed someone) = Unit {0}
 HasStrayedIn round (Strayed letters) = letters.round ≡ round
 
--- the error for letters that were not all collected
+-- Returns the error for letters that were not all collected.
 abbrev pub uncollected_as : Uncollected → MusterError
 uncollected_as RefusedToThem = Memory
 uncollected_as (NotStarted refused) = refused.error
 uncollected_as (OneFailed reported) = failure_as reported.failed.failure
 uncollected_as (Halted halt) = halt_as halt
 
--- the error for a muster without a chronicle
+-- Returns the error for a muster without a chronicle.
 abbrev pub mishap_as : Mishap → MusterError
 mishap_as RefusedAnywhere = Memory
 mishap_as (NotAll uncollected) = uncollected_as uncollected
@@ -69,11 +69,11 @@ abbrev pub error_of : {T : Type 0} → Result T Reported → Option Uncollected
 error_of (Ok well) = None
 error_of (Err reported) = Some (OneFailed reported)
 
--- why a general has failed, if he has
+-- Returns why a general has failed, if he has.
 abbrev pub failure_of : Answer → Option Uncollected
 failure_of answer = error_of answer.ended
 
--- the first failure in a list. If the list is ordered by general, it is that of the lowest general who failed.
+-- Returns the first failure in a list. If the list is ordered by general, it is that of the lowest general who failed.
 abbrev pub first_failure : {E : Type 0} → List (Option E) → Option E
 first_failure failures = option_flatten (find (λ failure. is_some failure) failures)
 
@@ -81,7 +81,8 @@ first_failure failures = option_flatten (find (λ failure. is_some failure) fail
 abbrev pub AreAscending : List Answer → Type 0
 AreAscending answers = IsSortedByKey (λ (a : Answer). a.general) nat_cmp answers
 
--- the result of a muster: a thread that was not started goes before a general's failure, and that before the outcome
+-- Returns the result of a muster. A thread that was not started is reported before a general's failure, and that
+-- failure before the outcome.
 abbrev pub ended_as : {T E : Type 0} → Option E → Option E → Result T E → Result T E
 ended_as (Some refused) failed outcome = Err refused
 ended_as None (Some failure) outcome = Err failure

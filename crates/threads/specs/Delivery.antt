@@ -3,7 +3,7 @@ use Rattle.std.specs.Prelude.{◌≡◌, ℕ, List, [], ◌∷◌, ◌==◌, fil
 use Rattle.round.specs.Letters.{Letter}
 use Rattle.threads.specs.declared.knowledge.Posted.{Posted}
 
--- the letters of one general, in order
+-- Returns the letters of one general, in order.
 abbrev pub letters_of : ℕ → List Letter → List Letter
 letters_of general letters = filter (λ l. l.general == general) letters
 

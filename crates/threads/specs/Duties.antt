@@ -7,7 +7,7 @@ use Rattle.round.specs.Letters.{Letter}
 use Rattle.round.specs.Contexts.{context_of, letter_told}
 use Rattle.round.specs.Running.{IsLived}
 
--- a general's duty in a round: his context, his program, or `None` if he is loyal, and his patience
+-- A general's duty in a round: his context, his program, or `None` if he is loyal, and his patience.
 pub record Duty : Type 0 where
   pub general : ℕ
   pub round : ℕ
@@ -15,7 +15,7 @@ pub record Duty : Type 0 where
   pub program : Option (List Insn)
   pub patience : Option ℕ
 
--- the duty of a general in the round after the given ones
+-- Returns the duty of a general in the round after the given ones.
 abbrev pub duty_of : Scenario → List (List Letter) → ℕ → Duty
 duty_of s before g =
     record {

@@ -19,15 +19,16 @@ known posts takes general letters made back = record {
   back = back;
 }
 
--- what the poster of a general knows when the general has posted these letters
+-- Returns what the poster of a general knows when the general has posted these letters.
 abbrev pub poster : ℕ → List Letter → Known
 poster general letters = known true false general letters 0 []
 
--- what the collector knows when it has taken these letters, has made this number of posters, and has these back
+-- Returns what the collector knows when it has taken these letters, has made this number of posters, and has these
+-- back.
 abbrev pub collector : List Letter → ℕ → List Posted → Known
 collector taken made back = known false true 0 taken made back
 
--- what a pass knows that is no longer used
+-- Returns what is known of a pass that is no longer used.
 abbrev pub spent : Known
 spent = known false false 0 [] 0 []
 

@@ -3,18 +3,18 @@ use Rattle.std.specs.Prelude.{ℕ, List}
 use Rattle.atomic_table.specs.Seated.{TableId}
 use Rattle.round.specs.Letters.{Letter}
 
--- the identity of a post, and the number of letters for which it has room
+-- The identity of a post, and the number of letters for which it has room.
 pub record PostSeen : Type 0 where
   pub table : TableId
   pub capacity : ℕ
 
--- a poster: its post, its general, and the letters that were posted with it, in order
+-- A poster: its post, its general, and the letters that were posted with it, in order.
 pub record PosterSeen : Type 0 where
   pub table : TableId
   pub general : ℕ
   pub posted : List Letter
 
--- a collector: its post, the letters that were taken with it, in order, and the number of generals of the post
+-- A collector: its post, the letters that were taken with it, in order, and the number of generals of the post.
 pub record CollectorSeen : Type 0 where
   pub table : TableId
   pub taken : List Letter

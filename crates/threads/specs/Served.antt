@@ -25,11 +25,11 @@ IsGated passed l = HavePassed passed [] l.transcript
 abbrev pub AreGated : (ℕ → ℕ → ℕ → Type 0) → List (List Letter) → Type 0
 AreGated passed rounds = All (λ letters. All (IsGated passed) letters) rounds
 
--- the accesses that the letters contain
+-- Returns the accesses that the letters contain.
 abbrev pub told_in : List Letter → List Access
 told_in letters = flat_map (λ l. l.transcript) letters
 
--- the accesses that were served to a general, and the beginning of the board's history that he has met
+-- The accesses that were served to a general, and the beginning of the board's history that he has met.
 pub record Served : Type 0 where
   pub made : List Access
   pub seen : List Access

@@ -3,21 +3,21 @@ use Rattle.std.specs.Prelude.{ℕ, zero, suc, ◌≡◌, ◌<◌, ◌*◌, ◌==
 use Rattle.round.specs.Letters.{Letter}
 use Rattle.world.specs.Accounted.{letters_by}
 
--- the list without the first letter that satisfies the condition
+-- Returns the list without the first letter that satisfies the condition.
 abbrev pub without : (Letter → Bool) → List Letter → List Letter
 without is [] = []
 without is (l ∷ letters) = cond (is l) letters (l ∷ without is letters)
 
--- the list without the first letter of this general in this round
+-- Returns the list without the first letter of this general in this round.
 abbrev pub left_by : ℕ → ℕ → List Letter → List Letter
 left_by g round letters = without (λ l. (l.general == g) && (l.round == round)) letters
 
--- the list without a letter of each of the first generals in this round
+-- Returns the list without a letter of each of the first generals in this round.
 abbrev pub left_by_all : ℕ → ℕ → List Letter → List Letter
 left_by_all zero round letters = letters
 left_by_all (suc g) round letters = left_by g round (left_by_all g round letters)
 
--- the list without a letter of each general in each of the first rounds
+-- Returns the list without a letter of each general in each of the first rounds.
 abbrev pub left_rounds : ℕ → ℕ → List Letter → List Letter
 left_rounds n zero letters = letters
 left_rounds n (suc r) letters = left_by_all n (suc r) (left_rounds n r letters)

@@ -10,15 +10,16 @@ use Rattle.trace.specs.SignedAudit.{signed_chronicle_told}
 use Rattle.trace.specs.SignedText.{signed_text}
 use Rattle.trace.specs.Text.{chronicle_text, text_in}
 
--- the text of a chronicle in the given version, or in the version of its campaign if none is given
+-- Returns the text of a chronicle in the given version, or in the version of its campaign if none is given.
 abbrev pub text_again : Option Version → Chronicle → List ℕ
 text_again None c = chronicle_text c
 text_again (Some version) c = text_in version c
 
--- the text that replaces a text of this scenario: the chronicle of the replay, in the version that the text names
+-- Returns the text that replaces a text of this scenario: the chronicle of the replay, in the version that the text
+-- names.
 abbrev pub told_again : Scenario → List ℕ → List ℕ
 told_again s t = text_again (version_named s.rule t) (chronicle_told s t)
 
--- the text that replaces a text of this signed scenario: the chronicle of the replay
+-- Returns the text that replaces a text of this signed scenario: the chronicle of the replay.
 abbrev pub signed_told_again : Scenario → List ℕ → List ℕ
 signed_told_again s t = signed_text (signed_chronicle_told s t)

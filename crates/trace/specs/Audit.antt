@@ -15,11 +15,11 @@ use Rattle.trace.specs.Text.{text_in}
 use Rattle.trace.specs.Names.{chronicle_told}
 use Rattle.trace.specs.Shapes.{unshaped_from}
 
--- the first version, if a campaign with this rule may be written in it
+-- Returns the first version, if a campaign with this rule may be written in it.
 abbrev pub first_version : Rule → Option Version
 first_version rule = if is_default rule then Some First else None
 
--- the version that a chronicle's first line names, if a campaign with this rule may be written in it
+-- Returns the version that a chronicle's first line names, if a campaign with this rule may be written in it.
 abbrev pub line_version : Rule → List ℕ → Option Version
 line_version rule line = if bytes_eq line (codes "chronicle 2") then Some Second
     else if bytes_eq line (codes "chronicle 1") then first_version rule else None
@@ -37,20 +37,20 @@ pub record IsFirstDifference (t other : List ℕ) (place : ℕ) : Type 0 where
   pub same : take place t ≡ take place other
   pub differs : slice_get t place ≢ slice_get other place
 
--- the number of the line, counted from 1, that contains a byte offset of the text
+-- Returns the number of the line, counted from 1, that contains a byte offset of the text.
 abbrev pub line_at : List ℕ → ℕ → ℕ
 line_at t place = suc (count_by (λ c. c == 10) (take place t))
 
--- the fault of a line that differs: in the first two lines, the text is not the scenario's
+-- Returns the fault of a line that differs: in the first two lines, the text is not the scenario's.
 abbrev pub differing : ℕ → TraceFault
 differing line = if nat_le line 2 then NotTheScenarios else Differs
 
--- the fault to report: the first line without a valid shape if there is one, otherwise the line that differs
+-- Returns the fault to report: the first line without a valid shape if there is one, otherwise the line that differs.
 abbrev pub first_fault : Option ℕ → ℕ → TraceError
 first_fault (Some line) differs = At Line line
 first_fault None differs = At (differing differs) differs
 
--- the fault of a text that differs from the expected one at this byte offset
+-- Returns the fault of a text that differs from the expected one at this byte offset.
 unfoldable pub fault_at : List ℕ → ℕ → TraceError
 fault_at t place = first_fault (unshaped_from 1 (pieces feed t)) (line_at t place)
 

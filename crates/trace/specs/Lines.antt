@@ -11,24 +11,24 @@ round_line round = codes "round" ∷ decimal round ∷ []
 abbrev pub row_line : ℕ → List (Option ℕ) → Line
 row_line rank row = codes "row" ∷ decimal rank ∷ map place row
 
--- the words that mark a traitor's decision
+-- Returns the words that mark a traitor's decision.
 abbrev pub mark : Bool → List Word
 mark true = codes "traitor" ∷ []
 mark false = []
 
--- the lines of a round, where `told` gives the lines of a letter
+-- Returns the lines of a round, where `told` gives the lines of a letter.
 abbrev pub round_told : (Letter → List Line) → ℕ → List Access → List Letter → List Line
 round_told told r xs letters = (round_line r ∷ map access_line (filter (λ a. a.round == r) xs)) ++ flat_map told letters
 
 abbrev pub one_round : ℕ → List Access → List Letter → List Line
 one_round r xs letters = round_told letter_lines r xs letters
 
--- the line of a lieutenant's decision, or no line if there is no decision
+-- Returns the line of a lieutenant's decision, or no line if there is no decision.
 abbrev pub decided_lines : Scenario → ℕ → Option ℕ → List Line
 decided_lines s g None = []
 decided_lines s g (Some d) = decision_line g (is_traitor s g) d ∷ []
 
--- a piece repeated the given number of times
+-- Returns a piece repeated the given number of times.
 abbrev pub repeated : ℕ → List ℕ → List ℕ
 repeated zero piece = []
 repeated (suc times) piece = piece ++ repeated times piece

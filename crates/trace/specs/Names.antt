@@ -10,15 +10,15 @@ use Rattle.world.specs.Lists.{replayed}
 use Rattle.world.specs.Chronicle.{Chronicle, chronicle_of}
 use Rattle.trace.specs.Text.{Word, Line}
 
--- the general with this number, or no element if there is none
+-- Returns the general with this number, or no element if there is none.
 abbrev pub general_of : Word → List ℕ
 general_of w = filter (λ g. bytes_eq (decimal g) w) (generals 13)
 
--- the generals named before the first round line, and those named after each round line
+-- The generals named before the first round line, and those named after each round line.
 abbrev pub Named : Type 0
 Named = List ℕ × List (List ℕ)
 
--- the generals named from this line on, where `rest` has those named after it
+-- Returns the generals named from this line on, where `rest` has those named after it.
 abbrev pub with_line : Line → Named → Named
 with_line (w ∷ v ∷ vs) rest =
     cond (bytes_eq w (codes "round")) ([], rest.0 ∷ rest.1)
@@ -29,10 +29,10 @@ abbrev pub named : List Line → Named
 named [] = ([], [])
 named (l ∷ ls) = with_line l (named ls)
 
--- for each round line of a text, the generals named by the access lines between it and the next round line
+-- Returns, for each round line of a text, the generals named by the access lines between it and the next round line.
 unfoldable pub names_of : List ℕ → List (List ℕ)
 names_of t = (named (map (pieces space) (pieces feed t))).1
 
--- the chronicle of the replay of the accesses that a text lists
+-- Returns the chronicle of the replay of the accesses that a text lists.
 unfoldable pub chronicle_told : Scenario → List ℕ → Chronicle
 chronicle_told s t = chronicle_of (run (opening s) (replayed s (names_of t)))

@@ -14,11 +14,11 @@ use Rattle.trace.specs.declared.fault.TraceError.TheVariants.{At}
 abbrev pub star : Stop
 star = Byte 42
 
--- the number from `least` to `most` that a text spells in decimal, without leading zeros
+-- Returns the number from `least` to `most` that a text spells in decimal, without leading zeros.
 unfoldable pub number_within : ℕ → ℕ → List ℕ → Option ℕ
 number_within least most part = decimal_of part >>= λ n. if nat_le least n && nat_le n most then Some n else None
 
--- an entry: `G`, or `G*K` for K entries of general G
+-- Returns an entry: `G`, or `G*K` for K entries of general G.
 abbrev pub entry_of : List (List ℕ) → Option Repeat
 entry_of (g ∷ []) = number_within 0 12 g >>= λ general. Some (record { general = general; times = 1 })
 entry_of (g ∷ k ∷ []) = number_within 0 12 g >>= λ general. number_within 1 4096 k >>= λ times. Some (record {
@@ -28,12 +28,12 @@ entry_of (g ∷ k ∷ []) = number_within 0 12 g >>= λ general. number_within 1
 })
 entry_of _ = None
 
--- the entries before, and then those of the parts, or `None` if a part is not an entry
+-- Returns the entries before, and then those of the parts, or `None` if a part is not an entry.
 abbrev pub entries_told : List Repeat → List (List ℕ) → Option (List Repeat)
 entries_told before [] = Some before
 entries_told before (part ∷ parts) = entry_of (pieces star part) >>= λ entry. entries_told (before ++ entry ∷ []) parts
 
--- the entries of a line, which may be empty
+-- Returns the entries of a line, which may be empty.
 abbrev pub line_told : List ℕ → Option (List Repeat)
 line_told [] = Some []
 line_told (c ∷ cs) = entries_told [] (pieces space (c ∷ cs))
@@ -45,12 +45,12 @@ abbrev pub with_line_told : ℕ → Option (List Repeat) → (List Repeat → Re
 with_line_told number None rest = Err (At Line number)
 with_line_told number (Some entries) rest = if nat_lt 5 number then Err (At Line number) else rest entries
 
--- the entries of the lines before, and then those of the lines from this number on, or the first fault
+-- Returns the entries of the lines before, and then those of the lines from this number on, or the first fault.
 abbrev pub schedule_lines_told : List (List Repeat) → ℕ → List (List ℕ) → Result (List (List Repeat)) TraceError
 schedule_lines_told before number [] = Ok before
 schedule_lines_told before number (line ∷ lines) =
     with_line_told number (line_told line) (λ entries. schedule_lines_told (before ++ entries ∷ []) (suc number) lines)
 
--- the schedule that a text of at most 1,048,576 bytes describes, or the first line that is not valid
+-- Returns the schedule that a text of at most 1,048,576 bytes describes, or the first line that is not valid.
 unfoldable pub schedule_told : List ℕ → Result (List (List Repeat)) TraceError
 schedule_told text = if nat_le (length text) 1048576 then schedule_lines_told [] 1 (lines_of text) else Err (At Line 1)

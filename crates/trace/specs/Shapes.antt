@@ -8,7 +8,7 @@ use Rattle.text.specs.Number.{decimal_of}
 use Rattle.board.specs.Wording.{Row, rows}
 use Rattle.trace.specs.Text.{Word, acting_shape, loyal_shape}
 
--- whether a word is a decimal number without leading zeros, of any size
+-- Returns whether a word is a decimal number without leading zeros, of any size.
 abbrev pub is_number : Word → Bool
 is_number word = is_some (decimal_of word)
 
@@ -21,7 +21,7 @@ is_place word = is_dash word || is_number word
 abbrev pub is_yes_no : Word → Bool
 is_yes_no word = bytes_eq word (codes "yes") || bytes_eq word (codes "no")
 
--- whether a word is one or more numbers joined by dots
+-- Returns whether a word is one or more numbers joined by dots.
 abbrev pub are_joined : Word → Bool
 are_joined word = list_all is_number (pieces dot word)
 
@@ -42,7 +42,7 @@ stands_for kind word =
     else if bytes_eq kind (codes "C") then is_some (rule_named word)
     else bytes_eq word kind
 
--- the words after those of a shape, or `None` if the line does not begin with these
+-- Returns the words after those of a shape, or `None` if the line does not begin with these.
 abbrev pub behind : List Word → List Word → Option (List Word)
 behind [] words = Some words
 behind (kind ∷ kinds) [] = None
@@ -55,31 +55,31 @@ abbrev pub is_nothing_left : Option (List Word) → Bool
 is_nothing_left (Some []) = true
 is_nothing_left _ = false
 
--- whether a line has the words of a shape and no others
+-- Returns whether a line has the words of a shape and no others.
 unfoldable pub fits : List ℕ → List Word → Bool
 fits shape words = is_nothing_left (behind_shape shape words)
 
--- whether a line names a version
+-- Returns whether a line names a version.
 unfoldable pub is_version : List Word → Bool
 is_version words =
     fits (codes "chronicle 1") words
     || fits (codes "chronicle 2") words
     || fits (codes "chronicle 3") words
 
--- whether a line describes a campaign, in any version
+-- Returns whether a line describes a campaign, in any version.
 unfoldable pub is_campaign : List Word → Bool
 is_campaign words =
     fits (codes "generals N bound N commander N order N") words
     || fits (codes "generals N bound N commander N order N patience P rule C") words
     || fits (codes "signed generals N bound N commander N order N patience P") words
 
--- whether at least one word is left, and each is a number or a dash: a label has at least one receiver
+-- Returns whether at least one word is left, and each is a number or a dash: a label has at least one receiver.
 abbrev pub are_places : Option (List Word) → Bool
 are_places None = false
 are_places (Some []) = false
 are_places (Some (word ∷ words)) = list_all is_place (word ∷ words)
 
--- whether a line begins a round or is part of a letter
+-- Returns whether a line begins a round or is part of a letter.
 unfoldable pub is_told : List Word → Bool
 is_told words =
     fits (codes "round N") words
@@ -88,32 +88,32 @@ is_told words =
     || fits (codes "chain N S to R") words
     || are_places (behind_shape (codes "row N") words)
 
--- whether there are as many words as the count says, all of them numbers
+-- Returns whether there are as many words as the count says, all of them numbers.
 abbrev pub is_count : Option ℕ → List Word → Bool
 is_count None words = false
 is_count (Some count) words = list_all is_number words && count == length words
 
--- whether the rest of a line is a count, an equals sign and as many numbers as the count says
+-- Returns whether the rest of a line is a count, an equals sign and as many numbers as the count says.
 abbrev pub is_copied : Option (List Word) → Bool
 is_copied (Some (count ∷ equals ∷ words)) = bytes_eq equals (codes "=") && is_count (decimal_of count) words
 is_copied _ = false
 
--- whether a line is an access with a request of this wording
+-- Returns whether a line is an access with a request of this wording.
 abbrev pub is_worded : Row → List Word → Bool
 is_worded r words = if r.copies then is_copied (behind_shape r.shape words) else fits r.shape words
 
--- whether a line is an access with any request that the board knows
+-- Returns whether a line is an access with any request that the board knows.
 unfoldable pub is_access : List Word → Bool
 is_access words = list_any (λ r. is_worded r words) rows
 
--- whether a line is a decision or the verdict
+-- Returns whether a line is a decision or the verdict.
 unfoldable pub is_end : List Word → Bool
 is_end words =
     fits (codes "decision N N") words
     || fits (codes "decision N traitor N") words
     || fits (codes "verdict alike A obeyed B bound A") words
 
--- whether a line has one of the shapes
+-- Returns whether a line has one of the shapes.
 unfoldable pub is_shaped : List ℕ → Bool
 is_shaped line = let words = pieces space line in
     is_version words || is_campaign words || is_told words || is_access words || is_end words

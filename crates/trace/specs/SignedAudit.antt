@@ -12,7 +12,7 @@ use Rattle.trace.specs.Audit.{IsFirstDifference, fault_at}
 use Rattle.trace.specs.Names.{names_of}
 use Rattle.trace.specs.SignedText.{signed_text}
 
--- the chronicle of the replay of the accesses that a text lists
+-- Returns the chronicle of the replay of the accesses that a text lists.
 unfoldable pub signed_chronicle_told : Scenario → List ℕ → Chronicle
 signed_chronicle_told s t = signed_chronicle_of (played s (replayed signed_kind s (names_of t)))
 
@@ -20,12 +20,12 @@ signed_chronicle_told s t = signed_chronicle_of (played s (replayed signed_kind 
 abbrev pub IsSoundSignedText : Scenario → List ℕ → Type 0
 IsSoundSignedText s t = t ≡ signed_text (signed_chronicle_told s t)
 
--- whether the first line names the version of signed campaigns
+-- Returns whether the first line names the version of signed campaigns.
 abbrev pub is_third : List (List ℕ) → Bool
 is_third [] = false
 is_third (line ∷ lines) = bytes_eq line (codes "chronicle 3")
 
--- whether a text names the version of signed campaigns in its first line
+-- Returns whether a text names the version of signed campaigns in its first line.
 unfoldable pub is_third_version : List ℕ → Bool
 is_third_version t = is_third (pieces feed t)
 

@@ -8,20 +8,20 @@ use Rattle.signed.specs.Entries.{Dispatch}
 use Rattle.signed.specs.Sent.{Sent, sent_by, sent_in}
 use Rattle.trace.specs.Text.{Word, Line, author_line, steps_of, text, place, campaign_words, lines_behind}
 
--- generals joined by dots, or - if there are none
+-- Writes generals joined by dots, or `-` if there are none.
 abbrev pub dotted : List ℕ → Word
 dotted [] = codes "-"
 dotted (g ∷ gs) = decimal g ++ flat_map (λ h. 46 ∷ decimal h) gs
 
--- the line of a chain: its order, its signers in their order, and its receivers
+-- Returns the line of a chain: its order, its signers in their order, and its receivers.
 abbrev pub chain_line : Dispatch → Line
 chain_line x = codes "chain" ∷ decimal x.chain.order ∷ dotted x.chain.signers ∷ codes "to" ∷ dotted x.receivers ∷ []
 
--- the lines of a letter of a round: its first line, and the chains that its general sent in the round
+-- Returns the lines of a letter of a round: its first line, and the chains that its general sent in the round.
 abbrev pub letter_lines : Sent → ℕ → Letter → List Line
 letter_lines sent round l = author_line l.general (steps_of l) ∷ map chain_line (sent_by sent round l.general)
 
--- the first two lines: the version and the campaign
+-- Returns the first two lines: the version and the campaign.
 abbrev pub head_lines : Scenario → List Line
 head_lines s =
     (codes "chronicle" ∷ codes "3" ∷ [])
@@ -29,10 +29,10 @@ head_lines s =
     ∷ (campaign_words s.generals s.bound s.commander s.order ++ codes "patience" ∷ place s.patience ∷ []))
     ∷ []
 
--- the lines of a signed campaign's chronicle
+-- Returns the lines of a signed campaign's chronicle.
 unfoldable pub signed_lines : Chronicle → List Line
 signed_lines c = lines_behind (head_lines c.scenario) (letter_lines (sent_in c.scenario c.letters)) c
 
--- the text of a signed campaign's chronicle
+-- Returns the text of a signed campaign's chronicle.
 unfoldable pub signed_text : Chronicle → List ℕ
 signed_text c = text (signed_lines c)

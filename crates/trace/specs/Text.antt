@@ -16,56 +16,56 @@ use Rattle.label.specs.Lieutenants.{lieutenants}
 use Rattle.trace.specs.declared.version.Version.{Version}
 use Rattle.trace.specs.declared.version.Version.TheVariants.{First, Second}
 
--- the bytes of a word
+-- A word, as its bytes.
 abbrev pub Word : Type 0
 Word = List ℕ
 
--- the words of a line
+-- A line, as its words.
 abbrev pub Line : Type 0
 Line = List Word
 
--- words with a space before each
+-- Writes each word after a space.
 abbrev pub further : List Word → List ℕ
 further [] = []
 further (w ∷ ws) = 32 ∷ w ++ further ws
 
--- words with a space between them
+-- Writes words with a space between them.
 abbrev pub spaced : Line → List ℕ
 spaced [] = []
 spaced (w ∷ ws) = w ++ further ws
 
--- lines, each with an LF at its end
+-- Writes lines, each with a line feed at its end.
 abbrev pub text : List Line → List ℕ
 text [] = []
 text (l ∷ ls) = spaced l ++ 10 ∷ text ls
 
--- what a request asks: its word and its numbers
+-- Returns what a request asks: its word and its numbers.
 abbrev pub question : Request → List Word
 question request = (row_asked request).word ∷ map decimal (numbers_asked request)
 
--- the line of an access: its general, the request and the words of the reply
+-- Returns the line of an access: its general, the request and the words of the reply.
 abbrev pub access_line : Access → Line
 access_line a = codes "access" ∷ decimal a.general ∷ (question a.request ++ (codes "=" ∷ map decimal a.reply))
 
--- a number, or - for nothing
+-- Writes a number in decimal, or `-` for nothing.
 abbrev pub place : Option ℕ → Word
 place None = codes "-"
 place (Some number) = decimal number
 
--- a line for each label: its rank, and the orders that were sent to its receivers
+-- Returns a line for each label: its rank, and the orders that were sent to its receivers.
 abbrev pub row_lines : ℕ → List (List (Option ℕ)) → List Line
 row_lines rank [] = []
 row_lines rank (row ∷ rows) = (codes "row" ∷ decimal rank ∷ map place row) ∷ row_lines (suc rank) rows
 
--- the shapes of a letter's first line, in which N means a number: a loyal general's, or a traitor's with the number of
--- his steps
+-- Returns the shapes of a letter's first line, in which N means a number: a loyal general's, or a traitor's with the
+-- number of his steps.
 abbrev pub loyal_shape : List ℕ
 loyal_shape = codes "letter N loyal"
 
 abbrev pub acting_shape : List ℕ
 acting_shape = codes "letter N steps N"
 
--- the words of a shape, in which the given numbers replace the Ns in turn
+-- Returns the words of a shape, in which the given numbers replace the Ns in turn.
 abbrev pub filled : List Word → List ℕ → Line
 filled (word ∷ words) (number ∷ numbers) =
     if bytes_eq word (codes "N") then decimal number ∷ filled words numbers
@@ -73,20 +73,21 @@ filled (word ∷ words) (number ∷ numbers) =
 filled words [] = words
 filled [] numbers = []
 
--- the first line of a letter: the general, and the number of steps if he is a traitor
+-- Returns the first line of a letter: the general, and the number of steps if he is a traitor.
 abbrev pub author_line : ℕ → Option ℕ → Line
 author_line g None = filled (pieces space loyal_shape) (g ∷ [])
 author_line g (Some steps) = filled (pieces space acting_shape) (g ∷ steps ∷ [])
 
--- the number of steps of a general who acts by a program, or `None` for a loyal one
+-- Returns the number of steps of a general who acts by a program, or `None` for a loyal one.
 abbrev pub steps_of : Letter → Option ℕ
 steps_of l = option_map (λ _. l.steps) l.program
 
--- the lines of a letter: its first line and its rows
+-- Returns the lines of a letter: its first line and its rows.
 abbrev pub letter_lines : Letter → List Line
 letter_lines l = author_line l.general (steps_of l) ∷ row_lines 0 l.outbox.rows
 
--- the lines of the rounds from this one on: a round's own line, its accesses, and its letters by the lines of `told`
+-- Returns the lines of the rounds from this one on: a round's own line, its accesses, and its letters by the lines of
+-- `told`.
 abbrev pub rounds_told : (ℕ → Letter → List Line) → List Access → ℕ → List (List Letter) → List Line
 rounds_told told accesses round [] = []
 rounds_told told accesses round (letters ∷ rounds) =
@@ -97,7 +98,7 @@ rounds_told told accesses round (letters ∷ rounds) =
 abbrev pub round_lines : ℕ → List Access → List (List Letter) → List Line
 round_lines round accesses rounds = rounds_told (λ _. letter_lines) accesses round rounds
 
--- the line of a decision, which says whether the general is a traitor
+-- Returns the line of a decision, which says whether the general is a traitor.
 abbrev pub decision_line : ℕ → Bool → ℕ → Line
 decision_line g true d = codes "decision" ∷ decimal g ∷ codes "traitor" ∷ decimal d ∷ []
 decision_line g false d = codes "decision" ∷ decimal g ∷ decimal d ∷ []
@@ -114,12 +115,12 @@ abbrev pub yes_no_none : Option Bool → Word
 yes_no_none None = codes "-"
 yes_no_none (Some b) = yes_no b
 
--- the line of the verdict
+-- Returns the line of the verdict.
 abbrev pub verdict_line : Verdict → Line
 verdict_line v = codes "verdict" ∷ codes "alike" ∷ yes_no v.alike ∷ codes "obeyed" ∷ yes_no_none v.obeyed ∷
     codes "bound" ∷ yes_no v.bound ∷ []
 
--- the version of a campaign: the first for the default rule without a patience, and otherwise the second
+-- Returns the version of a campaign: the first for the default rule without a patience, and otherwise the second.
 abbrev pub version_by : Option ℕ → Rule → Version
 version_by None rule = if is_default rule then First else Second
 version_by (Some patience) rule = Second
@@ -138,17 +139,17 @@ abbrev pub campaign_words : ℕ → ℕ → ℕ → ℕ → Line
 campaign_words n m c order = codes "generals" ∷ decimal n ∷ codes "bound" ∷ decimal m ∷ codes "commander" ∷ decimal c ∷
     codes "order" ∷ decimal order ∷ []
 
--- the words that a version adds after the order: the patience and the rule in the second
+-- Returns the words that a version adds after the order: the patience and the rule in the second.
 abbrev pub further_words : Version → Option ℕ → Rule → List Word
 further_words First patience rule = []
 further_words Second patience rule = codes "patience" ∷ place patience ∷ codes "rule" ∷ rule_name rule ∷ []
 
--- the first two lines: the version and the campaign
+-- Returns the first two lines: the version and the campaign.
 abbrev pub head_lines : Version → Scenario → List Line
 head_lines v s =
     version_line v ∷ (campaign_words s.generals s.bound s.commander s.order ++ further_words v s.patience s.rule) ∷ []
 
--- the lines of a chronicle that begins with these lines: then follow its rounds, the decisions and the verdict
+-- Returns the lines of a chronicle that begins with these lines: then follow its rounds, the decisions and the verdict.
 abbrev pub lines_behind : List Line → (ℕ → Letter → List Line) → Chronicle → List Line
 lines_behind head told c =
     head
@@ -156,14 +157,14 @@ lines_behind head told c =
     ++ (decision_lines c.scenario (lieutenants c.scenario.generals c.scenario.commander) c.decisions
     ++ verdict_line c.verdict ∷ []))
 
--- the lines of a chronicle in this version
+-- Returns the lines of a chronicle in this version.
 unfoldable pub lines_in : Version → Chronicle → List Line
 lines_in v c = lines_behind (head_lines v c.scenario) (λ _. letter_lines) c
 
--- the text of a chronicle in this version
+-- Returns the text of a chronicle in this version.
 unfoldable pub text_in : Version → Chronicle → List ℕ
 text_in v c = text (lines_in v c)
 
--- the text of a chronicle in the version of its campaign
+-- Returns the text of a chronicle in the version of its campaign.
 abbrev pub chronicle_text : Chronicle → List ℕ
 chronicle_text c = text_in (version_of c.scenario) c

@@ -5,7 +5,7 @@ use Rattle.label.specs.Space.{IsSpace}
 use Rattle.label.specs.declared.space.Space.{Space}
 use Rattle.tree.specs.LieutenantTree.{LieutenantTree, IsFilled}
 
--- the fields of a tree, as contracts see them
+-- Returns the fields of a tree, as contracts see them.
 abbrev pub kept : Space → ℕ → List (List (Option ℕ)) → LieutenantTree
 kept s m ls = record {
   generals = s.generals;
@@ -15,7 +15,8 @@ kept s m ls = record {
   levels = ls;
 }
 
--- the numbers are those of a campaign and a lieutenant, and the levels hold the messages of some function M
+-- States that the numbers are those of a campaign and a lieutenant, and the levels hold the messages of some function
+-- M.
 pub record IsFilledBySome (s : Space) (m : ℕ) (ls : List (List (Option ℕ))) : Type 0 where
   pub space : IsSpace s
   pub small : m < 13
