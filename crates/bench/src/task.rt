@@ -18,7 +18,8 @@ use tree::Tree;
 pub enum Workload<'a> {
     /// Ranks all labels.
     Ranks(&'a [Label]),
-    /// Resolves one tree, each time the next one.
+    /// Resolves one tree. The number of the attempt chooses the tree, so that successive attempts resolve different
+    /// ones.
     Tree(&'a [Tree], Rule),
     /// Resolves all trees, one after another.
     Turns(&'a [Tree]),

@@ -39,17 +39,18 @@ element t k w p j = cond (j == p) (taken (told t.messages) w p) (decided t k (w 
 abbrev pub list_of : MessageTable → ℕ → List ℕ → ℕ → List ℕ
 list_of t k w p = map (element t k w p) (others t.generals w)
 
--- Returns what `p` holds of the label `w`. With no relays left it is the order that he received, if any. Otherwise it
--- is what he decides about the label.
+-- Returns the order that `p` holds for the label `w`. With no relays left it is the order that he received, if any.
+-- Otherwise it is what he decides about the label.
 unfoldable pub held : MessageTable → ℕ → List ℕ → ℕ → Option ℕ
 held t zero w p = told t.messages w p
 held t (suc k) w p = Some (decided t (suc k) w p)
 
--- Writes a part of a list: a comma, a label, and the order that is held of it.
+-- Writes a part of a list: a comma, a space, a label, and the order that a general holds for it, if any.
 abbrev pub part_words : List ℕ → Option ℕ → List ℕ
 part_words w order = codes ", " ++ dotted w ++ codes " " ++ order_words order
 
--- Writes the part that another general `j` contributes: the label `w` extended by `j`, and what `p` holds of it.
+-- Writes the part that another general `j` contributes: the label `w` extended by `j`, and the order that `p` holds for
+-- it.
 abbrev pub part : MessageTable → ℕ → List ℕ → ℕ → ℕ → List ℕ
 part t k w p j = part_words (w ++ j ∷ []) (held t k (w ++ j ∷ []) p)
 

@@ -1,9 +1,9 @@
--- The places of a table, a label and a general who is off it, in the order in which a table is written.
+-- The places of a table, in the order in which a table is written. A place is a label and a general who is not on it.
 use Rattle.std.specs.Prelude.{ℕ, zero, suc, ◌+◌, List, [], ◌∷◌, ◌++◌}
 use Rattle.std.specs.List.{flat_map, range_with_len}
 use Rattle.label.specs.Labels.{others}
 
--- A place: a label, and a general who is off it.
+-- A place: a label, and a general who is not on it.
 abbrev pub Place : Type 0
 Place = List ℕ × ℕ
 

@@ -62,7 +62,7 @@ fn push_blanks(
     Ok(())
 }
 
-/// Appends the lines of a label, one for each general who is off it.
+/// Appends the lines of a label, one for each general who is not on the label.
 fn push_receivers(
     alloc: Global,
     text: &mut String,

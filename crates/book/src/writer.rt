@@ -123,7 +123,7 @@ fn push_labels<M: Marks>(
     Ok(())
 }
 
-/// Appends the lines of a label, one for each general who is off it. `name` is the text of the label.
+/// Appends the lines of a label, one for each general who is not on the label. `name` is the text of the label.
 fn push_receivers<M: Marks>(
     alloc: Global,
     text: &mut String,

@@ -121,7 +121,7 @@ pub(crate) fn with_access(
     Ok(State::new(world, ways, rows, names))
 }
 
-/// Mixes a number into a mark.
+/// Returns the mark that results from mixing a number into `mark`.
 fn mixed(mark: u64, number: u64) -> u64 {
     let product = (mark ^ number).wrapping_mul(0x9E37_79B9_7F4A_7C15);
     product ^ (product >> 32)

@@ -13,7 +13,7 @@ use Rattle.campaign_schedules.specs.declared.fault.AccessFault.TheVariants.{Text
 abbrev pub slash : Stop
 slash = Byte 47
 
--- Returns the general whose number the part is, 0 to 12, if it is one.
+-- Returns the general whose decimal number the part is, from 0 to 12. Returns nothing if the part is not such a number.
 unfoldable pub general_of : List ℕ → Option ℕ
 general_of part = decimal_of part >>= λ n. if nat_lt n 13 then Some n else None
 

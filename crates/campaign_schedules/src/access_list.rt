@@ -21,7 +21,7 @@ const SPACE: Stop = Stop::Byte(b' ');
 /// The largest number of rounds in a schedule.
 const MOST_ROUNDS: u64 = 5;
 
-/// Returns the general whose number the part is, 0 to 12, if it is one.
+/// Parses the decimal number of a general, 0 to 12. Returns `None` if `part` is not such a number.
 #[tactic(auto, unfolding(crate::specs::Accesses::general_of))]
 fn general_of(part: &[u8]) -> Option<u8>
     ensures { result ≡ general_of part.now }
@@ -34,7 +34,8 @@ fn general_of(part: &[u8]) -> Option<u8>
     }
 }
 
-/// Returns the place after a part. An empty part takes no place.
+/// Returns the place after a part of a round's text. The result is `place` if the part is empty, and `place` + 1 if it
+/// is the number of a general.
 ///
 /// # Errors
 ///

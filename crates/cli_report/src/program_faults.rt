@@ -222,7 +222,8 @@ fn spot_told(
     }
 }
 
-/// Returns the report of a fault at line `number` of the program whose key is in this line of the file.
+/// Returns the report of an assembler's fault at line `number` of the program `text`. `name` is the file's name, and
+/// `line` is the line of the file that has the program's key, if it is known.
 pub(crate) fn text_told(
     alloc: Global,
     name: &str,

@@ -24,7 +24,7 @@ pub struct Fields {
     pub imm: u32,
 }
 
-/// Reads the fields of the first eight bytes.
+/// Reads the fields of the unit in the first 8 bytes.
 #[inline(always)]
 pub fn read_fields(bytes: &[u8]) -> Fields
     requires { 8 ≤ length bytes.now }

@@ -49,7 +49,7 @@ pub enum RegisterMisuse {
     Compared(Reg, AbsVal),
     /// The first register is a pointer, and is not stored as a whole. The second is the base of the store.
     Stored(Reg, AbsVal, Reg, AbsVal),
-    /// The register is the base of an access, and not a pointer.
+    /// The register is the base of a memory access, but what is known of it is not a pointer.
     NoBase(Reg, AbsVal),
     /// The program exits with a pointer in r0.
     Exit(AbsVal),

@@ -32,7 +32,7 @@ pub fn of_first(operation: Operation, dst: Reg) -> Option<Reg>
     }
 }
 
-/// Returns the register with a number.
+/// Returns the register with the given number.
 pub fn numbered(number: u8) -> Reg
     requires { number ≤ 10 }
     ensures { result ≡ number }

@@ -17,7 +17,7 @@ pub fn argument(value: Value, bound: u64) -> u64
     }
 }
 
-/// Returns a number. The value must be one.
+/// Returns the number that `value` is. It must be a number.
 pub fn word(value: Value) -> u64
     requires { IsOk (below (2 ^ 64) value) }
     ensures { below (2 ^ 64) value ≡ Ok result }
@@ -36,7 +36,7 @@ pub fn order(value: Value) -> u32
     (word(value) % 0x1_0000_0000) as u32
 }
 
-/// Returns a pointer. The value must be one.
+/// Returns `value`, which must be a pointer.
 pub fn pointer(value: Value) -> Value
     requires { IsOk (pointer value) }
     ensures { pointer value ≡ Ok result }

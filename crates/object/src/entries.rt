@@ -12,7 +12,7 @@ pub struct Format {
     pub content: u64,
     /// The form of the value (DW_FORM_..).
     pub form: u64,
-    /// The place after the content and the form.
+    /// The byte index after the content and the form.
     pub next: usize,
 }
 
@@ -21,11 +21,11 @@ pub struct Format {
 pub struct EntryTable {
     /// The number of formats of an entry.
     pub formats: u8,
-    /// The place of the formats.
+    /// The byte index of the first format.
     pub from: usize,
     /// The number of entries.
     pub count: u64,
-    /// The place of the first entry.
+    /// The byte index of the first entry.
     pub first: usize,
 }
 
@@ -34,7 +34,7 @@ pub struct EntryTable {
 pub struct Path {
     /// The form of the value.
     pub form: u64,
-    /// The place of the value.
+    /// The byte index of the value.
     pub place: usize,
 }
 
@@ -71,7 +71,8 @@ fn within(bytes: &[u8], place: usize, size: u64) -> Option<usize>
     }
 }
 
-/// Returns the place after a block, which begins with its size.
+/// Returns the byte index after a block that begins with its size at index `place`, or `None` if the block does not end
+/// within `bytes`.
 fn behind_block(bytes: &[u8], place: usize) -> Option<usize>
     ensures read { result ≡ behind_block place bytes.now }
     ensures within { IfSome result (λ next. next ≤ length bytes.now) }
@@ -80,7 +81,7 @@ fn behind_block(bytes: &[u8], place: usize) -> Option<usize>
     within(bytes, size.next, size.value)
 }
 
-/// Returns the place after a number in LEB128.
+/// Returns the byte index after the LEB128 number at index `place`, or `None` if there is no such number.
 fn behind_number(bytes: &[u8], place: usize) -> Option<usize>
     ensures read { result ≡ behind_number place bytes.now }
     ensures within { IfSome result (λ next. next ≤ length bytes.now) }
@@ -89,7 +90,7 @@ fn behind_number(bytes: &[u8], place: usize) -> Option<usize>
     Some(number.next)
 }
 
-/// Returns the place after a value of no fixed size: a string, a number or a block.
+/// Returns the byte index after a value at index `place` whose form has no fixed size: a string, a number or a block.
 fn behind_varying(bytes: &[u8], form: u64, place: usize) -> Option<usize>
     requires few { length bytes.now ≤ 65536 }
     requires inside { place ≤ length bytes.now }
@@ -107,7 +108,7 @@ fn behind_varying(bytes: &[u8], form: u64, place: usize) -> Option<usize>
     }
 }
 
-/// Returns the place after a value in a form.
+/// Returns the byte index after the value of this form at index `place`.
 fn behind_value(bytes: &[u8], form: u64, place: usize) -> Option<usize>
     requires few { length bytes.now ≤ 65536 }
     requires inside { place ≤ length bytes.now }
@@ -122,7 +123,7 @@ fn behind_value(bytes: &[u8], form: u64, place: usize) -> Option<usize>
     }
 }
 
-/// Reads the format at a place.
+/// Reads the format at the byte index `place` of `formats`.
 fn format_at(formats: &[u8], place: usize) -> Option<Format>
     ensures { result ≡ format_at place formats.now }
 {
@@ -130,7 +131,7 @@ fn format_at(formats: &[u8], place: usize) -> Option<Format>
     format_behind(formats, content)
 }
 
-/// Reads the form of a format whose content was read.
+/// Reads the form of a format. `content` is the content, which was read before it.
 fn format_behind(formats: &[u8], content: Read) -> Option<Format>
     ensures { result ≡ format_behind formats.now content }
 {
@@ -142,7 +143,7 @@ fn format_behind(formats: &[u8], content: Read) -> Option<Format>
     })
 }
 
-/// Returns the place after `count` formats.
+/// Returns the byte index after the `count` formats that begin at index `place`.
 #[tactic(auto, using(crate::proofs::EntryLemmas::formats_none, crate::proofs::EntryLemmas::formats_some))]
 fn behind_formats(formats: &[u8], count: u8, place: usize) -> Option<usize>
     ensures { result ≡ behind_formats count place formats.now }
@@ -156,7 +157,8 @@ fn behind_formats(formats: &[u8], count: u8, place: usize) -> Option<usize>
     }
 }
 
-/// Returns the place after an entry with `count` formats, which begin at `from`.
+/// Returns the byte index after the entry at index `place` of `bytes`. The entry has `count` formats, which begin at
+/// index `from` of `formats`.
 #[tactic(auto, using(crate::proofs::EntryLemmas::entry_none, crate::proofs::EntryLemmas::entry_some))]
 fn behind_entry(formats: &[u8], count: u8, from: usize, bytes: &[u8], place: usize) -> Option<usize>
     requires few { length bytes.now ≤ 65536 }
@@ -176,8 +178,8 @@ fn behind_entry(formats: &[u8], count: u8, from: usize, bytes: &[u8], place: usi
     }
 }
 
-/// Returns the path of the entry at a place, or `None` if it has none. The entry has `count` formats, which begin at
-/// `from`.
+/// Returns the path of the entry at index `place` of `bytes`, or `None` if it has none. The entry has `count` formats,
+/// which begin at index `from` of `formats`.
 #[tactic(auto, using(crate::proofs::EntryLemmas::path_none, crate::proofs::EntryLemmas::path_some))]
 pub fn path_in(formats: &[u8], count: u8, from: usize, bytes: &[u8], place: usize) -> Option<Path>
     requires few { length bytes.now ≤ 65536 }
@@ -204,7 +206,8 @@ pub fn path_in(formats: &[u8], count: u8, from: usize, bytes: &[u8], place: usiz
     }
 }
 
-/// Returns the place after `entries` entries.
+/// Returns the byte index after `entries` entries, the first of which begins at index `place` of `bytes`. Each has
+/// `count` formats, which begin at index `from` of `formats`.
 #[tactic(auto, using(crate::proofs::EntryLemmas::entries_none))]
 pub fn behind_entries(
     entries: u64,
@@ -248,7 +251,7 @@ fn entries_by(bytes: &[u8], formats: u8, from: usize, count: Read) -> Option<Ent
     })
 }
 
-/// Reads the number of entries of a table whose formats end at a place.
+/// Reads the number of entries of a table whose formats end at the byte index `next`.
 fn entries_behind(bytes: &[u8], formats: u8, from: usize, next: usize) -> Option<EntryTable>
     ensures read { result ≡ entries_behind formats from bytes.now next }
     ensures few { IfSome result (λ entries. entries.count ≤ length bytes.now) }
@@ -258,7 +261,7 @@ fn entries_behind(bytes: &[u8], formats: u8, from: usize, next: usize) -> Option
     entries_by(bytes, formats, from, count)
 }
 
-/// Reads the table of entries at a place.
+/// Reads the table of entries at the byte index `place`. Returns `None` if the table does not end within `bytes`.
 pub fn entries_at(bytes: &[u8], place: usize) -> Option<EntryTable>
     requires few { length bytes.now ≤ 65536 }
     requires inside { place ≤ length bytes.now }

@@ -12,7 +12,7 @@ use crate::relocation::{first_call, first_named};
 use crate::section::{SectionHeader, count_sections, has_table, is_for_bpf, read_table};
 use crate::symbol::{Symbol, find_symbols};
 
-/// Returns the table of symbols.
+/// Returns the bytes of the table of symbols, which is in the section with the index `home`.
 fn symbols_of<'a>(object: &'a [u8], table: &[u8], home: usize) -> &'a [u8]
     requires { home < 2 ^ 32 }
     ensures { result.now ≡ symbols_in object.now table.now home }

@@ -34,7 +34,7 @@ fn fields_of(version: u16) -> usize
     if version == 5 { 12 } else { 10 }
 }
 
-/// Returns a signed byte, modulo 2^64.
+/// Returns a byte, read as a signed number, modulo 2^64.
 fn widened(byte: u8) -> u64
     ensures { result ≡ widened byte }
 {

@@ -8,16 +8,17 @@ use text::{Stop, cut};
 /// The greatest number of bytes of a number in LEB128 that is read.
 const MOST: u8 = 10;
 
-/// A number that was read, and the place after it.
+/// A number that was read, and the byte index after it.
 #[derive(Clone, Copy)]
 pub struct Read {
     /// The number, modulo 2^64.
     pub value: u64,
-    /// The place after the number.
+    /// The byte index after the number.
     pub next: usize,
 }
 
-/// Returns the value of the last byte of a number.
+/// Returns the value of the last byte of a LEB128 number, which is below 128. In a signed number, a byte of 64 or more
+/// is negative, and its value is taken modulo 2^64.
 fn last_byte(signed: bool, byte: u8) -> u64
     requires { byte < 128 }
     ensures { result ≡ last_byte signed byte }
@@ -41,7 +42,8 @@ fn joined(byte: u8, more: Read) -> Read
     }
 }
 
-/// Reads a number in LEB128 at a place. It returns `None` if the number has more than `most` bytes or does not end.
+/// Reads the LEB128 number at the byte index `place`. Returns `None` if the number has more than `most` bytes or does
+/// not end.
 #[tactic(auto, using(crate::proofs::NumberLemmas::number_none, crate::proofs::NumberLemmas::number_some))]
 fn number_in(signed: bool, most: u8, bytes: &[u8], place: usize) -> Option<Read>
     ensures read { result ≡ number_in signed most place bytes.now }
@@ -64,7 +66,8 @@ fn number_in(signed: bool, most: u8, bytes: &[u8], place: usize) -> Option<Read>
     }
 }
 
-/// Reads an unsigned number in LEB128 at a place.
+/// Reads the unsigned LEB128 number at the byte index `place`. Returns `None` if it has more than 10 bytes or does not
+/// end.
 pub fn unsigned_at(bytes: &[u8], place: usize) -> Option<Read>
     ensures read { result ≡ unsigned_at place bytes.now }
     ensures on { IfSome result (λ number. place < number.next) }
@@ -73,7 +76,8 @@ pub fn unsigned_at(bytes: &[u8], place: usize) -> Option<Read>
     number_in(false, MOST, bytes, place)
 }
 
-/// Reads a signed number in LEB128 at a place.
+/// Reads the signed LEB128 number at the byte index `place`. Returns `None` if it has more than 10 bytes or does not
+/// end.
 pub fn signed_at(bytes: &[u8], place: usize) -> Option<Read>
     ensures read { result ≡ signed_at place bytes.now }
     ensures on { IfSome result (λ number. place < number.next) }
@@ -82,7 +86,7 @@ pub fn signed_at(bytes: &[u8], place: usize) -> Option<Read>
     number_in(true, MOST, bytes, place)
 }
 
-/// Returns the bytes from a place on, or none if the place is past the end.
+/// Returns the bytes from index `place` on. There are none if `place` is past the end.
 fn rest(bytes: &[u8], place: usize) -> &[u8]
     ensures { result.now ≡ drop place bytes.now }
 {
@@ -93,7 +97,7 @@ fn rest(bytes: &[u8], place: usize) -> &[u8]
     }
 }
 
-/// Returns the bytes from a place on, up to the first zero.
+/// Returns the bytes from index `place` on, up to but not including the first zero.
 pub fn string_at(bytes: &[u8], place: usize) -> &[u8]
     ensures read { result.now ≡ string_at place bytes.now }
     ensures bound { length result.now ≤ length bytes.now }

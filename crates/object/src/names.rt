@@ -13,7 +13,7 @@ use crate::number::{byte_at, word_at};
 /// (DW_FORM_udata).
 const FILE_FORMATS: [u8; 8] = [1, 8, 2, 15, 3, 15, 4, 15];
 
-/// Returns the path of the entry at a place.
+/// Returns the path of the entry at the byte index `place`, or `None` if the entry has none.
 fn path_of_entry(bytes: &[u8], files: EntryTable, place: usize) -> Option<Path>
     requires few { length bytes.now ≤ 65536 }
     requires inside { place ≤ length bytes.now }
@@ -63,7 +63,8 @@ fn files_at(bytes: &[u8], tables: usize) -> Option<EntryTable>
     files_behind(bytes, directories)
 }
 
-/// Returns the path of a file in version 5.
+/// Returns the path of the file with this number, for a program of version 5. The tables of directories and files begin
+/// at the byte index `tables`.
 fn path_in_five(bytes: &[u8], tables: usize, file: u64) -> Option<Path>
     requires few { length bytes.now ≤ 65536 }
     requires inside { tables ≤ length bytes.now }
@@ -73,7 +74,8 @@ fn path_in_five(bytes: &[u8], tables: usize, file: u64) -> Option<Path>
     path_among(bytes, file, files)
 }
 
-/// Returns the place `n` bytes after the beginning of a list of strings, if there is an empty string of the list.
+/// Returns the byte index `tables` + `n` if there is an empty string of the list of strings that begins at index
+/// `tables`.
 fn empty_here(bytes: &[u8], tables: usize, n: usize) -> Option<usize>
     requires few { length bytes.now ≤ 65536 }
     requires inside { tables + n < length bytes.now }
@@ -88,7 +90,7 @@ fn empty_here(bytes: &[u8], tables: usize, n: usize) -> Option<usize>
     }
 }
 
-/// Returns the place of the empty string that ends the directories of version 4.
+/// Returns the byte index of the empty string that ends the directories of version 4, or `None` if there is none.
 fn directories_end(bytes: &[u8], tables: usize) -> Option<usize>
     requires few { length bytes.now ≤ 65536 }
     requires inside { tables ≤ length bytes.now }
@@ -104,7 +106,7 @@ fn directories_end(bytes: &[u8], tables: usize) -> Option<usize>
     None
 }
 
-/// Returns the path of the file after `before` others in version 4, where the directories end at `end`.
+/// Returns the path of the file after `before` others in version 4, where the directories end at the byte index `end`.
 fn path_behind(bytes: &[u8], before: u64, end: usize) -> Option<Path>
     requires few { length bytes.now ≤ 65536 }
     requires inside { end < length bytes.now }
@@ -114,7 +116,8 @@ fn path_behind(bytes: &[u8], before: u64, end: usize) -> Option<Path>
     path_in(&FILE_FORMATS, 4, 0, bytes, place)
 }
 
-/// Returns the path of a file in version 4.
+/// Returns the path of the file with this number, for a program of version 4. The lists of directories and files begin
+/// at the byte index `tables`.
 fn path_in_four(bytes: &[u8], tables: usize, file: u64) -> Option<Path>
     requires few { length bytes.now ≤ 65536 }
     requires inside { tables ≤ length bytes.now }

@@ -19,7 +19,8 @@ fn addend_of(bytes: &[u8], size: usize, relocations: &[u8], index: usize, place:
     }
 }
 
-/// Returns the address in the section with this number, or `None` if the symbol is not in that section.
+/// Returns the symbol's value plus `addend`, modulo 2^64, as an address in the section with the number `section`.
+/// Returns `None` if the symbol is not in that section.
 fn address_in(section: u16, symbol: Symbol, addend: u64) -> Option<u64>
     ensures { result ≡ address_in section symbol addend }
 {
@@ -30,8 +31,8 @@ fn address_in(section: u16, symbol: Symbol, addend: u64) -> Option<u64>
     }
 }
 
-/// Returns the address that the relocation with this index gives to a place, or `None` if it changes another place or
-/// its symbol is in another section.
+/// Returns the address that the relocation with this index gives to the operand at the byte index `place`. Returns
+/// `None` if it changes another place or its symbol is in another section.
 fn origin_here(
     bytes: &[u8],
     symbols: &[u8],
@@ -53,7 +54,8 @@ fn origin_here(
     address_in(section, symbol, addend)
 }
 
-/// Returns the address of the operand at a place, or `None` if it is not in the section with this number.
+/// Returns the address of the operand at the byte index `place`, or `None` if it is not in the section with the number
+/// `section`.
 pub fn origin_of(
     bytes: &[u8],
     symbols: &[u8],

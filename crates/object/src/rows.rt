@@ -97,7 +97,7 @@ fn after(source: &LineSections, registers: LineRegisters, step: Step) -> LineReg
     }
 }
 
-/// Returns the address of the operand at a place, or `None` if it is not in the function's section.
+/// Returns the address of the operand at the byte index `place`, or `None` if it is not in the function's section.
 fn origin(source: &LineSections, place: usize) -> Option<u64>
     requires { IsSource source.now }
     ensures { result ≡ origins_of source.now place }
@@ -112,8 +112,8 @@ fn origin(source: &LineSections, place: usize) -> Option<u64>
     )
 }
 
-/// Returns the rows of a program that ends exactly at the end of the bytes. It returns `None` if the program breaks off
-/// before.
+/// Returns the rows of a program that ends exactly at the end of the bytes. Returns `None` if the program breaks off
+/// before that end.
 ///
 /// # Errors
 ///

@@ -18,7 +18,7 @@ pub enum Step {
     Line(u64),
     /// Sets the number of the file.
     File(u64),
-    /// Sets the address to the operand at this place.
+    /// Sets the address to the operand at this byte index.
     Start(usize),
     /// Appends a row that ends the sequence.
     End,
@@ -26,12 +26,12 @@ pub enum Step {
     Other,
 }
 
-/// An instruction that was read, and the place after it.
+/// An instruction that was read, and the byte index after it.
 #[derive(Clone, Copy)]
 pub struct Stepped {
     /// The instruction.
     pub step: Step,
-    /// The place after the instruction.
+    /// The byte index after the instruction.
     pub next: usize,
 }
 
@@ -53,7 +53,7 @@ fn special(header: Header, above: u8) -> Step
     Step::Row(address_advance(header, above), line)
 }
 
-/// Reads DW_LNS_advance_pc, whose operand is at a place.
+/// Reads DW_LNS_advance_pc, whose operand is at the byte index `place`.
 fn advance_pc(header: Header, bytes: &[u8], place: usize) -> Option<Stepped>
     ensures read { result ≡ by_number (advance_step header) (unsigned_at place bytes.now) }
     ensures on { IfSome result (λ s. place < s.next) }
@@ -67,7 +67,7 @@ fn advance_pc(header: Header, bytes: &[u8], place: usize) -> Option<Stepped>
     })
 }
 
-/// Reads DW_LNS_advance_line, whose operand is at a place.
+/// Reads DW_LNS_advance_line, whose operand is at the byte index `place`.
 fn advance_line(bytes: &[u8], place: usize) -> Option<Stepped>
     ensures read { result ≡ by_number Step.Line (signed_at place bytes.now) }
     ensures on { IfSome result (λ s. place < s.next) }
@@ -80,7 +80,7 @@ fn advance_line(bytes: &[u8], place: usize) -> Option<Stepped>
     })
 }
 
-/// Reads DW_LNS_set_file, whose operand is at a place.
+/// Reads DW_LNS_set_file, whose operand is at the byte index `place`.
 fn set_file(bytes: &[u8], place: usize) -> Option<Stepped>
     ensures read { result ≡ by_number Step.File (unsigned_at place bytes.now) }
     ensures on { IfSome result (λ s. place < s.next) }
@@ -93,7 +93,7 @@ fn set_file(bytes: &[u8], place: usize) -> Option<Stepped>
     })
 }
 
-/// Reads an opcode without effect, whose operand, a number, is at a place.
+/// Reads an opcode without effect, whose operand is the LEB128 number at the byte index `place`.
 fn pass_number(bytes: &[u8], place: usize) -> Option<Stepped>
     ensures read { result ≡ by_number no_step (unsigned_at place bytes.now) }
     ensures on { IfSome result (λ s. place < s.next) }
@@ -106,7 +106,7 @@ fn pass_number(bytes: &[u8], place: usize) -> Option<Stepped>
     })
 }
 
-/// Reads DW_LNS_fixed_advance_pc, whose operand is at a place.
+/// Reads DW_LNS_fixed_advance_pc, whose operand is the 2 bytes at index `place`.
 fn fixed_advance(bytes: &[u8], place: usize) -> Option<Stepped>
     ensures read { result ≡ fixed_advance place bytes.now }
     ensures on { IfSome result (λ s. place ≤ s.next) }
@@ -122,7 +122,7 @@ fn fixed_advance(bytes: &[u8], place: usize) -> Option<Stepped>
     }
 }
 
-/// Reads a standard opcode, whose operands are at a place.
+/// Reads a standard opcode, whose operands begin at the byte index `place`.
 fn standard(header: Header, opcode: u8, bytes: &[u8], place: usize) -> Option<Stepped>
     requires range { 0 < header.range }
     requires opcodes { header.opcodes ≤ 13 }
@@ -167,7 +167,7 @@ fn alone(header: Header, opcode: u8) -> Step
     }
 }
 
-/// Returns the instruction of an extended opcode of `size` bytes, whose operands are at a place.
+/// Returns the instruction of an extended opcode of `size` bytes, whose operands begin at the byte index `place`.
 fn extended_step(size: u64, opcode: u8, place: usize) -> Step
     ensures { result ≡ extended_step size opcode place }
 {
@@ -180,7 +180,7 @@ fn extended_step(size: u64, opcode: u8, place: usize) -> Step
     }
 }
 
-/// Reads an extended opcode after its size.
+/// Reads an extended opcode. `size` is its size in bytes, which was read before it.
 fn extended_of(bytes: &[u8], size: Read) -> Option<Stepped>
     requires { size.next ≤ length bytes.now }
     ensures read { result ≡ extended_of bytes.now size }
@@ -197,7 +197,7 @@ fn extended_of(bytes: &[u8], size: Read) -> Option<Stepped>
     })
 }
 
-/// Reads an extended opcode, whose size is at a place.
+/// Reads an extended opcode, which begins with its size at the byte index `place`.
 fn extended(bytes: &[u8], place: usize) -> Option<Stepped>
     ensures read { result ≡ extended place bytes.now }
     ensures on { IfSome result (λ s. place < s.next) }
@@ -207,7 +207,7 @@ fn extended(bytes: &[u8], place: usize) -> Option<Stepped>
     extended_of(bytes, size)
 }
 
-/// Reads the instruction at a place. It returns `None` if there is no complete instruction.
+/// Reads the instruction at the byte index `place`. Returns `None` if there is no complete instruction.
 #[tactic(auto, unfolding(crate::specs::Steps::step_at))]
 pub fn step_at(header: Header, bytes: &[u8], place: usize) -> Option<Stepped>
     requires range { 0 < header.range }

@@ -32,7 +32,7 @@ fn bytes_of(object: &[u8], index: usize) -> &[u8]
     short(SectionHeader::read(read_table(object), index).bytes(object))
 }
 
-/// Returns the names of the sections.
+/// Returns the bytes of the string table that has the names of the sections.
 fn section_names(object: &[u8]) -> &[u8]
     ensures { result.now ≡ section_names object.now }
 {
@@ -131,7 +131,8 @@ fn lines_section(object: &[u8]) -> usize
     section_named(object, b".debug_line")
 }
 
-/// Returns the bytes of .debug_line.
+/// Returns the bytes of the section .debug_line. There are none if there is no such section or it has more than 65,536
+/// bytes.
 pub fn lines_in(object: &[u8]) -> &[u8]
     ensures read { result.now ≡ lines_in object.now }
     ensures bound { length result.now ≤ 65536 }
@@ -139,21 +140,23 @@ pub fn lines_in(object: &[u8]) -> &[u8]
     bytes_of(object, lines_section(object))
 }
 
-/// Returns the bytes of .debug_line_str.
+/// Returns the bytes of the section .debug_line_str. There are none if there is no such section or it has more than
+/// 65,536 bytes.
 pub fn line_strings_in(object: &[u8]) -> &[u8]
     ensures { result.now ≡ line_strings_in object.now }
 {
     bytes_of(object, section_named(object, b".debug_line_str"))
 }
 
-/// Returns the bytes of .debug_str.
+/// Returns the bytes of the section .debug_str. There are none if there is no such section or it has more than 65,536
+/// bytes.
 pub fn strings_in(object: &[u8]) -> &[u8]
     ensures { result.now ≡ strings_in object.now }
 {
     bytes_of(object, section_named(object, b".debug_str"))
 }
 
-/// Returns the table of symbols.
+/// Returns the bytes of the first table of symbols. There are none if the object has no such table.
 fn symbols_in(object: &[u8]) -> &[u8]
     ensures { result.now ≡ symbols_in object.now }
 {

@@ -74,7 +74,7 @@ fn row_of(rows: &[LineRow], address: u64) -> Option<LineRow>
     None
 }
 
-/// Returns the name of a file by its number.
+/// Returns the name of the file with this number, or the empty text if the header is missing or does not have it.
 fn name_in(object: &[u8], header: Option<Header>, file: u64) -> &[u8]
     requires { header ≡ header_of (lines_in object.now) }
     ensures { result.now ≡ name_in object.now header file }

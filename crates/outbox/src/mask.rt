@@ -2,7 +2,7 @@
 ghost use Rattle.std.specs.Prelude.{◌≡◌, ◌<◌, ◌==◌, ◌||◌, ◌&&◌, not, ℕ};
 ghost use Rattle.outbox.specs.Masks.{has_bit};
 
-/// Checks whether the number is in the set.
+/// Checks whether a number is in a set. `mask` has bit n set exactly if n is in the set.
 pub(crate) fn has_bit(mask: u16, number: u32) -> bool
     requires { number < 16 }
     ensures { result ≡ has_bit mask number }
@@ -10,7 +10,7 @@ pub(crate) fn has_bit(mask: u16, number: u32) -> bool
     (mask >> number) & 1 == 1
 }
 
-/// Returns the set with the number added.
+/// Returns the bit mask of a set with the number added to the set.
 pub(crate) fn with_bit(mask: u16, number: u32) -> u16
     requires { number < 16 }
     ensures { (n : ℕ) → has_bit result n ≡ (number == n || has_bit mask n) }
@@ -18,7 +18,7 @@ pub(crate) fn with_bit(mask: u16, number: u32) -> u16
     mask | (1 << number)
 }
 
-/// Returns the set with the number removed.
+/// Returns the bit mask of a set with the number removed from the set.
 pub(crate) fn without_bit(mask: u16, number: u32) -> u16
     requires { number < 16 }
     ensures { (n : ℕ) → n < 16 → has_bit result n ≡ (not (n == number) && has_bit mask n) }

@@ -29,8 +29,8 @@ is_in round a = a.round == round
 abbrev pub is_earlier : ℕ → Access → Bool
 is_earlier round a = nat_lt a.round round
 
--- Heights in a round's band: of an access with the given place among all accesses, of the start of the strokes, and of
--- the start of the lists of what each lieutenant received.
+-- Return vertical positions in a round's band, in SVG user units from its top: of the access at index `place` among all
+-- accesses, of the start of the strokes, and of the start of the lists of what each lieutenant received.
 abbrev pub access_top : List Access → ℕ → ℕ → ℕ
 access_top accesses round place = 16 + 20 * (place - count_by (is_earlier round) accesses)
 

@@ -84,7 +84,7 @@ pub fn ended<T: Drop, E: Copy>(
     }
 }
 
-/// Returns the first element that is a failure.
+/// Returns the first element that is a failure and not `None`, or `None` if there is no failure.
 fn first_failed<E: Copy>(failures: &[Option<E>]) -> Option<Option<E>>
     ensures { result ≡ find (λ failure. is_some failure) failures.now }
 {

@@ -69,7 +69,7 @@ pub fn empty(alloc: Global, units: usize) -> Result<Pending, AllocError>
     })
 }
 
-/// Takes out what is kept for a unit.
+/// Returns the state that is kept for a unit, which is then kept no longer.
 pub fn take(pending: &mut Pending, unit: usize) -> Option<Box<AbsState>>
     requires { unit < length pending.old.items }
     ensures value { unboxed result ≡ reached_at pending.old.items unit }

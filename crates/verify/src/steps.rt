@@ -306,7 +306,8 @@ fn store(
     }
 }
 
-/// Checks an instruction that continues with the following one, and applies it to the state.
+/// Checks an instruction that always continues with the following one. Changes the state to what is known after it, or
+/// returns the reason why the instruction is rejected.
 pub fn straight(state: &mut AbsState, insn: &Insn) -> Result<(), Reason>
     requires { IsStraight insn.now }
     ensures { outcome result state.new ≡ stepped insn.now state.old }

@@ -18,8 +18,12 @@ use crate::verified_program::Verified;
 use insn::Program;
 use std::alloc::Global;
 
-/// Returns the first fault: first those of structure, then those of the pass. If there is none, makes the ready codes
-/// of the program.
+/// Checks a program, and makes its ready codes if it has no fault. Faults of structure are checked before those that
+/// the pass finds.
+///
+/// # Errors
+///
+/// The first fault, or `Memory` if memory runs out.
 fn check(alloc: Global, program: &Program, codes: &mut Vec<Ready>) -> Result<(), VerifyError>
     ensures judged { Answers (judged program.now) result }
     ensures structural { IfSome (structural_fault program.now) (λ fault. result ≡ Err fault) }

@@ -90,7 +90,7 @@ const FOUR: &str = swaying!(
     campaign "exit\n", "generals = 4\nbound = 1\ncommander = 0\norder = 1\n", [3]
 );
 
-/// The scenario of `Copying`.
+/// The scenario of the sample campaign `Copying`, with oral messages.
 const FOUR_WHO_COPY: &str = copying!(
     campaign "exit\n",
     "generals = 4\nbound = 1\ncommander = 0\norder = 1\npatience = 20\nrule = \"median\"\n",
@@ -104,14 +104,14 @@ const FOUR_SIGNED: &str = signing!(
     [3]
 );
 
-/// The scenario of `Seven` with signed messages.
+/// The scenario of the sample campaign `Seven`, with signed messages.
 const SEVEN_SIGNED: &str = signing!(
     campaign "exit\n",
     "generals = 7\nbound = 2\ncommander = 0\norder = 0\nmessages = \"signed\"\n",
     [0, 4]
 );
 
-/// The scenario of `Copying` with signed messages.
+/// The scenario of the sample campaign `Copying`, with signed messages. These have no rule.
 const FOUR_SIGNED_WITH_PATIENCE: &str = signing!(
     campaign "exit\n",
     "generals = 4\nbound = 1\ncommander = 0\norder = 1\npatience = 20\nmessages = \"signed\"\n",
