@@ -10,7 +10,7 @@ abbrev pub holds_pointer : Spill → Bool
 holds_pointer Free = false
 holds_pointer (Whole shift region offset) = true
 
--- There are 64 blocks, and bit b of the word is set exactly if block b holds a pointer.
+-- States that there are 64 blocks, and bit b of the word is set exactly if block b holds a pointer.
 pub record IsHolding (word : ℕ) (spills : List Spill) : Type 0 where
   pub small : word < 2 ^ 64
   pub blocks : length spills ≡ 64

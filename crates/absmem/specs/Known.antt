@@ -22,32 +22,32 @@ byte_at bytes k = slice_index_or bytes k false
 abbrev pub spill_at : List Spill → ℕ → Spill
 spill_at spills b = slice_index_or spills b Free
 
--- The cells from `place` up to but not including `end` have become `value`, and all others are unchanged.
+-- States that the cells from `place` up to but not including `end` have become `value`, and all others are unchanged.
 pub record IsSetTo (value : Bool) (old new : List Bool) (place end : ℕ) : Type 0 where
   pub inside : (k : ℕ) → place ≤ k → k < end → byte_at new k ≡ value
   pub before : (k : ℕ) → k < place → byte_at new k ≡ byte_at old k
   pub behind : (k : ℕ) → end ≤ k → byte_at new k ≡ byte_at old k
 
--- The pointer begins in its block and lies on the stack, and its offset is within the limit.
+-- States that the pointer begins in its block and lies on the stack, and its offset is within the limit.
 abbrev pub IsFiled : ℕ → Spill → Type 0
 IsFiled b Free = Unit {0}
 IsFiled b (Whole shift region offset) = (shift < 8) × (8 * b + shift + 8 ≤ stack_size) × IsOffset offset
 
--- The abstract stack has 512 cells and 64 blocks, and each pointer is in its block and on the stack.
+-- States that the abstract stack has 512 cells and 64 blocks, and each pointer is in its block and on the stack.
 pub record IsKnownStack (bytes : List Bool) (spills : List Spill) : Type 0 where
   pub cells : length bytes ≡ stack_size
   pub blocks : length spills ≡ 64
   pub filed : (b : ℕ) → b < 64 → IsFiled b (spill_at spills b)
 
--- What is known of a block after the cells from `place` up to but not including `end` are written. A pointer that has
--- one of these cells is forgotten. If there are no such cells, it stays.
+-- Returns what is known of a block after the cells from `place` up to but not including `end` are written. A pointer
+-- that has one of these cells is forgotten. If there are no such cells, it stays.
 abbrev pub left_of : ℕ → ℕ → ℕ → Spill → Spill
 left_of place end b Free = Free
 left_of place end b (Whole shift region offset) =
     if (nat_lt place end && nat_lt (8 * b + shift) end) && nat_lt place (8 * b + shift + 8) then Free
     else Whole shift region offset
 
--- The join of what is known of a block: the pointer, if both know the same one.
+-- Returns the join of what is known of a block: the pointer, if both know the same one.
 abbrev pub joined_spill : Spill → Spill → Spill
 joined_spill Free b = Free
 joined_spill (Whole shift region offset) Free = Free

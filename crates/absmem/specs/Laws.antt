@@ -24,7 +24,7 @@ bit_of_test zero lt = refl
 bit_of_test (suc zero) lt = refl
 bit_of_test (suc (suc n)) lt = absurd (omega arith)
 
--- The cells of one word.
+-- Returns the cells of one word.
 abbrev cells_of : List ℕ → ℕ → List Bool
 cells_of words number = slice_range (members words) (64 * number) (64 * number + 64)
 

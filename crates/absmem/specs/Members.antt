@@ -22,7 +22,7 @@ members words = map (is_member words) (range_with_len 0 stack_size)
 unfoldable pub words_of : List Bool → List ℕ
 words_of flags = map (λ number. mask_l (slice_range flags (64 * number) (64 * number + 64))) (range_with_len 0 8)
 
--- There are eight words, each of 64 bits.
+-- States that there are eight words, each of 64 bits.
 pub record AreWords (words : List ℕ) : Type 0 where
   pub count : length words ≡ 8
   pub each : (number : ℕ) → number < 8 → word_at words number < 2 ^ 64

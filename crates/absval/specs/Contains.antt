@@ -9,25 +9,25 @@ use Rattle.absval.specs.NumberSets.{Has}
 use Rattle.absval.specs.declared.value.AbsVal.{AbsVal}
 use Rattle.absval.specs.declared.value.AbsVal.TheVariants.{Unset, Number, Pointer}
 
--- The value is a number of the set.
+-- States that the value is a number of the set.
 abbrev pub IsNumberOf : NumberSet → Value → Type 0
 IsNumberOf numbers value.Unset = ⊥
 IsNumberOf numbers (value.Number n) = Has numbers n
 IsNumberOf numbers (value.Pointer region offset) = ⊥
 
--- The value is a pointer into the region, with an offset from `low` to `high`.
+-- States that the value is a pointer into the region, with an offset from `low` to `high`.
 abbrev pub IsPointerIn : Region → ℤ → ℤ → Value → Type 0
 IsPointerIn region low high value.Unset = ⊥
 IsPointerIn region low high (value.Number n) = ⊥
 IsPointerIn region low high (value.Pointer other offset) = (other ≡ region) × (low ≤ℤ offset) × (offset ≤ℤ high)
 
--- The value is one that the abstract value contains.
+-- States that the value is one that the abstract value contains.
 abbrev pub Contains : AbsVal → Value → Type 0
 Contains Unset v = Unit {0}
 Contains (Number numbers) v = IsNumberOf numbers v
 Contains (Pointer region offsets) v = IsPointerIn region offsets.0 offsets.1 v
 
--- There is a result, and the abstract value contains it.
+-- States that there is a result, and the abstract value contains it.
 abbrev pub Gives : AbsVal → Result Value Cause → Type 0
 Gives a (Ok v) = Contains a v
 Gives a (Err cause) = ⊥

@@ -5,12 +5,12 @@ use Rattle.std.specs.Prelude.{ℤ, pos, negsuc, Bool, ◌≤ℤ◌, int_le, ◌&
 abbrev pub is_near : ℤ → Bool
 is_near offset = int_le (negsuc 65535) offset && int_le offset (pos 65536)
 
--- The offset is from -65,536 to 65,536.
+-- States that the offset is from -65,536 to 65,536.
 pub record IsOffset (offset : ℤ) : Type 0 where
   pub low : negsuc 65535 ≤ℤ offset
   pub high : offset ≤ℤ pos 65536
 
--- The least and the greatest offset are in order, and both are within the limit.
+-- States that the least and the greatest offset are in order, and both are within the limit.
 pub record AreOffsets (least greatest : ℤ) : Type 0 where
   pub low : negsuc 65535 ≤ℤ least
   pub ordered : least ≤ℤ greatest

@@ -24,8 +24,8 @@ use Rattle.absval.specs.declared.value.AbsVal.TheVariants.{Unset, Number, Pointe
 abbrev pub joined_offsets : ℤ × ℤ → ℤ × ℤ → ℤ × ℤ
 joined_offsets m n = (int_min m.0 n.0, int_max m.1 n.1)
 
--- The join of two abstract values. Numbers join with numbers, and pointers with pointers into the same region. Any
--- other join knows nothing.
+-- Returns the join of two abstract values. Numbers join with numbers, and pointers with pointers into the same region.
+-- Any other join knows nothing.
 abbrev pub joined : AbsVal → AbsVal → AbsVal
 joined (Number m) (Number n) = Number (joined_sets m n)
 joined (Pointer region m) (Pointer other n) =
@@ -44,22 +44,22 @@ in_a_row n =
 abbrev pub near : ℤ × ℤ → Option (ℤ × ℤ)
 near o = if is_near o.0 && is_near o.1 then Some o else None
 
--- The offsets after numbers are added. There are none if they exceed the limit.
+-- Returns the offsets after numbers are added to them. There are none if the results exceed the limit.
 abbrev pub raised : ℤ × ℤ → ℤ × ℤ → Option (ℤ × ℤ)
 raised o by = near (o.0 +ℤ by.0, o.1 +ℤ by.1)
 
--- The offsets after numbers are subtracted. There are none if they exceed the limit.
+-- Returns the offsets after numbers are subtracted from them. There are none if the results exceed the limit.
 abbrev pub lowered : ℤ × ℤ → ℤ × ℤ → Option (ℤ × ℤ)
 lowered o by = near (o.0 -ℤ by.1, o.1 -ℤ by.0)
 
--- The offsets after a 64-bit addition or subtraction of a number. No other operation on a pointer and a number has a
--- result.
+-- Returns the offsets after a 64-bit addition or subtraction of a number. No other operation on a pointer and a number
+-- has a result.
 abbrev pub displaced : Width → Operation → ℤ × ℤ → ℤ × ℤ → Option (ℤ × ℤ)
 displaced W64 Add o by = raised o by
 displaced W64 Sub o by = lowered o by
 displaced _ _ o by = None
 
--- The abstract pointer after a number is added or subtracted, if that is allowed.
+-- Returns the abstract pointer after a number is added or subtracted, if that is allowed.
 abbrev pub shifted : Width → Operation → Region → ℤ × ℤ → NumberSet → Option AbsVal
 shifted w operation region o n =
     option_map (Pointer region) (option_and_then (displaced w operation o) (in_a_row n.range))
@@ -73,33 +73,33 @@ moved w (Number n) = Some (Number (copies w n))
 moved W64 (Pointer region o) = Some (Pointer region o)
 moved _ (Pointer region o) = None
 
--- The abstract result of an operation that reads both values, if there is one.
+-- Returns the abstract result of an operation that reads both values, if there is one.
 abbrev pub combined : Width → Operation → AbsVal → AbsVal → Option AbsVal
 combined w operation (Number m) (Number n) = Some (Number (table w operation m n))
 combined w operation (Pointer region o) (Number n) = shifted w operation region o n
 combined w operation _ _ = None
 
--- The abstract result of an operation on two abstract values. There is none if the operation does not allow such a
--- pointer or an operand may be unset.
+-- Returns the abstract result of an operation on two abstract values. There is none if the operation does not allow
+-- such a pointer or an operand may be unset.
 abbrev pub computed : Width → Operation → AbsVal → AbsVal → Option AbsVal
 computed w Move a b = moved w b
 computed w operation a b = combined w operation a b
 
--- The abstract result of an instruction that maps one number to another. There is none if the value may not be a
--- number.
+-- Returns the abstract result of an instruction that maps one number to another. There is none if the value may not be
+-- a number.
 abbrev pub mapped : (NumberSet → NumberSet) → AbsVal → Option AbsVal
 mapped f (Number n) = Some (Number (f n))
 mapped f _ = None
 
--- The abstract result of negating a value, if it is a number.
+-- Returns the abstract result of negating a value, if it is a number.
 abbrev pub negated_known : Width → AbsVal → Option AbsVal
 negated_known w a = mapped (negations w) a
 
--- The abstract result of sign-extending the low bits of a value, if it is a number.
+-- Returns the abstract result of sign-extending the low bits of a value, if it is a number.
 abbrev pub extended_known : Width → Narrow → AbsVal → Option AbsVal
 extended_known w part a = mapped (extensions w part) a
 
--- The abstract result of putting the low bytes of a value in an order, if it is a number.
+-- Returns the abstract result of putting the low bytes of a value in an order, if it is a number.
 abbrev pub swapped_known : ByteOrder → SwapSize → AbsVal → Option AbsVal
 swapped_known order size a = mapped (swaps order size) a
 

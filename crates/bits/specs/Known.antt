@@ -8,7 +8,7 @@ use Rattle.word.specs.declared.Width.{Width}
 use Rattle.word.specs.declared.Operation.{Operation}
 use Rattle.word.specs.declared.Operation.TheVariants.{Add, Sub, Mul, Div, SignedDiv, Or, And, ShiftLeft, ShiftRight, Mod, SignedMod, Xor, Move, ArithmeticShiftRight}
 
--- The word has the known bits: outside the mask its bits are those of the value.
+-- States that the word has the known bits: outside the mask its bits are those of the value.
 pub record HasBits (b : ℕ × ℕ) (x : ℕ) : Type 0 where
   pub word : x < 2 ^ 64
   pub same : (i : ℕ) → bit_at b.0 i ≡ 0 → bit_at x i ≡ bit_at b.1 i
@@ -21,11 +21,11 @@ has_bits b x = bit_or x b.0 == bit_or b.1 b.0
 abbrev pub less : ℕ → ℕ → ℕ
 less a b = bit_and a (bit_not w64 b)
 
--- The known bits of one number: all of them.
+-- Returns the known bits of the number `n`: all bits are known.
 abbrev pub single : ℕ → ℕ × ℕ
 single n = (0, n)
 
--- The known bits of an arbitrary number of a width: all bits of the width are unknown.
+-- Returns the known bits of an arbitrary number of a width: all bits of the width are unknown.
 abbrev pub unknown : Width → ℕ × ℕ
 unknown w = (2 ^ bits_of w - 1, 0)
 
@@ -33,11 +33,11 @@ unknown w = (2 ^ bits_of w - 1, 0)
 abbrev pub used : Width → ℕ × ℕ → ℕ × ℕ
 used w b = (taken w b.0, taken w b.1)
 
--- The mask of a join: a bit is unknown if one pair does not know it, or if the two differ in it.
+-- Returns the mask of a join: a bit is unknown if one pair does not know it, or if the two differ in it.
 abbrev pub joined_mask : ℕ × ℕ → ℕ × ℕ → ℕ
 joined_mask a b = bit_or (bit_or a.0 b.0) (bit_xor a.1 b.1)
 
--- The join of two pairs: the bits that both know, and know to be equal.
+-- Returns the join of two pairs: the bits that both know, and know to be equal.
 abbrev pub joined : ℕ × ℕ → ℕ × ℕ → ℕ × ℕ
 joined a b = (joined_mask a b, less a.1 (joined_mask a b))
 

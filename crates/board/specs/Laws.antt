@@ -8,7 +8,7 @@ use Rattle.semantics.specs.Call.{fits}
 use Rattle.semantics.specs.Execution.{step}
 use Rattle.board.specs.Board.{IsBoard, reply, next}
 
--- The board's reply to any request of a program fits the request. The words after it are again a board.
+-- States that the board's reply to any request of a program fits the request. The words after it are again a board.
 pub record BoardsServe : Type 0 where
   pub answers : (words : List ℕ) (program : List Insn) (context : List ℕ) (relay : Relay) (s asked : State)
       (request : Request) → IsBoard words →

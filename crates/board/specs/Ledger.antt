@@ -8,7 +8,7 @@ pub record RecordedBoard : Type 0 where
   pub words : List ℕ
   pub ledger : List Access
 
--- The ledger is legal from the opening words on. The words now are those that it leaves.
+-- States that the ledger is legal from the opening words on. The words now are those that it leaves.
 pub record IsRecorded (opening words : List ℕ) (ledger : List Access) : Type 0 where
   pub begun : IsBoard opening
   pub whole : IsBoard words

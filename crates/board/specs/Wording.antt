@@ -24,8 +24,8 @@ row_of w = record {
   copies = w.copies;
 }
 
--- The line of an access, with N for each number. The line is complete if one word is the answer. Otherwise it ends
--- before the number that says how many words the answer has.
+-- Returns the line of an access, with N for each number. The line is complete if one word is the answer. Otherwise it
+-- ends before the number that says how many words the answer has.
 abbrev pub shape_by : List ℕ → List (List ℕ) → Bool → List ℕ
 shape_by word names true = codes "access N " ++ word ++ flat_map (λ _. codes " N") (drop 1 names)
 shape_by word names false = codes "access N " ++ word ++ flat_map (λ _. codes " N") names ++ codes " = N"

@@ -9,30 +9,31 @@ use Rattle.verify.specs.declared.error.VerifyError.TheVariants.{At}
 use Rattle.verify.specs.Judgement.{judged}
 use Rattle.capi.specs.Numbers.{fault_number, reason_number}
 
--- The bytes encode a program.
+-- States that the bytes encode a program.
 pub record IsProgram (bytes : List ℕ) : Type 0 where
   pub program : List Insn
   pub spelt : SpellsProgram bytes program
 
--- The bytes encode a program that the verifier accepts.
+-- States that the bytes encode a program that the verifier accepts.
 pub record IsAccepted (bytes : List ℕ) : Type 0 where
   pub program : List Insn
   pub spelt : SpellsProgram bytes program
   pub accepted : judged program ≡ None
 
--- The bytes encode a sound program.
+-- States that the bytes encode a sound program.
 pub record IsSoundProgram (bytes : List ℕ) : Type 0 where
   pub program : List Insn
   pub spelt : SpellsProgram bytes program
   pub sound : IsSound program
 
--- The bytes encode no program. `number` is the number of their first fault, and `unit` is its unit.
+-- States that the bytes encode no program. `number` is the number of their first fault, and `unit` is its unit.
 pub record IsMisspelt (bytes : List ℕ) (number unit : ℕ) : Type 0 where
   pub fault : CodecFault
   pub first : IsFirstFault bytes fault unit
   pub numbered : number ≡ fault_number fault
 
--- The bytes encode a program that the verifier rejects. `number` is the number of the reason, and `unit` is its unit.
+-- States that the bytes encode a program that the verifier rejects. `number` is the number of the reason, and `unit` is
+-- its unit.
 pub record IsRefused (bytes : List ℕ) (number unit : ℕ) : Type 0 where
   pub program : List Insn
   pub reason : Reason

@@ -9,7 +9,7 @@ use Rattle.capi.specs.Bytes.{IsProgram}
 use Rattle.capi.specs.declared.refusal.BytecodeRefusal.{BytecodeRefusal}
 use Rattle.capi.specs.declared.refusal.BytecodeRefusal.TheVariants as refusals
 
--- The bytes encode a program that the verifier rejects for this reason, at this unit.
+-- States that the bytes encode a program that the verifier rejects for this reason, at this unit.
 pub record IsJudged (bytes : List ℕ) (reason : Reason) (unit : ℕ) : Type 0 where
   pub program : List Insn
   pub spelt : SpellsProgram bytes program
@@ -21,7 +21,7 @@ status_of (refusals.Misspelt fault unit) = 1
 status_of (refusals.Refused reason unit) = 2
 status_of refusals.Memory = 3
 
--- The refusal is correct for these bytes. `Memory` is correct for all bytes that encode a program.
+-- States that the refusal is correct for these bytes. `Memory` is correct for all bytes that encode a program.
 abbrev pub Refuses : List ℕ → BytecodeRefusal → Type 0
 Refuses bytes (refusals.Misspelt fault unit) = IsFirstFault bytes fault unit
 Refuses bytes (refusals.Refused reason unit) = IsJudged bytes reason unit

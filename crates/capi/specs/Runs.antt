@@ -6,12 +6,12 @@ use Rattle.label.specs.declared.shape.Shape.{Shape}
 use Rattle.semantics.specs.Relay.{oral}
 use Rattle.trial.specs.Trial.{Ending, trial_on}
 
--- The general in whose place a program runs: the last of 4 generals in the first round, who relays nothing.
+-- Returns the general in whose place a program runs: the last of 4 generals in the first round, who relays nothing.
 abbrev pub host : Shape
 host = record { generals = 4; commander = 0; general = 3; round = 1 }
 
--- If the program runs in this context with a board of `words`, it exits with `r0` after `steps` steps, and leaves the
--- words `left` on the board.
+-- States that, if the program runs in this context with a board of `words`, it exits with `r0` after `steps` steps, and
+-- leaves the words `left` on the board.
 pub record Exits (words : List ℕ) (program : List Insn) (context : List ℕ) (r0 steps : ℕ) (left : List ℕ) : Type 0 where
   pub ending : Ending
   pub ended : trial_on words program context (oral host) ≡ Some ending
@@ -19,8 +19,8 @@ pub record Exits (words : List ℕ) (program : List Insn) (context : List ℕ) (
   pub steps_are : steps ≡ ending.state.steps
   pub left_are : left ≡ ending.words
 
--- If the program that the bytes encode runs in this context with a board of `words`, it exits with `r0` after `steps`
--- steps, and leaves the words `left` on the board.
+-- States that, if the program that the bytes encode runs in this context with a board of `words`, it exits with `r0`
+-- after `steps` steps, and leaves the words `left` on the board.
 pub record IsRun (bytes context words : List ℕ) (r0 steps : ℕ) (left : List ℕ) : Type 0 where
   pub program : List Insn
   pub spelt : SpellsProgram bytes program

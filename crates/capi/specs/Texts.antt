@@ -7,13 +7,13 @@ use Rattle.asm.specs.Printing.{text_of}
 use Rattle.asm.specs.Program.{program_of}
 use Rattle.explain.specs.Explained.{explained}
 
--- The text is the explanation of the program that the bytes encode.
+-- States that the text is the explanation of the program that the bytes encode.
 pub record IsExplanation (bytes text : List ℕ) : Type 0 where
   pub program : List Insn
   pub spelt : SpellsProgram bytes program
   pub is : text ≡ explained program
 
--- The text is the assembly text of the program that the bytes encode, and assembles to that program.
+-- States that the text is the assembly text of the program that the bytes encode, and assembles to that program.
 pub record IsAssembly (bytes text : List ℕ) : Type 0 where
   pub program : List Insn
   pub spelt : SpellsProgram bytes program
@@ -24,16 +24,16 @@ pub record IsAssembly (bytes text : List ℕ) : Type 0 where
 abbrev pub overwritten : List ℕ → List ℕ → List ℕ
 overwritten text room = take (length room) text ++ drop (length text) room
 
--- The explanation of the program that the bytes encode is written over the beginning of `before`, and cut at its end.
--- `needed` is the length of the whole explanation.
+-- States that the explanation of the program that the bytes encode is written over the beginning of `before`, and cut
+-- at its end. `needed` is the length of the whole explanation.
 pub record GivesExplanation (bytes before after : List ℕ) (needed : ℕ) : Type 0 where
   pub text : List ℕ
   pub told : IsExplanation bytes text
   pub needs : needed ≡ length text
   pub written : after ≡ overwritten text before
 
--- The assembly text of the program that the bytes encode is written over the beginning of `before`, and cut at its end.
--- `needed` is the length of the whole text.
+-- States that the assembly text of the program that the bytes encode is written over the beginning of `before`, and cut
+-- at its end. `needed` is the length of the whole text.
 pub record GivesAssembly (bytes before after : List ℕ) (needed : ℕ) : Type 0 where
   pub text : List ℕ
   pub told : IsAssembly bytes text

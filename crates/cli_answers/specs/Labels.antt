@@ -12,7 +12,7 @@ use Rattle.cli_answers.specs.declared.shape.Within.TheVariants.{Nothing, Round, 
 abbrev pub number_at : List ℕ → Members → Option ℕ
 number_at name ms = option_and_then as_u64 (option_and_then as_number (get_member name ms))
 
--- What is known before the first line, which is nothing.
+-- Returns what is known before the first line, which is nothing.
 abbrev pub at_first : Held
 at_first = record { generals = 0; commander = 0; round = 0; general = 0 }
 

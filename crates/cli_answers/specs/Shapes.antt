@@ -17,7 +17,7 @@ pub record Row : Type 0 where
   pub holds : Bool
   pub within : Within
 
--- The view of a shape in the code.
+-- Returns the view of a shape in the code.
 abbrev pub row_of : Shape → Row
 row_of s = record {
   line = s.line.now;
@@ -50,11 +50,11 @@ plain line words names within = marked line words names [] false within
 abbrev pub access_row : asking.Row → Row
 access_row r = record { line = codes "access"; parts = r.parts; mark = []; holds = false; within = Round }
 
--- The shapes of accesses.
+-- Returns the shapes of accesses.
 abbrev pub accesses : List Row
 accesses = map access_row rows
 
--- The shapes of all other lines. A line has the first shape that fits it.
+-- Returns the shapes of all other lines. A line has the first shape that fits it.
 unfoldable pub shapes : List Row
 shapes =
     plain (codes "version") (codes "chronicle N") (codes "- version") Nothing

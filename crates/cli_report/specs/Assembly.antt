@@ -60,7 +60,7 @@ past_ascii (c ∷ cs) = if nat_lt c 128 then past_ascii cs else c ∷ cs
 abbrev pub Part : Type 0
 Part = List ℕ × ℕ
 
--- The view of a part that the code computes.
+-- Returns the part that a value of the code represents.
 abbrev pub part_view : Bor (List ℕ) × ℕ → Part
 part_view part = (part.0.now, part.1)
 
@@ -111,7 +111,7 @@ pub record Spot : Type 0 where
   pub front : ℕ
   pub code : List ℕ
 
--- The view of a spot that the code keeps.
+-- Returns the spot that a value of the code represents.
 abbrev pub spot_view : Held → Spot
 spot_view s = record { number = s.number; shown = s.shown.now; front = length s.front.now; code = s.code.now }
 
@@ -179,7 +179,7 @@ has byte bytes = list_any (λ b. b == byte) bytes
 abbrev pub has_capital : List ℕ → Bool
 has_capital bytes = list_any (λ b. is_within 65 90 b) bytes
 
--- The three bytes of a byte order mark.
+-- Returns the three bytes of a byte order mark.
 abbrev pub order_mark : List ℕ
 order_mark = 239 ∷ 187 ∷ 191 ∷ []
 

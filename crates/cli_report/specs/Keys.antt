@@ -11,7 +11,7 @@ use Rattle.cli_report.specs.declared.keys.Found.{Found as Kept}
 use Rattle.cli_report.specs.Lines.{all_marked, is_white, marked, trimmed}
 use Rattle.cli_report.specs.Report.{Mark}
 
--- The header that begins a traitor's table.
+-- Returns the header that begins a traitor's table.
 abbrev pub header : List ℕ
 header = codes "[[traitor]]"
 
@@ -34,7 +34,7 @@ pub record Found : Type 0 where
   pub line : List ℕ
   pub tables : ℕ
 
--- The view of a line that the code found.
+-- Returns the view of a line that the code found.
 abbrev pub found_view : Kept → Found
 found_view f = record { number = f.number; line = f.line.now; tables = f.tables }
 
@@ -51,11 +51,11 @@ found_on sought word tables number (line ∷ lines) =
 unfoldable pub found : ℕ → List ℕ → List ℕ → Option Found
 found sought word text = found_on sought word 0 1 (lines_of text)
 
--- The stop at an equals sign.
+-- Returns the stop at an equals sign.
 abbrev pub equals : Stop
 equals = Byte 61
 
--- The stop at a number sign, which begins a comment.
+-- Returns the stop at a number sign, which begins a comment.
 abbrev pub hash : Stop
 hash = Byte 35
 

@@ -29,18 +29,18 @@ use Rattle.object.specs.declared.fault.ObjectFault.{ObjectFault}
 use Rattle.threads.specs.declared.error.MusterError.{MusterError}
 use Rattle.cli_report.specs.Report.{Mark, report_text}
 
--- The mark is a part of a line of the text, or is after its last line.
+-- States that the mark is a part of a line of the text, or is after its last line.
 pub record IsInText (text : List ℕ) (m : Mark) : Type 0 where
   pub line : m.line ≡ trimmed (unwrap_or (line_at text m.number) [])
   pub part : m.from + m.size ≤ length m.line
 
--- The mark is a part of the hex digits of a unit of the bytes.
+-- States that the mark is a part of the hex digits of a unit of the bytes.
 pub record IsInUnit (bytes : List ℕ) (m : Mark) : Type 0 where
   pub unit : m.line ≡ encode_lower (unit_at bytes m.number)
   pub some : m.line ≢ []
   pub part : m.from + m.size ≤ length m.line
 
--- The text is a report with a sentence. If it has a place, the place satisfies `IsIn`.
+-- States that the text is a report with a sentence. If it has a place, the place satisfies `IsIn`.
 pub record IsReport (IsIn : Mark → Type 0) (name told : List ℕ) : Type 0 where
   pub sentence : List ℕ
   pub place : Option Mark
@@ -49,8 +49,8 @@ pub record IsReport (IsIn : Mark → Type 0) (name told : List ℕ) : Type 0 whe
   pub says : sentence ≢ []
   pub within : IfSome place IsIn
 
--- The fault is in the program of a general whose table in the scenario's own text names an assembly file. The text is a
--- report under the name of that file, as it is shown, with a place in the file's text.
+-- States that the fault is in the program of a general whose table in the scenario's own text names an assembly file.
+-- The text is a report under the name of that file, as it is shown, with a place in the file's text.
 pub record IsReportOfFile (own : List ℕ) (made : Option Members) (error : ScenarioError) (told : List ℕ) : Type 0 where
   pub general : ℕ
   pub fault : ProgramFault
@@ -59,9 +59,9 @@ pub record IsReportOfFile (own : List ℕ) (made : Option Members) (error : Scen
   pub named : own_line (seat general (parse_document own)) (codes "asm_file") own ≡ Some key
   pub report : IsReport (IsInText (assembly_of (option_and_then (source_by general) made))) (file_shown key) told
 
--- Each refusal of each kind of file has a report. For an error that a text is not TOML, this holds if the text is UTF-8
--- and not TOML. The fault of an object or of a muster has no line, only a sentence. The error of a scenario that names
--- files has a report of its own text or of such a file.
+-- States that each refusal of each kind of file has a report. For an error that a text is not TOML, this holds if the
+-- text is UTF-8 and not TOML. The fault of an object or of a muster has no line, only a sentence. The error of a
+-- scenario that names files has a report of its own text or of such a file.
 pub record RefusalsAreTold : Type 0 where
   pub assembly : (name text : List ℕ) (fault : AsmFault) (line : ℕ) →
       IsReport (IsInText text) name (assembly_told name text fault line)

@@ -144,7 +144,7 @@ unit_told name own f unit source table None =
 abbrev pub line_shown : List ℕ → ℕ → Option Mark
 line_shown text number = option_map (λ line. unit_mark (whole number line)) (line_at text number)
 
--- The text is the report of a program in an assembly file, at the line of the unit.
+-- States that the text is the report of a program in an assembly file, at the line of the unit.
 abbrev pub IsUnitTold : List ℕ → Reason → ℕ → List ℕ → List ℕ → Type 0
 IsUnitTold file reason unit text told =
     (number : ℕ) × IsUnitLine text unit number
@@ -159,21 +159,22 @@ abbrev pub code_shown : Option ℕ → List ℕ → Option Found → Option Mark
 code_shown table own (Some line) = Some (shown_at false (codes "code") line)
 code_shown table own None = bytes_shown table own
 
--- The text is the report of a program that the verifier rejects and whose assembly is not in the scenario's own text.
--- `key` names the assembly file, if there is one.
+-- States that the text is the report of a program that the verifier rejects and whose assembly is not in the scenario's
+-- own text. `key` names the assembly file, if there is one.
 abbrev pub IsRefusedFile : List ℕ → List ℕ → Reason → ℕ → Option Source → Option ℕ → Option Found → List ℕ → Type 0
 IsRefusedFile name own reason unit source table (Some key) told =
     IsUnitTold (file_shown key) reason unit (assembly_of source) told
 IsRefusedFile name own reason unit source table None told =
     told ≡ key_told name reason unit (code_shown table own (own_line table (codes "code") own))
 
--- The text is the report of a program that the verifier rejects and whose assembly is in the scenario. `line` has the
--- key of the program.
+-- States that the text is the report of a program that the verifier rejects and whose assembly is in the scenario.
+-- `line` has the key of the program.
 abbrev pub IsOwnUnitTold : List ℕ → List ℕ → Reason → ℕ → List ℕ → Found → List ℕ → Type 0
 IsOwnUnitTold name own reason unit text line told =
     (mark : Option Mark) × IsUnitShown own unit text (Some line) mark × (told ≡ key_told name reason unit mark)
 
--- The text is the report of a program that the verifier rejects. `line` has the key `asm`, if the table has it.
+-- States that the text is the report of a program that the verifier rejects. `line` has the key `asm`, if the table has
+-- it.
 abbrev pub IsRefusedTold : List ℕ → List ℕ → Reason → ℕ → Option Source → Option ℕ → Option Found → List ℕ → Type 0
 IsRefusedTold name own reason unit source table (Some line) told =
     IsOwnUnitTold name own reason unit (assembly_of source) line told
@@ -188,8 +189,8 @@ hex_told name own table =
     report_text name (codes "bytecode must be an even number of hex digits, without spaces")
     (option_map (shown_at true (codes "code")) (own_line table (codes "code") own)) None
 
--- The text is the report of a fault in a general's program. `table` is the number of his table in the scenario's own
--- text.
+-- States that the text is the report of a fault in a general's program. `table` is the number of his table in the
+-- scenario's own text.
 abbrev pub ReportsProgram : List ℕ → List ℕ → Option Source → Option ℕ → ProgramFault → List ℕ → Type 0
 ReportsProgram name own source table (programs.Asm f number) told =
     told ≡ asm_told name own f number source table (own_line table (codes "asm") own)
@@ -199,7 +200,7 @@ ReportsProgram name own source table (programs.Code f unit) told =
 ReportsProgram name own source table (programs.Verifier reason unit) told =
     IsRefusedTold name own reason unit source table (own_line table (codes "asm") own) told
 
--- The text is the report of an error in the resolved text of a scenario.
+-- States that the text is the report of an error in the resolved text of a scenario.
 abbrev pub ReportsMade : List ℕ → List ℕ → Option Members → ScenarioError → List ℕ → Type 0
 ReportsMade name own made errors.Toml told = TellsToml name own told
 ReportsMade name own made (errors.Unknown at key) told =
@@ -210,7 +211,7 @@ ReportsMade name own made (errors.Program g fault) told =
     ReportsProgram name own (option_and_then (source_by g) made) (seat g (parse_document own)) fault told
 ReportsMade name own made errors.Memory told = told ≡ memory_told name
 
--- The line from which the lines of an assembly file are counted: line 0, as if the file's text began after it.
+-- Returns the line from which the lines of an assembly file are counted: line 0, as if the file's text began after it.
 abbrev pub in_file : Found
 in_file = record { number = 0; line = codes "asm='''"; tables = 0 }
 
@@ -231,14 +232,15 @@ file_source table own =
 abbrev pub own_source : Option ℕ → List ℕ → Option Found
 own_source table own = or_else (own_line table (codes "asm") own) (file_source table own)
 
--- The text after the report is the explanation of this general's program, or nothing if there is no such general.
+-- States that the text after the report is the explanation of this general's program, or nothing if there is no such
+-- general.
 abbrev pub IsMadeJudged : List ℕ → Option Members → Option ℕ → List ℕ → Type 0
 IsMadeJudged own made None behind = behind ≡ []
 IsMadeJudged own made (Some g) behind =
     IsExplainedBy (option_and_then (source_by g) made) (own_source (seat g (parse_document own)) own) behind
 
--- The text follows the refusal line of a scenario's error. `own` is the scenario's own text, and `made` is the text
--- with the contents of its files.
+-- States that the text follows the refusal line of a scenario's error. `own` is the scenario's own text, and `made` is
+-- the text with the contents of its files.
 abbrev pub TellsMade : List ℕ → List ℕ → List ℕ → ScenarioError → List ℕ → Type 0
 TellsMade name own made error told =
     (report : List ℕ) × ReportsMade name own (parse_document made) error report

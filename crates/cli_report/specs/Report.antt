@@ -15,7 +15,7 @@ pub record Mark : Type 0 where
   pub from : ℕ
   pub size : ℕ
 
--- The view of a mark that the code keeps.
+-- Returns the view of a mark that the code keeps.
 abbrev pub mark_view : Held → Mark
 mark_view m = record { number = m.number; line = m.line.now; from = m.from; size = m.size }
 

@@ -103,13 +103,13 @@ place_told name text f place = report_text name (place_sentence f place) (place_
 
 -- ---- an unknown key
 
--- The keys at the top of a scenario.
+-- Returns the keys at the top of a scenario.
 abbrev pub top_keys : List (List ℕ)
 top_keys =
     codes "generals" ∷ codes "bound" ∷ codes "commander" ∷ codes "order" ∷ codes "board" ∷ codes "patience" ∷
     codes "rule" ∷ codes "messages" ∷ codes "traitor" ∷ []
 
--- The keys of a traitor's table.
+-- Returns the keys of a traitor's table.
 abbrev pub entry_keys : List (List ℕ)
 entry_keys = codes "general" ∷ codes "generals" ∷ codes "asm" ∷ codes "asm_file" ∷ codes "code" ∷ codes "code_file" ∷
     codes "elf" ∷ codes "entry" ∷ []
@@ -259,8 +259,8 @@ verifier_sentence reason unit =
 abbrev pub source_line : ℕ → List ℕ → Option Found
 source_line general text = or_else (program_line general (codes "asm") text) (program_line general (codes "code") text)
 
--- The mark is the statement of a unit of this assembly, in the line of the file that has it. `line` has the key of the
--- program.
+-- States that the mark is the statement of a unit of this assembly, in the line of the file that has it. `line` has the
+-- key of the program.
 abbrev pub IsUnitShown : List ℕ → ℕ → List ℕ → Option Found → Option Mark → Type 0
 IsUnitShown text unit asm line mark = (number : ℕ) × IsUnitLine asm unit number
     × (mark ≡ option_map unit_mark (option_and_then (spot_in text number) line))
@@ -273,33 +273,33 @@ source_shown general text = option_map (shown_at false (codes "asm")) (source_li
 abbrev pub bytecode_shown : ℕ → List ℕ → Option Mark
 bytecode_shown general text = option_map (shown_at false (codes "code")) (program_line general (codes "code") text)
 
--- The mark is the place of a unit that the verifier rejects. For bytecode it is the key.
+-- States that the mark is the place of a unit that the verifier rejects. For bytecode it is the key.
 abbrev pub IsRefusedAt : List ℕ → ℕ → ℕ → Option Source → Option Mark → Type 0
 IsRefusedAt text general unit None mark = mark ≡ source_shown general text
 IsRefusedAt text general unit (Some (Hex digits)) mark = mark ≡ bytecode_shown general text
 IsRefusedAt text general unit (Some (Assembly asm)) mark =
     IsUnitShown text unit asm (program_line general (codes "asm") text) mark
 
--- The second result has the table of the first one, or `None` if the text is not TOML. It fails if the first one ran
--- out of memory.
+-- States that the second result has the table of the first one, or `None` if the text is not TOML. It fails if the
+-- first one ran out of memory.
 abbrev pub IsTableBy : {T : Type 0} → Result T Error → Result (Option T) AllocError → Type 0
 IsTableBy (Ok table) (Ok (Some own)) = own ≡ table
 IsTableBy (Err error) (Ok None) = ¬ IsMemory error
 IsTableBy (Err error) (Err _) = IsMemory error
 IsTableBy _ _ = ⊥
 
--- The members are those of the bytes as TOML. There are none if the bytes are not UTF-8 or not TOML.
+-- States that the members are those of the bytes as TOML. There are none if the bytes are not UTF-8 or not TOML.
 abbrev pub IsDocumentOf : List ℕ → Option Members → Type 0
 IsDocumentOf bytes members = (IsUtf8 bytes × (members ≡ parse_document bytes)) ⊎ (¬ IsUtf8 bytes × (members ≡ None))
 
--- The text is the report of a program that the verifier rejects. `members` is what the scenario's text contains, if it
--- is TOML.
+-- States that the text is the report of a program that the verifier rejects. `members` is what the scenario's text
+-- contains, if it is TOML.
 abbrev pub IsRefusedBy : List ℕ → List ℕ → ℕ → Reason → ℕ → Option Members → List ℕ → Type 0
 IsRefusedBy name text general reason unit members told =
     (mark : Option Mark) × IsRefusedAt text general unit (option_and_then (source_by general) members) mark
     × (told ≡ report_text name (verifier_sentence reason unit) mark None)
 
--- The text is the report of a general's program that the verifier rejects.
+-- States that the text is the report of a general's program that the verifier rejects.
 abbrev pub IsRefusedProgram : List ℕ → List ℕ → ℕ → Reason → ℕ → List ℕ → Type 0
 IsRefusedProgram name text general reason unit told =
     (members : Option Members) × IsDocumentOf text members × IsRefusedBy name text general reason unit members told
@@ -310,7 +310,7 @@ hex_told name text general =
     report_text name (codes "bytecode must be an even number of hex digits, without spaces")
     (option_map (shown_at true (codes "code")) (program_line general (codes "code") text)) None
 
--- The text is the report of a fault in this general's program.
+-- States that the text is the report of a fault in this general's program.
 abbrev pub IsProgramTold : List ℕ → List ℕ → ℕ → ProgramFault → List ℕ → Type 0
 IsProgramTold name text general (programs.Asm f number) told =
     told ≡ text_told name text f number (program_line general (codes "asm") text)

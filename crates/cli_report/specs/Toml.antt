@@ -23,7 +23,8 @@ abbrev pub span_told : List ℕ → List ℕ → List ℕ → ℕ → ℕ → Li
 span_told name text message start end =
     report_text name (unread_sentence message) (Some (span_marked text start end)) None
 
--- The text is the report of some message at some place in the file's text. What the message says is left to the parser.
+-- States that the text is the report of some message at some place in the file's text. What the message says is left to
+-- the parser.
 pub record IsUnread (name text told : List ℕ) : Type 0 where
   pub message : List ℕ
   pub start : ℕ
@@ -32,6 +33,6 @@ pub record IsUnread (name text told : List ℕ) : Type 0 where
   pub within : end ≤ length text
   pub is : told ≡ span_told name text message start end
 
--- If the file's text is UTF-8 and not TOML, `told` is the report of a parser's message.
+-- States that, if the file's text is UTF-8 and not TOML, `told` is the report of a parser's message.
 abbrev pub TellsToml : List ℕ → List ℕ → List ℕ → Type 0
 TellsToml name text told = IsUtf8 text → parse_document text ≡ None → IsUnread name text told

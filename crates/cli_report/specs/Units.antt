@@ -27,7 +27,7 @@ place_number (Some place) = number_in (string_bytes place)
 abbrev pub unit_line : List (String Global) → ℕ → ℕ
 unit_line places unit = place_number (slice_get places unit)
 
--- The number is the line of a unit in this assembly text.
+-- States that the number is the line of a unit in this assembly text.
 abbrev pub IsUnitLine : List ℕ → ℕ → ℕ → Type 0
 IsUnitLine text unit number = (places : List (String Global))
     × AreWritten (read_on nothing 1 (lines_of text)) (map string_bytes places) × (number ≡ unit_line places unit)

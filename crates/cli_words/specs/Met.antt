@@ -8,7 +8,7 @@ use Rattle.cli_words.specs.Tasks.{Told, has}
 use Rattle.cli_words.specs.Usages.{usage_named}
 use Rattle.cli_words.specs.declared.matches.ParsedWords.{ParsedWords}
 
--- The view of the parsed words.
+-- Returns the view of the parsed words.
 abbrev pub told_by : ParsedWords → Told
 told_by met = told_of (met.name.now, rows_of (found_of met.found.now))
 

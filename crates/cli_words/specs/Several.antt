@@ -31,7 +31,7 @@ pub record Parted : Type 0 where
   pub kept : List Text
   pub files : List Text
 
--- The view of a subcommand's words in the code.
+-- Returns the view of a subcommand's words in the code.
 abbrev pub parted_of : Parts → Parted
 parted_of parts = record { kept = words_of parts.kept.items; files = words_of parts.files.items }
 

@@ -8,7 +8,7 @@ use Rattle.cli_words.specs.declared.subcommand.Flag as declared
 use Rattle.cli_words.specs.declared.subcommand.Flag.TheVariants as variant
 use Rattle.cli_words.specs.declared.subcommand.Subcommand.{Subcommand}
 
--- The view of a flag in the code.
+-- Returns the view of a flag in the code.
 abbrev pub flag_of : declared.Flag → Flag
 flag_of (variant.Switch name help) = switch name.now
 flag_of (variant.Option name value help) = option name.now
@@ -20,7 +20,7 @@ help_of (variant.Switch name help) = help
 help_of (variant.Option name value help) = help
 help_of (variant.Letter name c value help) = help
 
--- The view of a subcommand in the code.
+-- Returns the view of a subcommand in the code.
 abbrev pub usage_of : Subcommand → Usage
 usage_of s = record {
   name = s.name.now;

@@ -52,29 +52,29 @@ has name told = is_some (word_of name told)
 abbrev pub is_of : List Text → Told → Bool
 is_of names told = list_any (λ name. bytes_eq name told.name) names
 
--- The subcommands that read a program which may be an ELF object.
+-- Returns the subcommands that read a program which may be an ELF object.
 abbrev pub programs : List Text
 programs = codes "check" ∷ codes "dis" ∷ []
 
--- The subcommands that print a campaign and may explain its decisions.
+-- Returns the subcommands that print a campaign and may explain its decisions.
 abbrev pub campaigns : List Text
 campaigns = codes "play" ∷ codes "muster" ∷ codes "audit" ∷ []
 
--- The subcommands that take the number of a lieutenant.
+-- Returns the subcommands that take the number of a lieutenant.
 abbrev pub of_one : List Text
 of_one = codes "tree" ∷ campaigns
 
--- The subcommands that take the numbers of traitors.
+-- Returns the subcommands that take the numbers of traitors.
 abbrev pub of_traitors : List Text
 of_traitors = codes "book" ∷ codes "tree" ∷ []
 
--- The subcommands that draw or describe a campaign, which takes a course.
+-- Returns the subcommands that draw or describe a campaign, which takes a course.
 abbrev pub coursed : List Text
 coursed = codes "draw" ∷ codes "page" ∷ []
 
 -- ---- what the words say of a part of a task
 
--- The words say that the program is written in this notation.
+-- States that the words say that the program is written in this notation.
 abbrev pub IsNotation : Told → Notation → Type 0
 IsNotation told Bytecode =
     (has (codes "asm") told ≡ false) × (has (codes "elf") told ≡ false) × (word_of (codes "entry") told ≡ None)
@@ -95,12 +95,12 @@ named explained (Some word) = generals_in word
 named true None = Some []
 named false None = None
 
--- The option names this general, or it is not used and there is no general.
+-- States that the option names this general, or it is not used and there is no general.
 abbrev pub NamesGeneral : Text → Told → Option ℕ → Type 0
 NamesGeneral name told None = word_of name told ≡ None
 NamesGeneral name told (Some g) = (word_of name told >>= general_in) ≡ Some g
 
--- The words say that a table is filled in like this, or is printed to be filled in.
+-- States that the words say that a table is filled in like this, or is printed to be filled in.
 abbrev pub IsFilling : Told → Option Filling → Type 0
 IsFilling told None = (word_of (codes "loyal") told ≡ None) × (word_of (codes "lie") told ≡ None)
 IsFilling told (Some filling) =
@@ -111,23 +111,23 @@ abbrev pub is_table : Account → Bool
 is_table Chronicle = false
 is_table Table = true
 
--- The words ask for an explanation of these lieutenants' decisions, or for none.
+-- States that the words ask for an explanation of these lieutenants' decisions, or for none.
 abbrev pub AreExplained : Told → Option Lieutenants → Type 0
 AreExplained told None = (has (codes "explain") told ≡ false) × (word_of (codes "of") told ≡ None)
 AreExplained told (Some All) = (has (codes "explain") told ≡ true) × (word_of (codes "of") told ≡ None)
 AreExplained told (Some (One g)) = (has (codes "explain") told ≡ true) × NamesGeneral (codes "of") told (Some g)
 
--- The option names this number, or it is not used and there is no number.
+-- States that the option names this number, or it is not used and there is no number.
 abbrev pub NamesCount : Text → Told → Option ℕ → Type 0
 NamesCount name told None = word_of name told ≡ None
 NamesCount name told (Some n) = (word_of name told >>= count_in) ≡ Some n
 
--- The option names this seed, or it is not used and there is no seed.
+-- States that the option names this seed, or it is not used and there is no seed.
 abbrev pub NamesSeed : Told → Option ℕ → Type 0
 NamesSeed told None = word_of (codes "seed") told ≡ None
 NamesSeed told (Some seed) = (word_of (codes "seed") told >>= seed_in) ≡ Some seed
 
--- The words say that a campaign is played by this schedule.
+-- States that the words say that a campaign is played by this schedule.
 abbrev pub AreTurns : Told → Turns → Type 0
 AreTurns told (OfFile file) =
     (word_of (codes "schedule") told ≡ option_map string_bytes file) × (word_of (codes "seed") told ≡ None)
@@ -135,7 +135,7 @@ AreTurns told (OfFile file) =
 AreTurns told (OfSeed seed target) = (word_of (codes "schedule") told ≡ None) × NamesSeed told (Some seed)
     × (word_of (codes "schedule-out") told ≡ option_map string_bytes target)
 
--- The word at the second place is the name of a chronicle's file or, with `--accesses`, lists the accesses.
+-- States that the word at the second place is the name of a chronicle's file or, with `--accesses`, lists the accesses.
 abbrev pub AreAccesses : Told → Accesses → Type 0
 AreAccesses told (OfChronicle file) =
     (word_of (codes "CHRONICLE") told ≡ Some (string_bytes file)) × (has (codes "accesses") told ≡ false)
@@ -146,7 +146,7 @@ AreAccesses told (Listed text) =
 abbrev pub is_text : Told → Bool
 is_text told = has (codes "text") told || has (codes "ascii") told
 
--- The words say that a tree is drawn in this way.
+-- States that the words say that a tree is drawn in this way.
 abbrev pub IsDrawing : Told → Drawing → Type 0
 IsDrawing told Boxes =
     (has (codes "ascii") told ≡ false) × (has (codes "dot") told ≡ false) × (has (codes "svg") told ≡ false)
@@ -160,7 +160,7 @@ abbrev pub levels_in : Option Text → Option ℕ
 levels_in None = Some 4
 levels_in (Some word) = depth_in word
 
--- The words say that a campaign takes this course.
+-- States that the words say that a campaign takes this course.
 abbrev pub IsCourse : Told → Course → Type 0
 IsCourse told (Scheduled file) =
     (word_of (codes "schedule") told ≡ option_map string_bytes file) × (word_of (codes "chronicle") told ≡ None)
@@ -169,7 +169,7 @@ IsCourse told (Recorded file) =
 
 -- ---- the task that the words name
 
--- The words name this task.
+-- States that the words name this task.
 abbrev pub Says : Told → Task → Type 0
 Says told (Check file notation context explained traced) = (told.name ≡ codes "check")
     × (word_of (codes "FILE") told ≡ Some (string_bytes file)) × IsNotation told notation
@@ -223,7 +223,7 @@ Says told (Page scenario course target) = (told.name ≡ codes "page")
 Says told (Retrace scenario accesses) = (told.name ≡ codes "schedule")
     × (word_of (codes "SCENARIO") told ≡ Some (string_bytes scenario)) × AreAccesses told accesses
 
--- The words ask for this task, and say whether its answer is printed as JSON, or as one line.
+-- States that the words ask for this task, and say whether its answer is printed as JSON, or as one line.
 abbrev pub Asks : Told → TaskRequest → Type 0
 Asks told request =
     Says told request.task × (has (codes "json") told ≡ request.json) × (has (codes "verdicts") told ≡ request.verdicts)
@@ -316,7 +316,7 @@ are_two true true c = true
 are_two true false c = c
 are_two false b c = b && c
 
--- The words are misused in this way.
+-- States that the words are misused in this way.
 abbrev pub IsMisused : Told → Misuse → Type 0
 IsMisused told (Traitors word) = (is_of of_traitors told ≡ true)
     × (word_of (codes "traitors") told ≡ Some (string_bytes word)) × (generals_in (string_bytes word) ≡ None)
@@ -352,29 +352,30 @@ IsMisused told TwoSchedules = (is_of (codes "play" ∷ []) told ≡ true)
 IsMisused told OutAlone = (is_of (codes "play" ∷ []) told ≡ true)
     × (has (codes "schedule-out") told ≡ true) × (has (codes "seed") told ≡ false)
 
--- The error is one of words that `clap` accepts: they are misused in this way, or there was not enough memory.
+-- States that the error is one of words that `clap` accepts: they are misused in this way, or there was not enough
+-- memory.
 abbrev pub IsErrorOf : Told → TaskError → Type 0
 IsErrorOf told (error.Words refusal) = ⊥
 IsErrorOf told (error.Misuse misuse) = IsMisused told misuse
 IsErrorOf told error.Memory = ⊤
 
--- The second error is the first one, which is `clap`'s. It is `Memory` exactly if `clap` ran out of memory.
+-- States that the second error is the first one, which is `clap`'s. It is `Memory` exactly if `clap` ran out of memory.
 abbrev pub IsToldBy : Error → TaskError → Type 0
 IsToldBy refusal (error.Words own) = (own ≡ refusal) × (kind_of refusal ≢ OutOfMemory)
 IsToldBy refusal error.Memory = kind_of refusal ≡ OutOfMemory
 IsToldBy refusal (error.Misuse misuse) = ⊥
 
--- If `clap` rejected the words, the fact holds for its error.
+-- States that, if `clap` rejected the words, the fact holds for its error.
 abbrev pub IfWords : TaskError → (Error → Type 0) → Type 0
 IfWords (error.Words refusal) P = P refusal
 IfWords _ P = ⊤
 
--- If `clap` accepted the words and they are misused, the fact holds for the misuse.
+-- States that, if `clap` accepted the words and they are misused, the fact holds for the misuse.
 abbrev pub IfMisuse : TaskError → (Misuse → Type 0) → Type 0
 IfMisuse (error.Misuse misuse) P = P misuse
 IfMisuse _ P = ⊤
 
--- If there was enough memory, so that the words are rejected, the fact holds.
+-- States that, if there was enough memory, so that the words are rejected, the fact holds.
 abbrev pub IfRefused : TaskError → Type 0 → Type 0
 IfRefused error.Memory P = ⊤
 IfRefused _ P = P

@@ -119,8 +119,8 @@ sentence_of units r unit i known = option_and_then (λ a. shortfall r i a) known
 abbrev pub sentence_line : Writing → ℕ → Insn → Sentence → List ℕ
 sentence_line written unit i s = place_text written unit i ++ codes ": " ++ sentence_text s
 
--- Where the subject of the sentence gets its value, and an edit that mends the fault. If a sum is computed in the
--- register of the number, this includes where the number comes from.
+-- Writes where the subject of the sentence gets its value, and an edit that mends the fault. If a sum is computed in
+-- the register of the number, this includes where the number comes from.
 abbrev pub about_text : Writing → KnownByUnit → List Insn → ℕ → Insn → Sentence → Option Subject → List ℕ
 about_text written survey program unit i s None = []
 about_text written survey program unit i s (Some asked) =

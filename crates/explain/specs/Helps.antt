@@ -146,8 +146,8 @@ better edit Accepted rest = Some (edit, Accepted)
 better edit Passes rest = accepted_or edit rest
 better edit Refused rest = rest
 
--- The first edit with which the program is accepted, else the first with which the verifier gets past the rejected
--- instruction. The edit may move that instruction to a later unit.
+-- Returns the first edit with which the program is accepted, else the first with which the verifier gets past the
+-- rejected instruction. The edit may move that instruction to a later unit.
 abbrev pub best : List Insn → ℕ → ℕ → List Edit → Option Help
 best program place unit [] = None
 best program place unit (edit ∷ edits) =

@@ -18,15 +18,15 @@ use Rattle.explain.specs.Helps.{best}
 use Rattle.explain.specs.Names.{helper_name}
 use Rattle.explain.specs.Explained.{sentence_of}
 
--- Every fault that the verifier finds is at an instruction of the program, and has a sentence.
+-- States that every fault that the verifier finds is at an instruction of the program, and has a sentence.
 abbrev pub RefusalsAreTold : Type 0
 RefusalsAreTold =
     (program : List Insn) (r : Reason) (unit : ℕ) → judged program ≡ Some (At r unit) →
     (i : Insn) × (instruction_at program unit ≡ Some i)
     × IsSome (sentence_of (length (slots_of program)) r unit i (known_by (known_before program unit)))
 
--- In the program with this edit, the verifier gets past the rejected instruction. If the trial says so, the program is
--- accepted.
+-- States that in the program with this edit, the verifier gets past the rejected instruction. If the trial says so, the
+-- program is accepted.
 pub record Mends (program : List Insn) (place unit : ℕ) (edit : Edit) (trial : Trial) : Type 0 where
   pub past : (r : Reason) (at : ℕ) → judged (mended edit place 0 program) ≡ Some (At r at) → unit + grown edit < at
   pub accepted : trial ≡ Accepted → judged (mended edit place 0 program) ≡ None
@@ -36,7 +36,8 @@ abbrev pub HelpsMend : Type 0
 HelpsMend = (program : List Insn) (place unit : ℕ) (edits : List Edit) (edit : Edit) (trial : Trial) →
     best program place unit edits ≡ Some (edit, trial) → Mends program place unit edit trial
 
--- The assembler maps the name of each helper to the number of that helper. It has as many names as there are helpers.
+-- States that the assembler maps the name of each helper to the number of that helper. It has as many names as there
+-- are helpers.
 pub record NamesAreRead : Type 0 where
   pub read : (helper : Helper) →
       (number : ℤ) × (helper_of number ≡ Some helper) × (number_of (helper_name helper) ≡ Some number)

@@ -116,9 +116,9 @@ notes_below written program survey asked marked (suc n) =
     notes_below written program survey asked marked n
     ++ note_text written asked n (instruction_at program n) (known_by (survey n)) (slice_get marked n)
 
--- The notes on the register from which the subject was computed, if that register's number may be above or below 0 and
--- no rule explains the subject. Before them are the notes on the origin of that register, and so on, at most as deep as
--- the first number says.
+-- Writes the notes on the register from which the subject was computed, if that register's number may be above or below
+-- 0 and no rule explains the subject. Before them are the notes on the origin of that register, and so on, at most as
+-- deep as the first number says.
 unfoldable pub origin_notes : ℕ → Writing → List Insn → KnownByUnit → List UnitMark → ℕ → List ℕ
 origin_notes zero written program survey marked unit = []
 origin_notes (suc n) written program survey marked unit =

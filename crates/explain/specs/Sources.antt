@@ -20,8 +20,8 @@ abbrev pub set_below : List UnitMark → ℕ → List ℕ
 set_below marks zero = []
 set_below marks (suc n) = set_below marks n ++ if_set (is_set (slice_get marks n)) n
 
--- The units that set the cell last on the paths to a unit. A path from the entry on which nothing sets the cell adds no
--- unit.
+-- Returns the units that set the cell last on the paths to a unit. A path from the entry on which nothing sets the cell
+-- adds no unit.
 abbrev pub sources : List Insn → KnownByUnit → ℕ → ℕ → List ℕ
 sources program survey unit cell = set_below (marks program survey (Cell cell) unit) unit
 

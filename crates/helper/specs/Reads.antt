@@ -36,7 +36,7 @@ abbrev pub of_helper : Option Helper → List (Option ℕ)
 of_helper None = None ∷ None ∷ None ∷ []
 of_helper (Some helper) = of_arguments (arguments_of helper)
 
--- The registers that an instruction reads, at most three, in the order in which the verifier checks them.
+-- Returns the registers that an instruction reads, at most three, in the order in which the verifier checks them.
 abbrev pub read_by : Insn → List (Option ℕ)
 read_by (Arithmetic w operation dst operand) = of_first operation dst ∷ of_operand operand ∷ None ∷ []
 read_by (Negate w dst) = Some dst ∷ None ∷ None ∷ []

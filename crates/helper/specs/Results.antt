@@ -13,7 +13,7 @@ pub use Rattle.helper.specs.Table.{returned_range}
 abbrev pub HoldsResult : ℕ → ℕ → State → Type 0
 HoldsResult lo hi s = (n : ℕ) × (value_at s.registers 0 ≡ Number n) × IsIn lo hi n
 
--- A call leaves a number of the interval in r0, at once or after the board has answered.
+-- States that a call leaves a number of the interval in r0, at once or after the board has answered.
 pub record Returns (helper : Helper) (lo hi : ℕ) : Type 0 where
   pub at_once : (context : List ℕ) (relay : Relay) (s after : State) → IsRelay relay →
       called context relay s (Some helper) ≡ Next after → HoldsResult lo hi after

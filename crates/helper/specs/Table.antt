@@ -74,19 +74,20 @@ refused (None ∷ arguments) r registers = refused arguments (r + 1) registers
 refused (Some argument ∷ arguments) r registers =
     or_else (test_of (bound_of argument) (value_at registers r)) (refused arguments (r + 1) registers)
 
--- A call of the helper traps for the first of these arguments that is rejected.
+-- States that a call of the helper traps for the first of these arguments that is rejected.
 abbrev pub TestsThese : Helper → List (Option Argument) → Type 0
 TestsThese helper arguments =
     (context : List ℕ) (relay : Relay) (s : State) (cause : Cause) → refused arguments 1 s.registers ≡ Some cause
     → called context relay s (Some helper) ≡ Trap cause
 
--- The helper also depends on the cells at a pointer.
+-- States that the helper also depends on the cells at a pointer.
 abbrev pub HasWindow : Helper → Type 0
 HasWindow BoardCopy = Unit {0}
 HasWindow SendRow = Unit {0}
 HasWindow _ = ⊥
 
--- If none of these arguments is rejected, a call traps only if the helper also depends on the cells at a pointer.
+-- States that, if none of these arguments is rejected, a call traps only if the helper also depends on the cells at a
+-- pointer.
 abbrev pub AcceptsThese : Helper → List (Option Argument) → Type 0
 AcceptsThese helper arguments =
     (context : List ℕ) (relay : Relay) (s : State) (cause : Cause) → refused arguments 1 s.registers ≡ None

@@ -59,8 +59,8 @@ trap_of (Ask request s) = None
 trap_of (Exit r0 s) = None
 trap_of (Trap cause) = Some cause
 
--- A call traps exactly if an argument is rejected, or else if the arguments are rejected together. The first rejected
--- argument gives the cause.
+-- States that a call traps exactly if an argument is rejected, or else if the arguments are rejected together. The
+-- first rejected argument gives the cause.
 abbrev pub CallsTrapByTable : Type 0
 CallsTrapByTable = (helper : Helper) (context : List ℕ) (relay : Relay) (s : State) →
     trap_of (called context relay s (Some helper))

@@ -5,16 +5,16 @@ use Rattle.std.specs.List.{flat_map}
 abbrev pub is_within : ℕ → ℕ → ℕ → Bool
 is_within low high c = nat_le low c && nat_le c high
 
--- XML allows the character in a document (XML 1.0, production 2).
+-- Returns whether XML allows the character in a document (XML 1.0, production 2).
 abbrev pub is_character : ℕ → Bool
 is_character c =
     c == 9 || c == 10 || c == 13 || is_within 0x20 0xD7FF c || is_within 0xE000 0xFFFD c || is_within 0x10000 0x10FFFF c
 
--- The character that is shown: the character itself, or the replacement character if XML does not allow it.
+-- Returns the character that is shown: the character itself, or the replacement character if XML does not allow it.
 abbrev pub shown : ℕ → ℕ
 shown c = if is_character c then c else 0xFFFD
 
--- The references for markup, and for white space that an XML reader would change (XML 1.0, 2.11 and 3.3.3).
+-- Returns the references for markup, and for white space that an XML reader would change (XML 1.0, 2.11 and 3.3.3).
 abbrev pub reference : ℕ → Option (List ℕ)
 reference c =
     if c == 38 then Some (codes "&amp;")
@@ -27,10 +27,10 @@ reference c =
     else if c == 13 then Some (codes "&#13;")
     else None
 
--- A character in escaped form.
+-- Writes a character in escaped form.
 abbrev pub written : ℕ → List ℕ
 written c = unwrap_or (reference c) (shown c ∷ [])
 
--- The escaped form of a text that consists of these characters.
+-- Writes the escaped form of a text that consists of these characters.
 abbrev pub escaped : List ℕ → List ℕ
 escaped cs = flat_map written cs

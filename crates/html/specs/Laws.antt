@@ -6,17 +6,18 @@ use Rattle.html.specs.Page.{begun_lines, cell, fold, head, heading, item, lines,
 use Rattle.html.specs.Sections.{Section, all_sections, bytes_of, heading_bytes, rooms, sections_in, standing_in, told_bytes}
 use Rattle.html.specs.Visible.{is_hidden, visible}
 
--- Shown text is text without tags: it contains no `<`, `>` or `"`, and no `&` except that of a reference.
+-- States that shown text is text without tags: it contains no `<`, `>` or `"`, and no `&` except that of a reference.
 abbrev pub TextsAreText : Type 0
 TextsAreText = (text : List ℕ) → IsText (shown text)
 
--- Visible text contains none of the characters that Visible lists. A text without such characters is shown unchanged.
+-- States that visible text contains none of the characters that Visible lists. A text without such characters is shown
+-- unchanged.
 pub record TextsAreVisible : Type 0 where
   pub seen : (cs : List ℕ) → list_all (λ c. not (is_hidden c)) (visible cs) ≡ true
   pub same : (cs : List ℕ) → list_all (λ c. not (is_hidden c)) cs ≡ true → visible cs ≡ cs
 
--- All parts are content if what they contain is content. This covers folds, lists and their items, tables and their
--- rows, and pictures.
+-- States that all parts are content if what they contain is content. This covers folds, lists and their items, tables
+-- and their rows, and pictures.
 pub record PartsAreContent : Type 0 where
   pub heading : (text : List ℕ) → IsContent (heading text)
   pub paragraph : (text : List ℕ) → IsContent (paragraph text)
@@ -32,25 +33,25 @@ pub record PartsAreContent : Type 0 where
   pub cell : (text : List ℕ) → IsContent (cell text)
   pub picture : (is_wide : Bool) (name svg : List ℕ) → IsContent svg → IsContent (picture is_wide name svg)
 
--- A page with such parts consists of the document type line, one XML element, and a line feed.
+-- States that a page with well-formed parts consists of the document type line, one XML element, and a line feed.
 abbrev pub PagesAreElements : Type 0
 PagesAreElements = (title parts : List ℕ) → IsContent parts →
     (text : List ℕ) × IsElement text × (page title parts ≡ codes "<!DOCTYPE html>\n" ++ text ++ codes "\n")
 
--- A text is a contiguous part of another text.
+-- States that a text is a contiguous part of another text.
 abbrev pub StandsIn : List ℕ → List ℕ → Type 0
 StandsIn part whole = (before : List ℕ) × (after : List ℕ) × (whole ≡ before ++ part ++ after)
 
--- The replacement of a section fits into the section's own room.
+-- States that the replacement of a section fits into the section's own room.
 abbrev pub IsRoomy : Section → Type 0
 IsRoomy s = length s.instead ≤ s.room
 
--- A section's parts are content, and so is its replacement.
+-- States that a section's parts are content, and so is its replacement.
 abbrev pub IsFilled : Section → Type 0
 IsFilled s = IsContent s.told × IsContent s.instead
 
--- What is written of a section is its full text. It may be the replacement only if the full text is longer than what
--- the other sections leave.
+-- States that what is written of a section is its full text. It may be the replacement only if the full text is longer
+-- than what the other sections leave.
 abbrev pub IsToldOrTooLong : ℕ → Section → List (List ℕ) → List ℕ → List (List ℕ) → Type 0
 IsToldOrTooLong room s ahead own behind =
     (own ≡ s.told) ⊎ ((own ≡ s.instead) × (room < bytes_of ahead + length s.told + bytes_of behind))

@@ -6,21 +6,22 @@ use Rattle.html.specs.Reading.{read}
 use Rattle.html.specs.Grammar.{IsContent, IsElement, IsTag, IsText}
 use Rattle.html.specs.Tags.{element}
 
--- Escaped text is read back as what is shown of it. If XML allows all its characters, it is read back unchanged.
+-- States that escaped text is read back as what is shown of it. If XML allows all its characters, it is read back
+-- unchanged.
 pub record EscapesAreReadBack : Type 0 where
   pub shown : (cs : List ℕ) → read None (escaped cs) ≡ Some (map shown cs)
   pub same : (cs : List ℕ) → list_all is_character cs ≡ true → read None (escaped cs) ≡ Some cs
 
--- The character is none of `<`, `>`, `"` and `'`, and XML allows it in a document.
+-- Returns whether the character is none of `<`, `>`, `"` and `'`, and XML allows it in a document.
 abbrev pub is_plain : ℕ → Bool
 is_plain c = is_character c && not (c == 60) && not (c == 62) && not (c == 34) && not (c == 39)
 
--- Escaped text is plain, and may be written between tags and in quotation marks.
+-- States that escaped text is plain, and may be written between tags and in quotation marks.
 pub record EscapesArePlain : Type 0 where
   pub plain : (cs : List ℕ) → list_all is_plain (escaped cs) ≡ true
   pub text : (cs : List ℕ) → IsText (escaped cs)
 
--- A name, attributes and content form an element, and an element is content again.
+-- States that a name, attributes and content form an element, and an element is content again.
 pub record ElementsAreElements : Type 0 where
   pub element : (name attributes content : List ℕ) → IsTag name attributes → IsContent content →
       IsElement (element name attributes content)

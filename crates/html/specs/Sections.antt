@@ -11,26 +11,26 @@ pub record Section : Type 0 where
   pub room : ℕ
   pub instead : List ℕ
 
--- The text for which there is room in any case: the section's own text if it fits, else its replacement.
+-- Writes the text for which there is room in any case: the section's own text if it fits, else its replacement.
 abbrev pub sure : Section → List ℕ
 sure s = if nat_le (length s.told) s.room then s.told else s.instead
 
--- How many more bytes a section takes if it is written in full.
+-- Returns how many more bytes a section takes if it is written in full.
 abbrev pub more : Section → ℕ
 more s = length s.told - length (sure s)
 
--- How many bytes of the room are left if each section takes only the bytes that it needs in any case.
+-- Returns how many bytes of the room are left if each section takes only the bytes that it needs in any case.
 abbrev pub left_by : ℕ → List Section → ℕ
 left_by room [] = room
 left_by room (s ∷ ss) = left_by (room - length (sure s)) ss
 
--- A section with its heading. A section without text has no heading.
+-- Writes a section with its heading. A section without text has no heading.
 abbrev pub section : List ℕ → List ℕ → List ℕ
 section title [] = []
 section title (c ∷ cs) = heading title ++ c ∷ cs
 
--- What is written of each section if `left` bytes remain for longer texts. The first section that needs more bytes gets
--- them first.
+-- Returns what is written of each section if `left` bytes remain for longer texts. The first section that needs more
+-- bytes gets them first.
 abbrev pub standing : ℕ → List Section → List (List ℕ)
 standing left [] = []
 standing left (s ∷ ss) =
@@ -38,25 +38,25 @@ standing left (s ∷ ss) =
     then s.told ∷ standing (left - more s) ss
     else s.instead ∷ standing left ss
 
--- What is written of each section if all sections share `room` bytes.
+-- Returns what is written of each section if all sections share `room` bytes.
 abbrev pub standing_in : ℕ → List Section → List (List ℕ)
 standing_in room ss = standing (left_by room ss) ss
 
--- What is written of each section, under its title.
+-- Writes what is written of each section, under its title.
 abbrev pub titled : List Section → List (List ℕ) → List ℕ
 titled [] texts = []
 titled (s ∷ ss) [] = []
 titled (s ∷ ss) (text ∷ texts) = section s.title text ++ titled ss texts
 
--- The sections with their headings: first if `left` bytes remain for longer texts, then if all sections share `room`
--- bytes.
+-- Writes the sections with their headings: first if `left` bytes remain for longer texts, then if all sections share
+-- `room` bytes.
 abbrev pub fitted_sections : ℕ → List Section → List ℕ
 fitted_sections left ss = titled ss (standing left ss)
 
 abbrev pub sections_in : ℕ → List Section → List ℕ
 sections_in room ss = titled ss (standing_in room ss)
 
--- All sections in full, whatever the room.
+-- Writes all sections in full, whatever the room.
 abbrev pub all_sections : List Section → List ℕ
 all_sections [] = []
 all_sections (s ∷ ss) = section s.title s.told ++ all_sections ss

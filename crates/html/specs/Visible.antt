@@ -3,7 +3,8 @@ use Rattle.std.specs.Prelude.{ℕ, ◌+◌, ◌/◌, ◌%◌, ◌==◌, nat_lt, 
 use Rattle.std.specs.List.{flat_map}
 use Rattle.html.specs.Escaped.{is_within}
 
--- Controls except the tab, the line feed and the carriage return (Unicode, general category Cc).
+-- Returns whether a character is a control other than the tab, the line feed and the carriage return (Unicode, general
+-- category Cc).
 abbrev pub is_control : ℕ → Bool
 is_control c = is_within 0 8 c || is_within 11 12 c || is_within 14 31 c || is_within 127 159 c
 
@@ -27,16 +28,16 @@ is_ignored_above c = is_within 0x1BCA0 0x1BCA3 c || is_within 0x1D173 0x1D17A c 
 abbrev pub is_hidden : ℕ → Bool
 is_hidden c = is_control c || is_ignored_below c || is_ignored c || is_ignored_above c
 
--- The character is written unchanged: it is printable ASCII except markup.
+-- Returns whether the character is written unchanged: it is printable ASCII except markup.
 abbrev pub is_plain : ℕ → Bool
 is_plain c = is_within 32 33 c || is_within 35 37 c || is_within 40 59 c || c == 61 || is_within 63 126 c
 
--- The hexadecimal digit for a value below 16.
+-- Returns the hexadecimal digit for a value below 16.
 abbrev pub digit : ℕ → ℕ
 digit d = if nat_lt d 10 then 48 + d else 55 + d
 
--- The number of a character as Unicode writes it: four hexadecimal digits, after a fifth one if the number is at least
--- 0x10000.
+-- Writes the number of a character as Unicode writes it: four hexadecimal digits, after a fifth one if the number is at
+-- least 0x10000.
 abbrev pub fifth : ℕ → List ℕ
 fifth c = if nat_lt c 65536 then [] else digit (c / 65536 % 16) ∷ []
 
@@ -48,6 +49,6 @@ numbered c =
 abbrev pub made_visible : ℕ → List ℕ
 made_visible c = if is_hidden c then numbered c else c ∷ []
 
--- A text in which every character is visible, from a text of these characters.
+-- Writes a text in which every character is visible, from a text of these characters.
 abbrev pub visible : List ℕ → List ℕ
 visible cs = flat_map made_visible cs

@@ -19,8 +19,8 @@ abbrev pub order_after : Choice → Option Place → Option ℕ → Option ℕ
 order_after choice None before = None
 order_after choice (Some place) before = newer (choice place) before
 
--- Whatever places a helper chooses (one, a row's, a receiver's, those of taken values), each of them then has the order
--- last put there. The other places keep their orders.
+-- States that whatever places a helper chooses (one, a row's, a receiver's, those of taken values), each of them then
+-- has the order last put there. The other places keep their orders.
 pub record LastOrdersAreGiven : Type 0 where
   pub gives : (relay : Relay) (choice : Choice) (outbox : Outbox) (rank receiver : ℕ) → HasPlaces relay outbox →
       order_at relay (written relay choice outbox) rank receiver

@@ -134,7 +134,7 @@ refined w condition taken p q =
     then edge_taken condition taken p q
     else Some (p, q)
 
--- Two intervals remain, and they hold the two numbers.
+-- States that two intervals remain, and they hold the two numbers.
 abbrev pub HoldBoth : Option Pair → ℕ → ℕ → Type 0
 HoldBoth None x y = ⊥
 HoldBoth (Some e) x y = IsIn e.0.0 e.0.1 x × IsIn e.1.0 e.1.1 y

@@ -19,28 +19,28 @@ abbrev pub set_by : Subject → Option Insn → Option AbsState → Bool
 set_by subject (Some i) (Some a) = sets subject i a
 set_by subject i known = false
 
--- The list that has an entry for each of the first `n` units.
+-- Returns the list that has an entry for each of the first `n` units.
 abbrev pub of_units : {X : Type 0} → (ℕ → X) → ℕ → List X
 of_units tells zero = []
 of_units tells (suc n) = of_units tells n ++ tells n ∷ []
 
--- For each of the first `n` units, whether it sets the register or cell.
+-- Returns, for each of the first `n` units, whether it sets the register or cell.
 abbrev pub setting : List Insn → KnownByUnit → Subject → ℕ → List Bool
 setting program survey subject n =
     of_units (λ unit. set_by subject (instruction_at program unit) (known_by (survey unit))) n
 
--- The abstract stack after a store or a call. Other instructions do not change the stack, and have none here.
+-- Returns the abstract stack after a store or a call. Other instructions do not change the stack, and have none here.
 abbrev pub stack_behind : Option Insn → Option AbsState → Option Known
 stack_behind (Some (Store size base offset source)) (Some a) = Some (left (Store size base offset source) a).stack
 stack_behind (Some (Call number)) (Some a) = Some (left (Call number) a).stack
 stack_behind i known = None
 
--- For each of the first `n` units, the abstract stack after a store or a call.
+-- Returns, for each of the first `n` units, the abstract stack after a store or a call.
 abbrev pub stacks_behind : List Insn → KnownByUnit → ℕ → List (Option Known)
 stacks_behind program survey n =
     of_units (λ unit. stack_behind (instruction_at program unit) (known_by (survey unit))) n
 
--- The abstract stack after a unit, if there is one.
+-- Returns the abstract stack after a unit, if there is one.
 abbrev pub stack_at : Option (Option Known) → Option Known
 stack_at None = None
 stack_at (Some behind) = behind
@@ -55,12 +55,12 @@ abbrev pub flag_at : Option Bool → Bool
 flag_at None = false
 flag_at (Some flag) = flag
 
--- The column says for each unit of the program whether it sets the cell.
+-- States that the column says for each unit of the program whether it sets the cell.
 abbrev pub IsColumn : List Insn → KnownByUnit → ℕ → Column → Type 0
 IsColumn program survey cell column =
     column.changed.items ≡ setting program survey (Cell cell) (length (slots_of program))
 
--- The columns are those of the 512 cells of the stack, in their order.
+-- States that the columns are those of the 512 cells of the stack, in their order.
 pub record AreColumns (program : List Insn) (survey : KnownByUnit) (columns : List Column) : Type 0 where
   pub all : length columns ≡ 512
   pub each : (cell : ℕ) (column : Column) → slice_get columns cell ≡ Some column → IsColumn program survey cell column

@@ -10,12 +10,12 @@ use Rattle.absmem.specs.Known.{Known, byte_at, spill_at, pointer_of}
 use Rattle.reaching.specs.declared.cells.CellContent.{CellContent}
 use Rattle.reaching.specs.declared.cells.CellContent.TheVariants.{Unset, Byte, Piece}
 
--- The whole pointer that is known to begin at a place.
+-- Returns the whole pointer that is known to begin at a place.
 abbrev pub pointer_from : Known → ℕ → Option (Region × ℤ)
 pointer_from known place = if nat_le place 504 then pointer_of (place % 8) (spill_at known.spills (place / 8)) else None
 
--- The first pointer that begins at a place or before it. The search goes down from the place over as many places as the
--- number says.
+-- Returns the first pointer that begins at a place or before it. The search goes down from the place over as many
+-- places as the number says.
 abbrev pub pointer_over : Known → ℕ → ℕ → Option (Region × ℤ)
 pointer_over known place zero = None
 pointer_over known place (suc n) = option_or (pointer_from known place) (pointer_over known (place - 1) n)
@@ -25,11 +25,11 @@ abbrev pub piece_of : Option (Region × ℤ) → CellContent
 piece_of None = Unset
 piece_of (Some pointer) = Piece pointer.0 pointer.1
 
--- What is known of a cell within the stack. A pointer takes eight cells, so the search goes over eight places.
+-- Returns what is known of a cell within the stack. A pointer takes eight cells, so the search goes over eight places.
 abbrev pub content_in : Known → ℕ → CellContent
 content_in known place = if byte_at known.bytes place then Byte else piece_of (pointer_over known place 8)
 
--- What is known of a cell. Nothing is known of cells outside the stack.
+-- Returns what is known of a cell. Nothing is known of cells outside the stack.
 abbrev pub held_at : Known → ℕ → CellContent
 held_at known place = if nat_lt place stack_size then content_in known place else Unset
 

@@ -6,6 +6,6 @@ use Rattle.verify.specs.Instructions.{reason_of}
 use Rattle.verify.specs.Transfer.{transfer}
 use Rattle.reaching.specs.Left.{left}
 
--- For an instruction that may run, `left` is what the verifier's transfer results in.
+-- States that for an instruction that may run, `left` is what the verifier's transfer results in.
 abbrev pub LeftIsTransfer : Type 0
 LeftIsTransfer = (i : Insn) (a : AbsState) → reason_of i a ≡ None → left i a ≡ transfer i a

@@ -15,7 +15,7 @@ use Rattle.reaching.specs.Setting.{sets}
 abbrev pub KnownByUnit : Type 0
 KnownByUnit = ℕ → Option (Option AbsState)
 
--- What is known at a unit, if anything is.
+-- Returns what is known at a unit, if anything is.
 abbrev pub known_by : Option (Option AbsState) → Option AbsState
 known_by None = None
 known_by (Some known) = known
@@ -36,15 +36,15 @@ leads_open marks (z ∷ []) = open_at marks z
 leads_open marks (z ∷ y ∷ []) = open_at marks z || open_at marks y
 leads_open marks _ = false
 
--- The mark of a unit. If a path leads from it to an open unit, it either sets the register or cell, or is open itself.
--- Otherwise it is closed.
+-- Returns the mark of a unit. If a path leads from it to an open unit, it either sets the register or cell, or is open
+-- itself. Otherwise it is closed.
 abbrev pub mark_of : Subject → List UnitMark → ℕ → Option Insn → Option AbsState → UnitMark
 mark_of subject marks unit (Some i) (Some a) =
     if leads_open marks (leads_to i unit) then (if sets subject i a then Sets else Open) else Closed
 mark_of subject marks unit i known = Closed
 
--- The marks after those of the `n` units directly below the unit in question are computed. That unit is open itself,
--- and all others are closed.
+-- Returns the marks after those of the `n` units directly below the unit in question are computed. That unit is open
+-- itself, and all others are closed.
 abbrev pub marked : List Insn → KnownByUnit → Subject → ℕ → ℕ → List UnitMark
 marked program survey subject unit zero = slice_set (replicate (length (slots_of program)) Closed) unit Open
 marked program survey subject unit (suc n) =
@@ -52,6 +52,6 @@ marked program survey subject unit (suc n) =
     (mark_of subject (marked program survey subject unit n) (unit - suc n) (instruction_at program (unit - suc n))
     (known_by (survey (unit - suc n))))
 
--- The marks of all units before the unit in question.
+-- Returns the marks of all units before the unit in question.
 abbrev pub marks : List Insn → KnownByUnit → Subject → ℕ → List UnitMark
 marks program survey subject unit = marked program survey subject unit unit

@@ -19,21 +19,21 @@ use Rattle.reaching.specs.declared.edits.Edit.TheVariants.{Before, Instead, Move
 use Rattle.reaching.specs.declared.edits.Trial.{Trial}
 use Rattle.reaching.specs.declared.edits.Trial.TheVariants.{Refused, Passes, Accepted}
 
--- The number of units by which an edit makes a program longer.
+-- Returns the number of units by which an edit makes a program longer.
 abbrev pub grown : Edit → ℕ
 grown (Before operation dst operand) = 1
 grown (Instead operation dst operand) = 0
 grown (Moved None number pointer) = 1
 grown (Moved (Some mask) number pointer) = 2
 
--- The distance of a jump, increased by `more` if the jump leads over the place of the edit. A distance of 4,096 units
--- or more, which no program allows, is left as it is.
+-- Returns the distance of a jump, increased by `more` if the jump leads over the place of the edit. A distance of 4,096
+-- units or more, which no program allows, is left as it is.
 abbrev pub longer : ℕ → ℕ → ℕ → ℤ → ℤ
 longer more place unit distance =
     if int_lt (pos place) (pos (unit + 1) +ℤ distance) && int_lt distance (pos most_units) then distance +ℤ pos more
     else distance
 
--- An instruction with its distance increased by `more`, if it is a jump over the place of the edit.
+-- Returns an instruction with its distance increased by `more`, if it is a jump over the place of the edit.
 abbrev pub stretched : ℕ → ℕ → ℕ → Insn → Insn
 stretched more place unit (Jump distance) = Jump (longer more place unit distance)
 stretched more place unit (LongJump distance) = LongJump (longer more place unit distance)
@@ -41,53 +41,55 @@ stretched more place unit (Branch w condition dst operand distance) =
     Branch w condition dst operand (longer more place unit distance)
 stretched more place unit i = i
 
--- A 64-bit operation as an instruction.
+-- Returns a 64-bit operation as an instruction.
 abbrev pub wide : Operation → ℕ → Operand → Insn
 wide operation dst operand = Arithmetic W64 operation dst operand
 
--- The instruction that masks a number, if there is a mask.
+-- Returns the instruction that masks a number, if there is a mask.
 abbrev pub masked : Option ℤ → ℕ → List Insn
 masked None number = []
 masked (Some mask) number = wide And number (Immediate mask) ∷ []
 
--- The instructions that an edit puts in the place of its instruction.
+-- Returns the instructions that an edit puts in the place of its instruction.
 abbrev pub put_at : Edit → Insn → List Insn
 put_at (Before operation dst operand) i = wide operation dst operand ∷ i ∷ []
 put_at (Instead operation dst operand) i = wide operation dst operand ∷ []
 put_at (Moved mask number pointer) i =
     masked mask number ++ wide Add pointer (Register number) ∷ wide Move number (Register pointer) ∷ []
 
--- An instruction at another place than that of the edit. Jumps over the place of the edit become longer.
+-- Returns an instruction at another place than that of the edit. Jumps over the place of the edit become longer.
 abbrev pub passed : Edit → ℕ → ℕ → Insn → Insn
 passed edit place unit i = if nat_lt unit place then stretched (grown edit) place unit i else i
 
--- The instructions that the instruction of a unit becomes, if the edit is made at a place.
+-- Returns the instructions that the instruction of a unit becomes, if the edit is made at a place.
 abbrev pub edited : Edit → ℕ → ℕ → Insn → List Insn
 edited edit place unit i = if unit == place then put_at edit i else passed edit place unit i ∷ []
 
--- The instructions from a unit on, with the edit.
+-- Returns the instructions from a unit on, with the edit.
 abbrev pub mended : Edit → ℕ → ℕ → List Insn → List Insn
 mended edit place unit [] = []
 mended edit place unit (i ∷ is) = edited edit place unit i ++ mended edit place (unit + units_of i) is
 
--- How far the verifier comes in a program with this fault, or with none: not past a unit, past it, or to the end.
+-- Returns how far the verifier comes in a program with this fault, or with none: not past a unit, past it, or to the
+-- end.
 abbrev pub comes : ℕ → Option VerifyError → Trial
 comes unit None = Accepted
 comes unit (Some (At reason place)) = if nat_lt unit place then Passes else Refused
 comes unit (Some Memory) = Refused
 
--- The trial agrees with the error that the verifier returned. It fails exactly if that error is out of memory.
+-- States that the trial agrees with the error that the verifier returned. It fails exactly if that error is out of
+-- memory.
 abbrev pub ComesBy : ℕ → VerifyError → Result Trial AllocError → Type 0
 ComesBy unit fault (Ok trial) = (fault ≢ Memory) × (trial ≡ comes unit (Some fault))
 ComesBy unit fault (Err _) = fault ≡ Memory
 
--- How far the verifier comes in an edited program. It is rejected if it has no unit or more units than a program may
--- have.
+-- Returns how far the verifier comes in an edited program. It is rejected if it has no unit or more units than a
+-- program may have.
 abbrev pub tried_with : List Insn → ℕ → Trial
 tried_with program unit =
     if nat_lt 0 (length (slots_of program)) && nat_le (length (slots_of program)) most_units
     then comes unit (judged program) else Refused
 
--- How far the verifier comes in a program with an edit at a place.
+-- Returns how far the verifier comes in a program with an edit at a place.
 abbrev pub tried : Edit → ℕ → List Insn → ℕ → Trial
 tried edit place program unit = tried_with (mended edit place 0 program) unit

@@ -154,8 +154,8 @@ pub record Head : Type 0 where
   pub rule : Rule
   pub messages : Messages
 
--- A campaign has 2 to 13 generals. Its bound is at most 4 and at most the number of generals less 2. The commander is a
--- general. A patience is 1 to 4,096 steps.
+-- States that a campaign has 2 to 13 generals. Its bound is at most 4 and at most the number of generals less 2. The
+-- commander is a general. A patience is 1 to 4,096 steps.
 pub record IsHeadWithin (generals bound commander : ℕ) (patience : Option ℕ) : Type 0 where
   pub few : generals ≤ 13
   pub rounds : bound ≤ 4

@@ -16,18 +16,18 @@ abbrev pub ◌>>=◌ : {A B : Type 0} → Result A Flaw → (A → Result B Flaw
 (Ok x) >>= f = f x
 (Err e) >>= f = Err e
 
--- The error reports the fault that the checks found. Out of memory is not such a fault.
+-- States that the error reports the fault that the checks found. Out of memory is not such a fault.
 abbrev pub Fails : {Y : Type 0} → ScenarioError → Result Y Flaw → Type 0
 Fails (errors.Unknown at key) read = read ≡ Err (unknown at (string_bytes key))
 Fails (errors.At fault place) read = read ≡ Err (faulty fault place)
 Fails _ read = ⊥
 
--- The result, seen through `view`, is what the checks give.
+-- States that the result, seen through `view`, is what the checks give.
 abbrev pub Gives : {X Y : Type 0} → (X → Y) → Result X ScenarioError → Result Y Flaw → Type 0
 Gives view (Ok x) read = read ≡ Ok (view x)
 Gives view (Err e) read = Fails e read
 
--- The result satisfies `IsAnswer`, or it is out of memory.
+-- States that the result satisfies `IsAnswer`, or it is out of memory.
 abbrev pub OrMemory : {X : Type 0} → (Result X ScenarioError → Type 0) → Result X ScenarioError → Type 0
 OrMemory IsAnswer (Err errors.Memory) = Unit {0}
 OrMemory IsAnswer r = IsAnswer r

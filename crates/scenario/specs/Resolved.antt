@@ -90,13 +90,13 @@ abbrev pub refers : Items → Bool
 refers no_items = false
 refers (item d ds) = element_refers d || refers ds
 
--- The text is this document's, if the document nests at most 80 levels deep. There is no text if a date of the document
--- has none.
+-- States that the text is this document's, if the document nests at most 80 levels deep. There is no text if a date of
+-- the document has none.
 abbrev pub IsPrinted : Members → Option (List ℕ) → Type 0
 IsPrinted ms None = members_have_valid_dates ms ≡ false
 IsPrinted ms (Some text) = members_depth ms ≤ 80 → parse_document text ≡ Some ms
 
--- The new text is that of the resolved document, or `None` if no table names a file or several generals.
+-- States that the new text is that of the resolved document, or `None` if no table names a file or several generals.
 abbrev pub IsPrintedIf : Bool → Members → Option (List ℕ) → Type 0
 IsPrintedIf true ms new = IsPrinted ms new
 IsPrintedIf false ms new = new ≡ None
@@ -105,7 +105,7 @@ abbrev pub ResolvesList : List File → Members → Option Items → Option (Lis
 ResolvesList files ms None new = new ≡ None
 ResolvesList files ms (Some ds) new = IsPrintedIf (refers ds) (with_traitors files ds ms) new
 
--- The new text is that of the resolved document, or `None` if there is no document or nothing to resolve.
+-- States that the new text is that of the resolved document, or `None` if there is no document or nothing to resolve.
 abbrev pub Resolves : List File → Option Members → Option (List ℕ) → Type 0
 Resolves files None new = new ≡ None
 Resolves files (Some ms) new = ResolvesList files ms (traitors ms) new

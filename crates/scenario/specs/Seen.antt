@@ -24,13 +24,13 @@ abbrev pub source_of : ProgramText → Source
 source_of (written.Asm text) = Assembly text.now
 source_of (written.Code text) = Hex text.now
 
--- The result is the program of a source, or why the source gives none.
+-- States that the result is the program of a source, or why the source gives none.
 abbrev pub Makes : ℕ → Source → Result (List Insn) ScenarioError → Type 0
 Makes g source (Ok program) = IsProgramOf source program
 Makes g source (Err (errors.Program h fault)) = (h ≡ g) × IsFaultOf fault source
 Makes g source (Err _) = ⊥
 
--- The result is the program if the verifier accepts it, or why it does not.
+-- States that the result is the program if the verifier accepts it, or why it does not.
 abbrev pub Accepts : ℕ → List Insn → Result (List Insn) ScenarioError → Type 0
 Accepts g program (Ok accepted) = (accepted ≡ program) × (judged program ≡ None)
 Accepts g program (Err (errors.Program h (Verifier reason unit))) =

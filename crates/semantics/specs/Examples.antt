@@ -21,8 +21,8 @@ asks = Arithmetic W64 Move 1 (Immediate (pos 0)) ∷ Call (pos 1) ∷ Exit ∷ [
 abbrev pub bare_exit : List Insn
 bare_exit = Exit ∷ []
 
--- The program `answer` is plain and sound. The program `asks` is sound whatever the board answers, but not plain. The
--- program `bare_exit` is neither.
+-- States that the program `answer` is plain and sound. The program `asks` is sound whatever the board answers, but not
+-- plain. The program `bare_exit` is neither.
 pub record SomeArePlainAndSound : Type 0 where
   pub plain : IsPlain answer
   pub sound : IsSound answer

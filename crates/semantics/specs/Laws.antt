@@ -16,13 +16,14 @@ use Rattle.semantics.specs.Safety.{IsSafe}
 use Rattle.semantics.specs.Reached.{Reached}
 use Rattle.semantics.specs.Whole.{IsWhole, HasWords, Each, CountsOnce}
 
--- Each step adds one to the step counter, unless it traps.
+-- States that each step adds one to the step counter, unless it traps.
 abbrev pub StepsAreCounted : Type 0
 StepsAreCounted =
     (program : List Insn) (context : List ℕ) (relay : Relay) (s : State) → CountsOnce s (step program context relay s)
 
--- The entry state is whole, and steps and answers leave a state whole, so every reached state is whole. If the
--- instructions are well-formed and the setting is that of a campaign, its numbers have 64 bits and its bytes have 8.
+-- States that the entry state is whole, and steps and answers leave a state whole, so every reached state is whole. If
+-- the instructions are well-formed and the setting is that of a campaign, its numbers have 64 bits and its bytes have
+-- 8.
 pub record StatesStayWhole : Type 0 where
   pub at_entry : (relay : Relay) → IsWhole (entry (empty_outbox relay))
   pub stepped : (program : List Insn) (context : List ℕ) (relay : Relay) (s : State) → IsWhole s →
@@ -34,19 +35,19 @@ pub record StatesStayWhole : Type 0 where
       AllByRecursion IsInsn program → IsContext context → IsRelay relay →
       Reached program context relay answers s → HasWords s
 
--- A run that has exited, trapped or waits for an answer stays so after any further steps.
+-- States that a run that has exited, trapped or waits for an answer stays so after any further steps.
 abbrev pub RunsStayOver : Type 0
 RunsStayOver =
     (program : List Insn) (context : List ℕ) (relay : Relay) (k j : ℕ) (answers : List (List ℕ)) (s : State) →
     IsFinal (onwards program context relay k answers s) →
     onwards program context relay (k + j) answers s ≡ onwards program context relay k answers s
 
--- A reached state is the result of running the program for that state's number of steps with its answers.
+-- States that a reached state is the result of running the program for that state's number of steps with its answers.
 abbrev pub ReachedIsRun : Type 0
 ReachedIsRun = (program : List Insn) (context : List ℕ) (relay : Relay) (answers : List (List ℕ)) (s : State) →
     Reached program context relay answers s → after program context relay answers s.steps ≡ Running s
 
--- A program is sound exactly if its entry state is safe for as many steps as the program has instructions.
+-- States that a program is sound exactly if its entry state is safe for as many steps as the program has instructions.
 pub record SoundIsSafeAtEntry : Type 0 where
   pub sound : (program : List Insn) →
       ((context : List ℕ) (relay : Relay) → IsContext context → IsRelay relay →
@@ -56,8 +57,8 @@ pub record SoundIsSafeAtEntry : Type 0 where
       IsRelay relay →
       IsSafe program context relay (length program) (entry (empty_outbox relay))
 
--- Every state that a sound program reaches is safe for the remaining steps, and it has taken fewer steps than the
--- program has instructions.
+-- States that every state that a sound program reaches is safe for the remaining steps, and it has taken fewer steps
+-- than the program has instructions.
 pub record ReachedIsSafe : Type 0 where
   pub safe : (program : List Insn) (context : List ℕ) (relay : Relay) (answers : List (List ℕ)) (s : State) →
       IsSound program → IsContext context → IsRelay relay →
@@ -66,8 +67,8 @@ pub record ReachedIsSafe : Type 0 where
       IsSound program → IsContext context → IsRelay relay →
       Reached program context relay answers s → s.steps < length program
 
--- Every reached state has at most 8 entries, and each is one that the general can send. Where orders are oral there is
--- no entry, and where they are signed the outbox stays empty.
+-- States that every reached state has at most 8 entries, and each is one that the general can send. Where orders are
+-- oral there is no entry, and where they are signed the outbox stays empty.
 pub record EntriesAreFew : Type 0 where
   pub few : (program : List Insn) (context : List ℕ) (relay : Relay) (answers : List (List ℕ)) (s : State) →
       Reached program context relay answers s → length s.entries ≤ most_entries

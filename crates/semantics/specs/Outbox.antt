@@ -46,15 +46,15 @@ written r choice outbox =
 abbrev pub places_set : Relay → Choice → ℕ
 places_set r choice = sum_by (λ row. count_by (λ place. is_some (choice place)) row) (places r)
 
--- The choice of send: the place of one label, by rank, and one receiver.
+-- Returns the choice of send: the place of one label, by rank, and one receiver.
 abbrev pub at_place : ℕ → ℕ → ℕ → Choice
 at_place rank receiver order place = if (place.rank == rank) && (place.receiver == receiver) then Some order else None
 
--- The choice of send_row: the label's first receivers in ascending order, one for each order.
+-- Returns the choice of send_row: the label's first receivers in ascending order, one for each order.
 abbrev pub along_row : ℕ → List ℕ → Choice
 along_row rank orders place = if place.rank == rank then slice_get orders place.number else None
 
--- The choice of sway: the receiver's place in every label.
+-- Returns the choice of sway: the receiver's place in every label.
 abbrev pub at_receiver : ℕ → ℕ → Choice
 at_receiver receiver order place = if place.receiver == receiver then Some order else None
 
@@ -63,13 +63,14 @@ at_receiver receiver order place = if place.receiver == receiver then Some order
 abbrev pub taken_value : List ℕ → ℕ → ℕ
 taken_value context rank = little_number (slice_range context (32 + 4 * rank) (36 + 4 * rank))
 
--- The choice of honest: the receiver's place in every label, with the value that the general took for that label.
+-- Returns the choice of honest: the receiver's place in every label, with the value that the general took for that
+-- label.
 abbrev pub as_taken : List ℕ → ℕ → Choice
 as_taken context receiver place = if place.receiver == receiver then Some (taken_value context place.rank) else None
 
 -- ---- Bounds of the number of places set. Each statement is the contract of a function of this crate.
 
--- Within the limits of a campaign, a general relays at most 11 * 10 * 9 labels in a round.
+-- States that within the limits of a campaign, a general relays at most 11 * 10 * 9 labels in a round.
 abbrev pub RelaysAreFew : Type 0
 RelaysAreFew = (relay : Relay) → IsRelay relay → length (relayed relay) ≤ 990
 

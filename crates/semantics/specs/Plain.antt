@@ -10,7 +10,7 @@ use Rattle.insn.specs.declared.insn.Operand.TheVariants.{Register, Immediate}
 use Rattle.insn.specs.Insn.{units_of}
 use Rattle.insn.specs.Program.{instruction_at}
 
--- The list has the element.
+-- States that the list has the element.
 abbrev pub IsIn : {A : Type 0} → A → List A → Type 0
 IsIn x [] = ⊥
 IsIn x (y ∷ ys) = (x ≡ y) ⊎ IsIn x ys
@@ -25,7 +25,7 @@ abbrev pub first_reads : Operation → ℕ → List ℕ
 first_reads Move dst = []
 first_reads _ dst = dst ∷ []
 
--- The instruction uses neither memory nor helpers.
+-- States that the instruction uses neither memory nor helpers.
 abbrev pub IsOfNumbers : Insn → Type 0
 IsOfNumbers (Load size dst base offset) = ⊥
 IsOfNumbers (LoadSigned part dst base offset) = ⊥
@@ -60,25 +60,25 @@ leads_to (Branch width condition dst operand distance) unit = pos (unit + 1) ∷
 leads_to Exit unit = []
 leads_to i unit = pos (unit + units_of i) ∷ []
 
--- Some path from the entry to the unit does not write register `r`.
+-- States that some path from the entry to the unit does not write register `r`.
 pub data Unwritten (program : List Insn) (r : ℕ) : ℕ → Type 0 where
   at_entry : Unwritten program r 0
   along : {unit : ℕ} (i : Insn) (next : ℕ) → Unwritten program r unit → instruction_at program unit ≡ Some i →
       (IsIn r (writes i) → ⊥) →
       IsIn (pos next) (leads_to i unit) → Unwritten program r next
 
--- An instruction starts at this unit.
+-- States that an instruction starts at this unit.
 abbrev pub IsStart : List Insn → ℤ → Type 0
 IsStart program z = (unit : ℕ) × (z ≡ pos unit) × IsSome (instruction_at program unit)
 
--- The last instruction is the exit.
+-- States that the last instruction is the exit.
 abbrev pub EndsWithExit : List Insn → Type 0
 EndsWithExit [] = ⊥
 EndsWithExit (i ∷ []) = i ≡ Exit
 EndsWithExit (i ∷ j ∷ is) = EndsWithExit (j ∷ is)
 
--- The program is plain. It ends with the exit, uses neither memory nor helpers, and jumps only forward to instructions.
--- It sets each register before it is read, and never writes r10.
+-- States that the program is plain. It ends with the exit, uses neither memory nor helpers, and jumps only forward to
+-- instructions. It sets each register before it is read, and never writes r10.
 pub record IsPlain (program : List Insn) : Type 0 where
   pub exit_last : EndsWithExit program
   pub numbers : (unit : ℕ) (i : Insn) → instruction_at program unit ≡ Some i → IsOfNumbers i

@@ -17,8 +17,8 @@ pub record UnsharedSeen : Type 0 where
   pub name : ℕ
   pub parts : ℕ
 
--- One access with this general, round and request was entered. It comes after all that the thread had seen and all that
--- others have had served since. The answer is the board's reply at this point of the history.
+-- States that one access with this general, round and request was entered. It comes after all that the thread had seen
+-- and all that others have had served since. The answer is the board's reply at this point of the history.
 pub record Serves (opening : List ℕ) (old : Witnessed) (general round : ℕ) (request : Request) (answer : List ℕ)
     (new : Witnessed) : Type 0 where
   pub before : List Access

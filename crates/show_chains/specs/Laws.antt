@@ -18,13 +18,13 @@ use Rattle.show_chains.specs.Owed.{is_among, owed_to, sent_to}
 use Rattle.show_chains.specs.Strokes.{Drawn, bare, between, grouped, is_lie, strokes_of, way, with_rows}
 use Rattle.show_chains.specs.Svg.{signed_svg}
 
--- Each diagram is one XML element, followed by a line feed.
+-- States that each diagram is one XML element, followed by a line feed.
 abbrev pub SignedDiagramsAreElements : Type 0
 SignedDiagramsAreElements =
     (c : Chronicle) → (text : List ℕ) × IsElement text × (signed_svg c ≡ text ++ codes "\n")
 
--- In a finished campaign a loyal general sends each general exactly what a loyal general owes him, and all his strokes
--- are drawn as honest.
+-- States that in a finished campaign a loyal general sends each general exactly what a loyal general owes him, and all
+-- his strokes are drawn as honest.
 pub record OnlyTraitorsDiffer : Type 0 where
   pub owed : (s : Scenario) (events : List Event) (round g p : ℕ) → IsScenario s →
       IsFinished (played s events) → g < s.generals → p < s.generals → is_traitor s g ≡ false →
@@ -35,11 +35,11 @@ pub record OnlyTraitorsDiffer : Type 0 where
       between (signed_chronicle_of (played s events)) round p g
       ≡ grouped (way round p g true false) (sent_to (signed_chronicle_of (played s events)) round g p)
 
--- The list of what was sent to p, or withheld from him, in a round.
+-- Returns the list of strokes to p in a round: what was sent to him, or withheld from him.
 abbrev pub list_in : Chronicle → ℕ → ℕ → List Drawn
 list_in c round p = filter (λ x. is_to round p x.stroke) (strokes_of c)
 
--- The strokes of that list that are drawn.
+-- Returns the strokes that are drawn of what was sent to p, or withheld from him, in a round.
 abbrev pub drawn_in : Chronicle → ℕ → ℕ → List Drawn
 drawn_in c round p = filter (λ x. is_to round p x.stroke) (with_rows (strokes_of c))
 
@@ -69,9 +69,9 @@ pub record StrokesAreExact : Type 0 where
   pub wide : (c : Chronicle) → All (λ x. x.stroke.labels ≡ length x.chains) (strokes_of c)
   pub told : (c : Chronicle) → All (λ x. All (IsTold c x.stroke) x.chains) (strokes_of c)
 
--- The rows of each list are numbered, and the first are drawn. If a lie is left out, no honest row is drawn. Each liar
--- has a row that is drawn. The strokes that are drawn and those that are counted as left out are all strokes, and the
--- same holds for the lies.
+-- States that the rows of each list are numbered, and the first are drawn. If a lie is left out, no honest row is
+-- drawn. Each liar has a row that is drawn. The strokes that are drawn and those that are counted as left out are all
+-- strokes, and the same holds for the lies.
 pub record RowsAreExact : Type 0 where
   pub numbered : (c : Chronicle) (round p : ℕ) → p < c.scenario.generals → 0 < round →
       round ≤ c.scenario.bound + 1 →

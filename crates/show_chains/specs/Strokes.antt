@@ -16,7 +16,7 @@ pub record Drawn : Type 0 where
   pub stroke : Stroke
   pub chains : List Chain
 
--- The order if it was sent, and nothing otherwise.
+-- Returns the order if it was sent, and nothing otherwise.
 abbrev pub told_if : Bool → ℕ → Option ℕ
 told_if true order = Some order
 told_if false order = None
@@ -24,7 +24,7 @@ told_if false order = None
 abbrev pub of_order : ℕ → List Chain → List Chain
 of_order order chains = filter (λ ch. ch.order == order) chains
 
--- A stroke of `labels` chains with the given order, in row 0.
+-- Returns a stroke of `labels` chains with the given order, in row 0.
 abbrev pub plain : Way → ℕ → ℕ → Stroke
 plain w order labels = record {
   round = w.round;
@@ -36,19 +36,19 @@ plain w order labels = record {
   row = 0;
 }
 
--- The stroke of those chains that have the given order.
+-- Returns the stroke of those of the given chains that have the given order.
 abbrev pub made : Way → List Chain → ℕ → Drawn
 made w chains order = record {
   stroke = plain w order (length (of_order order chains));
   chains = of_order order chains;
 }
 
--- A stroke for each order of these chains, in the order of their first occurrence.
+-- Returns a stroke for each order of these chains, in the order of their first occurrence.
 abbrev pub grouped : Way → List Chain → List Drawn
 grouped w chains = map (made w chains) (orders (firsts [] chains))
 
--- The strokes from g to p in a round: first what a loyal general would send too, then what he would not send, then what
--- he would send but g does not.
+-- Returns the strokes from g to p in a round: first what a loyal general would send too, then what he would not send,
+-- then what he would send but g does not.
 abbrev pub way : ℕ → ℕ → ℕ → Bool → Bool → Way
 way round p g sent differs = record { round = round; teller = g; receiver = p; sent = sent; differs = differs }
 
@@ -61,11 +61,11 @@ told_between round p g sent owed =
 abbrev pub between : Chronicle → ℕ → ℕ → ℕ → List Drawn
 between c round p g = told_between round p g (sent_to c round g p) (owed_to c round g p)
 
--- All strokes to p in a round, sorted by sender.
+-- Returns all strokes to p in a round, sorted by sender.
 abbrev pub told_to : Chronicle → ℕ → ℕ → List Drawn
 told_to c round p = flat_map (between c round p) (range_with_len 0 c.scenario.generals)
 
--- A stroke with the given row number, and strokes with rows numbered from `row` on.
+-- Returns a stroke with the given row number, and strokes with rows numbered from `row` on.
 abbrev pub in_row : Drawn → ℕ → Drawn
 in_row x row = record { stroke = record x.stroke { row = row }; chains = x.chains }
 
@@ -80,25 +80,25 @@ is_lie x = x.stroke.differs
 abbrev pub sender : Drawn → ℕ
 sender x = x.stroke.teller
 
--- The list of p for a round. It is sorted by sender, or has its lies first if it is too long to be drawn.
+-- Returns the list of p for a round. It is sorted by sender, or has its lies first if it is too long to be drawn.
 abbrev pub list_to : Chronicle → ℕ → ℕ → List Drawn
 list_to c round p = numbered (arranged is_lie sender (told_to c round p)) 0
 
--- All strokes of a round, by receiver.
+-- Returns all strokes of a round, by receiver.
 abbrev pub in_round : Chronicle → ℕ → List Drawn
 in_round c round = flat_map (list_to c round) (range_with_len 0 c.scenario.generals)
 
--- All strokes of the round that follows the first `before` rounds, and all strokes of a campaign.
+-- Returns all strokes of the round that follows the first `before` rounds, and all strokes of a campaign.
 abbrev pub behind : Chronicle → ℕ → List Drawn
 behind c before = in_round c (before + 1)
 
 unfoldable pub strokes_of : Chronicle → List Drawn
 strokes_of c = flat_map (behind c) (range_with_len 0 (c.scenario.bound + 1))
 
--- The strokes that are drawn.
+-- Returns the strokes that are drawn.
 abbrev pub with_rows : List Drawn → List Drawn
 with_rows xs = filter (λ x. has_row x.stroke) xs
 
--- The strokes without their chains.
+-- Returns the strokes without their chains.
 abbrev pub bare : List Drawn → List Stroke
 bare xs = map (λ x. x.stroke) xs

@@ -6,7 +6,7 @@ use Rattle.show_diagram.specs.Words.{in_full}
 use Rattle.signed.specs.Chains.{Chain}
 use Rattle.show_chains.specs.Strokes.{Drawn}
 
--- A chain: its order, and its signers as a chronicle writes them.
+-- Writes a chain: its order, and its signers as a chronicle writes them.
 abbrev pub chain_words : Chain → List ℕ
 chain_words ch = decimal ch.order ++ codes " signed " ++ dotted ch.signers
 
@@ -32,18 +32,19 @@ differs_words false told = []
 differs_words true None = codes "; a loyal general would"
 differs_words true (Some order) = codes "; a loyal general would not"
 
--- The full words of a stroke: the sender, the receiver, all chains, and whether a loyal general would do otherwise.
+-- Writes the full words of a stroke: the sender, the receiver, all chains, and whether a loyal general would do
+-- otherwise.
 abbrev pub stroke_words : Drawn → List ℕ
 stroke_words x =
     lead_words x.stroke.teller x.stroke.receiver x.stroke.told
     ++ chains_words x.chains
     ++ differs_words x.stroke.differs x.stroke.told
 
--- A sentence with all chains of a stroke that has several. The receiver's column has only the first of them.
+-- Writes a sentence with all chains of a stroke that has several. The receiver's column has only the first of them.
 abbrev pub several_words : Drawn → List ℕ
 several_words x = if nat_lt 1 x.stroke.labels then in_full (stroke_words x) else []
 
--- The words of a stroke in the receiver's column: its first chain, and the number of its chains.
+-- Writes the words of a stroke in the receiver's column: its first chain, and the number of its chains.
 abbrev pub short_words : Chain → List ℕ
 short_words ch = decimal ch.order ++ codes " by " ++ dotted ch.signers
 

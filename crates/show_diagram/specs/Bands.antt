@@ -11,7 +11,7 @@ use Rattle.show_diagram.specs.Words.{access_words, kind, outline, row_words, sho
 unfoldable pub round_words : ℕ → List ℕ
 round_words round = codes "round " ++ decimal round
 
--- The vertical line of a general through the band, and that of the board if there are accesses.
+-- Writes the vertical line of a general through the band, and that of the board if there are accesses.
 abbrev pub life : ℕ → ℕ → List ℕ
 life x height = line (codes "life") x 0 x height
 
@@ -25,7 +25,7 @@ board_line n (a ∷ accesses) height = life (board n) height
 abbrev pub lives : ℕ → List Access → ℕ → List ℕ
 lives n accesses height = board_line n accesses height ++ flat_map (general_life height) (range_with_len 0 n)
 
--- An access: a point, a line to the board at distance `far` to the right, and the words next to the board.
+-- Writes an access: a point, a line to the board at distance `far` to the right, and the words next to the board.
 abbrev pub point : ℕ → Access → List ℕ
 point far a =
     title (access_words a) ++ line (codes "access") 0 0 far 0
@@ -36,34 +36,34 @@ abbrev pub access_at : ℕ → ℕ → ℕ → Access → List ℕ
 access_at n top round a =
     if a.round == round then group_at (column a.general) top (point (board n - column a.general) a) else []
 
--- The accesses of a round, in the order in which the board received them. The first of the list has the given place
--- among all accesses.
+-- Writes the accesses of a round, in the order in which the board received them. The first of the list has the given
+-- place among all accesses.
 unfoldable pub accesses_from : ℕ → List Access → ℕ → ℕ → List Access → List ℕ
 accesses_from n all round place [] = []
 accesses_from n all round place (a ∷ rest) =
     access_at n (access_top all round place) round a ++ accesses_from n all round (place + 1) rest
 
--- The line of a stroke from its sender to its receiver. Its width is its number of labels, up to 5.
+-- Writes the line of a stroke from its sender to its receiver. Its width is its number of labels, up to 5.
 abbrev pub stroke_line : ℕ → ℕ → Stroke → List ℕ
 stroke_line n top st =
     stroke_at (kind st) (min st.labels 5) (column st.teller) top (column st.receiver)
     (top + 16 + 16 * n + 6 * min st.row 8) (stroke_words st)
 
--- The row of an oral campaign's stroke in its receiver's list.
+-- Writes the row of an oral campaign's stroke in its receiver's list.
 abbrev pub row : ℕ → Stroke → List ℕ
 row top st =
     group_at (column st.receiver) (top + 12 + 18 * st.row)
     (title (stroke_words st) ++ mark (kind st) (outline st) ++ text_at (codes "small") 12 4 (row_words st))
 
--- The line and the row of an oral campaign's stroke, if it belongs to this round. The strokes begin at the height
--- `top`, and the lists at `below`.
+-- Writes the line and the row of an oral campaign's stroke, if it belongs to this round. The strokes begin at the
+-- height `top`, and the lists at `below`.
 abbrev pub drawn_at : ℕ → ℕ → ℕ → ℕ → Stroke → List ℕ
 drawn_at n top below round st = if st.round == round then stroke_line n top st ++ row below st else []
 
 abbrev pub drawn : ℕ → List Access → ℕ → Stroke → List ℕ
 drawn n accesses round st = drawn_at n (fan_top accesses round) (rows_top n accesses round) round st
 
--- The contents of a round's band in a diagram of this width, then the band at its place after the first `before`
+-- Writes the contents of a round's band in a diagram of this width, then the band at its place after the first `before`
 -- rounds, then all bands.
 abbrev pub inside : ℕ → List Stroke → List Access → ℕ → ℕ → List ℕ
 inside n strokes accesses wide round =

@@ -17,7 +17,7 @@ abbrev pub decided_at : ℕ → Bool → ℕ → List ℕ
 decided_at g traitor order = group_at (column g) 24
     (mark (sort_of traitor) (shape_of traitor) ++ text_at (codes "name") 12 4 (decides_words order))
 
--- The index of a lieutenant's decision in the list of decisions, which leaves out the commander.
+-- Returns the index of a lieutenant's decision in the list of decisions, which leaves out the commander.
 abbrev pub place_of : ℕ → ℕ → ℕ
 place_of c g = if nat_lt g c then g else g - 1
 
@@ -31,7 +31,7 @@ decided s ds g = if g == s.commander then [] else decided_if g (is_traitor s g) 
 abbrev pub decided_all : Scenario → List ℕ → List ℕ
 decided_all s ds = flat_map (decided s ds) (range_with_len 0 s.generals)
 
--- The sentences of a verdict, in diagrams and on pages. The sentence about the bound is that of diagrams of oral
+-- Writes the sentences of a verdict, in diagrams and on pages. The sentence about the bound is that of diagrams of oral
 -- messages.
 abbrev pub alike_words : Bool → List ℕ
 alike_words true = codes "The loyal lieutenants decide alike."

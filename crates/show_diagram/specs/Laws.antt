@@ -20,7 +20,7 @@ use Rattle.show_diagram.specs.Order.{most_rows}
 use Rattle.show_diagram.specs.Svg.{svg_text}
 use Rattle.show_diagram.specs.Words.{kind}
 
--- Each diagram is one XML element, followed by a line feed.
+-- States that each diagram is one XML element, followed by a line feed.
 abbrev pub DiagramsAreElements : Type 0
 DiagramsAreElements =
     (t : MessageTable) (c : Chronicle) → (text : List ℕ) × IsElement text × (svg_text t c ≡ text ++ codes "\n")
@@ -31,16 +31,16 @@ pub record IsFinishedTable (s : Scenario) (events : List Event) (t : MessageTabl
   pub finished : IsFinished (run (opening s) events)
   pub table : IsTableOf (messages (run (opening s) events).closed) s.generals s.bound s.commander s.rule t
 
--- The stroke is drawn as that of an honest relay, and not in red.
+-- States that the stroke is drawn as that of an honest relay, and not in red.
 abbrev pub IsDrawnHonest : Stroke → Type 0
 IsDrawnHonest stroke = (stroke.differs ≡ false) × (kind stroke ≡ codes "told")
 
--- All strokes of a loyal general are drawn as honest, so that only strokes of traitors are red.
+-- States that all strokes of a loyal general are drawn as honest, so that only strokes of traitors are red.
 abbrev pub BlamesTraitors : Scenario → MessageTable → Type 0
 BlamesTraitors s t = All (λ stroke. is_traitor s stroke.teller ≡ false → IsDrawnHonest stroke) (strokes_of t s.order)
 
--- In a finished campaign only strokes of traitors are red. A message has `differs` false exactly if it is as it should
--- be: the commander sends his order, and another general sends what he received.
+-- States that in a finished campaign only strokes of traitors are red. A message has `differs` false exactly if it is
+-- as it should be: the commander sends his order, and another general sends what he received.
 pub record OnlyTraitorsDiffer : Type 0 where
   pub drawn : (s : Scenario) (events : List Event) (t : MessageTable) → IsFinishedTable s events t →
       BlamesTraitors s t
@@ -50,7 +50,8 @@ pub record OnlyTraitorsDiffer : Type 0 where
       ((telling_at t w j p).differs ≡ false)
       ↔ (told t.messages (w ++ j ∷ []) p ≡ Some (taken (told t.messages) w j))
 
--- The message that a stroke stands for at each of its labels, and whether a stroke is the one for a message to p.
+-- Returns the message that a stroke stands for at each of its labels, and whether a stroke is the one for a message to
+-- p.
 abbrev pub told_by : Stroke → Telling
 told_by stroke = record { round = stroke.round; teller = stroke.teller; told = stroke.told; differs = stroke.differs }
 
@@ -71,11 +72,11 @@ pub record StrokesAreExact : Type 0 where
   pub wide : (t : MessageTable) (order : ℕ) →
       All (λ stroke. stroke.labels ≡ labels_told t order stroke) (strokes_of t order)
 
--- The list of what a lieutenant received in a round.
+-- Returns the list of what a lieutenant received in a round.
 abbrev pub list_in : MessageTable → ℕ → ℕ → ℕ → List Stroke
 list_in t order round p = list_to round p (strokes_of t order)
 
--- The strokes of a lieutenant's list of a round that are drawn.
+-- Returns the strokes of a lieutenant's list of a round that are drawn.
 abbrev pub drawn_in : MessageTable → ℕ → ℕ → ℕ → List Stroke
 drawn_in t order round p = list_to round p (with_rows (strokes_of t order))
 
@@ -85,9 +86,9 @@ has_lied stroke = stroke.differs
 abbrev pub has_lied_as : ℕ → Stroke → Bool
 has_lied_as j stroke = stroke.differs && stroke.teller == j
 
--- The rows of a lieutenant's list are numbered, and the first are drawn. If a lie is left out, no honest row is drawn.
--- Each liar has a row that is drawn. The strokes that are drawn and those that are counted as left out are all strokes,
--- and the same holds for the lies.
+-- States that the rows of a lieutenant's list are numbered, and the first are drawn. If a lie is left out, no honest
+-- row is drawn. Each liar has a row that is drawn. The strokes that are drawn and those that are counted as left out
+-- are all strokes, and the same holds for the lies.
 pub record RowsAreExact : Type 0 where
   pub numbered : (t : MessageTable) (order round p : ℕ) → p < t.generals → p ≢ t.commander →
       map (λ (stroke : Stroke). stroke.row) (list_in t order round p)

@@ -7,11 +7,11 @@ use Rattle.show_diagram.specs.Words.{shown_words}
 abbrev pub column : ℕ → ℕ
 column g = 120 + 208 * g
 
--- The x coordinate of the board's column, to the right of the columns of n generals.
+-- Returns the x coordinate of the board's column, to the right of the columns of n generals.
 abbrev pub board : ℕ → ℕ
 board n = 120 + 208 * n
 
--- The width of an access text to the right of the board: 28 units, and 7 for each byte.
+-- Returns the width of an access text to the right of the board: 28 units, and 7 for each byte.
 abbrev pub room : Access → ℕ
 room a = 28 + 7 * length (shown_words a)
 
@@ -19,7 +19,8 @@ abbrev pub widest : List Access → ℕ
 widest [] = 0
 widest (a ∷ accesses) = max (room a) (widest accesses)
 
--- The width of a diagram, which is at least 760 units, so that the words above and below its columns are not cut.
+-- Returns the width of a diagram, which is at least 760 units, so that the words above and below its columns are not
+-- cut.
 abbrev pub width : ℕ → List Access → ℕ
 width n accesses = max 760 (board n + widest accesses)
 
@@ -40,7 +41,7 @@ fan_top accesses round = 24 + 20 * count_by (is_in round) accesses
 abbrev pub rows_top : ℕ → List Access → ℕ → ℕ
 rows_top n accesses round = fan_top accesses round + 72 + 16 * n
 
--- The length of a round's longest list.
+-- Returns the length of a round's longest list.
 abbrev pub reach : ℕ → Stroke → ℕ
 reach round stroke = if stroke.round == round then stroke.row + 1 else 0
 
@@ -48,7 +49,7 @@ abbrev pub most : ℕ → List Stroke → ℕ
 most round [] = 0
 most round (stroke ∷ strokes) = max (reach round stroke) (most round strokes)
 
--- The height of a round's band, and the y coordinate at which the band after the first `rounds` rounds begins.
+-- Returns the height of a round's band, and the y coordinate at which the band after the first `rounds` rounds begins.
 abbrev pub height : ℕ → List Stroke → List Access → ℕ → ℕ
 height n strokes accesses round = rows_top n accesses round + 20 + 18 * most round strokes
 

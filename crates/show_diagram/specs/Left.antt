@@ -10,23 +10,24 @@ use Rattle.show_diagram.specs.Lists.{is_lie_to, is_to}
 use Rattle.show_diagram.specs.Order.{most_rows}
 use Rattle.show_diagram.specs.Shapes.{group_at, text_at, title}
 
--- The stroke is not drawn.
+-- Returns whether the stroke is not drawn.
 abbrev pub is_past : Stroke → Bool
 is_past stroke = nat_le most_rows stroke.row
 
--- One of these strokes is not drawn.
+-- Returns whether one of these strokes is not drawn.
 abbrev pub is_cut : List Stroke → Bool
 is_cut strokes = list_any is_past strokes
 
--- The stroke belongs to the list of p for a round, and is not drawn. The second definition adds that it differs from
--- what a loyal general would send.
+-- Returns whether the stroke belongs to the list of p for a round, and is not drawn. The second definition adds that it
+-- differs from what a loyal general would send.
 abbrev pub is_left : ℕ → ℕ → Stroke → Bool
 is_left round p stroke = is_past stroke && is_to round p stroke
 
 abbrev pub is_left_lie : ℕ → ℕ → Stroke → Bool
 is_left_lie round p stroke = is_past stroke && is_lie_to round p stroke
 
--- The words below a list for the numbers of strokes and of lies that are left out, and the sentence in their title.
+-- Writes the words below a list for the numbers of strokes and of lies that are left out, and the sentence in their
+-- title.
 unfoldable pub left_words : ℕ → ℕ → List ℕ
 left_words left lies = codes "and " ++ (decimal left ++ (codes " more, " ++ (decimal lies ++ codes " dishonest")))
 
@@ -36,7 +37,7 @@ left_in_full p round left lies = codes "general "
     ++ (decimal round ++ (codes ", not drawn: in "
     ++ (decimal lies ++ codes " of them a loyal general would do otherwise")))))))
 
--- The note for readers who do not see the diagram, if a stroke is left out.
+-- Writes the note for readers who do not see the diagram, if a stroke is left out.
 unfoldable pub cut_words : List ℕ
 cut_words = codes " A list has at most " ++ (decimal most_rows
     ++ (codes " rows. A longer list begins with the first row of each general in which a "
@@ -47,7 +48,7 @@ abbrev pub more_told : ℕ → ℕ → ℕ → ℕ → List ℕ
 more_told p round left lies =
     title (left_in_full p round left lies) ++ text_at (codes "small") 12 4 (left_words left lies)
 
--- The text in the column of p at the height `top`, unless nothing is left out.
+-- Writes the text in the column of p at the height `top`, unless nothing is left out.
 abbrev pub more_at : ℕ → ℕ → ℕ → ℕ → ℕ → List ℕ
 more_at top round p left lies =
     if left == 0 then [] else group_at (column p) top (more_told p round left lies)
@@ -56,16 +57,17 @@ abbrev pub more_of : List Stroke → ℕ → ℕ → ℕ → List ℕ
 more_of strokes top round p =
     more_at top round p (count_by (is_left round p) strokes) (count_by (is_left_lie round p) strokes)
 
--- The y coordinate of the text below the lists of the band after the first `before` rounds, if these strokes are drawn.
+-- Returns the y coordinate of the text below the lists of the band after the first `before` rounds, if these strokes
+-- are drawn.
 abbrev pub more_top : ℕ → List Stroke → List Access → ℕ → ℕ
 more_top n drawn accesses before =
     top_of n drawn accesses before + rows_top n accesses (before + 1) + (12 + 18 * most_rows)
 
--- The texts in the columns of all generals.
+-- Writes the texts in the columns of all generals.
 abbrev pub mores_of : ℕ → List Stroke → ℕ → ℕ → List ℕ
 mores_of n strokes top round = flat_map (more_of strokes top round) (range_with_len 0 n)
 
--- The texts of one band, and of all bands.
+-- Writes the texts of one band, and of all bands.
 abbrev pub mores_in : ℕ → List Stroke → List Stroke → List Access → ℕ → List ℕ
 mores_in n strokes drawn accesses before =
     mores_of n strokes (more_top n drawn accesses before) (before + 1)

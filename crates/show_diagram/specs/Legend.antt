@@ -9,7 +9,7 @@ use Rattle.show_diagram.specs.declared.stroke.Stroke.{Stroke}
 use Rattle.show_diagram.specs.Shapes.{group_at, mark, said_if, shape_of, stroke_at, text_at}
 use Rattle.show_diagram.specs.Words.{outline_of}
 
--- Which strokes have a circle, a diamond, and a cross.
+-- Return whether a stroke has a circle, a diamond, or a cross.
 abbrev pub has_circle : Stroke → Bool
 has_circle stroke = not stroke.differs
 
@@ -22,7 +22,7 @@ has_cross stroke = stroke.differs && not (is_some stroke.told)
 abbrev pub traitors : Scenario → ℕ
 traitors s = count_by (is_traitor s) (generals s.generals)
 
--- The marks that occur in the diagram of these strokes and accesses.
+-- Returns the marks that occur in the diagram of these strokes and accesses.
 abbrev pub marks_of : Scenario → List Access → List Stroke → DiagramMarks
 marks_of s accesses strokes = record {
   circle = list_any has_circle strokes;
@@ -47,7 +47,7 @@ rows marks = stroke_rows marks + one_if marks.square + one_if marks.loyal + one_
 abbrev pub foot_height : DiagramMarks → ℕ
 foot_height marks = 152 + 20 * rows marks
 
--- A sample stroke with its mark, or a mark without a stroke, and its meaning.
+-- Writes a sample stroke with its mark, or a mark without a stroke, and its meaning.
 abbrev pub meaning_at : ℕ → List ℕ → List ℕ → List ℕ → List ℕ
 meaning_at y kind outline words =
     group_at 120 y
@@ -56,14 +56,14 @@ meaning_at y kind outline words =
 abbrev pub shape_at : ℕ → List ℕ → List ℕ → List ℕ → List ℕ
 shape_at y kind outline words = group_at 172 y (mark kind outline ++ text_at (codes "small") 12 4 words)
 
--- The mark and its meaning in the row `place`, if the mark occurs in the diagram.
+-- Writes the mark and its meaning in the row `place`, if the mark occurs in the diagram.
 abbrev pub meaning_if : Bool → ℕ → List ℕ → List ℕ → List ℕ → List ℕ
 meaning_if stands place kind outline words = if stands then meaning_at (132 + 20 * place) kind outline words else []
 
 abbrev pub shape_if : Bool → ℕ → List ℕ → List ℕ → List ℕ → List ℕ
 shape_if stands place kind outline words = if stands then shape_at (132 + 20 * place) kind outline words else []
 
--- The meanings of a stroke that is as it should be, of one that differs, and of one that is missing.
+-- Writes the meanings of a stroke that is as it should be, of one that differs, and of one that is missing.
 abbrev pub stroke_meanings : DiagramMarks → List ℕ → List ℕ → List ℕ → List ℕ
 stroke_meanings marks told differs missing =
     meaning_if marks.circle 0 (codes "told key") (outline_of false None) told
@@ -71,7 +71,7 @@ stroke_meanings marks told differs missing =
     ++ meaning_if marks.cross (one_if marks.circle + one_if marks.diamond) (codes "none key") (outline_of true None)
     missing
 
--- The meanings of the marks of generals and accesses, in rows from `place` on.
+-- Writes the meanings of the marks of generals and accesses, in rows from `place` on.
 abbrev pub shape_meanings : DiagramMarks → ℕ → List ℕ
 shape_meanings marks place =
     shape_if marks.square place (codes "traitor key") (shape_of true) (codes "a traitor")
@@ -80,21 +80,21 @@ shape_meanings marks place =
     ++ shape_if marks.point (place + one_if marks.square + one_if marks.loyal) (codes "point key")
     (outline_of false None) (codes "an access to the board")
 
--- The meanings of all marks that occur, and of the width of a line.
+-- Writes the meanings of all marks that occur, and of the width of a line.
 abbrev pub legend_of : DiagramMarks → List ℕ → List ℕ → List ℕ → List ℕ → List ℕ
 legend_of marks told differs missing wide =
     stroke_meanings marks told differs missing
     ++ shape_meanings marks (stroke_rows marks)
     ++ text_at (codes "small") 120 (136 + 20 * rows marks) wide
 
--- The meanings of the marks of generals and accesses, for readers who do not see the diagram.
+-- Writes the meanings of the marks of generals and accesses, for readers who do not see the diagram.
 abbrev pub shape_key : DiagramMarks → List ℕ
 shape_key marks =
     said_if marks.point (codes " Above the lines are the accesses to the board, in its order.")
     ++ said_if marks.square (codes " Square: a traitor.")
     ++ said_if marks.loyal (codes " Circle at a name: a loyal general.")
 
--- The meanings of the marks in a campaign with oral messages.
+-- Writes the meanings of the marks in a campaign with oral messages.
 unfoldable pub told_meaning : List ℕ
 told_meaning = codes "sent as an honest relay sends it"
 

@@ -11,7 +11,7 @@ use Rattle.show_diagram.specs.declared.stroke.Stroke.{Stroke}
 use Rattle.show_diagram.specs.declared.told_order.Telling.{Telling}
 use Rattle.show_diagram.specs.Order.{arranged, firsts, most_rows}
 
--- Both messages make one row: the same general sent the same in the same round.
+-- Returns whether two messages make one row: the same general sent the same in the same round.
 abbrev pub is_same : Telling → Telling → Bool
 is_same one other =
     one.round == other.round
@@ -24,11 +24,11 @@ is_lie telling = telling.differs
 abbrev pub teller : Telling → ℕ
 teller telling = telling.teller
 
--- The number of labels for which a message was sent, by these counts.
+-- Returns the number of labels for which a message was sent, by these counts.
 abbrev pub count_of : HashMap Telling ℕ (BuildHasherDefault FoldHasher) → Telling → ℕ
 count_of counts telling = unwrap_or (get is_same counts telling) 0
 
--- The stroke to p for a message that was sent for `labels` labels, in the given row.
+-- Returns the stroke to p for a message that was sent for `labels` labels, in the given row.
 abbrev pub stroke_of : ℕ → Telling → ℕ → ℕ → Stroke
 stroke_of p telling labels row = record {
   round = telling.round;
@@ -40,8 +40,8 @@ stroke_of p telling labels row = record {
   row = row;
 }
 
--- The strokes to p for these messages. `labels` gives the number of labels of each, and the rows are numbered from
--- `row` on.
+-- Returns the strokes to p for these messages. `labels` gives the number of labels of each, and the rows are numbered
+-- from `row` on.
 unfoldable pub strokes_from : ℕ → (Telling → ℕ) → ℕ → List Telling → List Stroke
 strokes_from p labels row [] = []
 strokes_from p labels row (x ∷ xs) = stroke_of p x (labels x) row ∷ strokes_from p labels (row + 1) xs
@@ -49,25 +49,25 @@ strokes_from p labels row (x ∷ xs) = stroke_of p x (labels x) row ∷ strokes_
 abbrev pub is_in : ℕ → Telling → Bool
 is_in round telling = telling.round == round
 
--- The number of labels for which this message was sent, among all the messages.
+-- Returns the number of labels for which this message was sent, among all the messages.
 abbrev pub labels_of : List Telling → Telling → ℕ
 labels_of tellings x = count_by (is_same x) tellings
 
--- The list of a lieutenant for one round.
+-- Returns the list of a lieutenant for one round.
 abbrev pub list_of : ℕ → List Telling → ℕ → List Stroke
 list_of p tellings round =
     strokes_from p (labels_of tellings) 0
     (arranged is_lie teller (filter (is_in round) (firsts is_same [] tellings)))
 
--- The list of the round that follows the first `before` rounds, and the lists of the first `rounds` rounds.
+-- Returns the list of the round that follows the first `before` rounds, and the lists of the first `rounds` rounds.
 abbrev pub list_behind : ℕ → List Telling → ℕ → List Stroke
 list_behind p tellings before = list_of p tellings (before + 1)
 
 abbrev pub lists_of : ℕ → List Telling → ℕ → List Stroke
 lists_of p tellings rounds = flat_map (list_behind p tellings) (range_with_len 0 rounds)
 
--- The lists of a general, or none if he is the commander, and the lists of all generals. `tellings` gives what each
--- received.
+-- Returns the lists of a general, or none if he is the commander, and the lists of all generals. `tellings` gives what
+-- each received.
 abbrev pub lists_to : ℕ → ℕ → (ℕ → List Telling) → ℕ → List Stroke
 lists_to c rounds tellings p = if p == c then [] else lists_of p (tellings p) rounds
 

@@ -9,18 +9,18 @@ text_start class x y = codes "<text class=\""
 abbrev pub text_end : List ℕ
 text_end = codes "</text>\n"
 
--- Words at the point (x, y).
+-- Writes words at the point (x, y).
 abbrev pub text_at : List ℕ → ℕ → ℕ → List ℕ → List ℕ
 text_at class x y words = text_start class x y ++ words ++ text_end
 
--- A line from (x, y) to (u, v).
+-- Writes a line from (x, y) to (u, v).
 unfoldable pub line : List ℕ → ℕ → ℕ → ℕ → ℕ → List ℕ
 line class x y u v =
     codes "<path class=\"" ++ (class
     ++ (codes "\" d=\"M" ++ (decimal x
     ++ (codes " " ++ (decimal y ++ (codes "L" ++ (decimal u ++ (codes " " ++ (decimal v ++ codes "\"/>\n")))))))))
 
--- The class and the width of a stroke, and its path from (x, y) to (u, v).
+-- Writes the class and the width of a stroke, and its path from (x, y) to (u, v).
 unfoldable pub stroke_open : List ℕ → ℕ → List ℕ
 stroke_open kind width =
     codes "<path class=\"stroke " ++ (kind ++ (codes "\" stroke-width=\"" ++ (decimal width ++ codes "\" d=\"")))
@@ -42,11 +42,11 @@ title_start = codes "<title>"
 abbrev pub title_end : List ℕ
 title_end = codes "</title>\n"
 
--- The title of an element, which a reader sees by pointing at it.
+-- Writes the title of an element, which a reader sees by pointing at it.
 abbrev pub title : List ℕ → List ℕ
 title words = title_start ++ words ++ title_end
 
--- A stroke of this width, with its title.
+-- Writes a stroke of this width, with its title.
 abbrev pub stroke_at : List ℕ → ℕ → ℕ → ℕ → ℕ → ℕ → List ℕ → List ℕ
 stroke_at kind width x y u v words = stroke_start kind width x y u v ++ title words ++ stroke_end
 
@@ -56,15 +56,15 @@ group_start x y = codes "<g transform=\"translate(" ++ (decimal x ++ (codes " " 
 abbrev pub group_end : List ℕ
 group_end = codes "</g>\n"
 
--- Elements that are moved to the point (x, y).
+-- Writes elements that are moved to the point (x, y).
 abbrev pub group_at : ℕ → ℕ → List ℕ → List ℕ
 group_at x y inside = group_start x y ++ inside ++ group_end
 
--- A mark with this outline.
+-- Writes a mark with this outline.
 unfoldable pub mark : List ℕ → List ℕ → List ℕ
 mark kind outline = codes "<path class=\"mark " ++ (kind ++ (codes "\" d=\"" ++ (outline ++ codes "\"/>\n")))
 
--- A general's shape: a square for a traitor, and a circle for a loyal general.
+-- Returns the shape of a general: a square for a traitor, and a circle for a loyal general.
 abbrev pub sort_of : Bool → List ℕ
 sort_of true = codes "traitor"
 sort_of false = codes "loyal"
@@ -73,6 +73,6 @@ abbrev pub shape_of : Bool → List ℕ
 shape_of true = codes "M-6-6h12v12h-12z"
 shape_of false = codes "M0-6a6 6 0 0 1 0 12a6 6 0 0 1 0-12z"
 
--- The words, if the condition holds.
+-- Writes the words if the condition holds, and otherwise nothing.
 unfoldable pub said_if : Bool → List ℕ → List ℕ
 said_if stands words = if stands then words else []

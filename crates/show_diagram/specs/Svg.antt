@@ -18,7 +18,7 @@ use Rattle.show_diagram.specs.Lists.{with_rows}
 use Rattle.show_diagram.specs.Shapes.{group_at, mark, said_if, shape_of, sort_of, text_at, title}
 use Rattle.show_diagram.specs.Words.{copied_words, general_words, role_words}
 
--- The text with which every diagram begins, and its size, with a view box of the same units.
+-- Writes the text with which every diagram begins, and its size, with a view box of the same units.
 unfoldable pub start : List ℕ
 start = codes "<svg xmlns=\"http://www.w3.org/2000/svg\" role=\"graphics-document document\""
 
@@ -28,20 +28,20 @@ box_words w h =
     ++ (codes "\" height=\""
     ++ (decimal h ++ (codes "\" viewBox=\"0 0 " ++ (decimal w ++ (codes " " ++ (decimal h ++ codes "\">\n")))))))
 
--- A description of a campaign: its number of generals, its bound, its commander and his order.
+-- Writes a description of a campaign: its number of generals, its bound, its commander and his order.
 unfoldable pub campaign_words : ℕ → ℕ → ℕ → ℕ → List ℕ
 campaign_words n m c order =
     decimal n ++ (codes " generals, traitors provided for: "
     ++ (decimal m ++ (codes "; commander " ++ (decimal c ++ (codes " was given order " ++ decimal order)))))
 
--- The start of the description for readers who do not see the diagram. It explains columns, bands and lines.
+-- Writes the start of the description for readers who do not see the diagram. It explains columns, bands and lines.
 unfoldable pub key_start : List ℕ
 key_start =
     codes "<desc>There is a column for each general, and a band for each round, from above. In a band a line leads "
     ++ codes "down from the sender of an order to its receiver. The width of the line is its number of labels, up to 5. "
     ++ codes "Below, in the column of the receiver, is what he received."
 
--- The meaning of each mark of strokes that occurs in an oral campaign's diagram.
+-- Writes the meaning of each mark of strokes that occurs in an oral campaign's diagram.
 abbrev pub stroke_key : DiagramMarks → List ℕ
 stroke_key marks =
     said_if marks.circle (codes " Circle and plain line: as an honest relay sends it.")
@@ -56,7 +56,7 @@ description accesses marks cut =
     key_start ++ stroke_key marks ++ shape_key marks ++ said_if cut cut_words ++ flat_map copied_words accesses
     ++ key_end
 
--- The style sheet: for paper, and for a dark background if the reader prefers one.
+-- Writes the style sheet: for paper, and for a dark background if the reader prefers one.
 unfoldable pub look : List ℕ
 look =
     codes "<style>svg{background:#fff}text{fill:#111;font:13px sans-serif}.head{font:bold 16px sans-serif}"
@@ -72,13 +72,13 @@ look =
     ++ codes ".mark.point{fill:#6cb8f5;stroke:#6cb8f5}.stroke.lie,.stroke.none,.mark.none{stroke:#ff8095}"
     ++ codes ".mark.lie{fill:#ff8095;stroke:#ff8095}.mark.traitor{fill:#ff8095}}</style>\n"
 
--- What comes before the columns: the title, the description, the style sheet and the headline.
+-- Writes what comes before the columns: the title, the description, the style sheet and the headline.
 abbrev pub head : Scenario → List Access → DiagramMarks → Bool → List ℕ
 head s accesses marks cut =
     title (campaign_words s.generals s.bound s.commander s.order) ++ description accesses marks cut ++ look
     ++ text_at (codes "head") 16 28 (campaign_words s.generals s.bound s.commander s.order)
 
--- The heads of the columns, which say to whom each belongs.
+-- Writes the heads of the columns, which say to whom each belongs.
 abbrev pub general_head : ℕ → Bool → Bool → List ℕ
 general_head g commander traitor =
     group_at (column g) 50
@@ -95,11 +95,11 @@ board_head n (a ∷ accesses) = text_at (codes "name") (board n) 54 (codes "boar
 abbrev pub heads : Scenario → List Access → List ℕ
 heads s accesses = board_head s.generals accesses ++ flat_map (head_of s) (range_with_len 0 s.generals)
 
--- A diagram of this width and height, with these elements inside.
+-- Writes a diagram of this width and height, with these elements inside.
 abbrev pub picture : ℕ → ℕ → List ℕ → List ℕ
 picture w h inside = start ++ box_words w h ++ inside ++ codes "</svg>\n"
 
--- The diagram of an oral campaign with these strokes, of which only those in `drawn` are drawn.
+-- Writes the diagram of an oral campaign with these strokes, of which only those in `drawn` are drawn.
 abbrev pub svg_with : List Stroke → List Stroke → Chronicle → List ℕ
 svg_with strokes drawn c =
     let s = c.scenario in
@@ -112,6 +112,6 @@ svg_with strokes drawn c =
     ++ mores s.generals strokes drawn c.accesses (s.bound + 1)
     ++ foot c marks wide bottom)
 
--- The diagram of a chronicle. t is the message table of the chronicle's letters.
+-- Writes the diagram of a chronicle. t is the message table of the chronicle's letters.
 unfoldable pub svg_text : MessageTable → Chronicle → List ℕ
 svg_text t c = svg_with (strokes_of t c.scenario.order) (with_rows (strokes_of t c.scenario.order)) c

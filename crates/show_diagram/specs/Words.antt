@@ -20,8 +20,8 @@ differs_words false = []
 unfoldable pub tells_words : ℕ → ℕ → List ℕ
 tells_words teller p = codes "general " ++ (decimal teller ++ (codes " sends general " ++ (decimal p ++ codes ": ")))
 
--- The full words of a stroke: the sender, the receiver, the order, the number of labels, and whether an honest relay
--- would send something else.
+-- Writes the full words of a stroke: the sender, the receiver, the order, the number of labels, and whether an honest
+-- relay would send something else.
 abbrev pub stroke_words : Stroke → List ℕ
 stroke_words stroke = tells_words stroke.teller stroke.receiver ++ order_words stroke.told ++ labels_words stroke.labels
     ++ differs_words stroke.differs
@@ -29,12 +29,12 @@ stroke_words stroke = tells_words stroke.teller stroke.receiver ++ order_words s
 unfoldable pub from_words : ℕ → List ℕ
 from_words teller = codes "from " ++ (decimal teller ++ codes ": ")
 
--- The words of a stroke in the receiver's column: the sender, the order and the number of labels.
+-- Writes the words of a stroke in the receiver's column: the sender, the order and the number of labels.
 abbrev pub row_words : Stroke → List ℕ
 row_words stroke = from_words stroke.teller ++ order_words stroke.told ++ labels_words stroke.labels
 
--- The class and the outline of a stroke. It has a circle if an honest relay would send the same, a diamond if it is a
--- lie, and a cross if nothing was sent where something should have been sent.
+-- Writes the class and the outline of a stroke. It has a circle if an honest relay would send the same, a diamond if it
+-- is a lie, and a cross if nothing was sent where something should have been sent.
 abbrev pub kind_of : Bool → Option ℕ → List ℕ
 kind_of false told = codes "told"
 kind_of true (Some order) = codes "lie"
@@ -51,18 +51,18 @@ outline_of true None = codes "M-5-5L5 5M5-5L-5 5"
 abbrev pub outline : Stroke → List ℕ
 outline stroke = outline_of stroke.differs stroke.told
 
--- A piece of a sentence, and the number whose place it names.
+-- Writes a piece of a sentence, and the number whose place it names.
 abbrev pub piece_words : List ℕ → List ℕ × ℕ → List ℕ
 piece_words numbers piece = piece.0 ++ decimal (slice_index_or numbers piece.1 0)
 
--- The request of an access to the board, as a sentence.
+-- Writes the request of an access to the board, as a sentence.
 abbrev pub asked_words : Request → List ℕ
 asked_words request = flat_map (piece_words (numbers_asked request)) (row_asked request).sentence
 
 abbrev pub word_words : ℕ → List ℕ
 word_words word = codes " " ++ decimal word
 
--- The words of the board's answer.
+-- Writes the words of the board's answer.
 abbrev pub answered_words : List ℕ → List ℕ
 answered_words words = flat_map word_words words
 
@@ -72,22 +72,23 @@ answer_words words = codes "; answer" ++ answered_words words
 abbrev pub general_words : ℕ → List ℕ
 general_words g = codes "general " ++ decimal g
 
--- The full words of an access: the general, his request and the answer.
+-- Writes the full words of an access: the general, his request and the answer.
 abbrev pub access_words : Access → List ℕ
 access_words a = general_words a.general ++ codes " " ++ asked_words a.request ++ answer_words a.reply
 
 unfoldable pub is_copy : Request → Bool
 is_copy request = (row_asked request).copies
 
--- The words of an access next to the board. They leave out its general, and the answer of a request that copies words.
+-- Writes the words of an access next to the board. They leave out its general, and the answer of a request that copies
+-- words.
 abbrev pub shown_words : Access → List ℕ
 shown_words a = asked_words a.request ++ (if is_copy a.request then [] else answer_words a.reply)
 
--- A sentence of the description with words for which the diagram has no room.
+-- Writes a sentence of the description with words for which the diagram has no room.
 abbrev pub in_full : List ℕ → List ℕ
 in_full words = codes " In full: " ++ words ++ codes "."
 
--- The sentence with the full words of an access that copies words, and nothing for any other access.
+-- Writes the sentence with the full words of an access that copies words, and nothing for any other access.
 abbrev pub copied_words : Access → List ℕ
 copied_words a = if is_copy a.request then in_full (access_words a) else []
 

@@ -32,7 +32,7 @@ use Rattle.show_page.specs.Trees.{tree_told}
 
 -- ---- headings
 
--- The heading of a scenario with a story, or without one.
+-- Writes the heading of a scenario with a story, or without one.
 unfoldable pub scenario_heading : List ℕ → List ℕ
 scenario_heading [] = codes "Scenario"
 scenario_heading (c ∷ cs) = codes "Story and scenario"
@@ -81,19 +81,19 @@ picture_hint =
 
 -- ---- sections
 
--- The story of a scenario, if there is one.
+-- Writes the story of a scenario, if there is one.
 abbrev pub story_told : List ℕ → List ℕ
 story_told [] = []
 story_told (c ∷ cs) = lines (c ∷ cs)
 
--- The replacement of a scenario for which there is no room: the story, if there is room for it, and where to find the
--- text.
+-- Writes the replacement of a scenario for which there is no room: the story, if there is room for it, and where to
+-- find the text.
 abbrev pub scenario_instead : List ℕ → List ℕ
 scenario_instead text =
     fitted room_for_story scenario_printer (story_told (story text)) ++ over room_for_scenario scenario_printer
 
--- The scenario as it is written, with its story set apart. If its text is longer than all sections together may be, it
--- is replaced at once.
+-- Writes the scenario as it is written, with its story set apart. If its text is longer than all sections together may
+-- be, it is replaced at once.
 abbrev pub scenario_told : List ℕ → List ℕ
 scenario_told text =
     if nat_lt room_for_sections (length text)
@@ -108,7 +108,7 @@ scenario_section text = record {
   instead = scenario_instead text;
 }
 
--- The schedule by which the campaign was played, unless the campaign comes from a chronicle.
+-- Writes the schedule by which the campaign was played, unless the campaign comes from a chronicle.
 abbrev pub schedule_told : List (List Repeat) → List ℕ
 schedule_told schedule =
     if list_all (λ line. length line == 0) schedule
@@ -122,7 +122,7 @@ course_told (Some schedule) = schedule_told schedule
 abbrev pub schedule_section : Option (List (List Repeat)) → Section
 schedule_section schedule = roomed schedule_heading room_for_schedule schedule_printer (course_told schedule)
 
--- The program of a traitor, and what the verifier knows of it, if the program is short enough.
+-- Writes the program of a traitor, and what the verifier knows of it, if the program is short enough.
 abbrev pub general_name : ℕ → List ℕ
 general_name g = codes "General " ++ decimal g
 
@@ -142,7 +142,7 @@ program_if room g (Some program) = program_told room g program
 abbrev pub program_part : ℕ → Scenario → ℕ → List ℕ
 program_part room s g = program_if room g (program_of s g)
 
--- The program of each traitor, which may take `room` bytes.
+-- Writes the program of each traitor, which may take `room` bytes.
 abbrev pub each_program : ℕ → Scenario → List ℕ
 each_program room s = flat_map (program_part room s) (range_with_len 0 s.generals)
 
@@ -153,7 +153,7 @@ abbrev pub programs_told : List ℕ → List ℕ
 programs_told [] = paragraph no_programs
 programs_told (c ∷ cs) = c ∷ cs
 
--- The replacement if there is no room for all programs, in which each program has its share.
+-- Writes the replacement if there is no room for all programs, in which each program has its share.
 abbrev pub programs_shared : Scenario → ℕ → List ℕ
 programs_shared s bytes = if nat_lt room_for_programs bytes then each_program (share s.generals) s else []
 
@@ -182,8 +182,8 @@ picture_section is_wide svg = roomed picture_heading room_for_picture picture_pr
 abbrev pub diagram_section : MessageTable → Chronicle → Section
 diagram_section t c = picture_section (is_wide c.scenario c.accesses) (svg_text t c)
 
--- The part of a lieutenant: his decision, his tree, and how he reaches his decision. The tree is shown two levels below
--- the commander's, and less deep where he received the same for all labels.
+-- Returns the part of a lieutenant: his decision, his tree, and how he reaches his decision. The tree is shown two
+-- levels below the commander's, and less deep where he received the same for all labels.
 abbrev pub view_of : Scenario → View
 view_of s = record { depth = 2; folds = true; order = Some s.order }
 
@@ -194,8 +194,8 @@ unfoldable pub lieutenant_words : ℕ → Bool → ℕ → List ℕ
 lieutenant_words g is_traitor order =
     codes "Lieutenant " ++ (decimal g ++ (traitor_words is_traitor ++ (codes " decides " ++ decimal order)))
 
--- The words that say how to print the lists by which a lieutenant decides. In a campaign of five rounds he may have
--- more than a thousand lists, so a page leaves them out.
+-- Writes the words that say how to print the lists by which a lieutenant decides. In a campaign of five rounds he may
+-- have more than a thousand lists, so a page leaves them out.
 unfoldable pub elsewhere_words : ℕ → List ℕ
 elsewhere_words g =
     codes "With five rounds a page leaves out the lists by which he decides: byzlab play, with --schedule as here, "
@@ -214,15 +214,15 @@ lieutenant_part t traitors view g = if g == t.commander then [] else lieutenant_
 abbrev pub each_lieutenant : MessageTable → List ℕ → View → List ℕ
 each_lieutenant t traitors view = flat_map (lieutenant_part t traitors view) (range_with_len 0 t.generals)
 
--- The section of the lieutenants with this text, under a title.
+-- Returns the section of the lieutenants with this text, under a title.
 abbrev pub lieutenants_roomed : List ℕ → List ℕ → Section
 lieutenants_roomed title told = roomed title room_for_lieutenants lieutenants_printer told
 
 abbrev pub lieutenants_section : MessageTable → Scenario → Section
 lieutenants_section t s = lieutenants_roomed lieutenants_heading (each_lieutenant t (traitors_of s) (view_of s))
 
--- The accesses, in the order in which the board received them, as a table with a row for each. There is no table if
--- there are none.
+-- Writes the accesses, in the order in which the board received them, as a table with a row for each. There is no table
+-- if there are none.
 abbrev pub access_heads : List ℕ
 access_heads = row (head (codes "Round") ++ head (codes "General") ++ head (codes "What he does")
     ++ head (codes "What the board answers"))
@@ -241,19 +241,19 @@ accesses_told (a ∷ accesses) = access_table (a ∷ accesses)
 abbrev pub accesses_section : List Access → Section
 accesses_section accesses = roomed accesses_heading room_for_accesses accesses_printer (accesses_told accesses)
 
--- The chronicle, with each of its bytes as a character.
+-- Returns the chronicle, with each of its bytes as a character.
 abbrev pub chronicle_section : List ℕ → Section
 chronicle_section text =
     roomed chronicle_heading room_for_chronicle chronicle_printer
     (lines_told room_for_chronicle chronicle_printer (flat_map encode_utf8 text))
 
--- The verdict, and the promise that holds (TOPLAS 1982, IC1 and IC2).
+-- Writes the verdict, and the promise that holds (TOPLAS 1982, IC1 and IC2).
 unfoldable pub promise_words : List ℕ
 promise_words =
     codes "The bound holds: there are few enough traitors, so that loyal lieutenants decide alike, and obey a loyal "
     ++ codes "commander, whatever the traitors do."
 
--- The promise, or the words that nothing is promised if the bound does not hold.
+-- Writes the promise, or the words that nothing is promised if the bound does not hold.
 abbrev pub bound_told : Bool → List ℕ → List ℕ
 bound_told bound without = if bound then promise_words else without
 
@@ -264,21 +264,21 @@ verdict_told v bound =
 abbrev pub verdict_part : Verdict → List ℕ
 verdict_part v = verdict_told v (bound_told v.bound (bound_words false))
 
--- All sections except the verdict. `t` is the message table of the chronicle's letters, `text` is the text of its
--- scenario, and `schedule` is the schedule by which the campaign was played, if any.
+-- Returns all sections except the verdict. `t` is the message table of the chronicle's letters, `text` is the text of
+-- its scenario, and `schedule` is the schedule by which the campaign was played, if any.
 abbrev pub sections : List ℕ → Option (List (List Repeat)) → MessageTable → Chronicle → List Section
 sections text schedule t c =
     scenario_section text ∷ schedule_section schedule ∷ programs_section c.scenario ∷ diagram_section t c
     ∷ lieutenants_section t c.scenario ∷ accesses_section c.accesses ∷ chronicle_section (chronicle_text c) ∷ []
 
--- All sections in their room, and the verdict.
+-- Writes all sections in their room, and the verdict.
 unfoldable pub parts : List ℕ → Option (List (List Repeat)) → MessageTable → Chronicle → List ℕ
 parts text schedule t c = sections_in room_for_sections (sections text schedule t c) ++ verdict_part c.verdict
 
--- The description of a campaign, as its diagram has it.
+-- Writes the description of a campaign, as its diagram has it.
 abbrev pub title : Scenario → List ℕ
 title s = campaign_words s.generals s.bound s.commander s.order
 
--- The page, with the description of the campaign as its title.
+-- Writes the page, with the description of the campaign as its title.
 abbrev pub page_text : List ℕ → Option (List (List Repeat)) → MessageTable → Chronicle → List ℕ
 page_text text schedule t c = page (title c.scenario) (parts text schedule t c)

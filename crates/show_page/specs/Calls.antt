@@ -8,12 +8,12 @@ use Rattle.insn.specs.Program.{instruction_at}
 use Rattle.semantics.specs.Call.{helper_of}
 use Rattle.semantics.specs.declared.request.Helper.{Helper}
 
--- The text of a call of the helper. It is empty if there is no such helper, so that the number is written.
+-- Writes the text of a call of the helper. It is empty if there is no such helper, so that the number is written.
 abbrev pub call_of : Option Helper → List ℕ
 call_of None = []
 call_of (Some helper) = codes "call " ++ helper_name helper
 
--- The text of an instruction if it is a call. It is empty for other instructions, which are written as usual.
+-- Writes the text of an instruction if it is a call. It is empty for other instructions, which are written as usual.
 abbrev pub call_text : Insn → List ℕ
 call_text (Call number) = call_of (helper_of number)
 call_text _ = []
@@ -22,6 +22,6 @@ abbrev pub call_if : Option Insn → List ℕ
 call_if None = []
 call_if (Some i) = call_text i
 
--- The texts of the calls at the units of a program.
+-- Returns the texts of the calls at the units of a program.
 unfoldable pub named_calls : List Insn → Writing
 named_calls program unit = ([], call_if (instruction_at program unit))

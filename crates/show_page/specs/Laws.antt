@@ -15,26 +15,27 @@ use Rattle.world.specs.declared.schedule.Repeat.{Repeat}
 use Rattle.show_page.specs.Account.{each_lieutenant, page_text, view_of}
 use Rattle.show_page.specs.Room.{longest_page, room_for_lieutenants}
 
--- A page consists of the document type line, one XML element, and a line feed, whatever the scenario's text contains.
+-- States that a page consists of the document type line, one XML element, and a line feed, whatever the scenario's text
+-- contains.
 abbrev pub CampaignPagesAreElements : Type 0
 CampaignPagesAreElements =
     (scenario : List ℕ) (schedule : Option (List (List Repeat))) (t : MessageTable) (c : Chronicle)
     → (text : List ℕ) × IsElement text
     × (page_text scenario schedule t c ≡ codes "<!DOCTYPE html>\n" ++ text ++ codes "\n")
 
--- No page of a campaign within its limits is longer than `longest_page`, whatever the scenario's text, the schedule,
--- the table and the letters contain.
+-- States that no page of a campaign within its limits is longer than `longest_page`, whatever the scenario's text, the
+-- schedule, the table and the letters contain.
 abbrev pub CampaignPagesAreShort : Type 0
 CampaignPagesAreShort =
     (scenario : List ℕ) (schedule : Option (List (List Repeat))) (t : MessageTable) (c : Chronicle)
     → IsScenario c.scenario → length (page_text scenario schedule t c) ≤ longest_page
 
--- A page contains what is said of a label.
+-- States that a page contains what is said of a label.
 abbrev pub IsShownIn : List ℕ → Node → Type 0
 IsShownIn text node = StandsIn (shown (said node)) text
 
--- If there is room for the lieutenants, a page contains what is said of every label that a lieutenant's tree shows. A
--- closed fold leaves none out.
+-- States that, if there is room for the lieutenants, a page contains what is said of every label that a lieutenant's
+-- tree shows. A closed fold leaves none out.
 abbrev pub FoldsHideNothing : Type 0
 FoldsHideNothing =
     (scenario : List ℕ) (schedule : Option (List (List Repeat))) (t : MessageTable) (c : Chronicle) (p : ℕ)

@@ -16,15 +16,15 @@ use Rattle.world.specs.declared.verdict.Verdict.{Verdict}
 use Rattle.show_page.specs.Account.{accesses_section, bound_told, chronicle_section, is_wide, lieutenant_words, lieutenants_roomed, picture_section, programs_section, scenario_section, schedule_section, verdict_told}
 use Rattle.show_page.specs.Room.{room_for_sections}
 
--- The section with the diagram.
+-- Returns the section with the diagram.
 abbrev pub diagram_section : Chronicle → Section
 diagram_section c = picture_section (is_wide c.scenario c.accesses) (signed_svg c)
 
--- The section that says which orders a lieutenant accepts, by which chains, and what he decides.
+-- Writes the section that says which orders a lieutenant accepts, by which chains, and what he decides.
 unfoldable pub lieutenants_heading : List ℕ
 lieutenants_heading = codes "What each lieutenant accepted, and why he decides so"
 
--- A lieutenant's name and his decision, if there is one.
+-- Writes a lieutenant's name and his decision, if there is one.
 abbrev pub deciding_words : ℕ → Bool → Option ℕ → List ℕ
 deciding_words g is_traitor None = codes "Lieutenant " ++ decimal g
 deciding_words g is_traitor (Some order) = lieutenant_words g is_traitor order
@@ -45,22 +45,22 @@ each_lieutenant c = flat_map (lieutenant_part c) (range_with_len 0 c.scenario.ge
 abbrev pub lieutenants_section : Chronicle → Section
 lieutenants_section c = lieutenants_roomed lieutenants_heading (each_lieutenant c)
 
--- The verdict, and the promise that holds (TOPLAS 1982, Theorem 2).
+-- Writes the verdict, and the promise that holds (TOPLAS 1982, Theorem 2).
 abbrev pub verdict_part : Verdict → List ℕ
 verdict_part v = verdict_told v (bound_told v.bound (bound_words false))
 
--- All sections except the verdict. `text` is the text of the chronicle's scenario, and `schedule` is the schedule by
--- which the campaign was played, if any.
+-- Returns all sections except the verdict. `text` is the text of the chronicle's scenario, and `schedule` is the
+-- schedule by which the campaign was played, if any.
 abbrev pub sections : List ℕ → Option (List (List Repeat)) → Chronicle → List Section
 sections text schedule c =
     scenario_section text ∷ schedule_section schedule ∷ programs_section c.scenario ∷ diagram_section c
     ∷ lieutenants_section c ∷ accesses_section c.accesses ∷ chronicle_section (signed_text c) ∷ []
 
--- All sections in their room, and the verdict.
+-- Writes all sections in their room, and the verdict.
 unfoldable pub parts : List ℕ → Option (List (List Repeat)) → Chronicle → List ℕ
 parts text schedule c =
     sections_in room_for_sections (sections text schedule c) ++ verdict_part c.verdict
 
--- The page, with the description of the campaign as its title, as the diagram has it.
+-- Writes the page, with the description of the campaign as its title, as the diagram has it.
 abbrev pub signed_page_text : List ℕ → Option (List (List Repeat)) → Chronicle → List ℕ
 signed_page_text text schedule c = page (signed_words c.scenario) (parts text schedule c)

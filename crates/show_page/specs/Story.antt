@@ -2,12 +2,12 @@
 use Rattle.std.specs.Prelude.{ℕ, ◌+◌, ◌==◌, Bool, false, ◌||◌, ◌&&◌, not, if◌then◌else◌, List, [], ◌∷◌, drop, take}
 use Rattle.label.specs.Labels.{on}
 
--- The byte is a space, a tab, or part of a line end.
+-- Returns whether the byte is a space, a tab, or part of a line end.
 abbrev pub is_blank : ℕ → Bool
 is_blank c = c == 32 || (c == 9 || (c == 13 || c == 10))
 
--- How many bytes of the head are left, inside or outside of a comment. A comment goes from a number sign to the end of
--- its line.
+-- Returns how many bytes of the head are left, inside or outside of a comment. A comment goes from a number sign to the
+-- end of its line.
 abbrev pub bytes_on : Bool → List ℕ → ℕ
 bytes_on within [] = 0
 bytes_on within (c ∷ cs) =
@@ -16,7 +16,8 @@ bytes_on within (c ∷ cs) =
 abbrev pub head_bytes : List ℕ → ℕ
 head_bytes text = bytes_on false text
 
--- The length in bytes of the story. Blank lines without a comment are no story, so the head must contain a number sign.
+-- Returns the length in bytes of the story. Blank lines without a comment are no story, so the head must contain a
+-- number sign.
 abbrev pub story_bytes : List ℕ → ℕ
 story_bytes text = if on (take (head_bytes text) text) 35 then head_bytes text else 0
 

@@ -12,18 +12,21 @@ use Rattle.world.specs.Chronicle.{Chronicle, decisions}
 use Rattle.book.specs.Answers.{ExplainsOne, ExplainsTable}
 use Rattle.book.specs.Written.{table_text}
 
--- The table of a campaign's messages, with the shorter labels first. For each label and each receiver who is not on it,
--- it has the order that the label's last general sent him about the rest. There is no line where he sent nothing.
+-- Writes the table of a campaign's messages, with the shorter labels first. For each label and each receiver who is not
+-- on it, it has the order that the label's last general sent him about the rest. There is no line where he sent
+-- nothing.
 abbrev pub table_of : Chronicle → List ℕ
 table_of c = table_text (messages c.letters) c.scenario.generals c.scenario.bound c.scenario.commander c.scenario.rule
 
--- The chronicle contains all rounds, each with letters of that round, and the decisions follow from their messages.
+-- States that the chronicle contains all rounds, each with letters of that round, and the decisions follow from their
+-- messages.
 pub record IsWhole (c : Chronicle) : Type 0 where
   pub rounds : length c.letters ≡ suc c.scenario.bound
   pub letters : AreRoundsOf c.scenario c.letters
   pub decisions : c.decisions ≡ decisions c.scenario (messages c.letters)
 
--- The text is that table. It has the campaign's numbers and rule, and its decisions are those of the chronicle.
+-- States that the text is that table. It has the campaign's numbers and rule, and its decisions are those of the
+-- chronicle.
 pub record IsRetold (c : Chronicle) (text : List ℕ) : Type 0 where
   pub written : text ≡ table_of c
   pub table : MessageTable
@@ -34,20 +37,20 @@ pub record IsRetold (c : Chronicle) (text : List ℕ) : Type 0 where
   pub rule : table.rule ≡ c.scenario.rule
   pub decisions : decisions_of table ≡ c.decisions
 
--- The scenario's traitors in ascending order.
+-- Returns the scenario's traitors in ascending order.
 abbrev pub traitors_of : Scenario → List ℕ
 traitors_of s = filter (is_traitor s) (generals s.generals)
 
--- What `book` says of a table if these generals are named as traitors: for all lieutenants, or for one general.
+-- Writes what `book` says of a table if these generals are named as traitors: for all lieutenants, or for one general.
 abbrev pub explained_of : MessageTable → List ℕ → Option ℕ → List ℕ
 explained_of t traitors None = explained t traitors
 explained_of t traitors (Some g) = explained_one t traitors g
 
--- The lines are what `book` says of a table's text.
+-- States that the lines are what `book` says of a table's text.
 abbrev pub ExplainsAsked : List ℕ → List ℕ → Option ℕ → List ℕ → Type 0
 ExplainsAsked text traitors None lines = ExplainsTable text traitors lines
 ExplainsAsked text traitors (Some g) lines = ExplainsOne text traitors g lines
 
--- The lines are what `book` says of the campaign's table if the scenario's traitors are named.
+-- States that the lines are what `book` says of the campaign's table if the scenario's traitors are named.
 abbrev pub Explains : Chronicle → Option ℕ → List ℕ → Type 0
 Explains c general lines = ExplainsAsked (table_of c) (traitors_of c.scenario) general lines

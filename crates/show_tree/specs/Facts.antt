@@ -15,11 +15,11 @@ use Rattle.show_tree.specs.declared.node.Extent.TheVariants.{Last, Open, Folded,
 use Rattle.show_tree.specs.declared.node.View.{View}
 use Rattle.show_tree.specs.declared.node.Node.{Node}
 
--- The outcome of the list of a label, if it has a list.
+-- Returns the outcome of the list of a label, if it has a list.
 abbrev pub outcome_at : MessageTable → ℕ → List ℕ → ℕ → Option Outcome
 outcome_at t k w p = if k == 0 then None else Some (outcome_of t.rule (list_of t (k - 1) w p))
 
--- Whether the message of j to p about w is a lie: j is named as a traitor, and does not send what he received.
+-- Returns whether the message of j to p about w is a lie: j is named as a traitor, and does not send what he received.
 abbrev pub mark_at : MessageTable → List ℕ → List ℕ → ℕ → ℕ → Trust
 mark_at t traitors w j p =
     if on traitors j && not (is_told (taken (told t.messages) w j) (told t.messages (w ++ j ∷ []) p))
@@ -29,7 +29,7 @@ abbrev pub is_honest : Trust → Bool
 is_honest Honest = true
 is_honest _ = false
 
--- Both orders received are the same, or both are missing.
+-- Returns whether both orders received are the same, or both are missing.
 abbrev pub is_same : Option ℕ → Option ℕ → Bool
 is_same None other = is_none other
 is_same (Some order) other = is_told order other
@@ -51,14 +51,14 @@ is_alike t traitors (suc k) w p =
 abbrev pub is_alike_by : MessageTable → List ℕ → ℕ → List ℕ → ℕ → ℕ → Bool
 is_alike_by t traitors k w j p = tells t traitors w j p && is_alike t traitors k (w ++ j ∷ []) p
 
--- How many labels without p extend a label of the given size. Each general who is neither on the label nor p extends it
--- once, and each such label is extended again.
+-- Returns how many labels without p extend a label of the given size. Each general who is neither on the label nor p
+-- extends it once, and each such label is extended again.
 unfoldable pub below : ℕ → ℕ → ℕ → ℕ
 below n size zero = 0
 below n size (suc k) = (n - 1 - size) * (1 + below n (size + 1) k)
 
--- Whether the labels below w are shown. They are folded if the same was received for all of them. Otherwise they are
--- shown as deep as the view says.
+-- Returns whether the labels below w are shown. They are folded if the same was received for all of them. Otherwise
+-- they are shown as deep as the view says.
 abbrev pub extent_at : MessageTable → List ℕ → View → ℕ → List ℕ → ℕ → Extent
 extent_at t traitors view k w p =
     if k == 0 then Last
@@ -66,7 +66,7 @@ extent_at t traitors view k w p =
     else if view.depth == 0 then Cut (below t.generals (length w) k)
     else Open
 
--- Everything that a picture says of a label.
+-- Returns everything that a picture says of a label.
 unfoldable pub node_at : MessageTable → List ℕ → View → Trust → ℕ → List ℕ → ℕ → Node
 node_at t traitors view mark k w p =
     record {

@@ -31,12 +31,12 @@ extent_style Open = []
 extent_style (Folded count) = codes ", peripheries=2"
 extent_style (Cut count) = codes ", peripheries=2"
 
--- The edge to a label from the label without its last general, if there is one.
+-- Writes the edge to a label from the label without its last general, if there is one.
 abbrev pub edge : List ℕ → List ℕ
 edge w = if nat_lt (length w) 2 then []
     else codes "  \"" ++ dotted (take (length w - 1) w) ++ codes "\" -> \"" ++ dotted w ++ codes "\";\n"
 
--- The start of a label's box, with the words in it.
+-- Writes the start of a label's box, with the words in it.
 abbrev pub graph_box : Node → List ℕ
 graph_box node = codes "  \"" ++ dotted node.label ++ codes "\" [label=\"" ++ dotted node.label ++ codes "\\n"
     ++ words (codes "\\n") node
@@ -50,11 +50,11 @@ graph_node node = graph_box node ++ graph_styles node ++ codes "];\n" ++ edge no
 abbrev pub graph_nodes : List Node → List ℕ
 graph_nodes nodes = flat_map graph_node nodes
 
--- The text with which every graph begins.
+-- Writes the text with which every graph begins.
 unfoldable pub graph_start : List ℕ
 graph_start = codes "digraph tree {\n  rankdir=LR;\n  ordering=out;\n  labelloc=t;\n  node [shape=box];\n"
 
--- The title of a graph: the lieutenant and his decision.
+-- Writes the title of a graph: the lieutenant and his decision.
 unfoldable pub graph_title : ℕ → ℕ → List ℕ
 graph_title p order =
     codes "  label=\"lieutenant " ++ (decimal p ++ (codes " decides " ++ (decimal order ++ codes "\";\n")))

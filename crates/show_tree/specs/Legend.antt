@@ -23,7 +23,7 @@ abbrev pub is_divided : Option Outcome → Bool
 is_divided (Some (Divided order)) = true
 is_divided _ = false
 
--- Which labels have a circle, a square, a diamond, and dashes.
+-- Return whether a label has a circle, a square, a diamond, or dashes.
 abbrev pub has_circle : Node → Bool
 has_circle node = is_honest node.mark
 
@@ -42,15 +42,15 @@ has_dashed_circle node = has_dashes node && has_circle node
 abbrev pub has_dashed_square : Node → Bool
 has_dashed_square node = has_dashes node && has_square node
 
--- The shape that the legend draws with dashes: a circle if one of these labels has a dashed circle, else a square if
--- one has a dashed square, else a diamond.
+-- Returns the shape that the legend draws with dashes: a circle if one of these labels has a dashed circle, else a
+-- square if one has a dashed square, else a diamond.
 abbrev pub dashed_shape : List Node → Trust
 dashed_shape nodes =
     if list_any has_dashed_circle nodes then Honest
     else if list_any has_dashed_square nodes then Traitor
     else Lie 0 0
 
--- The marks that occur in the picture of these labels.
+-- Returns the marks that occur in the picture of these labels.
 abbrev pub marks_of : List Node → DrawnMarks
 marks_of nodes = record {
   circle = list_any has_circle nodes;
@@ -65,7 +65,7 @@ one_if stands = if stands then 1 else 0
 abbrev pub count_of : DrawnMarks → ℕ
 count_of marks = one_if marks.circle + one_if marks.square + one_if marks.diamond + one_if marks.dashes
 
--- A row of the legend: a mark and its meaning.
+-- Writes a row of the legend: a mark and its meaning.
 unfoldable pub meaning_words : List ℕ → List ℕ
 meaning_words words = codes "<text x=\"14\" y=\"17\">" ++ (words ++ codes "</text>")
 
@@ -75,8 +75,8 @@ meaning place mark outcome words = row_start place ++ shape 0 mark outcome ++ me
 abbrev pub meaning_if : Bool → ℕ → Trust → Option Outcome → List ℕ → List ℕ
 meaning_if stands place mark outcome words = if stands then meaning place mark outcome words else []
 
--- The rows of those marks that occur, one below another. The first row has the number `place`. Dashes are shown at the
--- shape `dashed`.
+-- Writes the rows of those marks that occur, one below another. The first row has the number `place`. Dashes are shown
+-- at the shape `dashed`.
 abbrev pub meanings : DrawnMarks → Trust → ℕ → List ℕ
 meanings marks dashed place =
     meaning_if marks.circle place Honest None (codes "no lie is known")
@@ -87,13 +87,13 @@ meanings marks dashed place =
     (Some (Divided 0))
     (codes "no order has a majority")
 
--- The horizontal rule below the rows of labels.
+-- Writes the horizontal rule below the rows of labels.
 unfoldable pub rule : List ℕ
 rule = codes "<path class=\"line\" d=\"M0 12h240\"/>"
 
 abbrev pub rule_at : ℕ → List ℕ
 rule_at place = row_start place ++ rule ++ row_end
 
--- The legend below the rows of these labels.
+-- Writes the legend below the rows of these labels.
 abbrev pub legend : List Node → List ℕ
 legend nodes = rule_at (length nodes) ++ meanings (marks_of nodes) (dashed_shape nodes) (length nodes + 1)

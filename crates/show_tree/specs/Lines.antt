@@ -15,7 +15,8 @@ use Rattle.show_tree.specs.Places.{branch_at}
 use Rattle.show_tree.specs.Shown.{nodes_of}
 use Rattle.show_tree.specs.Words.{said}
 
--- The branches in each style. The box-drawing characters are U+251C, U+2514 and U+2502, and U+2500 twice, in UTF-8.
+-- Writes the branches in each style. The box-drawing characters are U+251C, U+2514 and U+2502, and U+2500 twice, in
+-- UTF-8.
 abbrev pub branch_text : Style → Branch → List ℕ
 branch_text Ascii Tee = codes "|-- "
 branch_text Ascii Corner = codes "`-- "
@@ -26,7 +27,7 @@ branch_text Boxes Corner = 226 ∷ 148 ∷ 148 ∷ 226 ∷ 148 ∷ 128 ∷ 226 �
 branch_text Boxes Bar = 226 ∷ 148 ∷ 130 ∷ 32 ∷ 32 ∷ 32 ∷ []
 branch_text Boxes Gap = codes "    "
 
--- The branches that lead to a label: one below each of its generals but the last.
+-- Writes the branches that lead to a label: one below each of its generals but the last.
 abbrev pub branches_text : Style → ℕ → ℕ → List ℕ → List ℕ
 branches_text style n p w = flat_map (λ i. branch_text style (branch_at n p w i)) (range_with_len 0 (length w - 1))
 
@@ -36,7 +37,7 @@ node_line style n p node = branches_text style n p node.label ++ said node ++ co
 abbrev pub node_lines : Style → ℕ → ℕ → List Node → List ℕ
 node_lines style n p nodes = flat_map (node_line style n p) nodes
 
--- The text of a tree: the lieutenant, the lines of the labels, and his decision.
+-- Writes the text of a tree: the lieutenant, the lines of the labels, and his decision.
 unfoldable pub tree_text : MessageTable → List ℕ → View → Style → ℕ → List ℕ
 tree_text t traitors view style p = head_line p ++ node_lines style t.generals p (nodes_of t traitors view p)
     ++ decision_line p (on traitors p) (decision_of t p)

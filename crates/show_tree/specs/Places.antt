@@ -6,21 +6,21 @@ use Rattle.label.specs.Labels.{others}
 use Rattle.show_tree.specs.declared.node.Branch.{Branch}
 use Rattle.show_tree.specs.declared.node.Branch.TheVariants.{Tee, Corner, Bar, Gap}
 
--- The names of the generals after the first of a label, each after a dot.
+-- Writes the names of the generals after the first of a label, each after a dot.
 abbrev pub later_names : List ℕ → List ℕ
 later_names gs = flat_map (λ h. codes "." ++ decimal h) gs
 
--- Every general who is not on the list has a number of at most j.
+-- Returns whether every general who is not on the list has a number of at most j.
 abbrev pub is_last : ℕ → List ℕ → ℕ → Bool
 is_last n w j = list_all (λ i. nat_le i j) (others n w)
 
--- The branch in a row, by whether it leads to the last label below a general, and whether it leads to this row.
+-- Returns the branch in a row, by whether it leads to the last label below a general, and whether it leads to this row.
 abbrev pub branch_of : Bool → Bool → Branch
 branch_of true true = Corner
 branch_of false true = Tee
 branch_of true false = Gap
 branch_of false false = Bar
 
--- The branch that the row of w has below the general at place i of w.
+-- Returns the branch that the row of w has below the general at place i of w.
 abbrev pub branch_at : ℕ → ℕ → List ℕ → ℕ → Branch
 branch_at n p w i = branch_of (is_last n (p ∷ take (i + 1) w) (slice_index w (i + 1))) (i + 2 == length w)

@@ -10,7 +10,7 @@ use Rattle.show_tree.specs.Legend.{count_of, legend, marks_of}
 use Rattle.show_tree.specs.Rows.{rows_from, widest}
 use Rattle.show_tree.specs.Shown.{nodes_of}
 
--- The text with which every picture begins.
+-- Writes the text with which every picture begins.
 unfoldable pub start : List ℕ
 start = codes "<svg xmlns=\"http://www.w3.org/2000/svg\" role=\"graphics-document document\""
 
@@ -20,7 +20,7 @@ size width height = codes " width=\"" ++ (decimal width ++ (codes "\" height=\""
 unfoldable pub view_box : ℕ → ℕ → List ℕ
 view_box width height = codes " viewBox=\"0 0 " ++ (decimal width ++ (codes " " ++ (decimal height ++ codes "\">")))
 
--- The lieutenant and his decision: as the picture's title, and as a heading above the rows.
+-- Writes the lieutenant and his decision: as the picture's title, and as a heading above the rows.
 unfoldable pub title : ℕ → ℕ → List ℕ
 title p order = codes "<title>lieutenant " ++ (decimal p ++ (codes " decides " ++ (decimal order ++ codes "</title>")))
 
@@ -28,7 +28,7 @@ unfoldable pub heading : ℕ → ℕ → List ℕ
 heading p order = codes "<text x=\"10\" y=\"24\">lieutenant "
     ++ (decimal p ++ (codes " decides " ++ (decimal order ++ codes "</text>\n")))
 
--- The description for readers who do not see the shapes. It explains each mark that occurs in the picture.
+-- Writes the description for readers who do not see the shapes. It explains each mark that occurs in the picture.
 unfoldable pub key_start : List ℕ
 key_start =
     codes "<desc>Each row is a label, below the label that it extends, with the order that he received for it."
@@ -46,7 +46,7 @@ shape_words marks =
 abbrev pub key : DrawnMarks → List ℕ
 key marks = key_start ++ shape_words marks ++ codes "</desc>\n"
 
--- The style sheet of the shapes: for paper, and for a dark background if the reader prefers one.
+-- Writes the style sheet of the shapes: for paper, and for a dark background if the reader prefers one.
 unfoldable pub look : List ℕ
 look =
     codes "<style>svg{background:#fff}text{fill:#111;font:14px sans-serif}.line{fill:none;stroke:#767676}.told{fill"
@@ -54,26 +54,26 @@ look =
     ++ codes " 2}@media(prefers-color-scheme:dark){svg{background:#111}text{fill:#eee}.told,.word,.lie{stroke:#eee}.to"
     ++ codes "ld{fill:#111}}</style>\n"
 
--- What comes before the rows: the title, the description, the style sheet and the heading.
+-- Writes what comes before the rows: the title, the description, the style sheet and the heading.
 abbrev pub head : DrawnMarks → ℕ → ℕ → List ℕ
 head marks p order = title p order ++ key marks ++ look ++ heading p order
 
--- A picture of the given width and height, with its head and its rows.
+-- Writes a picture of the given width and height, with its head and its rows.
 abbrev pub picture : ℕ → ℕ → List ℕ → List ℕ → List ℕ
 picture width height head rows = start ++ size width height ++ view_box width height ++ head ++ rows ++ codes "</svg>\n"
 
--- The rows and the legend.
+-- Writes the rows and the legend.
 abbrev pub inside : ℕ → ℕ → List Node → List ℕ
 inside n p nodes = rows_from n p 0 nodes ++ legend nodes
 
--- The width of a picture, which is at least that of its heading and its legend, and its height.
+-- Returns the width of a picture, which is at least that of its heading and its legend, and its height.
 abbrev pub breadth : List Node → ℕ
 breadth nodes = max 300 (48 + widest nodes)
 
 abbrev pub tallness : List Node → ℕ
 tallness nodes = 64 + 24 * (length nodes + count_of (marks_of nodes))
 
--- The picture of these labels.
+-- Writes the picture of these labels.
 abbrev pub svg_of : MessageTable → ℕ → List Node → List ℕ
 svg_of t p nodes =
     picture (breadth nodes) (tallness nodes) (head (marks_of nodes) p (decision_of t p)) (inside t.generals p nodes)

@@ -13,12 +13,12 @@ use Rattle.show_tree.specs.declared.node.Node.{Node}
 abbrev pub told_words : Option ℕ → List ℕ
 told_words told = codes "received " ++ order_words told
 
--- The words that a missing order counts as 0, if the label has no list.
+-- Writes the words that a missing order counts as 0, if the label has no list.
 abbrev pub counted_words : Option Outcome → Option ℕ → List ℕ
 counted_words None None = codes ", so 0"
 counted_words outcome told = []
 
--- The outcome of a list.
+-- Writes the outcome of a list.
 abbrev pub outcome_words : List ℕ → Option Outcome → List ℕ
 outcome_words stop None = []
 outcome_words stop (Some outcome) = stop ++ list_words outcome
@@ -38,6 +38,6 @@ abbrev pub words : List ℕ → Node → List ℕ
 words stop node = told_words node.told ++ counted_words node.outcome node.told ++ outcome_words stop node.outcome
     ++ mark_words stop node.mark ++ extent_words stop node.extent
 
--- The name of a label and what is said of it, on one line.
+-- Writes the name of a label and what is said of it, on one line.
 abbrev pub said : Node → List ℕ
 said node = dotted node.label ++ codes ": " ++ words (codes "; ") node

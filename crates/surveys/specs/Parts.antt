@@ -95,16 +95,16 @@ pub record IsReadOn (before head bytes : List ℕ) (first last : ℕ) (old new :
 abbrev pub IsCampaign : Finding → Type 0
 IsCampaign f = IsSized f × (f.seed < 2 ^ 64)
 
--- Why the line with this number is rejected: it does not describe a campaign, or the campaign has another seed.
+-- States why the line with this number is rejected: it does not describe a campaign, or the campaign has another seed.
 pub data IsUntaken (first last number : ℕ) : Option Finding → PartError → Type 0 where
   untold : IsUntaken first last number None (Line number)
   unsized : (f : Finding) → (IsSized f → ⊥) → IsUntaken first last number (Some f) (Line number)
   too_early : (f : Finding) → IsCampaign f → f.seed < first → IsUntaken first last number (Some f) (Seed number f.seed)
   too_late : (f : Finding) → IsCampaign f → last < f.seed → IsUntaken first last number (Some f) (Seed number f.seed)
 
--- Why the line with this number does not belong to a part with this head. The text is cut off before its line feed, or
--- the line is neither a head nor, after the first line, that of a campaign. Or it is the head of another family, or
--- that of a campaign with another seed.
+-- States why the line with this number does not belong to a part with this head. The text is cut off before its line
+-- feed, or the line is neither a head nor, after the first line, that of a campaign. Or it is the head of another
+-- family, or that of a campaign with another seed.
 pub data IsWrong (head rest : List ℕ) (first last number : ℕ) : PartError → Type 0 where
   cut_off : rest ≢ [] → IsUnfed rest → IsWrong head rest first last number (Line number)
   unknown : (line more : List ℕ) → rest ≡ line ++ more → IsLine line → is_head line ≡ false

@@ -22,7 +22,7 @@ failure_as RefusedToHim = Memory
 failure_as (Foreign task) = Unaccounted
 failure_as (Returned letter) = Post
 
--- The failure is about a task that this general was given, or about a letter of his.
+-- States that the failure is about a task that this general was given, or about a letter of his.
 abbrev pub IsFailureOf : ℕ → Failure → Type 0
 IsFailureOf g RefusedToHim = Unit {0}
 IsFailureOf g (Foreign task) = task.general ≡ g
@@ -35,7 +35,7 @@ halt_as (Unstarted refused) = refused.error
 halt_as (Failed someone) = Unaccounted
 halt_as (Strayed letters) = Unaccounted
 
--- If the rounds stopped because letters were not of their round, it was this round.
+-- States that, if the rounds stopped because letters were not of their round, it was this round.
 abbrev pub HasStrayedIn : ℕ → Halt → Type 0
 HasStrayedIn round RefusedToAll = Unit {0}
 HasStrayedIn round (Unstarted refused) = Unit {0}
@@ -55,7 +55,7 @@ mishap_as RefusedAnywhere = Memory
 mishap_as (NotAll uncollected) = uncollected_as uncollected
 mishap_as (Unlike found) = Unaccounted
 
--- If a board does not account for the letters, `Is` holds for this board.
+-- States that, if a board does not account for the letters, `Is` holds for this board.
 abbrev pub IfUnlike : Mishap → (RecordedBoard → Type 0) → Type 0
 IfUnlike RefusedAnywhere Is = Unit {0}
 IfUnlike (NotAll uncollected) Is = Unit {0}
@@ -77,7 +77,7 @@ failure_of answer = error_of answer.ended
 abbrev pub first_failure : {E : Type 0} → List (Option E) → Option E
 first_failure failures = option_flatten (find (λ failure. is_some failure) failures)
 
--- The answers are ordered by general, ascending.
+-- States that the answers are ordered by general, ascending.
 abbrev pub AreAscending : List Answer → Type 0
 AreAscending answers = IsSortedByKey (λ (a : Answer). a.general) nat_cmp answers
 

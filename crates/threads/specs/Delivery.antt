@@ -10,7 +10,8 @@ letters_of general letters = filter (λ l. l.general == general) letters
 abbrev pub posted : ℕ → List Letter → Posted
 posted general letters = record { general = general; letters = letters }
 
--- The letters that came from each of these generals are those that he has posted, in the same order and each once.
+-- States that the letters that came from each of these generals are those that he has posted, in the same order and
+-- each once.
 abbrev pub AreDelivered : List Letter → List Posted → Type 0
 AreDelivered came [] = Unit {0}
 AreDelivered came (p ∷ rest) = (p.letters ≡ letters_of p.general came) × AreDelivered came rest

@@ -26,8 +26,8 @@ duty_of s before g =
       patience = s.patience;
     }
 
--- A loyal general's letter relays what his context contains. A traitor's program was run with his context until it
--- exited or used up his patience.
+-- States that a loyal general's letter relays what his context contains. A traitor's program was run with his context
+-- until it exited or used up his patience.
 abbrev pub IsDoneBy : Option (List Insn) → Duty → Letter → Type 0
 IsDoneBy None d l = l ≡ letter_told d.general d.round d.context
 IsDoneBy (Some program) d l = IsLived d.general d.round program d.context d.patience l

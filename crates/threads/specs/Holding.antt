@@ -7,13 +7,13 @@ use Rattle.round.specs.Activation.{is_reached}
 use Rattle.round.specs.Runs.{IsWithin}
 use Rattle.world.specs.World.{accesses_of}
 
--- The letter's general has ended, within his patience.
+-- States that the letter's general has ended, within his patience.
 pub record EndedInTime (s : Scenario) (l : Letter) : Type 0 where
   pub within : IsWithin s.patience l.steps
   pub over : (l.exited || is_reached s.patience l.steps) ≡ true
 
--- The letter is of this general and this round, with his program. He has ended, and his accesses in `piece` are those
--- of the letter.
+-- States that the letter is of this general and this round, with his program. He has ended, and his accesses in `piece`
+-- are those of the letter.
 pub record Stands (s : Scenario) (piece : List Access) (g round : ℕ) (l : Letter) : Type 0 where
   pub general : l.general ≡ g
   pub round_is : l.round ≡ round

@@ -10,10 +10,10 @@ left_in (Given task) = Waiting
 left_in Waiting = Waiting
 left_in (Closed home) = Closed home
 
--- Each general has an inbox of his own, ascending by general.
+-- States that each general has an inbox of his own, ascending by general.
 abbrev pub AreOwn : List Inbox → Type 0
 AreOwn inboxes = (g : ℕ) (d : Inbox) → g < length inboxes → (slice_index_or inboxes g d).general ≡ g
 
--- Each general has a task of his own, ascending by general.
+-- States that each general has a task of his own, ascending by general.
 abbrev pub AreByGeneral : List Duty → Type 0
 AreByGeneral tasks = (g : ℕ) (d : Duty) → g < length tasks → (slice_index_or tasks g d).general ≡ g

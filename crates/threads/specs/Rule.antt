@@ -32,18 +32,19 @@ collector taken made back = known false true 0 taken made back
 abbrev pub spent : Known
 spent = known false false 0 [] 0 []
 
--- A poster has its general's seat, and the letters that it has posted are those that came from him.
+-- States that a poster has its general's seat, and the letters that it has posted are those that came from him.
 abbrev pub FitsPoster : (ℕ → Option ℕ) → List Letter → ℕ → Known → Type 0
 FitsPoster seat came pass v = v.posts ≡ true → (seat v.general ≡ Some pass) × (v.letters ≡ letters_of v.general came)
 
--- The posters that are back have posted the letters that came from their generals, and their seats are empty.
+-- States that the posters that are back have posted the letters that came from their generals, and their seats are
+-- empty.
 abbrev pub AreBack : ℕ → (ℕ → Option ℕ) → List Letter → List Posted → Type 0
 AreBack made seat came [] = Unit {0}
 AreBack made seat came (p ∷ back) = ((p.general < made) × (seat p.general ≡ None)
     × (p.letters ≡ letters_of p.general came)) × AreBack made seat came back
 
--- There is one collector, which knows the letters that were taken. Nothing has come from a general for whom no poster
--- was made yet.
+-- States that there is one collector, which knows the letters that were taken. Nothing has come from a general for whom
+-- no poster was made yet.
 abbrev pub FitsCollector : ℕ → (ℕ → Option ℕ) → List Letter → List Letter → ℕ → Known → Type 0
 FitsCollector reader seat taken came pass v =
     v.takes ≡ true
@@ -54,13 +55,13 @@ FitsCollector reader seat taken came pass v =
 abbrev pub Fits : ℕ → (ℕ → Option ℕ) → List Letter → List Letter → ℕ → Known → Type 0
 Fits reader seat taken came pass v = FitsPoster seat came pass v × FitsCollector reader seat taken came pass v
 
--- The rule: the letters that came are those taken and then those queued, and every pass fits them. The rule is the same
--- for all generals.
+-- States the rule of a post: the letters that came are those taken and then those queued, and every pass fits them. The
+-- rule is the same for all generals.
 abbrev pub Delivers : List Letter → List Known → Type 0
 Delivers queued views =
     (reader : ℕ) × (seat : ℕ → Option ℕ) × (taken : List Letter)
     × ((pass : ℕ) (v : Known) → get_elem? views pass ≡ some v → Fits reader seat taken (taken ++ queued) pass v)
 
--- The rule with a claim, which holds for each queued letter.
+-- States the rule of a post with a claim, which holds for each queued letter.
 abbrev pub DeliversOnly : (Letter → Type 0) → List Letter → List Known → Type 0
 DeliversOnly Is queued views = Delivers queued views × All Is queued

@@ -4,24 +4,24 @@ use Rattle.board.specs.Board.{Access}
 use Rattle.round.specs.Letters.{Letter}
 use Rattle.shared_board.specs.Witnessed.{Witnessed}
 
--- The accesses of the first list are among those of the second, in the same order.
+-- States that the accesses of the first list are among those of the second, in the same order.
 abbrev pub AreAmong : List Access → List Access → Type 0
 AreAmong [] all = Unit {0}
 AreAmong (a ∷ made) [] = ⊥
 AreAmong (a ∷ made) (b ∷ all) = ((a ≡ b) × AreAmong made all) ⊎ AreAmong (a ∷ made) all
 
--- Each of these accesses, which follow those before, has passed a gate, which counts a general's accesses of a round
--- from 0.
+-- States that each of these accesses, which follow those before, has passed a gate, which counts a general's accesses
+-- of a round from 0.
 abbrev pub HavePassed : (ℕ → ℕ → ℕ → Type 0) → List Access → List Access → Type 0
 HavePassed passed before [] = Unit {0}
 HavePassed passed before (a ∷ made) = passed a.general a.round (count_by (λ b. b.round == a.round) before)
     × HavePassed passed (before ++ a ∷ []) made
 
--- Each access in the letter has passed a gate, which counts those of a round from 0.
+-- States that each access in the letter has passed a gate, which counts those of a round from 0.
 abbrev pub IsGated : (ℕ → ℕ → ℕ → Type 0) → Letter → Type 0
 IsGated passed l = HavePassed passed [] l.transcript
 
--- Each access in all these letters, which are given by round, has passed a gate.
+-- States that each access in all these letters, which are given by round, has passed a gate.
 abbrev pub AreGated : (ℕ → ℕ → ℕ → Type 0) → List (List Letter) → Type 0
 AreGated passed rounds = All (λ letters. All (IsGated passed) letters) rounds
 
@@ -34,7 +34,7 @@ pub record Served : Type 0 where
   pub made : List Access
   pub seen : List Access
 
--- As many accesses as these were served through this witness, and the history that it has met contains them in this
--- order.
+-- States that as many accesses as these were served through this witness, and the history that it has met contains them
+-- in this order.
 abbrev pub AreWitnessed : List Access → Witnessed → Type 0
 AreWitnessed made w = AreAmong made w.seen × (w.made ≡ length made)

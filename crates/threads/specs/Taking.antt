@@ -22,7 +22,7 @@ abbrev pub left_rounds : ℕ → ℕ → List Letter → List Letter
 left_rounds n zero letters = letters
 left_rounds n (suc r) letters = left_by_all n (suc r) (left_rounds n r letters)
 
--- There are as many letters as places, and each place has one.
+-- States that there are as many letters as places, and each place has one.
 pub record IsGrid (n rounds : ℕ) (letters : List Letter) : Type 0 where
   pub count : length letters ≡ rounds * n
   pub rows : (r : ℕ) → r < rounds → length (letters_by n (suc r) letters) ≡ n

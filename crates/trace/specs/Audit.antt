@@ -54,8 +54,8 @@ first_fault None differs = At (differing differs) differs
 unfoldable pub fault_at : List ℕ → ℕ → TraceError
 fault_at t place = first_fault (unshaped_from 1 (pieces feed t)) (line_at t place)
 
--- The text first differs from the text of its replay at `place`. If the text names no version that the rule admits,
--- `place` is 0.
+-- States that the text first differs from the text of its replay at `place`. If the text names no version that the rule
+-- admits, `place` is 0.
 abbrev pub DiffersAt : Scenario → List ℕ → Option Version → ℕ → Type 0
 DiffersAt s t None place = place ≡ 0
 DiffersAt s t (Some version) place = IsFirstDifference t (text_in version (chronicle_told s t)) place

@@ -12,24 +12,24 @@ use Rattle.trace.specs.declared.version.Version.{Version}
 use Rattle.trace.specs.declared.version.Version.TheVariants.{First, Second}
 use Rattle.trace.specs.Names.{names_of, chronicle_told}
 
--- The generals that the access lines of a chronicle's text name are those of its accesses, round by round.
+-- States that the generals that the access lines of a chronicle's text name are those of its accesses, round by round.
 abbrev pub NamesAreTold : Type 0
 NamesAreTold = (v : Version) (c : Chronicle) → All (λ a. a.general < 13) c.accesses →
     names_of (text_in v c) ≡ names_in 1 c.accesses (length c.letters)
 
--- A campaign may always be written in the second version, and in the first one with the default rule only.
+-- States that a campaign may always be written in the second version, and in the first one with the default rule only.
 abbrev pub Admits : Rule → Version → Type 0
 Admits rule Second = Unit {0}
 Admits rule First = is_default rule ≡ true
 
--- The text is what the audit expects: the text of the replay of the accesses that it lists, in a version that the rule
--- admits.
+-- States that the text is what the audit expects: the text of the replay of the accesses that it lists, in a version
+-- that the rule admits.
 pub record IsSoundText (s : Scenario) (t : List ℕ) : Type 0 where
   pub version : Version
   pub admitted : Admits s.rule version
   pub same : t ≡ text_in version (chronicle_told s t)
 
--- The text is that of a complete run.
+-- States that the text is that of a complete run.
 pub record IsRunText (s : Scenario) (t : List ℕ) : Type 0 where
   pub version : Version
   pub admitted : Admits s.rule version
@@ -37,6 +37,6 @@ pub record IsRunText (s : Scenario) (t : List ℕ) : Type 0 where
   pub complete : IsComplete s events
   pub same : t ≡ text_in version (chronicle_of (run (opening s) events))
 
--- The texts that an audit finds sound are exactly those of complete runs.
+-- States that the texts that an audit finds sound are exactly those of complete runs.
 abbrev pub SoundTextsAreRuns : Type 0
 SoundTextsAreRuns = (s : Scenario) (t : List ℕ) → IsScenario s → IsSoundText s t ↔ IsRunText s t

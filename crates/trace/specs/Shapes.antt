@@ -28,9 +28,9 @@ are_joined word = list_all is_number (pieces dot word)
 abbrev pub are_receivers : Word → Bool
 are_receivers word = is_dash word || are_joined word
 
--- Whether a word matches a word of a shape. N matches a number, and P a number or a dash. A matches yes or no, and B
--- these or a dash. S matches numbers joined by dots, and R these or a dash. C matches the name of a rule. Any other
--- word matches itself only.
+-- Returns whether a word matches a word of a shape. N matches a number, and P a number or a dash. A matches yes or no,
+-- and B these or a dash. S matches numbers joined by dots, and R these or a dash. C matches the name of a rule. Any
+-- other word matches itself only.
 unfoldable pub stands_for : Word → Word → Bool
 stands_for kind word =
     if bytes_eq kind (codes "N") then is_number word
@@ -118,8 +118,8 @@ unfoldable pub is_shaped : List ℕ → Bool
 is_shaped line = let words = pieces space line in
     is_version words || is_campaign words || is_told words || is_access words || is_end words
 
--- The first line that has no valid shape or no LF after it, where the lines are counted from `number`. Nothing may come
--- after the last LF. In an empty text, the first line is such a line.
+-- Returns the first line that has no valid shape or no LF after it, where the lines are counted from `number`. Nothing
+-- may come after the last LF. In an empty text, the first line is such a line.
 abbrev pub unshaped_from : ℕ → List (List ℕ) → Option ℕ
 unshaped_from number [] = None
 unshaped_from number (line ∷ []) = if length line == 0 && nat_lt 1 number then None else Some number

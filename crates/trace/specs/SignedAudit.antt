@@ -16,7 +16,7 @@ use Rattle.trace.specs.SignedText.{signed_text}
 unfoldable pub signed_chronicle_told : Scenario → List ℕ → Chronicle
 signed_chronicle_told s t = signed_chronicle_of (played s (replayed signed_kind s (names_of t)))
 
--- The text is what the audit expects: the text of the replay of the accesses that it lists.
+-- States that the text is what the audit expects: the text of the replay of the accesses that it lists.
 abbrev pub IsSoundSignedText : Scenario → List ℕ → Type 0
 IsSoundSignedText s t = t ≡ signed_text (signed_chronicle_told s t)
 
@@ -29,7 +29,8 @@ is_third (line ∷ lines) = bytes_eq line (codes "chronicle 3")
 unfoldable pub is_third_version : List ℕ → Bool
 is_third_version t = is_third (pieces feed t)
 
--- The text first differs from the text of its replay at `place`. If the text names another version, `place` is 0.
+-- States that the text first differs from the text of its replay at `place`. If the text names another version, `place`
+-- is 0.
 abbrev pub SignedDiffersAt : Scenario → List ℕ → Bool → ℕ → Type 0
 SignedDiffersAt s t false place = place ≡ 0
 SignedDiffersAt s t true place = IsFirstDifference t (signed_text (signed_chronicle_told s t)) place

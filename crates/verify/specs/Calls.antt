@@ -55,13 +55,13 @@ arguments_reason [] r known = None
 arguments_reason (argument ∷ arguments) r known =
     option_or (taken_reason argument (known_at known r)) (arguments_reason arguments (r + 1) known)
 
--- The value is a number below the bound.
+-- States that the value is a number below the bound.
 abbrev pub IsBelow : ℕ → AbsVal → Type 0
 IsBelow bound Unset = ⊥
 IsBelow bound (Number numbers) = greatest numbers < bound
 IsBelow bound (Pointer region offsets) = ⊥
 
--- The value is a pointer.
+-- States that the value is a pointer.
 abbrev pub IsPointer : AbsVal → Type 0
 IsPointer Unset = ⊥
 IsPointer (Number numbers) = ⊥
@@ -112,7 +112,7 @@ call_reason a number = helper_reason (helper_of number) a
 
 -- ---- States after calls
 
--- What is known of the registers after a call: r0 is one of the numbers, r1 to r5 are unset, and the others are
+-- Returns what is known of the registers after a call: r0 is one of the numbers, r1 to r5 are unset, and the others are
 -- unchanged.
 abbrev pub known_behind : NumberSet → List AbsVal → List AbsVal
 known_behind numbers known = Number numbers ∷ Unset ∷ Unset ∷ Unset ∷ Unset ∷ Unset ∷ drop 6 known

@@ -6,7 +6,7 @@ use Rattle.verify.specs.declared.error.VerifyError.TheVariants.{At, Memory}
 use Rattle.verify.specs.declared.reason.Reason.{Reason}
 use Rattle.verify.specs.declared.reason.Reason.TheVariants.{BackJump, JumpOut, JumpInWide, LastNotExit, Unset, FrameWrite, PointerUse, Bounds, StackUnset, ContextWrite, Helper, Argument, ExitPointer}
 
--- The code of a reason, V1 to V13.
+-- Returns the code of a reason, V1 to V13.
 abbrev pub code_of : Reason → List ℕ
 code_of BackJump = codes "V1"
 code_of JumpOut = codes "V2"
@@ -22,7 +22,7 @@ code_of Helper = codes "V11"
 code_of Argument = codes "V12"
 code_of ExitPointer = codes "V13"
 
--- The text of an error: the code of the reason and the unit, or that memory ran out.
+-- Returns the text of an error: the code of the reason and the unit, or that memory ran out.
 abbrev pub told : VerifyError → List ℕ
 told (At reason unit) = code_of reason ++ codes " unit " ++ decimal unit
 told Memory = codes "out of memory"

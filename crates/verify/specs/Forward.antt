@@ -4,10 +4,10 @@ use Rattle.insn.specs.declared.insn.Insn.{Insn}
 use Rattle.insn.specs.Program.{instruction_at}
 use Rattle.semantics.specs.Plain.{IsIn, leads_to, IsStart}
 
--- Each unit that may follow the instruction is greater than its own unit, and an instruction starts there.
+-- States that each unit that may follow the instruction is greater than its own unit, and an instruction starts there.
 abbrev pub LeadsForward : List Insn → ℕ → Insn → Type 0
 LeadsForward program unit i = (z : ℤ) → IsIn z (leads_to i unit) → (pos unit <ℤ z) × IsStart program z
 
--- Each edge of the program leads forward to an instruction.
+-- States that each edge of the program leads forward to an instruction.
 pub record IsForward (program : List Insn) : Type 0 where
   pub edges : (unit : ℕ) (i : Insn) → instruction_at program unit ≡ Some i → LeadsForward program unit i

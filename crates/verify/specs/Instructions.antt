@@ -10,7 +10,7 @@ use Rattle.verify.specs.Reasons.{first_reason, made_checks, arithmetic_checks, w
 use Rattle.verify.specs.MemoryTable.{load_reason, signed_load_reason, store_reason}
 use Rattle.verify.specs.Calls.{call_reason}
 
--- The instruction continues with the following one: it is neither a jump nor the exit.
+-- States that the instruction continues with the following one: it is neither a jump nor the exit.
 abbrev pub IsStraight : Insn → Type 0
 IsStraight (Jump distance) = ⊥
 IsStraight (LongJump distance) = ⊥

@@ -19,7 +19,8 @@ KnownSoFar = List (Option AbsState)
 abbrev pub reached_at : KnownSoFar → ℕ → Option AbsState
 reached_at reached unit = slice_index_or reached unit None
 
--- What is known at a unit after one more path leads there. If another path led there before, the two are joined.
+-- Returns what is known at a unit after one more path leads there. If another path led there before, the two are
+-- joined.
 abbrev pub joined_with : Option AbsState → AbsState → AbsState
 joined_with None a = a
 joined_with (Some before) a = met a before
@@ -66,6 +67,6 @@ first_of (Some fault) answer = Some fault
 first_of None (Err fault) = Some fault
 first_of None (Ok reached) = None
 
--- The first fault of a program, or none if the program is accepted.
+-- Returns the first fault of a program, or none if the program is accepted.
 unfoldable pub judged : List Insn → Option VerifyError
 judged program = first_of (structural_fault program) (passed_to program (length (slots_of program)))

@@ -23,7 +23,7 @@ all_unboxed states = map unboxed states
 abbrev pub padded : ℕ → KnownSoFar → KnownSoFar
 padded units known = known ++ replicate (units - length known) None
 
--- There are at most as many places as units, and there is room for a place for each unit.
+-- States that there are at most as many places as units, and there is room for a place for each unit.
 pub record HasRoom (places capacity units : ℕ) : Type 0 where
   pub inside : places ≤ units
   pub room : units ≤ capacity
@@ -35,10 +35,10 @@ pub record AtHand (reached : KnownSoFar) (unit : ℕ) (hand : Option (Box AbsSta
   pub here : unboxed hand ≡ reached_at reached unit
   pub rest : kept ≡ slice_set reached unit None
 
--- Each edge of the instruction ends at a unit below `end`.
+-- States that each edge of the instruction ends at a unit below `end`.
 abbrev pub EdgesInside : Insn → ℕ → ℕ → Type 0
 EdgesInside i unit end = (v : ℕ) → IsIn (pos v) (leads_to i unit) → v < end
 
--- Each edge of the instruction leads forward.
+-- States that each edge of the instruction leads forward.
 abbrev pub EdgesForward : Insn → ℕ → Type 0
 EdgesForward i unit = (z : ℤ) → IsIn z (leads_to i unit) → pos unit <ℤ z

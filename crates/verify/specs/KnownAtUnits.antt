@@ -17,8 +17,8 @@ known_on_the_pass program unit = option_map (λ reached. reached_at reached unit
 abbrev pub known_before : List Insn → ℕ → Option (Option AbsState)
 known_before program unit = if is_none (structural_fault program) then known_on_the_pass program unit else None
 
--- The states and the fault are what the verifier finds in a program: for each unit what the pass knows when it reaches
--- the unit, and the first fault, if there is one.
+-- States that the states and the fault are what the verifier finds in a program: for each unit what the pass knows when
+-- it reaches the unit, and the first fault, if there is one.
 pub record IsSurvey (program : List Insn) (states : List (Option AbsState)) (fault : Option VerifyError) : Type 0 where
   pub known : (unit : ℕ) → unit < length (slots_of program) → slice_get states unit ≡ known_before program unit
   pub room : length states ≤ length (slots_of program)

@@ -16,8 +16,8 @@ use Rattle.verify.specs.Judgement.{judged}
 use Rattle.verify.specs.KnownAtUnits.{known_before}
 use Rattle.verify.specs.Describes.{IsAsKnown}
 
--- The pass over a program without a structural fault agrees with `judged`. It never both reaches the end and stops at a
--- first fault, and it never has two different first faults.
+-- States that the pass over a program without a structural fault agrees with `judged`. It never both reaches the end
+-- and stops at a first fault, and it never has two different first faults.
 pub record PassesAgree : Type 0 where
   pub through : (program : List Insn) → structural_fault program ≡ None → ComesThrough program → judged program ≡ None
   pub stopped : (program : List Insn) (fault : VerifyError) → structural_fault program ≡ None →
@@ -31,12 +31,14 @@ pub record PassesAgree : Type 0 where
 abbrev pub PlainIsAccepted : Type 0
 PlainIsAccepted = (program : List Insn) → AllByRecursion IsInsn program → IsPlain program → judged program ≡ None
 
--- A program of well-formed instructions is sound if it takes at least one unit and `judged` finds no fault in it.
+-- States that a program of well-formed instructions is sound if it takes at least one unit and `judged` finds no fault
+-- in it.
 abbrev pub AcceptedIsSound : Type 0
 AcceptedIsSound = (program : List Insn) → AllByRecursion IsInsn program → 0 < length (slots_of program) →
     judged program ≡ None → IsSound program
 
--- In such a program, what is known at a unit describes every state of every run at that unit.
+-- States that in a program of well-formed instructions that takes at least one unit and in which `judged` finds no
+-- fault, what is known at a unit describes every state of every run at that unit.
 abbrev pub StatesAreAsKnown : Type 0
 StatesAreAsKnown = (program : List Insn) → AllByRecursion IsInsn program → 0 < length (slots_of program) →
     judged program ≡ None → (context : List ℕ) (relay : Relay) (answers : List (List ℕ)) (s : State) →

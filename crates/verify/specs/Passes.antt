@@ -14,22 +14,22 @@ use Rattle.verify.specs.Kept.{AtHand}
 
 -- ---- The code compared with the function
 
--- A step of the code agrees with the wanted result. It leaves what is wanted or returns the wanted fault, or it runs
--- out of memory where no fault is wanted.
+-- States that a step of the code agrees with the wanted result. It leaves what is wanted or returns the wanted fault,
+-- or it runs out of memory where no fault is wanted.
 abbrev pub Does : Result KnownSoFar VerifyError → Result (Unit {0}) VerifyError → KnownSoFar → Type 0
 Does wanted (Ok u) reached = wanted ≡ Ok reached
 Does wanted (Err Memory) reached = (left : KnownSoFar) × (wanted ≡ Ok left)
 Does wanted (Err fault) reached = wanted ≡ Err fault
 
--- A step of the code that takes out what is known at the next unit agrees with the wanted result. It leaves what is
--- wanted or returns the wanted fault, or it runs out of memory where no fault is wanted.
+-- States that a step of the code that takes out what is known at the next unit agrees with the wanted result. It leaves
+-- what is wanted or returns the wanted fault, or it runs out of memory where no fault is wanted.
 abbrev pub Comes : Result KnownSoFar VerifyError → ℕ → Result (Option (Box AbsState Global)) VerifyError → KnownSoFar →
     Type 0
 Comes wanted next (Ok hand) kept = (reached : KnownSoFar) × (wanted ≡ Ok reached) × AtHand reached next hand kept
 Comes wanted next (Err Memory) kept = (left : KnownSoFar) × (wanted ≡ Ok left)
 Comes wanted next (Err fault) kept = wanted ≡ Err fault
 
--- The code returns the wanted fault, or none if none is wanted, or it runs out of memory.
+-- States that the code returns the wanted fault, or none if none is wanted, or it runs out of memory.
 abbrev pub Answers : Option VerifyError → Result (Unit {0}) VerifyError → Type 0
 Answers wanted (Ok u) = wanted ≡ None
 Answers wanted (Err Memory) = Unit {0}
@@ -37,7 +37,7 @@ Answers wanted (Err fault) = wanted ≡ Some fault
 
 -- ---- A program
 
--- The pass reaches the end, so each instruction to which a path leads may run.
+-- States that the pass reaches the end, so each instruction to which a path leads may run.
 abbrev pub ComesThrough : List Insn → Type 0
 ComesThrough program = (reached : KnownSoFar) × (passed_to program (length (slots_of program)) ≡ Ok reached)
 
@@ -47,12 +47,12 @@ reason_at None known = None
 reason_at (Some i) None = None
 reason_at (Some i) (Some a) = reason_of i a
 
--- The pass reaches an instruction that may not run for this reason.
+-- States that the pass reaches an instruction that may not run for this reason.
 pub record IsStopped (program : List Insn) (unit : ℕ) (reason : Reason) : Type 0 where
   pub reached : KnownSoFar
   pub comes : passed_to program unit ≡ Ok reached
   pub stops : reason_at (instruction_at program unit) (reached_at reached unit) ≡ Some reason
 
--- The fault is that of the first instruction that may not run.
+-- States that the fault is that of the first instruction that may not run.
 abbrev pub IsFirstFault : List Insn → VerifyError → Type 0
 IsFirstFault program fault = (unit : ℕ) × (reason : Reason) × IsStopped program unit reason × (fault ≡ At reason unit)

@@ -32,28 +32,28 @@ is_pointer Unset = false
 is_pointer (Number n) = false
 is_pointer (Pointer region o) = true
 
--- The checks of an instruction that writes a result. The operand must be set, dst may not be the frame pointer, and the
--- table must have a result.
+-- Returns the checks of an instruction that writes a result. The operand must be set, dst may not be the frame pointer,
+-- and the table must have a result.
 abbrev pub made_checks : ℕ → AbsVal → Option AbsVal → List Check
 made_checks dst value made = (is_unset value, reason.Unset) ∷ (dst == 10, FrameWrite) ∷ (is_none made, PointerUse) ∷ []
 
--- The checks of an operation on a register and an operand.
+-- Returns the checks of an operation on a register and an operand.
 abbrev pub arithmetic_checks : List AbsVal → Width → Operation → ℕ → Operand → List Check
 arithmetic_checks known w operation dst operand =
     (is_unset (first_known known operation dst), reason.Unset)
     ∷ made_checks dst (operand_known known operand)
     (computed w operation (first_known known operation dst) (operand_known known operand))
 
--- The check that the register that is written is not the frame pointer.
+-- Returns the check that the register that is written is not the frame pointer.
 abbrev pub write_checks : ℕ → List Check
 write_checks dst = (dst == 10, FrameWrite) ∷ []
 
--- The checks of a comparison: both values must be set, and must be numbers.
+-- Returns the checks of a comparison: both values must be set, and must be numbers.
 abbrev pub compare_checks : AbsVal → AbsVal → List Check
 compare_checks a b = (is_unset a, reason.Unset) ∷ (is_unset b, reason.Unset) ∷ (is_pointer a, PointerUse) ∷
     (is_pointer b, PointerUse) ∷ []
 
--- The checks of the exit: r0 must be a number.
+-- Returns the checks of the exit: r0 must be a number.
 abbrev pub exit_checks : AbsVal → List Check
 exit_checks r0 = (is_unset r0, reason.Unset) ∷ (is_pointer r0, ExitPointer) ∷ []
 

@@ -30,7 +30,7 @@ abbrev pub first_known : List AbsVal → Operation → ℕ → AbsVal
 first_known known Move dst = Number (single 0)
 first_known known _ dst = known_at known dst
 
--- What is known of the registers at the entry: r1 points to the context and r10 to the end of the stack.
+-- Returns what is known of the registers at the entry: r1 points to the context and r10 to the end of the stack.
 abbrev pub entry_known : List AbsVal
 entry_known =
     Unset ∷ Pointer Context (pos 0, pos 0) ∷ Unset ∷ Unset ∷ Unset ∷ Unset ∷ Unset ∷ Unset ∷ Unset ∷ Unset

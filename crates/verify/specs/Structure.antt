@@ -18,8 +18,8 @@ abbrev pub first_fault : List Check → Option VerifyError
 first_fault [] = None
 first_fault (check ∷ checks) = if check.0 then Some check.1 else first_fault checks
 
--- The checks of a jump from a unit. Its target must be a greater unit, it must not be past the end, and an instruction
--- must start there.
+-- Returns the checks of a jump from a unit. Its target must be a greater unit, it must not be past the end, and an
+-- instruction must start there.
 abbrev pub target_checks : List Insn → ℕ → ℤ → List Check
 target_checks program unit (negsuc n) = (true, At BackJump unit) ∷ []
 target_checks program unit (pos target) =
@@ -28,7 +28,7 @@ target_checks program unit (pos target) =
     ∷ (is_none (instruction_at program target), At JumpInWide unit)
     ∷ []
 
--- The checks of an instruction. A jump counts units from the following instruction (RFC 9669, section 4.3).
+-- Returns the checks of an instruction. A jump counts units from the following instruction (RFC 9669, section 4.3).
 abbrev pub jump_checks : List Insn → ℕ → Insn → List Check
 jump_checks program unit (Jump distance) = target_checks program unit (pos (unit + 1) +ℤ distance)
 jump_checks program unit (LongJump distance) = target_checks program unit (pos (unit + 1) +ℤ distance)
@@ -36,12 +36,12 @@ jump_checks program unit (Branch width condition dst operand distance) =
     target_checks program unit (pos (unit + 1) +ℤ distance)
 jump_checks program unit _ = []
 
--- The checks of the instructions from a unit on, in their order.
+-- Returns the checks of the instructions from a unit on, in their order.
 abbrev pub checks_from : List Insn → ℕ → List Insn → List Check
 checks_from program unit [] = []
 checks_from program unit (i ∷ is) = jump_checks program unit i ++ checks_from program (unit + units_of i) is
 
--- The checks of the instruction with an index, if the first instruction starts at the given unit.
+-- Returns the checks of the instruction with an index, if the first instruction starts at the given unit.
 abbrev pub checks_at : List Insn → ℕ → List Insn → ℕ → List Check
 checks_at program unit [] index = []
 checks_at program unit (i ∷ is) zero = jump_checks program unit i
@@ -52,18 +52,18 @@ abbrev pub is_exit : Insn → Bool
 is_exit Exit = true
 is_exit _ = false
 
--- The check that the last of the instructions from a unit on is the exit.
+-- Returns the check that the last of the instructions from a unit on is the exit.
 abbrev pub last_checks : ℕ → List Insn → List Check
 last_checks unit [] = []
 last_checks unit (i ∷ []) = (if is_exit i then false else true, At LastNotExit unit) ∷ []
 last_checks unit (i ∷ j ∷ is) = last_checks (unit + units_of i) (j ∷ is)
 
--- The structural fault of a program: the first fault of its jumps in their order, or otherwise that its last
+-- Returns the structural fault of a program: the first fault of its jumps in their order, or otherwise that its last
 -- instruction is not the exit.
 abbrev pub structural_fault : List Insn → Option VerifyError
 structural_fault program = first_fault (checks_from program 0 program ++ last_checks 0 program)
 
--- The reason belongs to the pass and not to the structure.
+-- States that the reason belongs to the pass and not to the structure.
 abbrev pub IsOwn : Reason → Type 0
 IsOwn BackJump = ⊥
 IsOwn JumpOut = ⊥
@@ -71,7 +71,7 @@ IsOwn JumpInWide = ⊥
 IsOwn LastNotExit = ⊥
 IsOwn reason = Unit {0}
 
--- The fault is not structural, and an instruction starts at its unit, if it has one.
+-- States that the fault is not structural, and an instruction starts at its unit, if it has one.
 abbrev pub IsOwnFault : List Insn → VerifyError → Type 0
 IsOwnFault program (At reason unit) = IsOwn reason × IsSome (instruction_at program unit)
 IsOwnFault program Memory = Unit {0}

@@ -35,19 +35,19 @@ assigned a dst (Some value) = record { registers = slice_set a.registers dst val
 
 -- ---- Stores
 
--- What is known of the stack after a number is stored. It is at one address if the window is as wide as the number, and
--- otherwise at one of several.
+-- Returns what is known of the stack after a number is stored. It is at one address if the window is as wide as the
+-- number, and otherwise at one of several.
 abbrev pub number_stored : ℕ → Option Window → Known → Known
 number_stored size None known = known
 number_stored size (Some w) known =
     if w.size == size then put_bytes w.place w.size known else spread_bytes w.place w.size known
 
--- What is known of the stack after a pointer is stored.
+-- Returns what is known of the stack after a pointer is stored.
 abbrev pub pointer_stored : Region → ℤ → Option Window → Known → Known
 pointer_stored region offset None known = known
 pointer_stored region offset (Some w) known = put_pointer w.place region offset known
 
--- What is known of the stack after a value is stored.
+-- Returns what is known of the stack after a value is stored.
 abbrev pub stored : Size → AbsVal → ℤ → AbsVal → Known → Known
 stored size (Pointer region at) distance (Number n) known =
     number_stored (bytes_of size) (window_known region at.0 at.1 distance (bytes_of size)) known
@@ -57,24 +57,24 @@ stored size base distance value known = known
 
 -- ---- Calls
 
--- What is known of the stack after words are written, to one place or somewhere in the window.
+-- Returns what is known of the stack after words are written, to one place or somewhere in the window.
 abbrev pub written : Bool → Option Window → Known → Known
 written certain None known = known
 written true (Some w) known = put_bytes w.place w.size known
 written false (Some w) known = spread_bytes w.place w.size known
 
--- What is known of the stack after words of the board are copied to a pointer.
+-- Returns what is known of the stack after words of the board are copied to a pointer.
 abbrev pub copied : AbsVal → AbsVal → Known → Known
 copied (Pointer region offsets) (Number counts) known =
     written (is_certain offsets counts) (window_from region offsets (8 * greatest counts)) known
 copied target counts known = known
 
--- What is known of the stack after a call. Only the helper that copies words of the board writes to it.
+-- Returns what is known of the stack after a call. Only the helper that copies words of the board writes to it.
 abbrev pub stack_behind : Helper → AbsState → Known
 stack_behind BoardCopy a = copied (known_at a.registers 2) (known_at a.registers 3) a.stack
 stack_behind helper a = a.stack
 
--- What is known after a call of a helper.
+-- Returns what is known after a call of a helper.
 abbrev pub called : Option Helper → AbsState → AbsState
 called None a = a
 called (Some helper) a =
@@ -82,7 +82,7 @@ called (Some helper) a =
 
 -- ---- Instructions
 
--- What is known after an instruction that continues with the following one.
+-- Returns what is known after an instruction that continues with the following one.
 abbrev pub transfer : Insn → AbsState → AbsState
 transfer (Arithmetic w operation dst operand) a =
     assigned a dst (computed w operation (first_known a.registers operation dst) (operand_known a.registers operand))
@@ -102,11 +102,11 @@ transfer (Store size base offset source) a =
 transfer (Call number) a = called (helper_of number) a
 transfer i a = a
 
--- What is known after an instruction that continues with the following one, or why it may not run.
+-- Returns what is known after an instruction that continues with the following one, or why it may not run.
 abbrev pub stepped : Insn → AbsState → Result AbsState Reason
 stepped i a = unless (straight_reason i a) (transfer i a)
 
--- What is known if a conditional jump is taken, or is not taken. There is no result if that cannot happen.
+-- Returns what is known if a conditional jump is taken, or is not taken. There is no result if that cannot happen.
 abbrev pub narrowed : Comparison → Bool → AbsState → Option AbsState
 narrowed c taken a =
     option_map (λ known. record { registers = known; stack = a.stack }) (edge_known c taken a.registers)
@@ -120,8 +120,8 @@ abbrev pub edge_to : ℤ → Option AbsState → List Edge
 edge_to unit None = []
 edge_to unit (Some a) = (unit, a) ∷ []
 
--- The edges that lead on from an instruction at a unit. A jump counts units from the following instruction (RFC 9669,
--- section 4.3).
+-- Returns the edges that lead on from an instruction at a unit. A jump counts units from the following instruction (RFC
+-- 9669, section 4.3).
 abbrev pub edges : Insn → ℕ → AbsState → List Edge
 edges (Jump distance) unit a = (pos (unit + 1) +ℤ distance, a) ∷ []
 edges (LongJump distance) unit a = (pos (unit + 1) +ℤ distance, a) ∷ []
