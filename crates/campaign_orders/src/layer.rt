@@ -44,7 +44,8 @@ impl Layer {
         states
     }
 
-    /// Enters a state. If a state has an alike world, they are joined. Otherwise the new state is appended.
+    /// Adds a state to the layer. If a state of the layer has an alike world, the two are merged. Otherwise the new
+    /// state is appended.
     pub(crate) fn enter(&mut self, state: State) -> Result<(), AllocError>
         ensures { OnOk result (IsEntered self.old state self.new) }
     {

@@ -16,7 +16,8 @@ fn number_in(place: &str) -> u64
     }
 }
 
-/// Returns the line of a unit, given the places of all units. Returns 0 if there is no such unit.
+/// Returns the number of the line that a unit is in. `places` has the text `line N` for each unit. Returns 0 if there
+/// is no such unit.
 fn unit_line(places: &[String], unit: usize) -> u64
     ensures { result ≡ unit_line places.now unit }
 {
@@ -36,7 +37,7 @@ fn as_line(number: u128) -> u64
     }
 }
 
-/// Returns the line of a unit in this assembly text, or 0 if there is no such unit.
+/// Returns the number of the line of an assembly text that a unit is in, counted from 1, or 0 if there is no such unit.
 pub(crate) fn line_of_unit(alloc: Global, text: &str, unit: usize) -> Result<u64, AllocError>
     ensures { IfOk result (λ number. IsUnitLine text.now unit number) }
 {

@@ -39,7 +39,7 @@ fn put_so(out: &mut String, r: Reg, value: AbsVal, text: &str) -> Result<(), All
     put(out, text)
 }
 
-/// Appends a text and a number.
+/// Appends a text and a number in decimal.
 pub(crate) fn put_counted(out: &mut String, text: &str, number: u64) -> Result<(), AllocError>
     ensures { OnOk result (string_bytes out.new ≡ string_bytes out.old ++ (text.now ++ decimal number)) }
 {
@@ -47,7 +47,7 @@ pub(crate) fn put_counted(out: &mut String, text: &str, number: u64) -> Result<(
     put_unsigned(out, number)
 }
 
-/// Appends a text and a signed number.
+/// Appends a text and a signed number in decimal.
 fn put_signed(out: &mut String, text: &str, number: i64) -> Result<(), AllocError>
     ensures { OnOk result (string_bytes out.new ≡ string_bytes out.old ++ (text.now ++ signed_decimal number)) }
 {

@@ -8,7 +8,8 @@ use crate::stack::Stack;
 use insn::Size;
 use semantics::{Cell, Region};
 
-/// Reads the little-endian number in the `size` cells from `place` on. Returns `None` if one of them is not a byte.
+/// Reads the little-endian number in the cells of the stack that begin at index `place`. `size` says how many they are.
+/// Returns `None` if one of the cells does not hold a byte.
 pub fn read_number(stack: &Stack, place: usize, size: Size) -> Option<u64>
     requires { place + bytes_of size ≤ 512 }
     ensures { Reads stack.now place (bytes_of size) result }
@@ -21,7 +22,7 @@ pub fn read_number(stack: &Stack, place: usize, size: Size) -> Option<u64>
     }
 }
 
-/// Reads the byte in the cell at `place`. Returns `None` if the cell is not a byte.
+/// Reads the byte in the cell of the stack at index `place`. Returns `None` if the cell does not hold a byte.
 fn byte_at(stack: &Stack, place: usize) -> Option<u8>
     requires { place + 1 ≤ 512 }
     ensures { Reads stack.now place 1 result }
@@ -33,7 +34,8 @@ fn byte_at(stack: &Stack, place: usize) -> Option<u8>
     }
 }
 
-/// Reads the little-endian number in the 2 cells from `place` on. Returns `None` if one of them is not a byte.
+/// Reads the 16-bit little-endian number in the 2 cells of the stack that begin at index `place`. Returns `None` if one
+/// of the cells does not hold a byte.
 fn half_at(stack: &Stack, place: usize) -> Option<u16>
     requires { place + 2 ≤ 512 }
     ensures { Reads stack.now place 2 result }
@@ -56,7 +58,8 @@ pub fn word_at(stack: &Stack, place: usize) -> Option<u32>
     Some(u32::from(low) + 0x1_0000 * u32::from(high))
 }
 
-/// Reads the little-endian number in the 8 cells from `place` on. Returns `None` if one of them is not a byte.
+/// Reads the 64-bit little-endian number in the 8 cells of the stack that begin at index `place`. Returns `None` if one
+/// of the cells does not hold a byte.
 fn double_at(stack: &Stack, place: usize) -> Option<u64>
     requires { place + 8 ≤ 512 }
     ensures { Reads stack.now place 8 result }

@@ -17,7 +17,7 @@ pub struct Header {
     pub range: u8,
     /// The field opcode_base: one more than the number of standard opcodes.
     pub opcodes: u8,
-    /// The place of the tables of directories and files.
+    /// The byte index of the tables of directories and files.
     pub tables: usize,
     /// The place where the program begins.
     pub program: usize,

@@ -119,7 +119,8 @@ fn flags_of(
     Ok(changed)
 }
 
-/// Returns the columns of all 512 cells of the stack.
+/// Returns a column for each of the 512 cells of the stack, in their order. A column says for each unit of the program
+/// whether the instruction there sets the cell. Fails if memory runs out.
 pub fn columns(
     alloc: Global,
     program: &Program,

@@ -74,7 +74,8 @@ activation_of patience program context standing over =
 abbrev pub Silently : Activation → Activation → Type 0
 Silently a b = (k : ℕ) × Runs k a [] b
 
--- States that the activation pauses: it has ended, has taken at least `limit` steps, or makes a request next.
+-- States that the activation pauses: it has ended, has taken at least `limit` steps since it began, or its next turn,
+-- which is given, is a request to the board.
 abbrev pub Pauses : ℕ → Activation → Turn → Type 0
 Pauses limit a (Goes b) = limit ≤ a.state.steps
 Pauses limit a (Asks request answered) = Unit {0}

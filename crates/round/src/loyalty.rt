@@ -45,7 +45,8 @@ pub fn loyal_letter(
     })
 }
 
-/// Returns the outbox that sends each receiver what the general took.
+/// Returns the outbox of a loyal general. It sends each receiver of each label the order that the general took for the
+/// label, as `context` has it. `shape` says which labels and receivers these are.
 fn faithful(alloc: Global, shape: Shape, context: &[u8]) -> Result<Outbox, AllocError>
     requires shape { IsShape shape }
     requires context { length context.now ≡ 4096 }

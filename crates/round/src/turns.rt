@@ -69,8 +69,8 @@ impl Running {
     }
 }
 
-/// Takes steps until the program makes a request next, exits, or has taken `limit` steps in all. Returns whether it has
-/// exited.
+/// Takes steps until the next step would be a request to the board, the program has exited, or it has taken at least
+/// `limit` steps since its activation began. Returns whether it has exited.
 fn many(activation: &mut Machine, verified: &Verified, bytes: &[u8], limit: u32) -> bool
     requires context { IsContext bytes.now }
     requires of_run { IsOfRun verified.now bytes.now activation.old }

@@ -19,9 +19,10 @@ pub fn strokes_are_exact()
     ensures { StrokesAreExact }
 {}
 
-/// States, for diagrams of oral campaigns, that the rows of a list are numbered from 0, and that the first rows are
-/// drawn. No honest row is drawn while a lie is left out, and each liar has a row. The rows that are counted as left
-/// out are the others.
+/// States which rows are drawn of the lists below each round in the diagram of a campaign with oral messages. The rows
+/// of a list are numbered from 0, and the first ones are drawn. If a lie is left out, no honest row is drawn, and each
+/// general who lies has a row that is drawn. The rows that are counted as left out are exactly those that are not
+/// drawn.
 pub fn rows_are_exact()
     ensures { RowsAreExact }
 {}

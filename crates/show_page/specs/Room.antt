@@ -41,8 +41,8 @@ room_for_accesses = 130000
 abbrev pub room_for_chronicle : ℕ
 room_for_chronicle = 400000
 
--- Returns the bytes of HTML for each program if there is no room for all: one of `generals + 1` equal shares of
--- 145,000.
+-- Returns the number of bytes of HTML for each program if there is no room for all: one of `generals + 1` equal shares
+-- of 145,000 bytes.
 abbrev pub share : ℕ → ℕ
 share generals = 145000 / (generals + 1)
 

@@ -34,8 +34,8 @@ pub(crate) const ROOM_FOR_ACCESSES: usize = 130_000;
 /// The bytes of HTML for which there is always room in the chronicle's section.
 pub(crate) const ROOM_FOR_CHRONICLE: usize = 400_000;
 
-/// Returns the bytes of HTML for each program if there is no room for all: one of `generals + 1` equal shares of
-/// 145,000.
+/// Returns the number of bytes of HTML for each program if there is no room for all: one of `generals + 1` equal shares
+/// of 145,000 bytes.
 pub(crate) fn share(generals: u8) -> usize
     ensures { result ≡ share generals }
 {

@@ -18,7 +18,7 @@ use label::Shape;
 use std::alloc::Global;
 use toml::Table;
 
-/// Returns the greatest bound of a campaign with this many generals.
+/// Returns the greatest bound of a campaign with `generals` generals: 2 less than their number, but at most 4.
 fn greatest_bound(generals: u32) -> u32
     ensures { result ≡ min 4 (generals - 2) }
 {

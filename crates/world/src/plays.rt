@@ -40,8 +40,9 @@ pub trait PlayableWorld {
         ensures done { OnOk result (seen self.new ≡ happen kind (seen self.old) (Tick general)) }
         ensures undone { OnErr result (seen self.new ≡ seen self.old) };
 
-    /// Takes turns of a traitor's activation until it makes a request next, has ended, or has taken `limit` steps in
-    /// all. Returns how many turns it took, which is 0 for any other general.
+    /// Takes turns of the traitor `general` until his next turn would be a request to the board, his activation has
+    /// ended, or it has taken at least `limit` steps since it began. Returns the number of turns taken, which is 0 if
+    /// the general is not a traitor with a running activation.
     fn run_on(&mut self, general: u32, limit: u32) -> u32
         ensures same { seen self.new ≡ run kind (seen self.old) (replicate result (Tick general)) }
         ensures far { AheadTo limit result (seen self.old).parts general (slice_get (seen self.old).parts general)

@@ -21,7 +21,7 @@ impl AllGiven {
         AllGiven { from: tasks, tasks }
     }
 
-    /// Adds the task of the general before the lowest of these.
+    /// Adds evidence that the next lower general was given his task: his number is one less than the lowest one so far.
     pub(super) fn and(self, given: Given) -> AllGiven
         requires { given.general + 1 ≡ self.from }
         ensures from { result.from ≡ given.general }
@@ -48,7 +48,7 @@ impl AllShut {
         AllShut { inboxes: 0 }
     }
 
-    /// Adds the inbox of the next general.
+    /// Adds evidence that the inbox of the next general was closed: his number is the number of the inboxes so far.
     pub(super) fn and(self, shut: Shut) -> AllShut
         requires { shut.general ≡ self.inboxes }
         ensures { result.inboxes ≡ self.inboxes + 1 }
