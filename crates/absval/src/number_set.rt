@@ -245,7 +245,8 @@ fn goes_bit_by_bit(operation: Operation) -> bool
     }
 }
 
-/// Returns the set of an operation's results if no bit of the width is known. Such bits never contradict the range.
+/// Returns the number set of an operation's results in `range`, of which no bit of the width is known. Such bits never
+/// contradict the range.
 #[inline(always)]
 fn whatever_bits(width: Width, range: Range) -> NumberSet
     requires { range.1 < 2 ^ bits_of width }

@@ -284,8 +284,8 @@ fn bounds_by_letter(letter: u8) -> (usize, usize)
     }
 }
 
-/// Returns a range of the table, as its first index and its end. It has the mnemonics with the same beginning as the
-/// word. If there are none, it is the whole table.
+/// Returns a part of the table: its first index, and the index after its last. It has the mnemonics with the same
+/// beginning as the word. If there are none, it is the whole table.
 fn bounds(word: &[u8]) -> (usize, usize)
     ensures order { result.0 ≤ result.1 }
     ensures end { result.1 ≤ 86 }

@@ -16,7 +16,7 @@ fn line_text(alloc: Global, line: u64) -> Result<String, AllocError>
     format!(in alloc; "line {line}")
 }
 
-/// Appends the line of a unit.
+/// Appends the text `line N` to `places`, where N is the number of a unit's line.
 fn put_place(alloc: Global, places: &mut Vec<String>, line: u64) -> Result<(), AllocError>
     ensures { OnOk result (map string_bytes places.new.items ≡ map string_bytes places.old.items
         ++ line_text line ∷ []) }
@@ -25,7 +25,7 @@ fn put_place(alloc: Global, places: &mut Vec<String>, line: u64) -> Result<(), A
     Ok(())
 }
 
-/// Appends the lines of a statement's units.
+/// Appends the text `line N` to `places` once for each unit of a statement, where N is the number of its line.
 fn put_places(alloc: Global, places: &mut Vec<String>, kept: &Kept<'_>) -> Result<(), AllocError>
     ensures { OnOk result (map string_bytes places.new.items ≡ map string_bytes places.old.items
         ++ own_places (kept_view kept.now)) }

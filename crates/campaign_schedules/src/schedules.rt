@@ -20,7 +20,7 @@ use world::Schedule;
 
 /// Returns the text of a schedule by which the scenario's campaign has the chronicle that `text` contains. The schedule
 /// has one entry for each access. In each round the generals make their accesses in the order of the chronicle, and
-/// then all go to their ends. The returned text is read as the same schedule.
+/// then all activations run to their ends. The returned text is read as the same schedule.
 ///
 /// # Errors
 ///

@@ -130,8 +130,8 @@ fn first_shaped(
     Ok(None)
 }
 
-/// Returns the object of a line by the first of these accesses that fits, with the place of the line. Returns `None` if
-/// none fits.
+/// Returns the object of a line that describes an access, with the place of the line. Its shape is that of the first of
+/// `wordings` that fits the line. Returns `None` if none fits.
 fn access_object(
     alloc: Global,
     held: Held,

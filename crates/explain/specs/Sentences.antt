@@ -39,7 +39,7 @@ place_text region span = codes "the " ++ region_text region ++ codes " at " ++ s
 unfoldable pub reached_text : ℕ → Region → NumberSpan → List ℕ
 reached_text r region span = codes "r" ++ decimal r ++ codes " may reach " ++ place_text region span
 
--- Writes that a register would point to a place.
+-- Writes a register and the words that it would point. The place to which it would point follows.
 unfoldable pub would_text : ℕ → List ℕ
 would_text r = codes "r" ++ decimal r ++ codes " would point"
 

@@ -150,7 +150,7 @@ fn limit(high: i64) -> &'static str
     if high > 65_536 { "65536" } else { "-65536" }
 }
 
-/// Appends that a register would point somewhere.
+/// Appends a register and the words that it would point. The place to which it would point follows.
 #[tactic(auto, unfolding(crate::specs::Sentences::would_text))]
 fn put_would(out: &mut String, r: Reg) -> Result<(), AllocError>
     ensures { OnOk result (string_bytes out.new ≡ string_bytes out.old ++ would_text r) }

@@ -89,8 +89,8 @@ fn is_signed(condition: Condition) -> bool
     }
 }
 
-/// Returns the exponent of the limit of a test: the verifier learns only about numbers known to be below 2 to this
-/// power.
+/// Returns the exponent of the limit of a test: the verifier learns only about numbers that are known to be below 2 to
+/// this power. `signed` says whether the test reads its numbers as signed.
 fn limit_bits(width: Width, signed: bool) -> u8
     ensures { result ≡ limit_bits width signed }
 {
@@ -102,7 +102,8 @@ fn limit_bits(width: Width, signed: bool) -> u8
     }
 }
 
-/// Returns the greatest number about which a test says anything.
+/// Returns the greatest number of which the verifier learns something by a test of this width. `signed` says whether
+/// the test reads its numbers as signed.
 fn limit(width: Width, signed: bool) -> u64
     ensures { result ≡ 2 ^ limit_bits width signed - 1 }
 {

@@ -24,7 +24,7 @@ pub fn pages_are_elements()
 {}
 
 /// States how the sections of a page share its room, which is a number of bytes. Each section has a room of its own,
-/// and a short replacement for a text that does not fit.
+/// and a replacement for a text that does not fit.
 ///
 /// - If the sections' own rooms together fit into the page's room, all sections together take at most that room and the
 ///   bytes of their headings.

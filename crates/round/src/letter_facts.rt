@@ -4,7 +4,8 @@ ghost use Rattle.round.specs.Runs.{IsLetter};
 use crate::letter::Letter;
 
 impl Letter {
-    /// Does nothing. Its contract says what every letter satisfies.
+    /// Does nothing. Its contract gives the caller's proof the facts that a letter's type guarantees (`IsLetter` in
+    /// specs/Runs).
     pub fn recall(&self)
         ensures { IsLetter self.now }
     {

@@ -31,7 +31,7 @@ origin_in number None = number
 origin_in number (Some ds) = origin_from 0 number ds
 
 -- Returns the index of the element from which the expanded table at index `number` comes, in the document's list of
--- traitors. The document is `None` for a text that is not TOML.
+-- traitors. Without a list, this is `number` itself. The document is `None` for a text that is not TOML.
 abbrev pub origin : ℕ → Option Members → ℕ
 origin number document = origin_in number (option_and_then traitors document)
 

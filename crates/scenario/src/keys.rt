@@ -195,11 +195,13 @@ pub fn number(
     Err(ScenarioError::At(ScenarioFault::Range, place))
 }
 
-/// Returns the number from `least` to `most` at an optional key, or `None` if the key is missing.
+/// Returns the number at an optional key, which must be from `least` to `most`. `value` is the key's value, or `None`
+/// if the scenario does not have the key. Then the result is `None`. `place` is the key's place, which errors name.
 ///
 /// # Errors
 ///
-/// `At` with `Kind` if the value is not an integer, or `Range` if it is out of range.
+/// Fails with `At` and the place. The fault is `Kind` if the value is not an integer, or `Range` if the integer is out
+/// of range.
 #[tactic(auto, unfolding(crate::specs::Checks::optional_number))]
 pub fn optional_number(
     place: ScenarioPlace,

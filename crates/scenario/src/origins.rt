@@ -10,7 +10,8 @@ use crate::text_tables::{document, seats, traitors, value_at};
 use std::alloc::{AllocError, Global};
 use toml::{Table, Value};
 
-/// Returns the number of tables that replace an element of the list: one for each general who shares it, otherwise one.
+/// Returns the number of tables that replace an element of the list of traitors in the resolved text: one for each
+/// general who shares it, and otherwise one.
 #[tactic(auto, using(crate::proofs::OriginLemmas::counted))]
 fn stands_for(value: &Value) -> usize
     ensures { result ≡ stands_for (view value.now) }
@@ -24,8 +25,8 @@ fn stands_for(value: &Value) -> usize
     }
 }
 
-/// Returns the number of the element from which the resolved table of this number comes. If there are too few tables,
-/// it returns the number of elements.
+/// Returns the index of the element of `traitors` from which the resolved table at index `number` comes. If there are
+/// too few tables, returns the number of elements.
 fn origin_in(values: &[Value], number: usize) -> usize
     ensures { result ≡ origin_from 0 number (items_view values.now) }
 {
@@ -88,7 +89,7 @@ fn is_seat(value: &Value, general: u8) -> bool
     }
 }
 
-/// Returns the number of the first element that is a table for this general, or `None` if there is none.
+/// Returns the index of the first element that is a table for this general, or `None` if there is none.
 fn seat_in(values: &[Value], general: u8) -> Option<usize>
     ensures { result ≡ seat_from 0 general (items_view values.now) }
 {
@@ -100,8 +101,8 @@ fn seat_in(values: &[Value], general: u8) -> Option<usize>
     None
 }
 
-/// Returns the number of the traitor's table in a scenario's text from which the table of this number in the resolved
-/// text comes. Both are counted from 0. If the text has no list of traitors, it returns the same number.
+/// Returns the index of the `[[traitor]]` table in a scenario's text from which the table at index `number` in the
+/// resolved text comes. Both are counted from 0. If the text has no list of traitors, returns `number`.
 ///
 /// # Errors
 ///

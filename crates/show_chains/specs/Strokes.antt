@@ -73,7 +73,8 @@ abbrev pub numbered : List Drawn → ℕ → List Drawn
 numbered [] row = []
 numbered (x ∷ xs) row = in_row x row ∷ numbered xs (suc row)
 
--- Whether a loyal general would do otherwise, and who the sender is.
+-- Return whether a stroke is a lie, which means that a loyal general would do otherwise, and which general is its
+-- sender.
 abbrev pub is_lie : Drawn → Bool
 is_lie x = x.stroke.differs
 

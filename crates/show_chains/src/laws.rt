@@ -21,10 +21,10 @@ pub fn strokes_are_exact()
     ensures { StrokesAreExact }
 {}
 
-/// States which rows are drawn of the lists below each round in the diagram of a campaign with signed messages. The
-/// rows of a list are numbered from 0, and the first ones are drawn. If a lie is left out, no honest row is drawn, and
-/// each general who lies has a row that is drawn. The rows that are counted as left out are exactly those that are not
-/// drawn.
+/// States which rows are drawn of the lists below each round in the diagram of a campaign with signed messages. A row
+/// is a lie if its stroke differs from what a loyal general would send, and otherwise it is honest. The rows of a list
+/// are numbered from 0, and the first ones are drawn. If a lie is left out, no honest row is drawn, and each general
+/// who lies has a row that is drawn. The rows that are counted as left out are those that are not drawn.
 pub fn rows_are_exact()
     ensures { RowsAreExact }
 {}

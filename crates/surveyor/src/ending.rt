@@ -65,7 +65,7 @@ impl<O: Output, K: Keeper> SurveyEnding<O, K> {
     }
 }
 
-/// Does what is asked for, or reports why nothing is asked for. Returns the exit status.
+/// Does the task in `asked`, or reports the error if `asked` is one. Returns the exit status.
 ///
 /// # Errors
 ///
@@ -96,7 +96,8 @@ fn done<T: Threads + Sync, O: Output, K: Keeper>(
     }
 }
 
-/// Reports why the words ask for nothing, or prints help. Returns the exit status: 2, or 0 for help.
+/// Reports the error of words that give no task, or prints help if the words ask for it. Returns the exit status: 2, or
+/// 0 for help.
 ///
 /// # Errors
 ///

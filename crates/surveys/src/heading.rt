@@ -105,7 +105,7 @@ pub fn head(alloc: Global, family: &Family) -> Result<String, AllocError>
     Ok(out)
 }
 
-/// Checks whether a line begins as a head does.
+/// Checks whether a line begins with `{"adversary":`, the first member of a head.
 pub(crate) fn is_head(line: &[u8]) -> bool
     ensures { result ≡ is_head line.now }
 {

@@ -179,7 +179,8 @@ fn put_result(registers: &mut [AbsVal; 11], range: Range)
     }
 }
 
-/// Checks a call of the helper with a number, and records what the call does to the state.
+/// Checks a call of the helper with the given number. Changes the state to what is known after the call, or returns the
+/// reason why the call is rejected.
 pub fn call(state: &mut AbsState, number: i32) -> Result<(), Reason>
     ensures { outcome result state.new ≡ unless (call_reason state.old number) (called (helper_of number) state.old) }
 {
