@@ -28,7 +28,7 @@ pub record IsSetTo (value : Bool) (old new : List Bool) (place end : ℕ) : Type
   pub before : (k : ℕ) → k < place → byte_at new k ≡ byte_at old k
   pub behind : (k : ℕ) → end ≤ k → byte_at new k ≡ byte_at old k
 
--- States that the pointer begins in its block and lies on the stack, and its offset is within the limit.
+-- States that the pointer begins in its block and lies on the stack, and that its offset is from -65,536 to 65,536.
 abbrev pub IsFiled : ℕ → Spill → Type 0
 IsFiled b Free = Unit {0}
 IsFiled b (Whole shift region offset) = (shift < 8) × (8 * b + shift + 8 ≤ stack_size) × IsOffset offset

@@ -11,7 +11,7 @@ use Rattle.absmem.specs.Tables.{table}
 abbrev pub stack_of : (ℕ → Bool) → (ℕ → Spill) → Known
 stack_of byte spill = record { bytes = table stack_size byte; spills = table 64 spill }
 
--- Returns the abstract stack of which nothing is known.
+-- The abstract stack of which nothing is known.
 abbrev pub unknown_stack : Known
 unknown_stack = stack_of (λ k. false) (λ b. Free)
 

@@ -28,7 +28,7 @@ single n = record { range = range.single n; bits = known.single n }
 abbrev pub within : ℕ × ℕ → NumberSet
 within p = record { range = p; bits = unknown W64 }
 
--- Returns the number set of all words.
+-- The number set of all words.
 abbrev pub any : NumberSet
 any = within (range.whole W64)
 

@@ -40,15 +40,16 @@ in_a_row n =
     if nat_lt n.1 (2 ^ 63) then Some (pos n.0, pos n.1)
     else (if nat_le (2 ^ 63) n.0 then Some (pos n.0 -ℤ pos (2 ^ 64), pos n.1 -ℤ pos (2 ^ 64)) else None)
 
--- Returns the offsets if both ends are within the limit.
+-- Returns the offsets if both ends are from -65,536 to 65,536.
 abbrev pub near : ℤ × ℤ → Option (ℤ × ℤ)
 near o = if is_near o.0 && is_near o.1 then Some o else None
 
--- Returns the offsets after numbers are added to them. There are none if the results exceed the limit.
+-- Returns the offsets after numbers are added to them. There are none if a sum may not be from -65,536 to 65,536.
 abbrev pub raised : ℤ × ℤ → ℤ × ℤ → Option (ℤ × ℤ)
 raised o by = near (o.0 +ℤ by.0, o.1 +ℤ by.1)
 
--- Returns the offsets after numbers are subtracted from them. There are none if the results exceed the limit.
+-- Returns the offsets after numbers are subtracted from them. There are none if a difference may not be from -65,536 to
+-- 65,536.
 abbrev pub lowered : ℤ × ℤ → ℤ × ℤ → Option (ℤ × ℤ)
 lowered o by = near (o.0 -ℤ by.1, o.1 -ℤ by.0)
 

@@ -41,7 +41,7 @@ pub(crate) fn as_signed(range: Range) -> Option<SignedRange>
     Some(SignedRange { low, high })
 }
 
-/// Returns the offsets after the numbers are added, or `None` if an offset may leave the limit.
+/// Returns the offsets after the numbers are added to them, or `None` if a sum may not be from -65,536 to 65,536.
 pub(crate) fn raised(offsets: Offsets, by: SignedRange) -> Option<Offsets>
     ensures holds { IfSome result (λ r. (o z : ℤ) → offsets.0 ≤ℤ o → o ≤ℤ offsets.1 → by.0 ≤ℤ z → z ≤ℤ by.1 →
         (r.0 ≤ℤ (o +ℤ z)) × ((o +ℤ z) ≤ℤ r.1)) }
@@ -52,7 +52,8 @@ pub(crate) fn raised(offsets: Offsets, by: SignedRange) -> Option<Offsets>
     Some(Offsets { low, high })
 }
 
-/// Returns the offsets after the numbers are subtracted, or `None` if an offset may leave the limit.
+/// Returns the offsets after the numbers are subtracted from them, or `None` if a difference may not be from -65,536 to
+/// 65,536.
 pub(crate) fn lowered(offsets: Offsets, by: SignedRange) -> Option<Offsets>
     ensures holds { IfSome result (λ r. (o z : ℤ) → offsets.0 ≤ℤ o → o ≤ℤ offsets.1 → by.0 ≤ℤ z → z ≤ℤ by.1 →
         (r.0 ≤ℤ (o -ℤ z)) × ((o -ℤ z) ≤ℤ r.1)) }
@@ -63,7 +64,7 @@ pub(crate) fn lowered(offsets: Offsets, by: SignedRange) -> Option<Offsets>
     Some(Offsets { low, high })
 }
 
-/// Adds a number to an offset. Returns `None` if the sum exceeds the limit.
+/// Returns the sum of an offset and a number, or `None` if it is not from -65,536 to 65,536.
 fn sum(offset: i32, by: i64) -> Option<i32>
     ensures same { IfSome result (λ r. r ≡ offset +ℤ by) }
     ensures limits { IfSome result IsOffset }
@@ -72,7 +73,7 @@ fn sum(offset: i32, by: i64) -> Option<i32>
     within(i64::from(offset).checked_add(by)?)
 }
 
-/// Subtracts a number from an offset. Returns `None` if the difference exceeds the limit.
+/// Returns the difference of an offset and a number, or `None` if it is not from -65,536 to 65,536.
 fn difference(offset: i32, by: i64) -> Option<i32>
     ensures same { IfSome result (λ r. r ≡ offset -ℤ by) }
     ensures limits { IfSome result IsOffset }

@@ -28,7 +28,7 @@ impl Model for Offset {
     ghost inverse = { λ v. record { at = v } };
 }
 
-/// The offsets that a pointer may have, from `low` to `high`, including both. Both are within the limit.
+/// The offsets in bytes that a pointer may have, from `low` to `high`, both included. Both are from -65,536 to 65,536.
 #[derive(Clone, Copy, PartialEq, Eq)]
 pub struct Offsets {
     pub low: i32,

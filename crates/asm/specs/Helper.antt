@@ -3,7 +3,7 @@ use Rattle.std.specs.Prelude.{ℕ, ℤ, pos, ◌+◌, List, [], ◌∷◌, if◌
 use Rattle.std.specs.Str.{bytes_eq}
 use Rattle.text.specs.Options.{◌>>=◌}
 
--- Returns the names of the helpers, from number 1 on.
+-- The names of the helpers, from number 1 on.
 abbrev pub helpers : List (List ℕ)
 helpers =
     codes "board_get" ∷ codes "board_swap" ∷ codes "board_add" ∷ codes "board_cas" ∷ codes "board_copy"

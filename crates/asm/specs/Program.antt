@@ -111,7 +111,7 @@ insns_on names unit done [] = Ok done
 insns_on names unit done (p ∷ ps) = at_line p.line (insn_of names unit p.source) >>= λ insn. insns_on names
     (unit + placed_units p) (done ++ insn ∷ []) ps
 
--- Returns the reading before the first line.
+-- The reading before the first line.
 abbrev pub nothing : Read
 nothing = record { names = []; sources = [] }
 

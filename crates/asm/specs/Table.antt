@@ -108,7 +108,7 @@ abbrev pub IsMnemonic : Mnemonic → Type 0
 IsMnemonic (words.SignExtend width part) = IsExtension width part
 IsMnemonic _ = Unit {0}
 
--- Returns all mnemonics, in an order in which those with the same first letter are adjacent.
+-- All mnemonics, in an order in which those with the same first letter are adjacent.
 unfoldable pub mnemonics : List Mnemonic
 mnemonics =
     words.Arithmetic W64 op.Add ∷ words.Arithmetic W32 op.Add ∷ words.Arithmetic W64 op.And ∷

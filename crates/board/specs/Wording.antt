@@ -48,7 +48,7 @@ row word names sentence copies = record {
   copies = copies;
 }
 
--- Returns the table: one row for each kind of request.
+-- The table: one row for each kind of request.
 abbrev pub rows : List Row
 rows =
     row (codes "get") (codes "slot" ∷ []) ((codes "reads word ", 0) ∷ []) false
@@ -61,7 +61,7 @@ rows =
     ((codes "copies ", 1) ∷ (codes " words from word ", 0) ∷ []) true
     ∷ []
 
--- Returns the row for a kind of request that does not exist: it describes nothing.
+-- The row for a kind of request that does not exist: it describes nothing.
 abbrev pub no_row : Row
 no_row = row [] [] [] false
 

@@ -9,7 +9,7 @@ use Rattle.text.specs.Number.{decimal_of}
 use Rattle.campaign_schedules.specs.declared.fault.AccessFault.{AccessFault}
 use Rattle.campaign_schedules.specs.declared.fault.AccessFault.TheVariants.{Text}
 
--- Returns the byte that separates rounds: a slash.
+-- The byte that separates rounds: a slash.
 abbrev pub slash : Stop
 slash = Byte 47
 

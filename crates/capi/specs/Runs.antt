@@ -6,7 +6,7 @@ use Rattle.label.specs.declared.shape.Shape.{Shape}
 use Rattle.semantics.specs.Relay.{oral}
 use Rattle.trial.specs.Trial.{Ending, trial_on}
 
--- Returns the general in whose place a program runs: the last of 4 generals in the first round, who relays nothing.
+-- The general in whose place a program runs: the last of 4 generals in the first round, who relays nothing.
 abbrev pub host : Shape
 host = record { generals = 4; commander = 0; general = 3; round = 1 }
 

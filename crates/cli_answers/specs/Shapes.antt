@@ -50,11 +50,11 @@ plain line words names within = marked line words names [] false within
 abbrev pub access_row : asking.Row → Row
 access_row r = record { line = codes "access"; parts = r.parts; mark = []; holds = false; within = Round }
 
--- Returns the shapes of accesses.
+-- The shapes of accesses.
 abbrev pub accesses : List Row
 accesses = map access_row rows
 
--- Returns the shapes of all other lines. A line has the first shape that fits it.
+-- The shapes of all other lines. A line has the first shape that fits it.
 unfoldable pub shapes : List Row
 shapes =
     plain (codes "version") (codes "chronicle N") (codes "- version") Nothing

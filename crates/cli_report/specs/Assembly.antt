@@ -179,7 +179,7 @@ has byte bytes = list_any (λ b. b == byte) bytes
 abbrev pub has_capital : List ℕ → Bool
 has_capital bytes = list_any (λ b. is_within 65 90 b) bytes
 
--- Returns the three bytes of a byte order mark.
+-- The three bytes of a byte order mark.
 abbrev pub order_mark : List ℕ
 order_mark = 239 ∷ 187 ∷ 191 ∷ []
 

@@ -10,7 +10,7 @@ use Rattle.cli_report.specs.Report.{has_words, report_text, shown_line}
 
 -- ---- schedules
 
--- Returns the sentence for a faulty line of a schedule.
+-- The sentence for a faulty line of a schedule.
 abbrev pub schedule_sentence : List ℕ
 schedule_sentence =
     codes "a line has entries separated by one space: `G`, or `G*K` for K times `G`, with G 0 to 12 and K 1 to 4096; "

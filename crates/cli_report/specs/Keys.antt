@@ -11,7 +11,7 @@ use Rattle.cli_report.specs.declared.keys.Found.{Found as Kept}
 use Rattle.cli_report.specs.Lines.{all_marked, is_white, marked, trimmed}
 use Rattle.cli_report.specs.Report.{Mark}
 
--- Returns the header that begins a traitor's table.
+-- The header that begins a traitor's table.
 abbrev pub header : List ℕ
 header = codes "[[traitor]]"
 
@@ -51,11 +51,11 @@ found_on sought word tables number (line ∷ lines) =
 unfoldable pub found : ℕ → List ℕ → List ℕ → Option Found
 found sought word text = found_on sought word 0 1 (lines_of text)
 
--- Returns the stop at an equals sign.
+-- The stop at an equals sign.
 abbrev pub equals : Stop
 equals = Byte 61
 
--- Returns the stop at a number sign, which begins a comment.
+-- The stop at a number sign, which begins a comment.
 abbrev pub hash : Stop
 hash = Byte 35
 

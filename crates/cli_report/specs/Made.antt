@@ -211,7 +211,7 @@ ReportsMade name own made (errors.Program g fault) told =
     ReportsProgram name own (option_and_then (source_by g) made) (seat g (parse_document own)) fault told
 ReportsMade name own made errors.Memory told = told ≡ memory_told name
 
--- Returns the line from which the lines of an assembly file are counted: line 0, as if the file's text began after it.
+-- The line from which the lines of an assembly file are counted: line 0, as if the file's text began after it.
 abbrev pub in_file : Found
 in_file = record { number = 0; line = codes "asm='''"; tables = 0 }
 

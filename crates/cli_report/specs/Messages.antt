@@ -7,7 +7,7 @@ use Rattle.cli_report.specs.Assembly.{begins_marked, has}
 use Rattle.cli_report.specs.Lines.{all_marked, line_at, trimmed}
 use Rattle.cli_report.specs.Report.{report_text}
 
--- Returns the sentence for a first line of the wrong shape.
+-- The sentence for a first line of the wrong shape.
 abbrev pub first_sentence : List ℕ
 first_sentence = codes
     "the first line must be `generals N bound M commander C`, perhaps with ` rule R` after it, where R is " ++ rule_names

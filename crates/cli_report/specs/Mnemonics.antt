@@ -28,7 +28,7 @@ takes_of words.Exit = takes.Nothing
 unfoldable pub taken : List ℕ → Option Takes
 taken word = option_map takes_of (mnemonic_of word)
 
--- Returns the words of all mnemonics.
+-- The words of all mnemonics.
 unfoldable pub mnemonic_names : List (List ℕ)
 mnemonic_names = map name_of mnemonics
 

@@ -103,13 +103,13 @@ place_told name text f place = report_text name (place_sentence f place) (place_
 
 -- ---- an unknown key
 
--- Returns the keys at the top of a scenario.
+-- The keys at the top of a scenario.
 abbrev pub top_keys : List (List ℕ)
 top_keys =
     codes "generals" ∷ codes "bound" ∷ codes "commander" ∷ codes "order" ∷ codes "board" ∷ codes "patience" ∷
     codes "rule" ∷ codes "messages" ∷ codes "traitor" ∷ []
 
--- Returns the keys of a traitor's table.
+-- The keys of a traitor's table.
 abbrev pub entry_keys : List (List ℕ)
 entry_keys = codes "general" ∷ codes "generals" ∷ codes "asm" ∷ codes "asm_file" ∷ codes "code" ∷ codes "code_file" ∷
     codes "elf" ∷ codes "entry" ∷ []

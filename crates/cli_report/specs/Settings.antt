@@ -63,7 +63,7 @@ setting_mark place text = option_map (shown_at true (setting_word place)) (found
 unfoldable pub setting_place_told : List ℕ → List ℕ → SettingFault → SettingPlace → List ℕ
 setting_place_told name text f place = report_text name (setting_sentence f place) (setting_mark place text) None
 
--- Returns the keys of a setting.
+-- The keys of a setting.
 abbrev pub setting_keys : List (List ℕ)
 setting_keys = codes "generals" ∷ codes "bound" ∷ codes "commander" ∷ codes "general" ∷ codes "round" ∷ codes "taken" ∷
     codes "board" ∷ []

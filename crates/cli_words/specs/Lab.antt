@@ -29,11 +29,11 @@ shape usage = record (new_shape usage.name) { rules = map place_rule usage.place
 abbrev pub leaf : Usage → App
 leaf usage = record { top = shape usage; subs = [] }
 
--- Returns the description of the program in its help.
+-- The description of the program in its help.
 abbrev pub lab_about : Text
 lab_about = codes "A laboratory for the Byzantine generals problem; the file name `-` means standard input"
 
--- Returns the text that `--version` prints.
+-- The text that `--version` prints.
 abbrev pub lab_version : Text
 lab_version = codes "1.0.0, proved with Rattle, logic dac8208d650f15bf"
 
@@ -42,7 +42,7 @@ abbrev pub described : App → App
 described app =
     record app { top = record app.top { no_binary_name = true; subcommand_required = true; has_version = true } }
 
--- Returns the program before its subcommands are added.
+-- The program before its subcommands are added.
 abbrev pub app_before : App
 app_before = described (new_app (codes "byzlab"))
 
@@ -50,7 +50,7 @@ app_before = described (new_app (codes "byzlab"))
 abbrev pub app_with : List Usage → App
 app_with usages = record { top = record app_before.top { is_leaf = false }; subs = map shape usages }
 
--- Returns the program with all subcommands.
+-- The program with all subcommands.
 abbrev pub lab_app : App
 lab_app = app_with usages
 

@@ -52,23 +52,23 @@ has name told = is_some (word_of name told)
 abbrev pub is_of : List Text → Told → Bool
 is_of names told = list_any (λ name. bytes_eq name told.name) names
 
--- Returns the subcommands that read a program which may be an ELF object.
+-- The subcommands that read a program which may be an ELF object.
 abbrev pub programs : List Text
 programs = codes "check" ∷ codes "dis" ∷ []
 
--- Returns the subcommands that print a campaign and may explain its decisions.
+-- The subcommands that print a campaign and may explain its decisions.
 abbrev pub campaigns : List Text
 campaigns = codes "play" ∷ codes "muster" ∷ codes "audit" ∷ []
 
--- Returns the subcommands that take the number of a lieutenant.
+-- The subcommands that take the number of a lieutenant.
 abbrev pub of_one : List Text
 of_one = codes "tree" ∷ campaigns
 
--- Returns the subcommands that take the numbers of traitors.
+-- The subcommands that take the numbers of traitors.
 abbrev pub of_traitors : List Text
 of_traitors = codes "book" ∷ codes "tree" ∷ []
 
--- Returns the subcommands that draw or describe a campaign, which takes a course.
+-- The subcommands that draw or describe a campaign, which takes a course.
 abbrev pub coursed : List Text
 coursed = codes "draw" ∷ codes "page" ∷ []
 

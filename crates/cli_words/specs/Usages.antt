@@ -99,7 +99,7 @@ schedule = record {
   flags = switch (codes "accesses") ∷ [];
 }
 
--- Returns the usages of all subcommands, in the order in which help lists them.
+-- The usages of all subcommands, in the order in which help lists them.
 abbrev pub usages : List Usage
 usages = check ∷ asm ∷ dis ∷ book ∷ table ∷ muster ∷ play ∷ audit ∷ explore ∷ tree ∷ draw ∷ page ∷ schedule ∷ []
 

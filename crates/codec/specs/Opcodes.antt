@@ -18,8 +18,8 @@ opcode_in (first ∷ rest) = first.opcode
 abbrev pub IsUsed : ℕ → Type 0
 IsUsed n = (insn : Insn) × IsInsn insn × (opcode_in (spelling insn) ≡ n)
 
--- Returns the unsupported opcodes: packet access at an absolute and an indirect place (section 5.5), and atomic
--- operations of 4 and 8 bytes (section 5.3).
+-- The unsupported opcodes: packet access at an absolute and an indirect place (section 5.5), and atomic operations of 4
+-- and 8 bytes (section 5.3).
 abbrev pub left_out : List ℕ
 left_out = 0x20 ∷ 0x28 ∷ 0x30 ∷ 0x40 ∷ 0x48 ∷ 0x50 ∷ 0xc3 ∷ 0xdb ∷ []
 

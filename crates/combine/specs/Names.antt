@@ -9,11 +9,11 @@ use Rattle.combine.specs.Rule.{every_rule, rule_name}
 abbrev pub rule_named : List ℕ → Option Rule
 rule_named word = find (λ rule. bytes_eq (rule_name rule) word) every_rule
 
--- Returns the names of all rules, as a sentence lists them.
+-- The names of all rules, as a sentence lists them.
 abbrev pub rule_names : List ℕ
 rule_names = join_by rule_name (codes " or ") every_rule
 
--- Returns the rule of a campaign that names none.
+-- The rule of a campaign that names none.
 abbrev pub default_rule : Rule
 default_rule = Majority
 

@@ -25,7 +25,7 @@ is_middle xs v =
 unfoldable pub median : List ℕ → ℕ
 median xs = unwrap_or (find (is_middle xs) xs) 0
 
--- Returns all rules, in the order in which their names are listed.
+-- All rules, in the order in which their names are listed.
 abbrev pub every_rule : List Rule
 every_rule = Majority ∷ Median ∷ []
 

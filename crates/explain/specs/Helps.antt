@@ -110,7 +110,7 @@ wanted program marks unit i (sentence.Call m) = for_misfit unit m
 
 -- ---- trials
 
--- Returns the masks, the widest first.
+-- The masks, the widest first.
 abbrev pub masks : List ℕ
 masks = 63 ∷ 31 ∷ 15 ∷ 7 ∷ 3 ∷ 1 ∷ []
 

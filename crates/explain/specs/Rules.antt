@@ -93,7 +93,7 @@ passed_by r (Branch w condition dst operand distance) value =
 passed_by r (Arithmetic W64 Move dst (Register src)) value = if src == r then Some (Copied dst) else None
 passed_by r i value = None
 
--- Writes the reason for a test.
+-- The reason for a test.
 unfoldable pub tested_text : List ℕ
 tested_text = codes ": such a test narrows only numbers that are known to be below 2^"
 

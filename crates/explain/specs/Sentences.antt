@@ -98,7 +98,7 @@ pointer_text called = helper_name called ++ codes " accepts only a pointer here"
 unfoldable pub no_helper_text : List ℕ
 no_helper_text = codes "no helper has the number "
 
--- Writes the numbers that helpers have.
+-- The words that say which numbers helpers have.
 unfoldable pub numbers_text : List ℕ
 numbers_text = codes ": helpers are numbered 1 to " ++ decimal (length helpers)
 

@@ -9,15 +9,15 @@ use Rattle.html.specs.Visible.{visible}
 abbrev pub shown : List ℕ → List ℕ
 shown text = encode_utf8_all (escaped (visible (chars text)))
 
--- Writes the start of a page, up to its style sheet. It says that the page is HTML in English, and allows only its own
--- style and embedded pictures.
+-- The start of a page, up to its style sheet. It says that the page is HTML in English, and allows only its own style
+-- and embedded pictures.
 unfoldable pub preamble : List ℕ
 preamble =
     codes "<!DOCTYPE html>\n<html lang=\"en\">\n<head>\n<meta charset=\"utf-8\"/>\n"
     ++ codes "<meta http-equiv=\"Content-Security-Policy\" content=\"default-src 'none'; style-src 'unsafe-inline'; "
     ++ codes "img-src data:\"/>\n<meta name=\"viewport\" content=\"width=device-width, initial-scale=1\"/>\n<style>"
 
--- Writes the style sheet.
+-- The style sheet.
 unfoldable pub look : List ℕ
 look =
     codes ":root{color-scheme:light dark}body{margin:0;background:#fff;color:#111;font:16px/1.5 sans-serif}"
@@ -98,7 +98,7 @@ picture_end = codes "</figure>\n"
 abbrev pub picture : Bool → List ℕ → List ℕ → List ℕ
 picture is_wide name svg = picture_start is_wide name ++ svg ++ picture_end
 
--- Writes a list. Each of its items is a text or contains parts.
+-- A list. Each of its items is a text or contains parts.
 abbrev pub list_start : List ℕ
 list_start = codes "<ul>\n"
 
@@ -120,7 +120,7 @@ item_end = codes "</li>\n"
 abbrev pub item : List ℕ → List ℕ
 item parts = item_start ++ parts ++ item_end
 
--- Writes a table, which consists of rows of cells. The cells of a header row are column headers.
+-- A table, which consists of rows of cells. The cells of a header row are column headers.
 abbrev pub table_start : List ℕ
 table_start = codes "<table>\n"
 

@@ -19,22 +19,22 @@ context_numbers shape bound values =
 abbrev pub number_told : List ℕ → ℕ → ℕ
 number_told context word = little_number (slice_range context (4 * word) (4 * word + 4))
 
--- Returns the index, in `context_numbers`, of the number of generals.
+-- The index, in `context_numbers`, of the number of generals.
 abbrev pub at_generals : ℕ
 at_generals = 0
 
--- Returns the index, in `context_numbers`, of the general's number.
+-- The index, in `context_numbers`, of the general's number.
 abbrev pub at_general : ℕ
 at_general = 2
 
--- Returns the index, in `context_numbers`, of the commander's number.
+-- The index, in `context_numbers`, of the commander's number.
 abbrev pub at_commander : ℕ
 at_commander = 3
 
--- Returns the index, in `context_numbers`, of the round's number.
+-- The index, in `context_numbers`, of the round's number.
 abbrev pub at_round : ℕ
 at_round = 4
 
--- Returns the index, in `context_numbers`, of the kind of messages: 0 if they are oral, 1 if they are signed.
+-- The index, in `context_numbers`, of the kind of messages: 0 if they are oral, 1 if they are signed.
 abbrev pub at_kind : ℕ
 at_kind = 7

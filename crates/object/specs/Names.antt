@@ -40,8 +40,8 @@ path_in_five tables bytes file = option_and_then (path_among bytes file) (files_
 
 -- ---- version 4: the directories are strings up to an empty one; the files follow, which are counted from 1
 
--- Returns the formats of version 4's files, as version 5 writes them: the path (DW_FORM_string), and directory, time
--- and size (DW_FORM_udata).
+-- The formats of version 4's files, as version 5 writes them: the path (DW_FORM_string), and directory, time and size
+-- (DW_FORM_udata).
 abbrev pub file_formats : List ℕ
 file_formats = 1 ∷ 8 ∷ 2 ∷ 15 ∷ 3 ∷ 15 ∷ 4 ∷ 15 ∷ []
 

@@ -15,7 +15,7 @@ use Rattle.object.specs.Steps.{step_at}
 abbrev pub Origins : Type 0
 Origins = ℕ → Option ℕ
 
--- Returns the registers at the beginning of a sequence.
+-- The registers at the beginning of a sequence.
 abbrev pub at_start : LineRegisters
 at_start = record { address = 0; inside = false; file = 1; line = 1 }
 

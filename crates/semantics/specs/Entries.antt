@@ -22,7 +22,7 @@ may_send (Signed held) shape (Pass place receivers) = is_unsigned shape.general 
 abbrev pub is_sendable : Relay → Entry → Bool
 is_sendable relay entry = may_send relay.kind relay.shape entry
 
--- Returns the largest number of entries in one activation.
+-- The largest number of entries in one activation.
 abbrev pub most_entries : ℕ
 most_entries = 8
 

@@ -30,6 +30,6 @@ Enters s v found w = (before : List Access) × IsPrefix v.0 before × (length be
 abbrev pub Looks : Step Access → View Access ℕ → ℕ → View Access ℕ → Type 0
 Looks s v found w = length w.0 ≡ found
 
--- Returns the access that a step names if it enters none.
+-- The access that a step names if it enters none.
 abbrev pub no_access : Access
 no_access = record { general = 0; round = 0; request = Get 0; reply = [] }

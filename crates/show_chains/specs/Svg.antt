@@ -19,8 +19,8 @@ use Rattle.show_chains.specs.Words.{several_words}
 abbrev pub signed_words : Scenario → List ℕ
 signed_words s = campaign_words s.generals s.bound s.commander s.order ++ codes "; signed messages"
 
--- Writes the description for readers who do not see the diagram. It includes the strokes and accesses for whose words
--- the diagram has no room.
+-- The description for readers who do not see the diagram. It includes the strokes and accesses for whose words the
+-- diagram has no room.
 unfoldable pub key_start : List ℕ
 key_start =
     codes "<desc>There is a column for each general, and a band for each round, from above. In a band a line leads "

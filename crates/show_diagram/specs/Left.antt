@@ -37,7 +37,7 @@ left_in_full p round left lies = codes "general "
     ++ (decimal round ++ (codes ", not drawn: in "
     ++ (decimal lies ++ codes " of them a loyal general would do otherwise")))))))
 
--- Writes the note for readers who do not see the diagram, if a stroke is left out.
+-- The note for readers who do not see the diagram, if a stroke is left out.
 unfoldable pub cut_words : List ℕ
 cut_words = codes " A list has at most " ++ (decimal most_rows
     ++ (codes " rows. A longer list begins with the first row of each general in which a "

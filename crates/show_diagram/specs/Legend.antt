@@ -94,7 +94,7 @@ shape_key marks =
     ++ said_if marks.square (codes " Square: a traitor.")
     ++ said_if marks.loyal (codes " Circle at a name: a loyal general.")
 
--- Writes the meanings of the marks in a campaign with oral messages.
+-- The meanings of the marks in a campaign with oral messages.
 unfoldable pub told_meaning : List ℕ
 told_meaning = codes "sent as an honest relay sends it"
 

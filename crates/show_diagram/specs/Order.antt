@@ -12,7 +12,7 @@ unfoldable pub repeats : {A : Type 0} → (A → A → Bool) → List A → List
 repeats same before [] = []
 repeats same before (x ∷ xs) = (if list_any (same x) before then x ∷ [] else []) ++ repeats same (before ++ x ∷ []) xs
 
--- Returns the largest number of rows of a list that are drawn.
+-- The largest number of rows of a list that are drawn.
 abbrev pub most_rows : ℕ
 most_rows = 24
 

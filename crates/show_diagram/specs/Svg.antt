@@ -18,7 +18,7 @@ use Rattle.show_diagram.specs.Lists.{with_rows}
 use Rattle.show_diagram.specs.Shapes.{group_at, mark, said_if, shape_of, sort_of, text_at, title}
 use Rattle.show_diagram.specs.Words.{copied_words, general_words, role_words}
 
--- Writes the text with which every diagram begins, and its size, with a view box of the same units.
+-- The text with which every diagram begins, and its size, with a view box of the same units.
 unfoldable pub start : List ℕ
 start = codes "<svg xmlns=\"http://www.w3.org/2000/svg\" role=\"graphics-document document\""
 
@@ -34,7 +34,7 @@ campaign_words n m c order =
     decimal n ++ (codes " generals, traitors provided for: "
     ++ (decimal m ++ (codes "; commander " ++ (decimal c ++ (codes " was given order " ++ decimal order)))))
 
--- Writes the start of the description for readers who do not see the diagram. It explains columns, bands and lines.
+-- The start of the description for readers who do not see the diagram. It explains columns, bands and lines.
 unfoldable pub key_start : List ℕ
 key_start =
     codes "<desc>There is a column for each general, and a band for each round, from above. In a band a line leads "
@@ -56,7 +56,7 @@ description accesses marks cut =
     key_start ++ stroke_key marks ++ shape_key marks ++ said_if cut cut_words ++ flat_map copied_words accesses
     ++ key_end
 
--- Writes the style sheet: for paper, and for a dark background if the reader prefers one.
+-- The style sheet: for paper, and for a dark background if the reader prefers one.
 unfoldable pub look : List ℕ
 look =
     codes "<style>svg{background:#fff}text{fill:#111;font:13px sans-serif}.head{font:bold 16px sans-serif}"

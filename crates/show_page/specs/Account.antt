@@ -221,8 +221,8 @@ lieutenants_roomed title told = roomed title room_for_lieutenants lieutenants_pr
 abbrev pub lieutenants_section : MessageTable → Scenario → Section
 lieutenants_section t s = lieutenants_roomed lieutenants_heading (each_lieutenant t (traitors_of s) (view_of s))
 
--- Writes the accesses, in the order in which the board received them, as a table with a row for each. There is no table
--- if there are none.
+-- The accesses, in the order in which the board received them, as a table with a row for each. There is no table if
+-- there are none.
 abbrev pub access_heads : List ℕ
 access_heads = row (head (codes "Round") ++ head (codes "General") ++ head (codes "What he does")
     ++ head (codes "What the board answers"))
@@ -247,7 +247,7 @@ chronicle_section text =
     roomed chronicle_heading room_for_chronicle chronicle_printer
     (lines_told room_for_chronicle chronicle_printer (flat_map encode_utf8 text))
 
--- Writes the verdict, and the promise that holds (TOPLAS 1982, IC1 and IC2).
+-- The verdict, and the promise that holds (TOPLAS 1982, IC1 and IC2).
 unfoldable pub promise_words : List ℕ
 promise_words =
     codes "The bound holds: there are few enough traitors, so that loyal lieutenants decide alike, and obey a loyal "

@@ -5,21 +5,21 @@ use Rattle.std.specs.Fmt.{decimal}
 use Rattle.html.specs.Page.{lines, paragraph}
 use Rattle.html.specs.Sections.{Section}
 
--- Returns the greatest length of a page in bytes: the room of its sections, their headings, and what comes before and
--- after them.
+-- The greatest length of a page in bytes: the room of its sections, their headings, and what comes before and after
+-- them.
 abbrev pub longest_page : ℕ
 longest_page = 2000000
 
--- Returns the bytes that all sections share, which are the sum of their own rooms. What one section leaves can be used
+-- The number of bytes that all sections share, which is the sum of their own rooms. What one section leaves can be used
 -- by longer ones.
 abbrev pub room_for_sections : ℕ
 room_for_sections = 1987000
 
--- Returns the bytes of HTML for which there is always room in the scenario's section.
+-- The number of bytes of HTML for which there is always room in the scenario's section.
 abbrev pub room_for_scenario : ℕ
 room_for_scenario = 151000
 
--- Returns the bytes of HTML for the story at the head of the scenario, if there is no room for the rest of it.
+-- The number of bytes of HTML for the story at the head of the scenario, if there is no room for the rest of it.
 abbrev pub room_for_story : ℕ
 room_for_story = 20000
 
@@ -46,12 +46,12 @@ room_for_chronicle = 400000
 abbrev pub share : ℕ → ℕ
 share generals = 145000 / (generals + 1)
 
--- Returns the largest number of units of a program that a page explains.
+-- The largest number of units of a program that a page explains.
 abbrev pub room_for_units : ℕ
 room_for_units = 256
 
--- Returns the largest width of a diagram that is printed on a narrow sheet. It does not count the margins, which are 16
--- units in all.
+-- The largest width of a diagram that is printed on a narrow sheet. It does not count the margins, which are 16 units
+-- in all.
 abbrev pub narrow_sheet : ℕ
 narrow_sheet = 1300
 

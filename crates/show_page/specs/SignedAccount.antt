@@ -20,7 +20,7 @@ use Rattle.show_page.specs.Room.{room_for_sections}
 abbrev pub diagram_section : Chronicle → Section
 diagram_section c = picture_section (is_wide c.scenario c.accesses) (signed_svg c)
 
--- Writes the section that says which orders a lieutenant accepts, by which chains, and what he decides.
+-- The section that says which orders a lieutenant accepts, by which chains, and what he decides.
 unfoldable pub lieutenants_heading : List ℕ
 lieutenants_heading = codes "What each lieutenant accepted, and why he decides so"
 

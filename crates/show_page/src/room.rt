@@ -6,32 +6,32 @@ ghost use Rattle.show_page.specs.Room.{fitted, lines_told, over, over_words, roo
 use html::{Section, put_lines, put_paragraph};
 use std::alloc::{AllocError, Global};
 
-/// The bytes of HTML that all sections share, which are the sum of their own rooms. What one section leaves can be used
-/// by longer ones.
+/// The number of bytes of HTML that all sections share, which is the sum of their own rooms. What one section leaves
+/// can be used by longer ones.
 pub const ROOM_FOR_SECTIONS: usize = 1_987_000;
 
-/// The bytes of HTML for which there is always room in the scenario's section.
+/// The number of bytes of HTML for which there is always room in the scenario's section.
 pub(crate) const ROOM_FOR_SCENARIO: usize = 151_000;
 
-/// The bytes of HTML for the story at the head of the scenario, if there is no room for the rest of it.
+/// The number of bytes of HTML for the story at the head of the scenario, if there is no room for the rest of it.
 pub(crate) const ROOM_FOR_STORY: usize = 20_000;
 
-/// The bytes of HTML for which there is always room in the schedule's section.
+/// The number of bytes of HTML for which there is always room in the schedule's section.
 pub(crate) const ROOM_FOR_SCHEDULE: usize = 31_000;
 
-/// The bytes of HTML for which there is always room in the section of the traitors' programs.
+/// The number of bytes of HTML for which there is always room in the section of the traitors' programs.
 pub(crate) const ROOM_FOR_PROGRAMS: usize = 150_000;
 
-/// The bytes of HTML for which there is always room in the diagram's section.
+/// The number of bytes of HTML for which there is always room in the diagram's section.
 pub(crate) const ROOM_FOR_PICTURE: usize = 600_000;
 
-/// The bytes of HTML for which there is always room in the section of the lieutenants' trees and lists.
+/// The number of bytes of HTML for which there is always room in the section of the lieutenants' trees and lists.
 pub(crate) const ROOM_FOR_LIEUTENANTS: usize = 525_000;
 
-/// The bytes of HTML for which there is always room in the section of accesses.
+/// The number of bytes of HTML for which there is always room in the section of accesses.
 pub(crate) const ROOM_FOR_ACCESSES: usize = 130_000;
 
-/// The bytes of HTML for which there is always room in the chronicle's section.
+/// The number of bytes of HTML for which there is always room in the chronicle's section.
 pub(crate) const ROOM_FOR_CHRONICLE: usize = 400_000;
 
 /// Returns the number of bytes of HTML for each program if there is no room for all: one of `generals + 1` equal shares

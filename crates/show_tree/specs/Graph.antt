@@ -50,7 +50,7 @@ graph_node node = graph_box node ++ graph_styles node ++ codes "];\n" ++ edge no
 abbrev pub graph_nodes : List Node → List ℕ
 graph_nodes nodes = flat_map graph_node nodes
 
--- Writes the text with which every graph begins.
+-- The text with which every graph begins.
 unfoldable pub graph_start : List ℕ
 graph_start = codes "digraph tree {\n  rankdir=LR;\n  ordering=out;\n  labelloc=t;\n  node [shape=box];\n"
 

@@ -87,7 +87,7 @@ meanings marks dashed place =
     (Some (Divided 0))
     (codes "no order has a majority")
 
--- Writes the horizontal rule below the rows of labels.
+-- The horizontal rule below the rows of labels.
 unfoldable pub rule : List ℕ
 rule = codes "<path class=\"line\" d=\"M0 12h240\"/>"
 

@@ -10,7 +10,7 @@ use Rattle.show_tree.specs.Legend.{count_of, legend, marks_of}
 use Rattle.show_tree.specs.Rows.{rows_from, widest}
 use Rattle.show_tree.specs.Shown.{nodes_of}
 
--- Writes the text with which every picture begins.
+-- The text with which every picture begins.
 unfoldable pub start : List ℕ
 start = codes "<svg xmlns=\"http://www.w3.org/2000/svg\" role=\"graphics-document document\""
 
@@ -28,7 +28,7 @@ unfoldable pub heading : ℕ → ℕ → List ℕ
 heading p order = codes "<text x=\"10\" y=\"24\">lieutenant "
     ++ (decimal p ++ (codes " decides " ++ (decimal order ++ codes "</text>\n")))
 
--- Writes the description for readers who do not see the shapes. It explains each mark that occurs in the picture.
+-- The description for readers who do not see the shapes. It explains each mark that occurs in the picture.
 unfoldable pub key_start : List ℕ
 key_start =
     codes "<desc>Each row is a label, below the label that it extends, with the order that he received for it."
@@ -46,7 +46,7 @@ shape_words marks =
 abbrev pub key : DrawnMarks → List ℕ
 key marks = key_start ++ shape_words marks ++ codes "</desc>\n"
 
--- Writes the style sheet of the shapes: for paper, and for a dark background if the reader prefers one.
+-- The style sheet of the shapes: for paper, and for a dark background if the reader prefers one.
 unfoldable pub look : List ℕ
 look =
     codes "<style>svg{background:#fff}text{fill:#111;font:14px sans-serif}.line{fill:none;stroke:#767676}.told{fill"

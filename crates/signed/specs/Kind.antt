@@ -32,7 +32,7 @@ abbrev pub signed_entries : Scenario → List (List Letter) → ℕ → List Ent
 signed_entries s closed g =
     loyal_entries s.generals s.commander s.bound s.order (delivered (sent_in s closed)) (suc (length closed)) g
 
--- Returns the kind of signed campaigns. Outboxes have entries and no rows.
+-- The kind of signed campaigns. Outboxes have entries and no rows.
 abbrev pub signed_kind : Kind
 signed_kind =
     record { context = signed_context; relay = signed_relay; rows = λ s closed g. []; entries = signed_entries }

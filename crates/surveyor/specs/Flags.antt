@@ -30,7 +30,7 @@ files name = record (option name) {
 unfoldable pub rule_for : Flag → Rule
 rule_for flag = if is_some flag.value then option flag.name.now else switch flag.name.now
 
--- Returns the command without options and switches.
+-- The command without options and switches.
 abbrev pub bare_app : App
 bare_app = record { top = record (new_shape (codes "survey")) { no_binary_name = true }; subs = [] }
 
@@ -38,14 +38,14 @@ bare_app = record { top = record (new_shape (codes "survey")) { no_binary_name =
 abbrev pub with_rules : App → List Rule → App
 with_rules app more = record app { top = record app.top { rules = app.top.rules ++ more } }
 
--- Returns the rules of all options and switches of `./byzlab survey`.
+-- The rules of all options and switches of `./byzlab survey`.
 abbrev pub rules : List Rule
 rules = option (codes "generals") ∷ option (codes "bound") ∷ option (codes "traitors") ∷ option (codes "seeds")
     ∷ option (codes "rule") ∷ option (codes "patience") ∷ switch (codes "signed") ∷ option (codes "adversary")
     ∷ switch (codes "lines") ∷ switch (codes "table") ∷ switch (codes "svg") ∷ switch (codes "shrink")
     ∷ switch (codes "break") ∷ option (codes "keep") ∷ files (codes "sum") ∷ []
 
--- Returns the command with all its options and switches.
+-- The command with all its options and switches.
 abbrev pub survey_app : App
 survey_app = with_rules bare_app rules
 

@@ -21,7 +21,7 @@ ComesWell p = Comes true p
 abbrev pub IsBroken : Plot → Type 0
 IsBroken p = Comes false p
 
--- Returns a traitor without statements, in place of one that does not exist.
+-- A traitor without statements, in place of one that does not exist.
 abbrev pub nobody : Traitor
 nobody = record { general = 0; counts = false; lies = [] }
 

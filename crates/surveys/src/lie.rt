@@ -3,7 +3,7 @@
 /// The order that a lie sends, or the index of the chain that it passes on.
 #[derive(Clone, Copy)]
 pub enum LieValue {
-    /// This number.
+    /// The order is this number, or the chain has this index.
     Number(u8),
     /// The parity of the board's count, as it was when the traitor incremented it.
     Parity,

@@ -18,26 +18,26 @@ is_stop Blank c = is_blank c
 is_stop Solid c = not (is_blank c)
 is_stop Sign c = c == 43 || c == 45
 
--- Returns the line feed, at which a line ends.
+-- The line feed, at which a line ends.
 abbrev pub feed : Stop
 feed = Byte 10
 
--- Returns the space, at which a word ends.
+-- The space, at which a word ends.
 abbrev pub space : Stop
 space = Byte 32
 
--- Returns the comma, as a stop.
+-- The comma, as a stop.
 abbrev pub comma : Stop
 comma = Byte 44
 
--- Returns the dot, as a stop.
+-- The dot, as a stop.
 abbrev pub dot : Stop
 dot = Byte 46
 
--- Returns the colon, as a stop.
+-- The colon, as a stop.
 abbrev pub colon : Stop
 colon = Byte 58
 
--- Returns the semicolon, as a stop.
+-- The semicolon, as a stop.
 abbrev pub semicolon : Stop
 semicolon = Byte 59

@@ -57,8 +57,8 @@ abbrev pub row_lines : ℕ → List (List (Option ℕ)) → List Line
 row_lines rank [] = []
 row_lines rank (row ∷ rows) = (codes "row" ∷ decimal rank ∷ map place row) ∷ row_lines (suc rank) rows
 
--- Returns the shapes of a letter's first line, in which N means a number: a loyal general's, or a traitor's with the
--- number of his steps.
+-- The shapes of a letter's first line, in which N means a number: a loyal general's, or a traitor's with the number of
+-- his steps.
 abbrev pub loyal_shape : List ℕ
 loyal_shape = codes "letter N loyal"
 

@@ -21,8 +21,8 @@ pub record IsTold (shape : Shape) (bound : ℕ) (taken : List ℕ) : Type 0 wher
   pub enough : bound + 2 ≤ shape.generals
   pub each : length taken ≡ length (relay shape)
 
--- Returns the setting in which a program is checked: the last of 4 generals in the first round, under commander 0 and a
--- bound of 1. He relays nothing, and the board opens with zeros.
+-- The setting in which a program is checked: the last of 4 generals in the first round, under commander 0 and a bound
+-- of 1. He relays nothing, and the board opens with zeros.
 abbrev pub bench : Setting
 bench = record {
   shape = record { generals = 4; commander = 0; general = 3; round = 1 };

@@ -77,7 +77,7 @@ load_given known size (Number n) distance = Err PointerUse
 load_given known size (Pointer region at) distance =
     load_from known size region (window_known region at.0 at.1 distance (bytes_of size))
 
--- Returns the abstract value of all numbers.
+-- The abstract value of all numbers.
 abbrev pub all_numbers : AbsVal
 all_numbers = Number any
 

@@ -14,8 +14,8 @@ use Rattle.world.specs.Kind as kind
 use Rattle.world.specs.Kind.{Kind}
 pub use Rattle.world.specs.Kind.{World, each, round_open, accesses_of, served, ticked, posting, unfit, named_by, refusal}
 
--- Returns the kind of campaigns with oral orders. A general receives the orders that he took for the labels that he
--- relays, and a loyal general sends them to each receiver.
+-- The kind of campaigns with oral orders. A general receives the orders that he took for the labels that he relays, and
+-- a loyal general sends them to each receiver.
 abbrev pub oral_kind : Kind
 oral_kind = record {
   context = context_of;
