@@ -22,7 +22,7 @@ use Rattle.asm.specs.Views.{Fails, kept_view}
 abbrev pub Finds : BTreeMap (Bor (List ℕ)) ℕ → List (List ℕ × ℕ) → Type 0
 Finds map names = (name : List ℕ) → get_by (λ k. slice_cmp nat_cmp name k.now) map ≡ defined names name
 
--- States that the stored reading is this one. Its statements are stored only if they take at most 4,096 units.
+-- States that the stored reading is this one, with all its statements if they take at most 4,096 units.
 pub record Keeps (kept : Reading) (r : Read) : Type 0 where
   pub units : kept.units ≡ units_in r
   pub sources : kept.units ≤ most_units → map kept_view kept.sources.items ≡ r.sources
