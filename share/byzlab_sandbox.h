@@ -1,12 +1,12 @@
 /*
- * byzlab_sandbox.h: a proved verifier and machine for BPF programs (RFC 9669; no loops, no maps), for programs in C.
+ * byzlab_sandbox.h: a proved verifier and interpreter of BPF programs (RFC 9669; no loops, no maps), called from C.
  *
  *     cc program.c $(pkg-config --cflags --libs byzlab_sandbox)
  *
  * A program that is accepted (status 0) never traps, never leaves its memory, and ends within as many steps as it has
  * instructions, whatever its context and board contain. What is said here about each status is proved
- * (docs/EMBEDDING.md says by which clause of a contract). Only the cause of status 3, that malloc or realloc returned
- * NULL, is tested and not proved.
+ * (docs/EMBEDDING.md says by which clause of a contract). Of these, only the cause of status 3, that malloc or realloc
+ * returned NULL, is tested and not proved.
  *
  * The caller must ensure the following, which nothing checks:
  *
@@ -15,10 +15,10 @@
  *   argument, and no other thread reads or writes it during the call. No other thread writes the memory that a
  *   function only reads (program, context, contexts) during the call.
  * - malloc, realloc and free come from one allocator. malloc and realloc align a block to each power of two up to 16
- *   that divides its size, for instance to 8 for 24 bytes.
+ *   that divides its size, for instance to 8 for 24 bytes. Those of glibc do.
  * - No function is called from a signal handler, or from the forked child of a process with threads.
  *
- * A call keeps no state and no memory for the next. Threads may call at the same time if they may call malloc so.
+ * A call keeps no state and no memory for the next. Threads may call at the same time if malloc allows that.
  */
 #ifndef BYZLAB_SANDBOX_H
 #define BYZLAB_SANDBOX_H
@@ -32,14 +32,15 @@ extern "C" {
 
 /* What a function returns. */
 enum byzlab_status {
-    BYZLAB_DONE = 0,     /* the program is accepted, and the call has done its work (see byzlab_disassemble) */
+    BYZLAB_DONE = 0,     /* the call has done its work, and (except in byzlab_disassemble) the program is accepted */
     BYZLAB_MISSPELT = 1, /* the bytes do not spell a program; the fault has a number from 1 to 8 */
     BYZLAB_REFUSED = 2,  /* the program is not accepted; the fault has a number from 101 to 113 */
     BYZLAB_MEMORY = 3,   /* malloc or realloc returned NULL; the bytes spell a program */
     BYZLAB_LENGTH = 4    /* the context is not 4,096 bytes long, or the contexts not 4,096 for each outcome */
 };
 
-/* The numbers of the faults. Each comes with the unit of the instruction at fault: 8 bytes each, counted from 0. */
+/* The numbers of the faults. Each comes with the unit in which the faulty instruction begins. Units have 8
+ * bytes and are counted from 0. */
 enum byzlab_number {
     BYZLAB_C1_LENGTH = 1,   /* the length is not a multiple of 8; the unit is the one that is cut off */
     BYZLAB_C2_OPCODE = 2,   /* no instruction has this opcode */
@@ -47,7 +48,7 @@ enum byzlab_number {
     BYZLAB_C4_WIDE_CUT = 4, /* the second half of a wide instruction is missing */
     BYZLAB_C5_REGISTER = 5, /* a register above r10 is used */
     BYZLAB_C6_LEFT_OUT = 6, /* an instruction of the standard that is not supported */
-    BYZLAB_C7_OPERAND = 7,  /* an operand that selects the instruction has a value that selects none */
+    BYZLAB_C7_OPERAND = 7,  /* the offset of a DIV, MOD or MOV, or the width of a byte swap, selects no instruction */
     BYZLAB_C8_COUNT = 8,    /* no unit, or more than 4,096; the unit is 0 */
 
     BYZLAB_V1_BACK_JUMP = 101,      /* a jump leads to its own unit or backward */
@@ -56,7 +57,8 @@ enum byzlab_number {
     BYZLAB_V4_LAST_NOT_EXIT = 104,  /* the last instruction is not the exit */
     BYZLAB_V5_UNSET = 105,          /* a register is read that may be unset, or of different kinds on different paths */
     BYZLAB_V6_FRAME_WRITE = 106,    /* the frame pointer is written */
-    BYZLAB_V7_POINTER_USE = 107,    /* a pointer is used where it is not allowed, or a number is a base */
+    BYZLAB_V7_POINTER_USE = 107,    /* a pointer is misused, a number is used as an address, or the number added to a
+                                     * pointer has too wide bounds */
     BYZLAB_V8_BOUNDS = 108,         /* an access may leave its region */
     BYZLAB_V9_STACK_UNSET = 109,    /* a stack cell is read that may be unset */
     BYZLAB_V10_CONTEXT_WRITE = 110, /* the context is written */
