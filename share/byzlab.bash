@@ -12,9 +12,9 @@ _byzlab() {
     if [ "$start" = $'\x7fELF' ]; then
         script= commands=${commands/ survey/}
     fi
-    if [ "${words[0]##*/}" = byzlab-survey ]; then
-        words=("${words[0]}" survey "${words[@]:1}") at=$((at + 1))
-    fi
+    case ${words[0]##*/} in
+    byzlab-survey | byzlab-serve) words=("${words[0]}" "${words[0]##*byzlab-}" "${words[@]:1}") at=$((at + 1)) ;;
+    esac
     # (the same words follow --try, which belongs to the script, as does prove)
     if [ "$at" -gt 1 ] && [ "${words[1]}" = --try ]; then
         words=("${words[0]}" "${words[@]:2}") at=$((at - 1)) script=
@@ -47,4 +47,4 @@ _byzlab() {
     mapfile -t COMPREPLY < <(compgen -W "$offered" -- "$word")
 }
 
-complete -o default -F _byzlab byzlab ./byzlab byzlab-survey
+complete -o default -F _byzlab byzlab ./byzlab byzlab-survey byzlab-serve

@@ -2,22 +2,32 @@
 import os
 import subprocess
 
-from checkout import Failure
+from checkout import call
 
 # (a mirror may be older than a Release file is valid, and nothing here needs a new one)
 APT = 'Acquire::Check-Valid-Until "false"'
+# (a system that is lost in a crash is made again)
+DPKG = "force-unsafe-io"
 MIRROR = "deb http://deb.debian.org/debian {suite} main"
 
 
 class Root:
-    """A Debian system in a folder, which runs commands by chroot."""
+    """A Debian system in a folder, which runs commands by chroot. It is unpacked from an archive in the folder `systems`, which is
+    made if it is not there. Without such a folder it is made each time."""
 
-    def __init__(self, folder, suite, words):
+    def __init__(self, folder, suite, words, systems):
         self.folder = folder
-        made = ["mmdebstrap", "--quiet", f"--aptopt={APT}", *words, suite, folder, MIRROR.format(suite=suite)]
-        done = subprocess.run(made, stdin=subprocess.DEVNULL, stdout=subprocess.PIPE, stderr=subprocess.STDOUT, text=True)
-        if done.returncode:
-            raise Failure(f"mmdebstrap failed with status {done.returncode}:", *done.stdout.splitlines())
+        made = ["mmdebstrap", "--quiet", f"--aptopt={APT}", f"--dpkgopt={DPKG}", *words, suite]
+        if not systems:
+            call([*made, folder, MIRROR.format(suite=suite)])
+            return
+        archive = os.path.join(systems, f"{os.path.basename(folder)}.tar")
+        os.makedirs(systems, exist_ok=True)
+        if not os.path.exists(archive):
+            call([*made, f"{archive}.new.tar", MIRROR.format(suite=suite)])
+            os.rename(f"{archive}.new.tar", archive)
+        os.makedirs(folder)
+        call(["tar", "xf", archive, "--numeric-owner", "-C", folder])
 
     def path(self, name):
         return os.path.join(self.folder, name.lstrip("/"))
@@ -40,9 +50,9 @@ class Root:
         return ["unshare", "--mount", "sh", "-c", script, self.folder, *words]
 
 
-def with_glibc(folder, suite):
+def with_glibc(folder, suite, systems):
     """Returns a system that has glibc and nothing else: no shell and no command."""
-    root = Root(folder, suite, ["--variant=extract", "--include=libc6"])
+    root = Root(folder, suite, ["--variant=extract", "--include=libc6"], systems)
     for name in ("lib", "lib64"):
         # (the package of these links has much more in it)
         if not os.path.lexists(root.path(name)):
@@ -50,6 +60,6 @@ def with_glibc(folder, suite):
     return root
 
 
-def with_apt(folder, suite):
+def with_apt(folder, suite, systems):
     """Returns a minimal system that can install packages, with Python for byzlab-serve."""
-    return Root(folder, suite, ["--variant=apt", "--include=python3"])
+    return Root(folder, suite, ["--variant=apt", "--include=python3"], systems)

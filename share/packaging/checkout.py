@@ -3,6 +3,7 @@ import errno
 import os
 import re
 import shutil
+import signal
 import subprocess
 import sys
 import tempfile
@@ -15,6 +16,35 @@ class Failure(Exception):
 
     def lines(self):
         return [str(line) for line in self.args]
+
+
+class WrongWords(Exception):
+    """Words that a script does not take, and why."""
+
+
+def gives_help(words, text):
+    """Prints this help if the words ask for it, and returns whether they do."""
+    is_asked = any(word in ("--help", "-h") for word in words)
+    if is_asked:
+        signal.signal(signal.SIGPIPE, signal.SIG_DFL)
+        print(text.strip())
+    return is_asked
+
+
+def folder_of(name, option, words):
+    """Returns the folder that the words of the script `name` give with its only option, or None without it."""
+    if not words:
+        return None
+    first, is_one, value = words[0].partition("=")
+    rest = words[1:] if is_one else words[2:]
+    if first != option:
+        raise WrongWords(f"{name} does not take `{words[0]}`: ./byzlab {name} --help")
+    if rest:
+        raise WrongWords(f"{name} does not take `{rest[0]}` after {option} DIR: ./byzlab {name} --help")
+    folder = value if is_one else "".join(words[1:])
+    if not folder or not is_one and folder.startswith("-"):
+        raise WrongWords(f"{option} needs a folder: ./byzlab {name} --help")
+    return os.path.abspath(os.path.expanduser(folder))
 
 
 def read(name):

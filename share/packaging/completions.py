@@ -1,5 +1,5 @@
-"""The words of the programs of a release for zsh and fish, from the help texts of share/texts/. (share/byzlab.bash has them
-for bash.)"""
+"""The words of the programs of a release for zsh and fish, from the help texts of share/texts/ and share/serve/. (share/byzlab.bash
+has them for bash.)"""
 import re
 from collections import namedtuple
 
@@ -8,6 +8,8 @@ from checkout import read
 # A flag with its names, the placeholder of its value or nothing, and its sentence.
 Flag = namedtuple("Flag", "names value sentence")
 Command = namedtuple("Command", "name sentence flags")
+# The programs of a release that have no subcommands, each with its help text.
+OTHERS = {"byzlab-survey": "share/texts/help-survey", "byzlab-serve": "share/serve/help"}
 # The values that are files or folders. The others are numbers and names, which nothing can complete.
 FILES = ("<FILE>", "<FILE>...", "<CONTEXT>", "<DIR>", "<WHAT>")
 
@@ -28,6 +30,11 @@ def flags(text):
         value = next((word for word in words if word.startswith("<")), "")
         found.append(Flag(names, value, sentence))
     return found
+
+
+def has_many(flags):
+    """Returns whether one of these flags takes several files."""
+    return any(flag.value == "<FILE>..." for flag in flags)
 
 
 def commands():
@@ -52,9 +59,9 @@ def zsh_argument(flag):
     return [quoted(f"({' '.join(flag.names)}){name}[{sentence}]{after}") for name in flag.names]
 
 
-def zsh_arguments(given, indent):
+def zsh_arguments(given, indent, takes_files=True):
     """Returns a call of `_arguments`, one flag a line."""
-    lines = [word for flag in given for word in zsh_argument(flag)] + ["'*:file:_files'"]
+    lines = [word for flag in given for word in zsh_argument(flag)] + ["'*:file:_files'"] * takes_files
     return "_arguments" + "".join(f" \\\n{indent}    {line}" for line in lines)
 
 
@@ -63,10 +70,11 @@ def zsh():
     found, top = commands(), flags(read("share/texts/help"))
     listed = "".join(f"        {quoted(name + ':' + sentence.replace(':', chr(92) + ':'))}\n" for name, sentence, _ in found)
     cases = "".join(f"    {name})\n        {zsh_arguments(given, ' ' * 8)}\n        ;;\n" for name, _, given in found if name != "help")
-    survey = zsh_arguments(flags(read("share/texts/help-survey")), " " * 4)
+    listed_others = {name: flags(read(text)) for name, text in OTHERS.items()}
+    others = "".join(f"    {name})\n        {zsh_arguments(given, ' ' * 8, has_many(given))}\n        ;;\n" for name, given in listed_others.items())
     first = " ".join(word for flag in top for word in zsh_argument(flag))
-    return f"""#compdef byzlab byzlab-survey
-# Completion of the words of byzlab and byzlab-survey in zsh, made of their help.
+    return f"""#compdef byzlab {" ".join(OTHERS)}
+# Completion of the words of byzlab, byzlab-survey and byzlab-serve in zsh, made of their help.
 
 _byzlab_commands() {{
     local -a commands=(
@@ -75,10 +83,6 @@ _byzlab_commands() {{
 }}
 
 _byzlab() {{
-    if [[ $service == byzlab-survey ]]; then
-        _byzlab_survey
-        return
-    fi
     local curcontext=$curcontext state line
     _arguments -C {first} '1:command:_byzlab_commands' '*::word:->words'
     [[ $state == words ]] || return 0
@@ -89,11 +93,11 @@ _byzlab() {{
 {cases}    esac
 }}
 
-_byzlab_survey() {{
-    {survey}
-}}
-
-_byzlab "$@"
+case $service in
+{others}    *)
+        _byzlab "$@"
+        ;;
+esac
 """
 
 
@@ -123,7 +127,9 @@ def fish():
     return "".join(lines)
 
 
-def fish_survey():
-    """Returns the completion for fish, the file byzlab-survey.fish."""
-    lines = [fish_flag("byzlab-survey", "", flag) for flag in flags(read("share/texts/help-survey"))]
-    return "# Completion of the words of byzlab-survey in fish, made of its help.\n" + "".join(lines)
+def fish_other(name):
+    """Returns the completion for fish of a program without subcommands, the file NAME.fish."""
+    given = flags(read(OTHERS[name]))
+    lines = [f"# Completion of the words of {name} in fish, made of its help.\n"]
+    lines += [] if has_many(given) else [f"complete -c {name} -f\n"]
+    return "".join(lines + [fish_flag(name, "", flag) for flag in given])

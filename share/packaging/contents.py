@@ -23,31 +23,19 @@ TOOLS = {"git": "git", "strip": "binutils", "objdump": "binutils", **library.TOO
 PROGRAMS = {"byzlab": "bin/byzlab", "surveyor": "bin/byzlab-survey"}
 # The server of the laboratory in a browser, and its page.
 LABORATORY = {"share/serve": "share/byzlab/serve", "share/lab": "share/byzlab/lab"}
-SERVE = """#!/usr/bin/env python3
-\"\"\"Serves the laboratory to browsers (docs/LABORATORY.md). It needs Python 3.8 or later.\"\"\"
-import os
-import runpy
-import sys
-
-sys.dont_write_bytecode = True
-BIN = os.path.dirname(os.path.realpath(__file__))
-TOP = os.path.dirname(BIN)
-os.environ.setdefault("BYZLAB", os.path.join(BIN, "byzlab"))
-os.environ.setdefault("SURVEYOR", os.path.join(BIN, "byzlab-survey"))
-os.environ.setdefault("BYZLAB_EXAMPLES", os.path.join(TOP, "{examples}"))
-runpy.run_path(os.path.join(TOP, "share", "byzlab", "serve"), run_name="__main__")
-"""
 PAGES = ("README.md", "CHANGELOG.md", "CONTRIBUTING.md", "SECURITY.md", "docs", "examples")
 COPIES = {
     "share/byzlab.h": "include/byzlab.h",
     "share/answers.schema.json": "share/byzlab/answers.schema.json",
     "share/byzlab.1": "share/man/man1/byzlab.1",
+    "share/byzlab-serve": "bin/byzlab-serve",
+    "share/byzlab-serve.1": "share/man/man1/byzlab-serve.1",
     "share/byzlab.bash": "share/bash-completion/completions/byzlab",
 }
 LINKS = {
-    "share/man/man1/byzlab-serve.1": "byzlab.1",
     "share/man/man1/byzlab-survey.1": "byzlab.1",
     "share/bash-completion/completions/byzlab-survey": "byzlab",
+    "share/bash-completion/completions/byzlab-serve": "byzlab",
 }
 
 
@@ -59,11 +47,6 @@ def products():
 def binaries(layout):
     """Returns the paths of the programs and of the shared library."""
     return [*PROGRAMS.values(), os.path.join(layout.lib, library.soname())]
-
-
-def serve(layout):
-    """Returns the text of bin/byzlab-serve."""
-    return SERVE.format(examples=os.path.normpath(os.path.join(layout.pages, "examples")))
 
 
 def fill(tree, made, layout, is_changed=False):
@@ -78,10 +61,9 @@ def fill(tree, made, layout, is_changed=False):
     glibc = provenance.needed_glibc([os.path.join(tree, path) for path in binaries(layout)])
     fish = "share/fish/vendor_completions.d"
     written = {
-        "bin/byzlab-serve": serve(layout),
         os.path.join(layout.zsh, "_byzlab"): completions.zsh(),
         os.path.join(fish, "byzlab.fish"): completions.fish(),
-        os.path.join(fish, "byzlab-survey.fish"): completions.fish_survey(),
+        **{os.path.join(fish, f"{name}.fish"): completions.fish_other(name) for name in completions.OTHERS},
         os.path.join(layout.pages, "manual.html"): manual.html(),
         os.path.join(layout.pages, "PROVENANCE"): provenance.text(made, glibc, is_changed),
     }

@@ -43,8 +43,17 @@ CHANGELOG = """byzlab ({version}) unstable; urgency=medium
 
  -- {maintainer}  {day}
 """
-# Only byzlab-serve needs Python, and says so, so the package recommends it and does not depend on it.
-OVERRIDES = "byzlab: python3-script-but-no-python3-dep\n"
+# One package has all of a release, so that one command installs it. Debian would have two more, for the library and for those who
+# compile with it. So two versions of the library cannot be installed side by side (docs/RELEASES.md).
+OVERRIDES = """# byzlab is one package, with the library and what one compiles with it
+byzlab: link-to-shared-library-in-wrong-package
+byzlab: package-name-doesnt-match-sonames libbyzlab1
+"""
+# A server for WSGI that root has run may have left bytecode.
+BEFORE_REMOVAL = """#!/bin/sh
+set -e
+rm -rf /usr/share/byzlab/serve/__pycache__
+"""
 PAGES = "usr/share/doc/byzlab"
 
 
@@ -104,6 +113,7 @@ def describe(tree, seconds):
     said = {"version": version(), "maintainer": MAINTAINER, "kilobytes": kilobytes, "depends": needed}
     write(tree, "DEBIAN/control", CONTROL.format(**said))
     write(tree, "DEBIAN/md5sums", sums)
+    write(tree, "DEBIAN/prerm", BEFORE_REMOVAL)
     write(tree, "DEBIAN/triggers", "activate-noawait ldconfig\n")
     write(tree, "DEBIAN/shlibs", f"libbyzlab {library.soname().rsplit('.', 1)[1]} byzlab (>= {version()})\n")
 
@@ -115,7 +125,8 @@ def build(tree, target, seconds):
     for path in [".", *entries(tree)]:
         full = os.path.join(tree, path)
         if not os.path.islink(full):
-            os.chmod(full, 0o755 if os.path.isdir(full) or f"{os.sep}bin{os.sep}" in full else 0o644)
+            is_run = path.startswith("usr/bin/") or path == "DEBIAN/prerm"
+            os.chmod(full, 0o755 if os.path.isdir(full) or is_run else 0o644)
         os.utime(full, (seconds, seconds), follow_symlinks=False)
     # (with one thread, since with several the bytes may be others)
     settings = {**os.environ, "SOURCE_DATE_EPOCH": str(seconds), "DPKG_DEB_THREADS_MAX": "1", "TMPDIR": os.path.dirname(target)}

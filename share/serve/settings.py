@@ -1,23 +1,53 @@
 """Where the programs, the page and the examples are, and what the environment says about them."""
 import os
+import subprocess
 import sys
 
 from .application import Laboratory
 from .program import Programs
 
+# share/ of the repository, or share/byzlab/ of a release.
 SHARE = os.path.dirname(os.path.dirname(os.path.realpath(__file__)))
-TOP = os.path.dirname(SHARE)
+# What builds the programs. A release does not have it.
+PROVE = os.path.join(SHARE, "prove")
+IS_RELEASE = not os.path.exists(PROVE)
+# The repository, or the folder with bin/ of a release.
+TOP = os.path.dirname(os.path.dirname(SHARE) if IS_RELEASE else SHARE)
+PROGRAMS = {"byzlab": "bin/byzlab", "surveyor": "bin/byzlab-survey"}
+VARIABLES = {"byzlab": "BYZLAB", "surveyor": "SURVEYOR"}
 LOOPBACK = ("127.0.0.1", "localhost", "[::1]")
 
 
-def built(name):
-    """Returns the path of a program that `./byzlab prove` builds."""
-    return os.path.join(TOP, "crates", name, "out", name)
+class Unusable(Exception):
+    """Why the server cannot start, and the exit status."""
+
+    def __init__(self, why, status=1):
+        super().__init__(why)
+        self.status = status
 
 
-def path_of(variable, name):
+def build():
+    """Proves and builds the programs in the repository, unless they are built or BYZLAB names one."""
+    if IS_RELEASE or os.environ.get("BYZLAB"):
+        return
+    for name in PROGRAMS:
+        environment = {**os.environ, "BYZLAB_PROGRAM": name}
+        try:
+            status = subprocess.run([sys.executable, PROVE], env=environment, stdin=subprocess.DEVNULL).returncode
+        except KeyboardInterrupt:
+            status = 130
+        if status:
+            raise Unusable(f"the program {name} was not built", status)
+
+
+def place_of(name):
+    """Returns where a program is, unless a variable names another one."""
+    return os.path.join(TOP, *(PROGRAMS[name].split("/") if IS_RELEASE else ("crates", name, "out", name)))
+
+
+def path_of(name):
     """Returns the path of a program that can be run, or None."""
-    path = os.environ.get(variable) or built(name)
+    path = os.environ.get(VARIABLES[name]) or place_of(name)
     return os.path.abspath(path) if os.path.isfile(path) and os.access(path, os.X_OK) else None
 
 
@@ -27,15 +57,20 @@ def processors():
 
 
 def programs():
-    """Returns the programs that answer requests. Ends this process if the first is missing."""
-    byzlab = path_of("BYZLAB", "byzlab")
+    """Returns the programs that answer requests."""
+    byzlab = path_of("byzlab")
     if byzlab is None:
-        sys.exit("serve: there is no program yet: run `./byzlab prove`, or name one in the variable BYZLAB")
-    return Programs(byzlab, path_of("SURVEYOR", "surveyor"))
+        path = os.environ.get("BYZLAB") or place_of("byzlab")
+        how = "" if IS_RELEASE else "run `./byzlab prove`, or "
+        raise Unusable(f"there is no program {path}: {how}name one in the variable BYZLAB")
+    return Programs(byzlab, path_of("surveyor"))
 
 
 def examples():
-    return os.environ.get("BYZLAB_EXAMPLES") or os.path.join(TOP, "examples")
+    """Returns the folder with the examples. An archive has it next to bin/, and an installed release among its pages."""
+    places = [os.path.join(TOP, "share", "doc", "byzlab", "examples")] if IS_RELEASE else []
+    named = os.environ.get("BYZLAB_EXAMPLES")
+    return named or next(filter(os.path.isdir, places), os.path.join(TOP, "examples"))
 
 
 def laboratory(hosts=None, workers=None):
