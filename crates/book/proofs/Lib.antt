@@ -1,5 +1,6 @@
 pub mod Induction
 pub mod Steps
+pub mod Lookup
 pub mod Listed
 pub mod PartLemmas
 pub mod LabelLemmas

@@ -43,3 +43,4 @@ pub mod Promised
 pub mod Reading
 pub mod Gathering
 pub mod VerdictLines
+pub mod Lent

@@ -15,6 +15,7 @@ mod held_chains;
 mod judgement;
 mod laws;
 mod loyal_letters;
+mod open_round;
 mod opening;
 mod plays;
 mod round_drafts;

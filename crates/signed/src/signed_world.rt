@@ -35,8 +35,7 @@ pub struct SignedWorld {
     pub(crate) full: bool,
     /// The chains that the letters of the closed rounds sent.
     pub(crate) sent: Vec<SentRound>,
-    /// The generals' signers, by general. Each general has only one, and it is used only when his chains are made at a
-    /// close.
+    /// The generals' signers, by general. Each general has only one.
     pub(crate) signers: Vec<Signer>,
 }
 
