@@ -66,6 +66,7 @@ What was built from them, by sha256 (the programs are then stripped, and the lib
 
 {indented(sums)}
 To make the same bytes again, clone the repository, check out the commit, put the toolchain's bin/ on your path, and call
-`./byzlab release`. Other versions of these tools may give other bytes:
+`./byzlab release`. Other versions of these tools may give other bytes. The lines on the crates above also say how each was proved,
+so they are other ones if a proof was continued or kept (BYZLAB_KEEP):
 
 {indented(tools)}"""
