@@ -57,13 +57,14 @@ class Command:
 
 
 class Search(Command):
-    """The search for a campaign that breaks. It takes both numbers, and plays as many campaigns as the time allows."""
+    """The search for a campaign that breaks. It takes both numbers, and plays as many campaigns as the time allows: with no
+    more traitors than one above the bound, who are enough if any are."""
 
     def call(self, request):
         found = super().call(request)
         if not {"generals", "bound"} <= set(request):
             raise Refused("400 Bad Request", "A search needs the generals and the bound.")
-        found.words += ["--seeds", f"1..{seeds(request['generals'], request['bound'])}"]
+        found.words += ["--traitors", f"1..{request['bound'] + 1}", "--seeds", f"1..{seeds(request['generals'], request['bound'])}"]
         return found
 
 

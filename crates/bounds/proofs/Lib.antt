@@ -9,3 +9,6 @@ pub mod DenialLaws
 pub mod DivisionLaws
 pub mod ExactnessLaws
 pub mod TwoOrderLaws
+pub mod StoryTreeLemmas
+pub mod RefutationLemmas
+pub mod StoryTableLemmas

@@ -4,3 +4,5 @@ pub mod Tolerance
 pub mod Denial
 pub mod Division
 pub mod TwoOrders
+pub mod Refutation
+pub mod StoryTrees

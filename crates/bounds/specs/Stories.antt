@@ -4,12 +4,20 @@
 -- loyal and exchanges messages with his own group and the two adjacent ones. The commander of copy a orders 0, and that
 -- of copy b orders 1. In each story two groups are loyal, and receive what two adjacent groups of the ring receive. The
 -- third group lies: it sends to each loyal group what its copy adjacent to that group sends in the ring.
-use Rattle.std.specs.Prelude.{ℕ, ◌+◌, ◌%◌, ◌≤◌, ◌≡◌, ◌==◌, ◌&&◌, ◌||◌, nat_lt, if◌then◌else◌, Bool, List, [], ◌∷◌, ◌++◌, Some, count_by}
+use Rattle.std.specs.Prelude.{ℕ, ◌+◌, ◌%◌, ◌≤◌, ◌≡◌, ◌==◌, ◌&&◌, ◌||◌, nat_lt, if◌then◌else◌, Bool, List, [], ◌∷◌, ◌++◌, bytes_eq, codes, Option, None, Some, count_by}
 use Rattle.label.specs.Labels.{generals}
 use Rattle.label.specs.Oral.{Messages, Agree}
 use Rattle.bounds.specs.Tightness.{IsTooFew, IsAdmissible, IsIndistinguishable, IsDecisionRule}
 use Rattle.bounds.specs.declared.story.Story.{Story}
 use Rattle.bounds.specs.declared.story.Story.TheVariants.{First, Second, Third}
+
+-- Returns the story with this number, 1 to 3.
+abbrev pub story_numbered : List ℕ → Option Story
+story_numbered word =
+    if bytes_eq word (codes "1") then Some First
+    else if bytes_eq word (codes "2") then Some Second
+    else if bytes_eq word (codes "3") then Some Third
+    else None
 
 -- Returns the group of general g. The commander c is in group 0, and the lieutenants, in ascending order, are in the
 -- groups 1, 2, 0, 1, 2, 0 and so on.

@@ -1,6 +1,6 @@
 //! The three stories, of which each decision rule breaks one.
-ghost use Rattle.std.specs.Prelude.{◌≡◌, ◌<◌, ◌≤◌, Some};
-ghost use Rattle.bounds.specs.Stories.{copy_in, is_traitor_in, lying_group, story_messages};
+ghost use Rattle.std.specs.Prelude.{◌≡◌, ◌<◌, ◌≤◌, true, false, None, Some};
+ghost use Rattle.bounds.specs.Stories.{copy_in, is_traitor_in, lying_group, story_messages, story_numbered, story_order};
 
 use crate::group::{crossings, group_of, is_crossing};
 use label::Label;
@@ -17,6 +17,21 @@ pub enum Story {
 }
 
 impl Story {
+    /// Returns the story with this number, 1 to 3, or `None` for any other word.
+    pub fn numbered(word: &[u8]) -> Option<Story>
+        ensures { result ≡ story_numbered word.now }
+    {
+        if word == "1".as_bytes() {
+            Some(Story::First)
+        } else if word == "2".as_bytes() {
+            Some(Story::Second)
+        } else if word == "3".as_bytes() {
+            Some(Story::Third)
+        } else {
+            None
+        }
+    }
+
     /// Returns whether the general, who must be below 13, is a traitor in the story.
     pub fn is_traitor(self, commander: u8, general: u8) -> bool
         requires { general < 13 }
@@ -40,6 +55,19 @@ impl Story {
             (self.copy(own) + crossed + more) % 2
         } else {
             (self.copy(sender) + crossed) % 2
+        }
+    }
+
+    /// Returns the order that IC2 requires the loyal lieutenants to decide on: that of the commander if he is loyal.
+    pub(crate) fn obeyed_order(self, commander: u8) -> Option<u32>
+        requires { commander < 13 }
+        ensures traitor { is_traitor_in self commander commander ≡ true → result ≡ None }
+        ensures loyal { is_traitor_in self commander commander ≡ false → result ≡ Some (story_order self) }
+    {
+        if self.is_traitor(commander, commander) {
+            None
+        } else {
+            Some(self.copy(0))
         }
     }
 

@@ -26,14 +26,14 @@ sizes_of generals bound = flat_map (sizes_with bound) (numbers generals.low gene
 abbrev pub cut_to : ℕ → CountRange → CountRange
 cut_to n span = record { low = min span.low n; high = min span.high n }
 
--- An entry: a number of generals, a bound, and what breaks agreement, if anything does.
+-- An entry: a number of generals, a bound, and the least that breaks agreement, if anything does.
 pub record Entry : Type 0 where
   pub generals : ℕ
   pub bound : ℕ
   pub found : Option Breaking
 
--- States that this is the result of the search in a survey's campaigns with `n` generals and bound `m`: what breaks
--- agreement with the fewest traitors, or that nothing does.
+-- States that this is the result of the search in a survey's campaigns with `n` generals and bound `m`: the least that
+-- breaks agreement, or that nothing does.
 abbrev pub IsSearched : Survey → Family → ℕ → ℕ → Option Breaking → Type 0
 IsSearched s f n m found =
     MatchOption found (NoneBreaks f n m (cut_to n s.traitors) s.first (s.last + 1))

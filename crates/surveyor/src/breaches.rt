@@ -1,4 +1,4 @@
-//! `--break`: searches, for each number of generals and each bound, the fewest traitors that break agreement.
+//! `--break`: searches, for each number of generals and each bound, for the least campaign that breaks agreement.
 ghost use Rattle.std.specs.Prelude.{◌≡◌, ◌≤◌, ◌+◌, ◌-◌, min, Option, IfErr, IfOk, OnOk};
 ghost use Rattle.std.specs.Io.KnownBytes.{Appends};
 ghost use Rattle.surveys.specs.declared.breach.Breaking.{Breaking as Found};
@@ -16,9 +16,9 @@ use std::thread::Threads;
 use streams::Output;
 use surveys::{Breaking, CountRange, Family, breaking, breaking_text};
 
-/// Prints, for each number of generals and each bound that they can have, the fewest traitors that break agreement in
-/// the campaign of a seed. Also prints the least of these campaigns after reduction or, if `is_table` is true, its
-/// numbers as a row of a table.
+/// Prints, for each number of generals and each bound that they can have, the least reduced campaign found that breaks
+/// agreement. It is the least over all seeds and all numbers of traitors. If `is_table` is true, only its numbers are
+/// printed, as a row of a table.
 ///
 /// # Errors
 ///
@@ -124,8 +124,8 @@ fn put_entry<T: Threads + Sync, O: Output>(
     print(out, text.as_str())
 }
 
-/// Searches the campaigns with this number of generals and this bound for the fewest traitors that break agreement.
-/// Returns `None` if agreement is broken in none of them.
+/// Returns the least reduced campaign with this number of generals and this bound that breaks agreement, over all seeds
+/// and all numbers of traitors. Returns `None` if agreement is broken in none of them.
 ///
 /// # Errors
 ///

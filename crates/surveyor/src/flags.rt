@@ -84,8 +84,8 @@ const SHAPES: &[Flag<'static>] = &[
     Flag {
         name: "break",
         value: None,
-        help: "Prints, for each number of generals and each bound, the smallest broken campaign found with the \
-               fewest traitors",
+        help: "Prints, for each number of generals and each bound, the least broken campaign found: by \
+               traitors, statements and seed",
     },
     Flag {
         name: "keep",

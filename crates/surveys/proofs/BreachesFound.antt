@@ -2,7 +2,6 @@
 use Rattle.std.proofs.Common.{ℕ, zero, suc, ◌+◌, ◌-◌, ◌<◌, ◌≤◌, ◌≡◌, ◌≢◌, ◌∙◌, List, [], ◌∷◌, ◌++◌, ap, map, length, get_or, take, drop, subst, sym, arith, Ok, Err, Option, None, Some, ◌⊎◌, ⊎_elim}
 use Rattle.std.specs.declared.result.Result.{Result}
 use Rattle.std.specs.List.{All, AllZip, range_with_len}
-use Rattle.std.proofs.lemmas.Bool.{cases_lt}
 use Rattle.std.proofs.lemmas.List.{length-map}
 use Rattle.std.proofs.lemmas.List.Elements.{All-head, All-tail}
 use Rattle.scenario.specs.declared.fault.ScenarioError.{ScenarioError}
@@ -23,7 +22,7 @@ pub all_found : (plots : ℕ → Plot) (seeds : List ℕ) (answers : List (Resul
 all_found plots seeds answers found h is = all_good plots seeds found (subst (AllZip (IsAnswerTo plots) seeds) is h)
 
 -- a first number, or a later one
-first_or_later : (a seed : ℕ) → a ≤ seed → (a ≡ seed) ⊎ (a < seed)
+pub first_or_later : (a seed : ℕ) → a ≤ seed → (a ≡ seed) ⊎ (a < seed)
 first_or_later a seed low = grind arith
 
 -- behind good answers an error is that of a number, before which all are good
@@ -93,10 +92,3 @@ all_sound f a (suc n) (o ∷ os) h none seed low high = ⊎_elim
 
 pub none_broken : (f : ℕ → Plot) (first end : ℕ) → IsLeastBreach f first end None → AreAllSound f first end
 none_broken f first end h = λ seed low high. all_sound f first (end - first) h.all h.shrunk h.least seed low (omega arith)
-
--- one number more, from a least one on
-pub upto_this : (P : ℕ → Type 0) (low n : ℕ) → ((k : ℕ) → low ≤ k → k < n → P k) → P n → (k : ℕ) → low ≤ k → k < n + 1 → P k
-upto_this P low n h p k from lt = ⊎_elim (λ l. h k from l) (λ le. subst P (same le) p) (cases_lt k n)
-  where
-    same : n ≤ k → n ≡ k
-    same le = omega (arith, le, lt)

@@ -14,6 +14,7 @@ pub mod Written
 pub mod SmallerCampaigns
 pub mod Ranks
 pub mod BreachesFound
+pub mod Searching
 pub mod Narrowing
 pub mod Reducing
 pub mod Comparing

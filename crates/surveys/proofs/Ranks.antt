@@ -20,6 +20,21 @@ still_not : (c a b : Breach) → is_before c a ≡ false → is_before b a ≡ t
 still_not c a b o l =
     below_less (length c.plot.traitors) (statements c.plot) c.seed (length a.plot.traitors) (statements a.plot) a.seed (length b.plot.traitors) (statements b.plot) b.seed o l
 
+-- what is below another is below all that this is below, and below all that is not below this
+below_both : (a b c d e f g h i : ℕ) → is_below a b c d e f ≡ true → is_below d e f g h i ≡ true → is_below a b c g h i ≡ true
+below_both a b c d e f g h i o l = grind (arith, nat_tests)
+
+below_not_less : (a b c d e f g h i : ℕ) → is_below a b c d e f ≡ true → is_below g h i d e f ≡ false → is_below a b c g h i ≡ true
+below_not_less a b c d e f g h i o l = grind (arith, nat_tests)
+
+pub before_both : (a b c : Breach) → is_before a b ≡ true → is_before b c ≡ true → is_before a c ≡ true
+before_both a b c o l =
+    below_both (length a.plot.traitors) (statements a.plot) a.seed (length b.plot.traitors) (statements b.plot) b.seed (length c.plot.traitors) (statements c.plot) c.seed o l
+
+pub before_not_less : (a b c : Breach) → is_before a b ≡ true → is_before c b ≡ false → is_before a c ≡ true
+before_not_less a b c o l =
+    below_not_less (length a.plot.traitors) (statements a.plot) a.seed (length b.plot.traitors) (statements b.plot) b.seed (length c.plot.traitors) (statements c.plot) c.seed o l
+
 -- nothing of these comes before it
 abbrev Bounds : Breach → Option Breach → Type 0
 Bounds b o = IfSome o (λ c. is_before c b ≡ false)

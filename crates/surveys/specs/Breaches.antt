@@ -1,5 +1,5 @@
 -- The least of the reduced campaigns of many seeds (own).
-use Rattle.std.specs.Prelude.{ℕ, ◌≡◌, ◌≢◌, ◌<◌, ◌≤◌, ◌==◌, nat_lt, Bool, false, cond, ◌&&◌, ◌||◌, List, ◌∷◌, ◌++◌, map, length, sum_by, Option, None, Some, Result, Ok, Err, IfOk, IfErr, IfSome, MatchOption}
+use Rattle.std.specs.Prelude.{ℕ, ◌≡◌, ◌≢◌, ◌<◌, ◌≤◌, ◌==◌, nat_lt, Bool, false, true, cond, ◌&&◌, ◌||◌, List, ◌∷◌, ◌++◌, map, length, sum_by, Option, None, Some, Result, Ok, Err, IfOk, IfErr, IfSome, MatchOption}
 use Rattle.std.specs.List.{All, AllZip, Contains}
 use Rattle.rayon.specs.Numbers.{nat_range}
 use Rattle.scenario.specs.declared.fault.ScenarioError.{ScenarioError}
@@ -75,13 +75,33 @@ pub record IsSameAs (a b : Adversary) : Type 0 where
 abbrev pub AreAllSound : (ℕ → Plot) → ℕ → ℕ → Type 0
 AreAllSound plots first end = (seed : ℕ) → first ≤ seed → seed < end → ComesWell (plots seed)
 
--- States that agreement breaks with this number of traitors, which is in the range, and that this is the least of the
--- reduced campaigns with it. With fewer traitors of the range no campaign of these seeds is broken.
+-- Returns the earlier result, unless there is none or the reduced campaign `b`, found with `t` traitors, is less.
+abbrev pub least_so_far : ℕ → Option Breach → Option Breaking → Option Breaking
+least_so_far t None earlier = earlier
+least_so_far t (Some b) None = Some (record { traitors = t; breach = b })
+least_so_far t (Some b) (Some earlier) =
+    cond (is_before b earlier.breach) (Some (record { traitors = t; breach = b })) (Some earlier)
+
+-- States that the least of the reduced campaigns of the seeds from `first` up to but not including `end` is greater
+-- than `b`, or that none of them is broken.
+abbrev pub AreGreater : (ℕ → Plot) → ℕ → ℕ → Breach → Type 0
+AreGreater plots first end b =
+    (found : Option Breach) × IsLeastBreach plots first end found × IfSome found (λ c. is_before b c ≡ true)
+
+-- States that the least of the reduced campaigns of the seeds from `first` up to but not including `end` is not less
+-- than `b`, or that none of them is broken.
+abbrev pub AreNotLess : (ℕ → Plot) → ℕ → ℕ → Breach → Type 0
+AreNotLess plots first end b =
+    (found : Option Breach) × IsLeastBreach plots first end found × IfSome found (λ c. is_before c b ≡ false)
+
+-- States that this is the least of the reduced campaigns of these seeds with all numbers of traitors in the range. Of
+-- equal ones it is the one that had the fewest traitors before it was reduced.
 pub record IsBreaking (f : Family) (n m : ℕ) (span : CountRange) (first end : ℕ) (b : Breaking) : Type 0 where
   pub within : span.low ≤ b.traitors
   pub inside : b.traitors ≤ span.high
   pub least : IsLeastBreach (plot_of (narrowed f n m b.traitors)) first end (Some b.breach)
-  pub fewer : (t : ℕ) → span.low ≤ t → t < b.traitors → AreAllSound (plot_of (narrowed f n m t)) first end
+  pub fewer : (t : ℕ) → span.low ≤ t → t < b.traitors → AreGreater (plot_of (narrowed f n m t)) first end b.breach
+  pub more : (t : ℕ) → b.traitors < t → t ≤ span.high → AreNotLess (plot_of (narrowed f n m t)) first end b.breach
 
 -- States that no campaign of these seeds is broken with any number of traitors in the range.
 abbrev pub NoneBreaks : Family → ℕ → ℕ → CountRange → ℕ → ℕ → Type 0
@@ -111,10 +131,11 @@ pub record IsRefusedIn (plots : ℕ → Plot) (first end : ℕ) (e : ScenarioErr
   pub earlier : (other : ℕ) → first ≤ other → other < seed → (o : Option Breach) × IsShrunk plots other o
 
 -- States that this is the error of a search with some number of traitors in the range. With fewer traitors of the range
--- no campaign of these seeds is broken.
+-- the search has no error.
 pub record IsRefusedWith (f : Family) (n m : ℕ) (span : CountRange) (first end : ℕ) (e : ScenarioError) : Type 0 where
   pub traitors : ℕ
   pub within : span.low ≤ traitors
   pub inside : traitors ≤ span.high
   pub refused : IsRefusedIn (plot_of (narrowed f n m traitors)) first end e
-  pub fewer : (t : ℕ) → span.low ≤ t → t < traitors → AreAllSound (plot_of (narrowed f n m t)) first end
+  pub fewer : (t : ℕ) → span.low ≤ t → t < traitors →
+      (found : Option Breach) × IsLeastBreach (plot_of (narrowed f n m t)) first end found

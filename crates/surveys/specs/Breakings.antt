@@ -30,7 +30,7 @@ breaking_row generals bound traitors statements seed =
 -- Writes a comment line with these words.
 abbrev pub breaking_head : List ℕ → List ℕ → List ℕ → List ℕ → List ℕ → List ℕ
 breaking_head generals bound traitors statements seed =
-    codes "# generals " ++ (generals ++ (codes " bound " ++ (bound ++ (codes " traitors " ++ (traitors
+    codes "# generals " ++ (generals ++ (codes " bound " ++ (bound ++ (codes " least found: traitors " ++ (traitors
     ++ (codes " statements " ++ (statements ++ (codes " seed " ++ (seed ++ codes "\n")))))))))
 
 -- Writes a table row or a comment line with these words.

@@ -11,7 +11,7 @@ pub struct Breach {
     pub plot: Plot,
 }
 
-/// The least number of traitors that break agreement, and a reduced campaign in which they do.
+/// The least of the reduced campaigns with several numbers of traitors.
 #[derive(Drop)]
 pub struct Breaking {
     /// How many traitors the seed's campaign had before it was reduced.

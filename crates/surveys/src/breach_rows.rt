@@ -92,7 +92,7 @@ fn breaking_head(
         ≡ breaking_head generals.now bound.now traitors.now statements.now seed.now) }
 {
     format!(in alloc;
-        "# generals {generals} bound {bound} traitors {traitors} statements {statements} seed {seed}\n"
+        "# generals {generals} bound {bound} least found: traitors {traitors} statements {statements} seed {seed}\n"
     )
 }
 

@@ -3,7 +3,7 @@ ghost use Rattle.std.specs.Prelude.{◌≡◌, ◌≢◌, ◌≤◌, IfErr, IfOk
 ghost use Rattle.std.specs.List.{AllZip};
 ghost use Rattle.rayon.specs.Numbers.{nat_range};
 ghost use Rattle.scenario.specs.declared.fault.ScenarioError.TheVariants.{Memory};
-ghost use Rattle.surveys.specs.Breaches.{IsAnswerTo, IsBreaking, IsFirstError, IsLeastBreach, IsLeastOf, IsRefusedBy, IsRefusedIn, IsRefusedWith, IsShrunk, NoneBreaks, better};
+ghost use Rattle.surveys.specs.Breaches.{IsAnswerTo, IsBreaking, IsFirstError, IsLeastBreach, IsLeastOf, IsRefusedBy, IsRefusedIn, IsRefusedWith, IsShrunk, NoneBreaks, better, least_so_far};
 ghost use Rattle.surveys.specs.Plotting.{plot_of};
 
 use crate::breach::{Breach, Breaking};
@@ -142,10 +142,25 @@ pub fn least_breach<R: Threads + Sync>(
     Ok(least(breaches(rt, alloc, family, first, end)?))
 }
 
-/// Returns the least number of traitors in the range with which a campaign breaks agreement, and the least of the
-/// reduced campaigns with that number. The campaigns are those of the seeds from `first` up to but not including `end`,
-/// with this number of generals and this bound. Returns `None` if agreement is broken with no number of traitors in the
-/// range.
+/// Returns the earlier result, unless there is none or the reduced campaign `breach` is less. That one was found with
+/// this number of traitors.
+fn least_so_far(traitors: u8, breach: Option<Breach>, earlier: Option<Breaking>) -> Option<Breaking>
+    ensures { result ≡ least_so_far traitors breach earlier }
+{
+    let Some(breach) = breach else { return earlier };
+    let Some(least) = earlier else {
+        return Some(Breaking { traitors, breach });
+    };
+    if is_before(&breach, &least.breach) {
+        Some(Breaking { traitors, breach })
+    } else {
+        Some(least)
+    }
+}
+
+/// Returns the least of the reduced campaigns with this number of generals and this bound. The campaigns are those of
+/// the seeds from `first` up to but not including `end`, with each number of traitors in the range. Returns `None` if
+/// agreement is broken in none of them. Of equal ones it is the one that had the fewest traitors before it was reduced.
 ///
 /// # Errors
 ///
@@ -167,15 +182,12 @@ pub fn breaking<R: Threads + Sync>(
     ensures none { IfOk result (λ found. IfNone found (NoneBreaks family.now generals bound traitors first end)) }
     ensures refused { IfErr result (λ e. e ≢ Memory → IsRefusedWith family.now generals bound traitors first end e) }
 {
+    let mut least: Option<Breaking> = None;
     for count in u16::from(traitors.low)..u16::from(traitors.high) + 1 {
-        let count = count as u8;
-        let family = narrowed(alloc, family, generals, bound, count)?;
-        if let Some(breach) = least_breach(rt, alloc, &family, first, end)? {
-            return Ok(Some(Breaking {
-                traitors: count,
-                breach,
-            }));
-        }
+        let traitors = count as u8;
+        let family = narrowed(alloc, family, generals, bound, traitors)?;
+        let breach = least_breach(rt, alloc, &family, first, end)?;
+        least = least_so_far(traitors, breach, least);
     }
-    Ok(None)
+    Ok(least)
 }

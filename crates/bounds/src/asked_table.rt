@@ -1,0 +1,70 @@
+//! Writes the message table that breaks a rule, for the numbers of a campaign that are given as words.
+ghost use Rattle.std.specs.Prelude.{◌≡◌, ◌≢◌, IfOk, IfErr, Err, Some, string_bytes};
+ghost use Rattle.combine.specs.Names.{default_rule};
+ghost use Rattle.book.specs.Grammar.{opened};
+ghost use Rattle.book.specs.Numbers.{numbers_in};
+ghost use Rattle.book.specs.declared.fault.TableError.TheVariants.{Memory};
+ghost use Rattle.bounds.specs.Refutation.{Refutes, no_memory, refusal_in};
+
+use crate::refusal::RefutationError;
+use crate::refutation::first_broken;
+use crate::story::Story;
+use crate::table_writer::story_table;
+use book::{TableError, TableFault};
+use combine::Rule;
+use std::alloc::Global;
+use text::decimal;
+
+/// Returns the message table of the first story that breaks the rule, or of the story that is asked for. The words are
+/// the numbers of the campaign: how many generals there are, the bound m, and the commander.
+///
+/// # Errors
+///
+/// Fails with `Table` for the fault that the first line of a table with these numbers has, or if there is no memory.
+/// Fails with `Enough` if there are more than 3m generals.
+pub fn refuted(
+    alloc: Global,
+    generals: &str,
+    bound: &str,
+    commander: &str,
+    rule: Rule,
+    asked: Option<Story>,
+) -> Result<String, RefutationError>
+    ensures refutes { IfOk result
+        (λ text. Refutes generals.now bound.now commander.now rule asked (string_bytes text)) }
+    ensures refused { IfErr result (λ e. e ≢ no_memory →
+        refusal_in (numbers_in generals.now bound.now commander.now) ≡ Some e) }
+{
+    let (generals, bound, commander) = numbers(generals, bound, commander)?;
+    let story = match asked {
+        Some(story) => story,
+        None => first_broken(alloc, generals, bound, commander, rule)?,
+    };
+    story_table(alloc, story, generals, bound, commander, rule)
+}
+
+/// Returns the numbers of a campaign, checked like those of the first line of a table.
+///
+/// # Errors
+///
+/// Fails with `Line` if a word is not a decimal number, and with `Range` if the numbers are out of their limits. Both
+/// are at line 1.
+#[tactic(auto, unfolding(book::specs::Numbers::numbers_in))]
+fn numbers(generals: &str, bound: &str, commander: &str) -> Result<(u8, u8, u8), TableError>
+    ensures told { IfOk result
+        (λ n. numbers_in generals.now bound.now commander.now ≡ Some (n.0, n.1, n.2, default_rule)) }
+    ensures refused { IfErr result (λ e. (e ≢ Memory)
+        × (opened (numbers_in generals.now bound.now commander.now) ≡ Err e)) }
+{
+    let (Some(generals), Some(bound), Some(commander)) = (
+        decimal(generals.as_bytes()),
+        decimal(bound.as_bytes()),
+        decimal(commander.as_bytes()),
+    ) else {
+        return Err(TableError::At(TableFault::Line, 1));
+    };
+    if generals > 13 || bound > 4 || bound + 2 > generals || commander >= generals {
+        return Err(TableError::At(TableFault::Range, 1));
+    }
+    Ok((generals as u8, bound as u8, commander as u8))
+}

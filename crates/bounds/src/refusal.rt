@@ -1,0 +1,36 @@
+//! Why no story is given for the numbers of a campaign.
+use book::TableError;
+use std::alloc::AllocError;
+use std::error::Error;
+use std::fmt;
+
+/// The reason why no story is given.
+#[derive(Clone, Copy, Debug, PartialEq, Eq, Drop)]
+pub enum RefutationError {
+    /// There is no message table with these numbers, or no memory for it.
+    Table(TableError),
+    /// There are more than 3m generals, who tolerate m traitors. So no message table breaks the rule.
+    Enough,
+}
+
+impl From<TableError> for RefutationError {
+    ghost use Rattle.std.specs.Prelude.{◌≡◌};
+    ghost use Rattle.bounds.specs.declared.refusal.RefutationError.TheVariants.{Table};
+
+    ghost from_gives = { λ error e. e ≡ Table error };
+
+    fn from(error: TableError) -> RefutationError {
+        RefutationError::Table(error)
+    }
+}
+
+impl From<AllocError> for RefutationError {
+    ghost use Rattle.std.specs.Prelude.{◌≡◌};
+    ghost use Rattle.bounds.specs.Refutation.{no_memory};
+
+    ghost from_gives = { λ _ e. e ≡ no_memory };
+
+    fn from(_error: AllocError) -> RefutationError {
+        RefutationError::Table(TableError::Memory)
+    }
+}
