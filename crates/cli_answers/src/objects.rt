@@ -109,8 +109,8 @@ fn shaped(
     }
 }
 
-/// Returns the object of a line by the first of these shapes that fits, with the place of the line. Returns `None` if
-/// none fits.
+/// Returns the JSON object of a printed line, by the first of these shapes that fits the line. If the shape says so, the
+/// object also has the round, general and label to which the line belongs. Returns `None` if no shape fits.
 fn first_shaped(
     alloc: Global,
     held: Held,

@@ -56,7 +56,7 @@ impl Held {
         }
     }
 
-    /// Returns what is known after a line, given the object of that line.
+    /// Returns what is known after one more line. `object` describes this line, and replaces what it has of `self`.
     pub(crate) fn behind(self, object: &Map<String, Value>) -> Held
         ensures { result ≡ heard self (members_view object.now.entries) }
     {

@@ -27,9 +27,10 @@ pub(crate) struct Shape {
     /// `P` a number or a dash, `A` yes, no or a dash, `S` numbers joined by dots or a dash, and `C` the word of a rule.
     /// `*` is all words that are left, each a number or a dash. Any other word is itself.
     pub parts: &'static [(&'static str, &'static str)],
-    /// The mark: the name of what is true of each such line, or false of each. It is empty if there is no mark.
+    /// The mark: the name of a member with one value, true or false, in the objects of all such lines. It is empty if
+    /// there is no mark.
     pub mark: &'static str,
-    /// Whether the mark is true.
+    /// The value of the mark, or false if there is no mark.
     pub holds: bool,
     /// The place of such a line.
     pub within: Within,

@@ -150,8 +150,8 @@ pub(crate) fn explained_of(
     format!(in alloc; "\n{told}")
 }
 
-/// Returns an empty line and the explanation of this general's program in a scenario's table. Returns nothing if he has
-/// none there.
+/// Returns an empty line and the explanation of this general's program in a scenario's table. Returns an empty string
+/// if he has none there.
 fn explained_in(
     alloc: Global,
     general: u8,
@@ -167,8 +167,8 @@ fn explained_in(
     }
 }
 
-/// Returns an empty line and the explanation of this general's program in the text of a scenario. Returns nothing if
-/// the text is not TOML or has no such program.
+/// Returns an empty line and the explanation of this general's program in the text of a scenario. Returns an empty
+/// string if the text is not TOML or has no such program.
 fn explained(alloc: Global, text: &[u8], general: u8) -> Result<String, AllocError>
     ensures { IfOk result (λ told. IsExplained text.now general (string_bytes told)) }
 {

@@ -87,7 +87,7 @@ fn compared(state: &AbsState, dst: Reg, operand: Operand) -> Option<Sentence>
     compared_at(state, of_operand(operand))
 }
 
-/// Returns the sentence about an access whose base is not a pointer.
+/// Returns the sentence about a load or store whose base register does not hold a pointer. There always is one.
 fn no_base(state: &AbsState, base: Reg) -> Option<Sentence>
     ensures { result ≡ no_base state.now.registers base }
 {

@@ -6,7 +6,8 @@ use asm::{put, put_instruction, put_unsigned};
 use insn::Insn;
 use std::alloc::AllocError;
 
-/// How the units of a program are written in its source text. A text is not known if it is missing or empty.
+/// How the units of a program are written in its source text. If a unit's text is missing or empty, it counts as
+/// unknown.
 #[derive(Clone, Copy)]
 pub struct UnitTexts<'a> {
     /// The place of each unit, such as `line 7`.

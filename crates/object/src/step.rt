@@ -152,7 +152,7 @@ fn standard(header: Header, opcode: u8, bytes: &[u8], place: usize) -> Option<St
     })
 }
 
-/// Returns the instruction of a standard opcode that has no operands.
+/// Returns the step of the line number program for a standard opcode without operands.
 fn alone(header: Header, opcode: u8) -> Step
     requires range { 0 < header.range }
     requires opcodes { header.opcodes ≤ 13 }

@@ -21,14 +21,14 @@ pub enum Edit {
     Moved(Option<i32>, Reg, Reg),
 }
 
-/// How far the verifier comes in a program.
+/// How far the verifier comes in an edited program. The unit in question is the one at which it rejects the original.
 #[derive(Clone, Copy, PartialEq, Eq)]
 pub enum Trial {
-    /// The verifier does not come past the unit in question.
+    /// The verifier rejects the edited program at the unit in question or before it.
     Refused,
-    /// The verifier comes past the unit in question, but not to the end.
+    /// The verifier rejects the edited program after the unit in question.
     Passes,
-    /// The verifier accepts the program.
+    /// The verifier accepts the edited program.
     Accepted,
 }
 

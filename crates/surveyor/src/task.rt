@@ -27,7 +27,7 @@ pub enum Asked {
 /// The form in which the outcomes of campaigns are printed.
 #[derive(Clone, Copy, PartialEq, Eq)]
 pub enum ReportKind {
-    /// The sums over all campaigns.
+    /// How many campaigns there were, and how many had each outcome.
     Sums,
     /// A line for each campaign.
     Lines,

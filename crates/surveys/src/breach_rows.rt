@@ -96,7 +96,7 @@ fn breaking_head(
     )
 }
 
-/// Returns the table row or the comment line with these words.
+/// Returns these words as a row if `is_table`, otherwise as a comment line.
 fn words_text(
     alloc: Global,
     is_table: bool,

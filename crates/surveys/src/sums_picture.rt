@@ -180,7 +180,7 @@ fn put_counts(out: &mut String, group: &Group) -> Result<(), AllocError>
     write!(out, "<g><title>{failed} of {campaigns}</title>")
 }
 
-/// Appends the start of a bar with its horizontal position.
+/// Appends the beginning of a bar's SVG element, as far as its horizontal position.
 #[tactic(auto, unfolding(crate::specs::Pictures::side))]
 fn put_side(out: &mut String, group: &Group) -> Result<(), AllocError>
     ensures { OnOk result (string_bytes out.new ≡ string_bytes out.old ++ side group.now) }
@@ -189,7 +189,7 @@ fn put_side(out: &mut String, group: &Group) -> Result<(), AllocError>
     write!(out, "<rect class=\"bar\" x=\"{x}\"")
 }
 
-/// Appends the vertical position and the height of a bar, and ends it.
+/// Appends the rest of a bar's SVG element: its vertical position, width and height, and its end.
 #[tactic(auto, unfolding(crate::specs::Pictures::rise))]
 fn put_rise(out: &mut String, row: u64, height: u128) -> Result<(), AllocError>
     ensures { OnOk result (string_bytes out.new ≡ string_bytes out.old ++ rise row height) }

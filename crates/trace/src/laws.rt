@@ -2,7 +2,8 @@
 ghost use Rattle.trace.specs.Laws.{NamesAreTold, SoundTextsAreRuns};
 ghost use Rattle.trace.specs.SignedLaws.{SignedNamesAreTold, SignedTextsAreReplays, SoundSignedTextsAreRuns};
 
-/// States that the generals named in the access lines of a chronicle's text are those of its accesses, round by round.
+/// States that the printed text of a chronicle names in its access lines, round by round, the generals of the
+/// chronicle's accesses.
 pub fn names_are_told()
     ensures { NamesAreTold }
 {}
@@ -13,8 +14,8 @@ pub fn sound_texts_are_runs()
     ensures { SoundTextsAreRuns }
 {}
 
-/// States that the generals named in the access lines of a signed chronicle's text are those of its accesses, round by
-/// round.
+/// States that the printed text of a signed chronicle names in its access lines, round by round, the generals of the
+/// chronicle's accesses.
 pub fn signed_names_are_told()
     ensures { SignedNamesAreTold }
 {}
