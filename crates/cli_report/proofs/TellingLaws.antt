@@ -1,6 +1,6 @@
 -- What is told is a report with a sentence, whose place lies within the file.
-use Rattle.std.proofs.Common.{ℕ, ◌≡◌, ◌≢◌, ◌+◌, ◌-◌, ◌^◌, ◌⊎◌, inl, inr, List, [], ◌∷◌, Bool, true, false, ◌==◌, cond, codes, arith, drop, length, refl, subst, sym, take}
-use Rattle.std.specs.Prelude.{Option, None, Some, IfSome, if◌then◌else◌, nat_le, nat_lt, option_and_then, option_map}
+use Rattle.std.proofs.Common.{ℕ, ◌≡◌, ◌≢◌, ◌+◌, ◌-◌, ◌^◌, ◌⊎◌, inl, inr, List, [], ◌∷◌, ◌++◌, Bool, true, false, ◌==◌, cond, codes, arith, drop, length, refl, subst, sym, take}
+use Rattle.std.specs.Prelude.{Option, None, Some, IfSome, decimal, if◌then◌else◌, nat_le, nat_lt, option_and_then, option_map}
 use Rattle.std.specs.Str.{IsUtf8}
 use Rattle.asm.specs.declared.fault.AsmFault.{AsmFault}
 use Rattle.codec.specs.declared.fault.CodecFault.{CodecFault}
@@ -34,7 +34,8 @@ use Rattle.cli_report.specs.Keys.{Found, entry_line, found, header, table_of, va
 use Rattle.cli_report.specs.Laws.{IsInText, IsInUnit, IsReport, IsReportOfFile, RefusalsAreTold}
 use Rattle.cli_report.specs.Lines.{line_at, trimmed}
 use Rattle.cli_report.specs.Made.{IsRefusedFile, IsRefusedTold, ReportsMade, ReportsProgram, asm_told, assembly_of, bytes_shown, code_shown, file_key_shown, file_shown, file_told, line_shown, own_line, own_mark, own_place_told, own_word, unit_told}
-use Rattle.cli_report.specs.Messages.{stranger_line_told, stranger_told, table_line_told, table_told}
+use Rattle.cli_report.specs.Lieutenants.{lieutenant_sentence, lieutenant_told, lieutenant_word, stranger_by, stranger_told}
+use Rattle.cli_report.specs.Messages.{stranger_line_told, table_line_told, table_told}
 use Rattle.cli_report.specs.Nearest.{near}
 use Rattle.cli_report.specs.Report.{Mark, report_text}
 use Rattle.cli_report.specs.Scenarios.{IsProgramTold, IsRefusedAt, before_quote, behind_feeds, bytecode_shown, code_line_told, end_spot, is_long, line_behind, line_spot, long_spot, place_mark, place_told, program_line, source_line, source_shown, short_spot, spot_in, spot_told, text_told, entry_key_told, entry_keys, is_itself, top_key_told, unknown_told}
@@ -75,9 +76,27 @@ stranger_line : (name text : List ℕ) (generals : ℕ) (line : Option (List ℕ
 stranger_line name text generals None is = report (IsInText text) name _ _ _ (λ e. cc) tt
 stranger_line name text generals (Some line) is = report (IsInText text) name _ _ _ (λ e. cc) (marked-in text line 1 _ _ is)
 
-stranger_report : (name text : List ℕ) (generals : ℕ) → IsReport (IsInText text) name (stranger_told name text generals)
+both-say : (b : Bool) (s t : List ℕ) → s ≢ [] → t ≢ [] → cond b s t ≢ []
+both-say true s t h k = h
+both-say false s t h k = k
+
+lieutenant-says : (general generals : ℕ) → lieutenant_sentence general generals ≢ []
+lieutenant-says general generals =
+    both-say (nat_lt general generals) (codes "general " ++ decimal general ++ codes " is the commander, and only lieutenants decide") (codes "the campaign has the generals 0 to " ++ decimal (generals - 1)) (λ e. cc) (λ e. cc)
+
+lieutenant_report : (name text : List ℕ) (general generals : ℕ) → IsReport (IsInText text) name (lieutenant_told name text general generals)
+unfolding lieutenant_told
+lieutenant_report name text general generals =
+    report (IsInText text) name _ _ _ (lieutenant-says general generals)
+    (found-in text true (lieutenant_word general generals) (found 0 (lieutenant_word general generals) text) (found-at 0 (lieutenant_word general generals) text))
+
+stranger_kind : (name text : List ℕ) (general generals : ℕ) (line : Option Found) → IsReport (IsInText text) name (stranger_by name text general generals line)
+stranger_kind name text general generals None = stranger_line name text generals (line_at text 1) refl
+stranger_kind name text general generals (Some line) = lieutenant_report name text general generals
+
+stranger_report : (name text : List ℕ) (general generals : ℕ) → IsReport (IsInText text) name (stranger_told name text general generals)
 unfolding stranger_told
-stranger_report name text generals = stranger_line name text generals (line_at text 1) refl
+stranger_report name text general generals = stranger_kind name text general generals (found 0 (codes "commander") text)
 
 schedule_line : (name text : List ℕ) (number : ℕ) (line : Option (List ℕ)) → line_at text number ≡ line → IsReport (IsInText text) name (schedule_line_told name number line)
 schedule_line name text number None is = report (IsInText text) name _ _ _ (λ e. cc) tt

@@ -1,6 +1,6 @@
 -- Defines the report of a fault of an assembly text: the sentence for each code, the part of the line to mark, and the
 -- help message (own).
-use Rattle.std.specs.Prelude.{ℕ, List, [], ◌∷◌, Bool, true, false, ◌+◌, ◌-◌, ◌==◌, ◌&&◌, ◌||◌, nat_lt, nat_eq, if◌then◌else◌, Option, None, Some, codes, drop, length, option_map}
+use Rattle.std.specs.Prelude.{ℕ, List, [], ◌∷◌, Bool, true, false, ◌+◌, ◌-◌, ◌==◌, ◌&&◌, ◌||◌, not, nat_lt, nat_eq, if◌then◌else◌, Option, None, Some, codes, drop, length, option_map}
 use Rattle.std.specs.Borrow.{Bor}
 use Rattle.std.specs.List.{list_any, starts_with}
 use Rattle.text.specs.declared.stop.Stop.TheVariants.{Blank, Solid}
@@ -187,14 +187,37 @@ order_mark = 239 ∷ 187 ∷ 191 ∷ []
 abbrev pub begins_marked : ℕ → List ℕ → Bool
 begins_marked number line = number == 1 && starts_with nat_eq line order_mark
 
--- Returns the help message for a line of the wrong shape: the likely cause by the first of these characters that the
--- line contains.
+-- Holds if the mnemonic takes several operands.
+abbrev pub takes_several : Option Takes → Bool
+takes_several (Some takes.Arithmetic) = true
+takes_several (Some takes.Registers) = true
+takes_several (Some takes.Branch) = true
+takes_several (Some takes.Load) = true
+takes_several (Some takes.StoreRegister) = true
+takes_several (Some takes.StoreNumber) = true
+takes_several (Some takes.Wide) = true
+takes_several _ = false
+
+-- Holds if these bytes between commas are several operands: a blank follows the first word, which is not the beginning
+-- of a place in brackets.
+abbrev pub are_several : List ℕ → Bool
+are_several bytes =
+    (has 32 bytes || has 9 bytes) && (not (has 91 (before Blank bytes)) || has 93 (before Blank bytes))
+
+-- Holds if a comma is missing after the first operand, or before the last.
+abbrev pub lacks_comma : Option Takes → List ℕ → Bool
+lacks_comma takes operands =
+    takes_several takes && (are_several (trimmed (before comma operands)) || are_several (last_operand operands))
+
+-- Returns the help message for a line of the wrong shape: the likely cause, by characters that the line contains.
 abbrev pub outline_advice : ℕ → List ℕ → List ℕ → Option (List ℕ)
 outline_advice number line code =
     if begins_marked number line then Some (codes "the file begins with a byte order mark: save it without one")
     else if has 13 line then Some (codes "a carriage return is allowed only right before a line feed")
     else if has 35 code || has 47 code then Some (codes "a comment begins with `;`")
     else if has 61 code then Some (codes "`r0 = 1` is written `mov r0, 1`")
+    else if lacks_comma (taken (mnemonic_in code)) (operands_in code)
+    then Some (codes "a comma is missing between the operands: `mov r0, 1`")
     else if has 91 code then Some (codes "an operand contains no spaces: `[r1+8]`")
     else None
 

@@ -22,7 +22,8 @@ use Rattle.cli_report.specs.Errors.{ReportsScenario, TellsSetting}
 use Rattle.cli_report.specs.Keys.{Found}
 use Rattle.cli_report.specs.Lines.{line_at, trimmed}
 use Rattle.cli_report.specs.Made.{ReportsMade, assembly_of, file_shown, own_line}
-use Rattle.cli_report.specs.Messages.{stranger_told, table_told}
+use Rattle.cli_report.specs.Lieutenants.{stranger_told}
+use Rattle.cli_report.specs.Messages.{table_told}
 use Rattle.cli_report.specs.Musters.{muster_sentence}
 use Rattle.object.specs.Sentences.{sentence_of}
 use Rattle.object.specs.declared.fault.ObjectFault.{ObjectFault}
@@ -69,7 +70,8 @@ pub record RefusalsAreTold : Type 0 where
       IsReport (IsInUnit bytes) name (bytecode_told name bytes fault unit)
   pub table : (name text : List ℕ) (fault : TableFault) (line : ℕ) →
       IsReport (IsInText text) name (table_told name text fault line)
-  pub stranger : (name text : List ℕ) (generals : ℕ) → IsReport (IsInText text) name (stranger_told name text generals)
+  pub stranger : (name text : List ℕ) (general generals : ℕ) →
+      IsReport (IsInText text) name (stranger_told name text general generals)
   pub schedule : (name text : List ℕ) (line : ℕ) →
       IsReport (IsInText (take 1048576 text)) name (schedule_told name text line)
   pub chronicle : (name text : List ℕ) (fault : TraceFault) (line : ℕ) (wanted : Option (List ℕ)) →

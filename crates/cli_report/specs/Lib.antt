@@ -1,4 +1,5 @@
 pub mod Report
+pub mod Lieutenants
 pub mod Lines
 pub mod Nearest
 pub mod Mnemonics
@@ -12,6 +13,7 @@ pub mod Toml
 pub mod Units
 pub mod Scenarios
 pub mod Settings
+pub mod ShownErrors
 pub mod Judged
 pub mod Errors
 pub mod Made

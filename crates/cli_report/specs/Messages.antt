@@ -64,7 +64,3 @@ abbrev pub stranger_line_told : List ℕ → ℕ → Option (List ℕ) → List 
 stranger_line_told name generals None = report_text name (stranger_sentence generals) None None
 stranger_line_told name generals (Some line) =
     report_text name (stranger_sentence generals) (Some (all_marked 1 (trimmed line))) None
-
--- Returns the report for a table of `generals` generals in a file with this name, at the table's first line.
-unfoldable pub stranger_told : List ℕ → List ℕ → ℕ → List ℕ
-stranger_told name text generals = stranger_line_told name generals (line_at text 1)

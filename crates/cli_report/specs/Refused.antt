@@ -8,12 +8,12 @@ use Rattle.cli_words.specs.declared.tasks.Task.TheVariants.{Audit, Muster, Play}
 use Rattle.cli_words.specs.Tasks.{file_of}
 use Rattle.round.specs.Scenario.{Scenario}
 use Rattle.scenario.specs.Reading.{Reads, ReadsAny}
-use Rattle.scenario.specs.ErrorText.{told}
 use Rattle.scenario.specs.declared.fault.ScenarioError.{ScenarioError}
 use Rattle.scenario.specs.declared.fault.ScenarioError.TheVariants.{Memory}
 use Rattle.scenario.specs.declared.messages.Campaign.{Campaign}
 use Rattle.streams.specs.Names.{shown}
 use Rattle.cli_report.specs.Made.{TellsMade}
+use Rattle.cli_report.specs.ShownErrors.{scenario_text}
 use Rattle.cli_report.specs.declared.refusal.Taken.{Taken}
 use Rattle.cli_report.specs.declared.refusal.Taken.TheVariants as taken
 
@@ -56,7 +56,7 @@ IsReportShown file own made error report = IfSome (shown file) (λ name. TellsMa
 -- States that the text is the refusal line and the report after it.
 abbrev pub IsRefusalShown : List ℕ → List ℕ → List ℕ → ScenarioError → List ℕ → Type 0
 IsRefusalShown file own made error lines =
-    (report : List ℕ) × IsReportShown file own made error report × (lines ≡ codes "refused " ++ told error ++ report)
+    (report : List ℕ) × IsReportShown file own made error report × (lines ≡ codes "refused " ++ scenario_text error ++ report)
 
 -- States that the resolved text is a campaign and there is nothing to report, or it is rejected and the lines report
 -- that.

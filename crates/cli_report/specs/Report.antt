@@ -1,9 +1,11 @@
 -- Defines the report after a refusal line, in the form of rustc's messages: a sentence, the place in the file with a
 -- part of it marked, and a help message (own).
-use Rattle.std.specs.Prelude.{ℕ, List, [], ◌++◌, ◌==◌, ◌&&◌, ◌||◌, not, nat_lt, if◌then◌else◌, Option, None, Some, codes, decimal, length, map, take, drop}
+use Rattle.std.specs.Prelude.{ℕ, List, [], ◌++◌, ◌==◌, if◌then◌else◌, Option, None, Some, codes, decimal, length, take, drop}
 use Rattle.std.specs.Fmt.{is_char_start}
 use Rattle.std.specs.List.{flat_map, repeat}
 use Rattle.std.specs.Str.Lossy.{utf8_lossy}
+use Rattle.streams.specs.Escapes.{escaped}
+use Rattle.streams.specs.declared.escaped.Kept.TheVariants.{Tab}
 use Rattle.cli_report.specs.declared.report.Mark.{Mark as Held}
 use Rattle.cli_report.specs.declared.report.Help.{Help}
 use Rattle.cli_report.specs.declared.report.Help.TheVariants.{Said, Near, Has}
@@ -19,13 +21,9 @@ pub record Mark : Type 0 where
 abbrev pub mark_view : Held → Mark
 mark_view m = record { number = m.number; line = m.line.now; from = m.from; size = m.size }
 
--- Returns a byte as it is shown. A control character other than the tab becomes a question mark.
-abbrev pub shown_byte : ℕ → ℕ
-shown_byte b = if (nat_lt b 32 && not (b == 9)) || b == 127 then 63 else b
-
--- Returns a line as it is shown.
+-- Returns a line as it is shown. Control characters other than the tab are escaped.
 abbrev pub shown_line : List ℕ → List ℕ
-shown_line line = utf8_lossy (map shown_byte line)
+shown_line line = escaped Tab (utf8_lossy line)
 
 -- Returns what is below a byte before the part: a tab below a tab, and a blank below the beginning of any other
 -- character.
@@ -36,10 +34,10 @@ blank_below b = if b == 9 then codes "\t" else if is_char_start b then codes " "
 abbrev pub caret_below : ℕ → List ℕ
 caret_below b = if is_char_start b then codes "^" else []
 
--- Returns what is below the line: a caret for each character of the part, and at least one.
+-- Returns what is below the line as it is shown: a caret for each character of the part, and at least one.
 unfoldable pub carets_below : Mark → List ℕ
-carets_below m = flat_map blank_below (take m.from m.line)
-    ++ (codes "^" ++ flat_map caret_below (drop 1 (take m.size (drop m.from m.line))))
+carets_below m = flat_map blank_below (shown_line (take m.from m.line))
+    ++ (codes "^" ++ flat_map caret_below (drop 1 (shown_line (take m.size (drop m.from m.line)))))
 
 -- Returns as many blanks as the line's number has digits.
 abbrev pub margin_of : ℕ → List ℕ

@@ -7,6 +7,8 @@ use Rattle.toml.specs.Parse.{parse_document}
 use Rattle.cli_report.specs.Assembly.{last_of}
 use Rattle.cli_report.specs.Lines.{line_at, marked, trimmed}
 use Rattle.cli_report.specs.Report.{Mark, report_text}
+use Rattle.streams.specs.Escapes.{escaped}
+use Rattle.streams.specs.declared.escaped.Kept.TheVariants.{Nothing}
 
 -- Marks the bytes of a text between these two offsets, in the line of the first.
 abbrev pub span_marked : List ℕ → ℕ → ℕ → Mark
@@ -14,9 +16,9 @@ span_marked text start end =
     let lines = pieces feed (take start text) in
     marked (length lines) (trimmed (unwrap_or (line_at text (length lines)) [])) (length (last_of lines)) (end - start)
 
--- Returns the sentence with a parser's message.
+-- Returns the sentence with a parser's message, in which control characters are escaped.
 abbrev pub unread_sentence : List ℕ → List ℕ
-unread_sentence message = codes "the text is not TOML: " ++ message
+unread_sentence message = codes "the text is not TOML: " ++ escaped Nothing message
 
 -- Returns the report of a parser's message on the bytes between these two offsets.
 abbrev pub span_told : List ℕ → List ℕ → List ℕ → ℕ → ℕ → List ℕ

@@ -4,7 +4,7 @@ ghost use Rattle.asm.specs.Helper.{helpers};
 ghost use Rattle.text.specs.declared.stop.Stop.TheVariants.{Blank};
 ghost use Rattle.text.specs.Stop.{comma, semicolon};
 ghost use Rattle.text.specs.Parts.{before, pieces, until};
-ghost use Rattle.cli_report.specs.Assembly.{assembly_advice, assembly_sentence, assembly_told, begins_marked, call_sentence, code_in, code_told, has, has_capital, is_call, last_of, last_operand, line_told, mnemonic_in, operand_advice, operand_sentence, operands_in, operands_part, or_small, outline_advice, mnemonic_part, outline_part, outline_sentence, part_of, part_view, past_ascii, place_in, range_sentence, spot_view, statement_in, statement_place, unit_mark, whole};
+ghost use Rattle.cli_report.specs.Assembly.{are_several, assembly_advice, assembly_sentence, assembly_told, begins_marked, call_sentence, code_in, code_told, has, has_capital, is_call, lacks_comma, last_of, last_operand, line_told, mnemonic_in, operand_advice, operand_sentence, operands_in, operands_part, or_small, outline_advice, mnemonic_part, outline_part, outline_sentence, part_of, part_view, past_ascii, place_in, range_sentence, spot_view, statement_in, statement_place, takes_several, unit_mark, whole};
 ghost use Rattle.cli_report.specs.Mnemonics.{mnemonic_names};
 ghost use Rattle.cli_report.specs.Nearest.{near};
 ghost use Rattle.cli_report.specs.Lines.{trimmed};
@@ -260,6 +260,41 @@ pub(crate) fn begins_marked(number: u64, line: &[u8]) -> bool
     number == 1 && line.starts_with(b"\xEF\xBB\xBF")
 }
 
+/// Checks whether the mnemonic takes several operands.
+fn takes_several(takes: Option<Takes>) -> bool
+    ensures { result ≡ takes_several takes }
+{
+    match takes {
+        Some(
+            Takes::Arithmetic
+            | Takes::Registers
+            | Takes::Branch
+            | Takes::Load
+            | Takes::StoreRegister
+            | Takes::StoreNumber
+            | Takes::Wide,
+        ) => true,
+        _ => false,
+    }
+}
+
+/// Checks whether these bytes between commas are several operands: a blank follows the first word, which is not the
+/// beginning of a place in brackets.
+fn are_several(bytes: &[u8]) -> bool
+    ensures { result ≡ are_several bytes.now }
+{
+    let word = cut(Stop::Blank, bytes).0;
+    (has(b' ', bytes) || has(b'\t', bytes)) && (!has(b'[', word) || has(b']', word))
+}
+
+/// Checks whether a comma is missing after the first operand, or before the last.
+fn lacks_comma(takes: Option<Takes>, operands: &[u8]) -> bool
+    ensures { result ≡ lacks_comma takes operands.now }
+{
+    let first = trimmed(cut(Stop::Byte(b','), operands).0);
+    takes_several(takes) && (are_several(first) || are_several(last_operand(operands)))
+}
+
 /// Returns a help message for a line of the wrong shape, if a cause is likely.
 fn outline_help(number: u64, line: &[u8], code: &[u8]) -> Option<Help<'static>>
     ensures { option_map help_words result ≡ outline_advice number line.now code.now }
@@ -272,6 +307,8 @@ fn outline_help(number: u64, line: &[u8], code: &[u8]) -> Option<Help<'static>>
         "a comment begins with `;`"
     } else if has(b'=', code) {
         "`r0 = 1` is written `mov r0, 1`"
+    } else if lacks_comma(taken(mnemonic_in(code)), operands_in(code)) {
+        "a comma is missing between the operands: `mov r0, 1`"
     } else if has(b'[', code) {
         "an operand contains no spaces: `[r1+8]`"
     } else {

@@ -1,6 +1,6 @@
 //! Reports faults of a message table, at the line of the fault.
 ghost use Rattle.std.specs.Prelude.{◌≡◌, IfOk, option_map, string_bytes};
-ghost use Rattle.cli_report.specs.Messages.{first_sentence, shape_advice, stranger_line_told, stranger_told, table_advice, table_line_told, table_sentence, table_told};
+ghost use Rattle.cli_report.specs.Messages.{first_sentence, shape_advice, stranger_line_told, table_advice, table_line_told, table_sentence, table_told};
 ghost use Rattle.cli_report.specs.Report.{help_words};
 
 use crate::assembly::{begins_marked, has};
@@ -107,7 +107,7 @@ pub fn of_table(
 
 /// Returns the report that a named general is not one of the table's. `generals` is how many it has, and `line` is its
 /// first line.
-fn stranger_line_told(
+pub(crate) fn stranger_line_told(
     alloc: Global,
     name: &str,
     generals: u8,
@@ -123,18 +123,4 @@ fn stranger_line_told(
     };
     let mark = all_marked(1, trimmed(line));
     report(alloc, name, sentence.as_str(), Some(mark), None)
-}
-
-/// Returns the report that a named general is not one of the message table's. The report gives the numbers of the
-/// table's generals, at its first line. `name` is the file's name.
-#[tactic(auto, unfolding(crate::specs::Messages::stranger_told))]
-pub fn of_stranger(
-    alloc: Global,
-    name: &str,
-    text: &[u8],
-    generals: u8,
-) -> Result<String, AllocError>
-    ensures { IfOk result (λ told. string_bytes told ≡ stranger_told name.now text.now generals) }
-{
-    stranger_line_told(alloc, name, generals, line_at(text, 1))
 }

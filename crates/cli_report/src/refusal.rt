@@ -5,6 +5,7 @@ ghost use Rattle.streams.specs.Names.{shown};
 ghost use Rattle.cli_report.specs.declared.refusal.Taken.TheVariants.{Any, Oral};
 ghost use Rattle.cli_report.specs.Refused.{IsErrorIn, IsErrorOf, IsRefusalShown, IsReportShown, IsTold, IsToldOf, taken_by};
 
+use crate::shown_errors::ShownScenarioError;
 use cli_words::{Account, Task};
 use scenario::ScenarioError;
 use std::alloc::{AllocError, Global};
@@ -118,6 +119,7 @@ fn refusal_shown(
 {
     let report = report_shown(alloc, file, own, made, error)?;
     let report = report.as_str();
+    let error = ShownScenarioError(error);
     format!(in alloc; "refused {error}{report}")
 }
 

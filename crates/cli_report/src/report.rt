@@ -2,10 +2,11 @@
 ghost use Rattle.std.specs.Prelude.{◌≡◌, ◌++◌, codes, drop, length, map, option_map, string_bytes, take, IfOk, OnOk};
 ghost use Rattle.std.specs.Fmt.{is_char_start};
 ghost use Rattle.std.specs.List.{flat_map};
-ghost use Rattle.cli_report.specs.Report.{blank_below, caret_below, carets_below, excerpt_text, help_text, help_words, margin_of, mark_view, marked_text, report_text, shown_byte, shown_line, shown_text, where_text};
+ghost use Rattle.cli_report.specs.Report.{blank_below, caret_below, carets_below, excerpt_text, help_text, help_words, margin_of, mark_view, marked_text, report_text, shown_line, shown_text, where_text};
 
 use std::alloc::{AllocError, Global};
 use std::fmt;
+use streams::{Escaped, Kept};
 
 /// A part of a line of a file, to be marked in an excerpt.
 #[derive(Clone, Copy)]
@@ -46,26 +47,17 @@ impl fmt::Display for Help<'_> {
     }
 }
 
-/// Returns a byte as it is shown: `?` for a control character other than the tab.
-fn shown_byte(byte: u8) -> u8
-    ensures { result ≡ shown_byte byte }
-{
-    if (byte < b' ' && byte != b'\t') || byte == 127 {
-        b'?'
-    } else {
-        byte
-    }
-}
-
-/// Returns a line as it is shown, with `?` for control characters, and replacement characters for what is not UTF-8.
+/// Returns a line as it is shown, with control characters other than the tab escaped, and with replacement characters
+/// for what is not UTF-8.
 pub(crate) fn shown_line(alloc: Global, line: &[u8]) -> Result<String, AllocError>
     ensures { IfOk result (λ text. string_bytes text ≡ shown_line line.now) }
 {
-    let mut shown = Vec::with_capacity(alloc, line.len())?;
-    for byte in line {
-        shown.push(shown_byte(*byte))?;
-    }
-    String::from_utf8_lossy(alloc, shown.as_slice())
+    let text = String::from_utf8_lossy(alloc, line)?;
+    let shown = Escaped {
+        text: text.as_str(),
+        kept: Kept::Tab,
+    };
+    format!(in alloc; "{shown}")
 }
 
 /// Returns the first `number` bytes, or all if there are fewer.
@@ -135,13 +127,12 @@ fn put_carets(out: &mut String, bytes: &[u8]) -> Result<(), AllocError>
 fn carets(alloc: Global, mark: &Mark<'_>) -> Result<String, AllocError>
     ensures { IfOk result (λ text. string_bytes text ≡ carets_below (mark_view mark.now)) }
 {
+    let before = shown_line(alloc, front(mark.line, mark.from))?;
+    let part = shown_line(alloc, front(behind(mark.line, mark.from), mark.size))?;
     let mut out = String::new(alloc);
-    put_blanks(&mut out, front(mark.line, mark.from))?;
+    put_blanks(&mut out, before.as_bytes())?;
     out.push_str("^")?;
-    put_carets(
-        &mut out,
-        behind(front(behind(mark.line, mark.from), mark.size), 1),
-    )?;
+    put_carets(&mut out, behind(part.as_bytes(), 1))?;
     Ok(out)
 }
 

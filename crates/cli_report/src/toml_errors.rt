@@ -10,6 +10,7 @@ ghost use Rattle.cli_report.specs.Toml.{TellsToml, span_marked, span_told};
 use crate::lines::{line_at, marked, trimmed};
 use crate::report::{Mark, front, report};
 use std::alloc::{AllocError, Global};
+use streams::{Escaped, Kept};
 use text::{Stop, piece};
 use toml::de::Error;
 use toml::table_from_str;
@@ -48,6 +49,10 @@ fn span_told(
 ) -> Result<String, AllocError>
     ensures { IfOk result (λ told. string_bytes told ≡ span_told name.now text.now message.now start end) }
 {
+    let message = Escaped {
+        text: message,
+        kept: Kept::Nothing,
+    };
     let sentence = format!(in alloc; "the text is not TOML: {message}")?;
     let mark = span_marked(text, start, end);
     report(alloc, name, sentence.as_str(), Some(mark), None)

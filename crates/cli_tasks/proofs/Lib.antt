@@ -6,6 +6,7 @@ pub mod RefusalLemmas
 pub mod PicturingLemmas
 pub mod StrangerLemmas
 pub mod CampaignLemmas
+pub mod ExplainedLemmas
 pub mod ExploringLemmas
 pub mod ListedLemmas
 pub mod BlameLemmas

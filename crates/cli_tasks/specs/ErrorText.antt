@@ -1,15 +1,15 @@
--- Defines the text of a refusal: the code and the place of its fault.
+-- Defines the text of a refusal: the code and the place of its fault. An unknown key is shown without control
+-- characters.
 use Rattle.std.specs.Prelude.{ℕ, List, ◌++◌, codes, decimal}
 use Rattle.asm.specs.ErrorText as asm
 use Rattle.book.specs.ErrorText as book
 use Rattle.codec.specs.ErrorText as codec
 use Rattle.object.specs.ErrorText as elf
 use Rattle.campaign_schedules.specs.ErrorText.{fault_told}
-use Rattle.scenario.specs.ErrorText as scenario
 use Rattle.threads.specs.ErrorText as threads
 use Rattle.trace.specs.ErrorText as trace
-use Rattle.trial.specs.ErrorText as trial
 use Rattle.verify.specs.ErrorText as verify
+use Rattle.cli_report.specs.ShownErrors.{scenario_text, setting_text}
 use Rattle.cli_tasks.specs.declared.refusal.InputRefusal.{InputRefusal}
 use Rattle.cli_tasks.specs.declared.refusal.InputRefusal.TheVariants.{Codec, Object, Verifier, Assembly, Table, Scenario, Setting, Trace, Threads, Accesses, Stranger, NotText, Memory}
 
@@ -20,8 +20,8 @@ refusal_text (Object fault) = elf.told fault
 refusal_text (Verifier fault) = verify.told fault
 refusal_text (Assembly error) = asm.told error
 refusal_text (Table error) = book.told error
-refusal_text (Scenario error) = scenario.told error
-refusal_text (Setting error) = trial.told error
+refusal_text (Scenario error) = scenario_text error
+refusal_text (Setting error) = setting_text error
 refusal_text (Trace error) = trace.told error
 refusal_text (Threads error) = threads.told error
 refusal_text (Accesses fault) = fault_told fault

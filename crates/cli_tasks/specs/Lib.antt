@@ -17,6 +17,7 @@ pub mod ProgramRefusals
 pub mod Picturing
 pub mod TableRefusals
 pub mod Strangers
+pub mod Explained
 pub mod Campaigns
 pub mod Exploring
 pub mod AuditLines

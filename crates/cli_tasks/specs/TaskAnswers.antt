@@ -1,5 +1,5 @@
 -- Defines what a task prints on files with given bytes.
-use Rattle.std.specs.Prelude.{ℕ, ◌≡◌, Bool, List, [], Option, None, Some, string_bytes, unwrap_or}
+use Rattle.std.specs.Prelude.{ℕ, ◌≡◌, Bool, false, true, List, [], Option, None, Some, string_bytes, unwrap_or}
 use Rattle.label.specs.declared.shape.Shape.{Shape}
 use Rattle.semantics.specs.Run.{IsSound}
 use Rattle.cli_words.specs.declared.tasks.Notation.{Notation}
@@ -9,6 +9,7 @@ use Rattle.cli_words.specs.declared.tasks.Task.TheVariants.{Check, Assemble, Ass
 use Rattle.cli_words.specs.declared.tasks.Accesses.TheVariants.{OfChronicle, Listed}
 use Rattle.cli_words.specs.declared.tasks.Course.TheVariants.{Scheduled, Recorded}
 use Rattle.scenario.specs.Reading.{Tells, TellsAny}
+use Rattle.scenario.specs.declared.messages.Campaign.TheVariants.{Oral}
 use Rattle.book.specs.Answers.{DecidesTable, ExplainsTable, IsFilled, IsFormOf}
 use Rattle.verify.specs.Judgement.{judged}
 use Rattle.trial.specs.Setting.{Setting}
@@ -16,7 +17,8 @@ use Rattle.trial.specs.Answers.{Tells as TellsSetting}
 use Rattle.cli_tasks.specs.Exploring.{Explores}
 use Rattle.cli_tasks.specs.Programs.{HasProgram}
 use Rattle.cli_tasks.specs.Campaigns.{Audits, Musters, Plays}
-use Rattle.cli_tasks.specs.Schedules.{TellsCampaign, is_chronicle}
+use Rattle.cli_tasks.specs.Explained.{TellsAsked}
+use Rattle.cli_tasks.specs.Schedules.{is_chronicle}
 use Rattle.cli_tasks.specs.Diagrams.{Draws}
 use Rattle.cli_tasks.specs.Parts.{AssemblesPartly, AssemblesPartlyRaw, DisassemblesPartly}
 use Rattle.cli_tasks.specs.Picturing.{Pictures, is_toml}
@@ -63,10 +65,11 @@ abbrev pub GoesOn : Task → List ℕ → FirstAnswer → Type 0
 GoesOn (Check file notation (Some context) explained traced) first (answer.Trial program told) =
     HasProgram notation first program × (judged program ≡ None) × IsSound program × (told ≡ traced)
 GoesOn (Play scenario schedule account explained) first (answer.Play c told why) =
-    TellsCampaign (is_chronicle account) first c × (told ≡ account) × (why ≡ explained)
-GoesOn (Muster scenario explained) first (answer.Muster s why) = Tells first s × (why ≡ explained)
+    TellsAsked (is_chronicle account) explained first c × (told ≡ account) × (why ≡ explained)
+GoesOn (Muster scenario explained) first (answer.Muster s why) =
+    TellsAsked false explained first (Oral s) × (why ≡ explained)
 GoesOn (Audit scenario chronicle explained) first (answer.Audit c why) =
-    TellsAny first c × (why ≡ explained)
+    TellsAsked true explained first c × (why ≡ explained)
 GoesOn (Draw scenario (Scheduled file)) first (answer.Draw c) = TellsAny first c
 GoesOn (Draw scenario (Recorded file)) first (answer.DrawRecorded c) = TellsAny first c
 GoesOn (Page scenario (Scheduled file) target) first (answer.Page c text) =

@@ -1,5 +1,5 @@
 -- Defines why a task rejects its only or first file.
-use Rattle.std.specs.Prelude.{ℕ, List, Some, None, string_bytes}
+use Rattle.std.specs.Prelude.{ℕ, false, true, List, Some, None, string_bytes}
 use Rattle.cli_words.specs.declared.tasks.Accesses.TheVariants.{OfChronicle, Listed}
 use Rattle.cli_words.specs.declared.tasks.Task.{Task}
 use Rattle.cli_words.specs.declared.tasks.Task.TheVariants.{Check, Assemble, AssemblePartly, Disassemble, DisassemblePartly, Book, ExplainDecisions, Form, Play, Muster, Audit, Explore, Tree, Draw, Page, Retrace}
@@ -7,7 +7,8 @@ use Rattle.cli_tasks.specs.Schedules.{is_chronicle}
 use Rattle.cli_tasks.specs.declared.refusal.InputRefusal.{InputRefusal}
 use Rattle.cli_tasks.specs.ProgramRefusals.{RefusesAssembly, RefusesCheckIn, RefusesNotation, RefusesLines, RefusesParts}
 use Rattle.cli_tasks.specs.TableRefusals.{RefusesForm, RefusesFilled, RefusesTable, RefusesNaming, RefusesTree}
-use Rattle.cli_tasks.specs.Refusals.{RefusesScenario, RefusesCampaign, RefusesAsked, RefusesText}
+use Rattle.cli_tasks.specs.Refusals.{RefusesScenario, RefusesCampaign, RefusesText}
+use Rattle.cli_tasks.specs.Explained.{RefusesExplained}
 use Rattle.cli_tasks.specs.CampaignRefusals.{RefusesListed}
 
 -- States that the task rejects its only or first file, which has these bytes, with this refusal.
@@ -23,9 +24,10 @@ Refuses (Form n m c None) bytes refusal = RefusesForm (string_bytes n) (string_b
 Refuses (Form n m c (Some filling)) bytes refusal =
     RefusesFilled (string_bytes n) (string_bytes m) (string_bytes c) filling.liar refusal
 Refuses (Play scenario schedule account explained) bytes refusal =
-    RefusesText (RefusesAsked (is_chronicle account)) bytes refusal
-Refuses (Muster scenario explained) bytes refusal = RefusesText RefusesScenario bytes refusal
-Refuses (Audit scenario chronicle explained) bytes refusal = RefusesText RefusesCampaign bytes refusal
+    RefusesText (RefusesExplained (is_chronicle account) explained) bytes refusal
+Refuses (Muster scenario explained) bytes refusal = RefusesText (RefusesExplained false explained) bytes refusal
+Refuses (Audit scenario chronicle explained) bytes refusal =
+    RefusesText (RefusesExplained true explained) bytes refusal
 Refuses (Explore scenario most folder) bytes refusal = RefusesText RefusesScenario bytes refusal
 Refuses (Tree file general traitors drawing depth folded) bytes refusal =
     RefusesText (RefusesTree general traitors.items) bytes refusal

@@ -12,7 +12,8 @@ use Rattle.cli_report.specs.Assembly.{assembly_told}
 use Rattle.cli_report.specs.Bytecode.{bytecode_told}
 use Rattle.cli_report.specs.Chronicles.{replayed_told, schedule_told}
 use Rattle.cli_report.specs.Errors.{TellsScenario, TellsSetting}
-use Rattle.cli_report.specs.Messages.{stranger_told, table_told}
+use Rattle.cli_report.specs.Lieutenants.{stranger_told}
+use Rattle.cli_report.specs.Messages.{table_told}
 use Rattle.cli_tasks.specs.Seeming.{seems_at_first, seems_text}
 use Rattle.cli_tasks.specs.declared.refusal.InputRefusal.{InputRefusal}
 use Rattle.cli_tasks.specs.declared.refusal.InputRefusal.TheVariants.{Codec, Assembly, Table, Scenario, Setting, Trace, Threads, Stranger}
@@ -73,7 +74,7 @@ TellsWhy (Table (book.At fault line)) of name bytes told = told ≡ table_told n
 TellsWhy (Scenario error) of name bytes told = TellsScenario name bytes error told
 TellsWhy (Setting error) of name bytes told = TellsSetting name bytes error told
 TellsWhy (Threads error) of name bytes told = told ≡ muster_told error
-TellsWhy (Stranger general generals) of name bytes told = told ≡ stranger_told name bytes generals
+TellsWhy (Stranger general generals) of name bytes told = told ≡ stranger_told name bytes general generals
 TellsWhy _ of name bytes told = told ≡ []
 
 -- States that this is the report on a rejected file with this name and these bytes. If the name has a control character

@@ -10,6 +10,7 @@ mod check_explanation;
 mod chronicle;
 mod decisions;
 mod diagrams;
+mod explained_campaign;
 mod exploration;
 mod failure;
 mod first_answer;

@@ -2,6 +2,7 @@
 use asm::AsmError;
 use book::TableError;
 use campaign_schedules::{AccessFault, AccessesError};
+use cli_report::{ShownScenarioError, ShownSettingError};
 use codec::CodecError;
 use scenario::ScenarioError;
 use std::alloc::AllocError;
@@ -57,8 +58,8 @@ impl fmt::Display for InputRefusal {
             InputRefusal::Verifier(fault) => write!(f, "{fault}"),
             InputRefusal::Assembly(error) => write!(f, "{error}"),
             InputRefusal::Table(error) => write!(f, "{error}"),
-            InputRefusal::Scenario(error) => write!(f, "{error}"),
-            InputRefusal::Setting(error) => write!(f, "{error}"),
+            InputRefusal::Scenario(error) => write!(f, "{}", ShownScenarioError(error)),
+            InputRefusal::Setting(error) => write!(f, "{}", ShownSettingError(error)),
             InputRefusal::Trace(error) => write!(f, "{error}"),
             InputRefusal::Threads(error) => write!(f, "{error}"),
             InputRefusal::Accesses(fault) => write!(f, "{fault}"),

@@ -5,8 +5,9 @@ ghost use Rattle.cli_tasks.specs.TaskAnswers.{ComesTo};
 ghost use Rattle.cli_tasks.specs.TaskRefusals.{Refuses};
 
 use crate::assembly::{assembled, assembled_raw, disassembled};
-use crate::campaigns::{any_campaign, asked_campaign, campaign, campaign_with_text};
+use crate::campaigns::{any_campaign, campaign, campaign_with_text};
 use crate::decisions::{decided, explained};
+use crate::explained_campaign::{mustered_campaign, played_campaign};
 use crate::exploration::explored as orders_of;
 use crate::first_answer::FirstAnswer;
 use crate::forms::{filled, formed};
@@ -17,7 +18,7 @@ use crate::schedules::arranged;
 use crate::texts::as_text;
 use crate::tree_pictures::pictured;
 use crate::trials::checked_in;
-use cli_words::{Accesses, Course, Spelling, Task};
+use cli_words::{Accesses, Account, Course, Spelling, Task};
 use show_tree::View;
 use std::alloc::Global;
 
@@ -127,16 +128,16 @@ pub fn answer(alloc: Global, task: &Task, bytes: &[u8]) -> Result<FirstAnswer, I
             explained,
             ..
         } => Ok(FirstAnswer::Play(
-            asked_campaign(alloc, bytes, *account)?,
+            played_campaign(alloc, bytes, *account, *explained)?,
             *account,
             *explained,
         )),
         Task::Muster { explained, .. } => Ok(FirstAnswer::Muster(
-            campaign(alloc, bytes)?,
+            mustered_campaign(alloc, bytes, *explained)?,
             *explained,
         )),
         Task::Audit { explained, .. } => Ok(FirstAnswer::Audit(
-            any_campaign(alloc, bytes)?,
+            played_campaign(alloc, bytes, Account::Chronicle, *explained)?,
             *explained,
         )),
         Task::Draw {

@@ -147,9 +147,9 @@ fn told_by(
         InputRefusal::Verifier(_) => Ok(String::new(alloc)),
         InputRefusal::Threads(error) => cli_report::of_muster(alloc, *error),
         InputRefusal::Accesses(_) => Ok(String::new(alloc)),
-        InputRefusal::Stranger { generals, .. } => cli_report::of_stranger(
-            alloc, name, bytes, *generals,
-        ),
+        InputRefusal::Stranger { general, generals } => {
+            cli_report::of_stranger(alloc, name, bytes, *general, *generals)
+        }
         InputRefusal::NotText => Ok(String::new(alloc)),
         InputRefusal::Memory => Ok(String::new(alloc)),
     }

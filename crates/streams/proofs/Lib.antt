@@ -1,3 +1,4 @@
 pub mod CutTexts
+pub mod EscapeLaws
 pub mod ReadLemmas
 pub mod WriteLemmas

@@ -1,9 +1,12 @@
-//! Reads files with or without a limit, writes whole texts to streams, and shows file names on one line.
+//! Reads files with or without a limit, writes whole texts to streams, shows file names on one line, and displays texts
+//! without control characters.
 #![tactic(auto)]
 
 mod bounded_read;
+mod escaped;
 mod filled_file;
 mod interruption;
+mod laws;
 mod name;
 mod output;
 mod pending_flush;
@@ -13,7 +16,9 @@ mod texts;
 mod writer;
 
 pub use bounded_read::Within;
+pub use escaped::{Escaped, Kept};
 pub use filled_file::{Filled, fill};
+pub use laws::escaped_texts_are_plain;
 pub use name::FileName;
 pub use output::Output;
 pub use source::Source;

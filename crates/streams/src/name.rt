@@ -25,7 +25,7 @@ impl fmt::Display for FileName<'_> {
 }
 
 /// Returns whether the name contains a control character.
-fn has_control(name: &str) -> bool
+pub(crate) fn has_control(name: &str) -> bool
     ensures { result ≡ has_control name.now }
 {
     name.chars().any(|c| c.is_control())

@@ -1,0 +1,78 @@
+-- Campaigns of which decisions are explained.
+use Rattle.std.proofs.Common.{ℕ, ◌≡◌, Bool, true, false, List, sym}
+use Rattle.std.specs.Prelude.{None, Option}
+use Rattle.cli_words.specs.declared.tasks.Lieutenants.{Lieutenants}
+use Rattle.round.specs.Scenario.{Scenario as OralScenario}
+use Rattle.scenario.specs.Reading.{Tells}
+use Rattle.scenario.specs.declared.messages.Campaign.{Campaign}
+use Rattle.scenario.specs.declared.messages.Campaign.TheVariants.{Oral}
+use Rattle.cli_tasks.specs.Explained.{RefusesExplained, TellsAsked, scenario_of, stranger_asked}
+use Rattle.cli_tasks.specs.Refusals.{RefusesAsked, RefusesScenario, RefusesText}
+use Rattle.cli_tasks.specs.Schedules.{TellsCampaign}
+use Rattle.cli_tasks.specs.Strangers.{IsOf}
+use Rattle.cli_tasks.specs.declared.refusal.InputRefusal.{InputRefusal}
+use Rattle.cli_tasks.specs.declared.refusal.InputRefusal.TheVariants.{Codec, Object, Verifier, Assembly, Table, Scenario, Setting, Trace, Threads, Accesses, Stranger, NotText, Memory}
+
+-- a campaign whose lieutenant is one
+pub told_asked : (any : Bool) (explained : Option Lieutenants) (bytes : List ℕ) (c : Campaign) → TellsCampaign any bytes c → stranger_asked (scenario_of c) explained ≡ None → TellsAsked any explained bytes c
+told_asked any explained bytes c tells none = (tells, none)
+
+-- a text that is no campaign
+pub unread_asked : (any : Bool) (explained : Option Lieutenants) (bytes : List ℕ) (refusal : InputRefusal) → RefusesText (RefusesAsked any) bytes refusal → RefusesText (RefusesExplained any explained) bytes refusal
+unread_asked any explained bytes (Codec error) refuses = refuses
+unread_asked any explained bytes (Object fault) refuses = refuses
+unread_asked any explained bytes (Verifier fault) refuses = refuses
+unread_asked any explained bytes (Assembly error) refuses = refuses
+unread_asked any explained bytes (Table error) refuses = refuses
+unread_asked any explained bytes (Scenario error) refuses = refuses
+unread_asked any explained bytes (Setting error) refuses = refuses
+unread_asked any explained bytes (Trace error) refuses = refuses
+unread_asked any explained bytes (Threads error) refuses = refuses
+unread_asked any explained bytes (Accesses fault) refuses = refuses
+unread_asked true explained bytes (Stranger g n) refuses = absurd refuses
+unread_asked false explained bytes (Stranger g n) refuses = absurd refuses
+unread_asked any explained bytes NotText refuses = refuses
+unread_asked any explained bytes Memory refuses = refuses
+
+-- a general who is no lieutenant
+pub strange_asked : (any : Bool) (explained : Option Lieutenants) (bytes : List ℕ) (c : Campaign) (refusal : InputRefusal) → TellsCampaign any bytes c → IsOf (scenario_of c).generals (stranger_asked (scenario_of c) explained) refusal
+    → RefusesText (RefusesExplained any explained) bytes refusal
+strange_asked any explained bytes c (Codec error) tells strange = absurd strange
+strange_asked any explained bytes c (Object fault) tells strange = absurd strange
+strange_asked any explained bytes c (Verifier fault) tells strange = absurd strange
+strange_asked any explained bytes c (Assembly error) tells strange = absurd strange
+strange_asked any explained bytes c (Table error) tells strange = absurd strange
+strange_asked any explained bytes c (Scenario error) tells strange = absurd strange
+strange_asked any explained bytes c (Setting error) tells strange = absurd strange
+strange_asked any explained bytes c (Trace error) tells strange = absurd strange
+strange_asked any explained bytes c (Threads error) tells strange = absurd strange
+strange_asked any explained bytes c (Accesses fault) tells strange = absurd strange
+strange_asked any explained bytes c (Stranger g n) tells strange = (c, tells, sym strange.0, strange.1)
+strange_asked any explained bytes c NotText tells strange = absurd strange
+strange_asked any explained bytes c Memory tells strange = absurd strange
+
+-- the same of an oral campaign
+pub told_oral : (explained : Option Lieutenants) (bytes : List ℕ) (s : OralScenario) → Tells bytes s → stranger_asked s explained ≡ None → TellsAsked false explained bytes (Oral s)
+told_oral explained bytes s tells none = (tells, none)
+
+pub unread_oral : (explained : Option Lieutenants) (bytes : List ℕ) (refusal : InputRefusal) → RefusesText RefusesScenario bytes refusal → RefusesText (RefusesExplained false explained) bytes refusal
+unread_oral explained bytes (Codec error) refuses = refuses
+unread_oral explained bytes (Object fault) refuses = refuses
+unread_oral explained bytes (Verifier fault) refuses = refuses
+unread_oral explained bytes (Assembly error) refuses = refuses
+unread_oral explained bytes (Table error) refuses = refuses
+unread_oral explained bytes (Scenario error) refuses = refuses
+unread_oral explained bytes (Setting error) refuses = refuses
+unread_oral explained bytes (Trace error) refuses = refuses
+unread_oral explained bytes (Threads error) refuses = refuses
+unread_oral explained bytes (Accesses fault) refuses = refuses
+unread_oral explained bytes (Stranger g n) refuses = absurd refuses
+unread_oral explained bytes NotText refuses = refuses
+unread_oral explained bytes Memory refuses = refuses
+
+pub strange_oral : (explained : Option Lieutenants) (bytes : List ℕ) (s : OralScenario) (refusal : InputRefusal) → Tells bytes s → IsOf s.generals (stranger_asked s explained) refusal → RefusesText (RefusesExplained false explained) bytes refusal
+strange_oral explained bytes s refusal tells strange = strange_asked false explained bytes (Oral s) refusal tells strange
+
+pub ruleset campaign_asked = (told_asked, unread_asked, strange_asked)
+
+pub ruleset oral_asked = (told_oral, unread_oral, strange_oral)
