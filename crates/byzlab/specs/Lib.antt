@@ -2,5 +2,6 @@ pub mod Beside
 pub mod Failures
 pub mod Files
 pub mod Kept
+pub mod NewFiles
 pub mod Rejected
 pub mod Turns

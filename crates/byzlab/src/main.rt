@@ -8,6 +8,7 @@ mod failures;
 mod folder;
 mod input;
 mod kept_files;
+mod new_file;
 mod no_request;
 mod noted_line;
 mod progress;
