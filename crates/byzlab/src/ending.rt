@@ -41,7 +41,7 @@ pub struct Ending {
 }
 
 impl Ending {
-    ghost use Rattle.std.specs.Prelude.{◌≡◌, IfErr, OnErr, OnOk, false, true};
+    ghost use Rattle.std.specs.Prelude.{◌≡◌, ◌≢◌, IfErr, OnErr, OnOk, false, true};
     ghost use Rattle.byzlab.specs.Failures.{IsStatus, status_said};
 
     /// Returns an ending with this exit status, and with an output that did not fail.
@@ -59,6 +59,7 @@ impl Ending {
     pub fn refused(said: ReportOutcome) -> Ending
         ensures status { result.status ≡ status_said said.is_lacking }
         ensures either { IsStatus result.status }
+        ensures undone { result.status ≢ 0 }
         ensures unwritten { result.is_unwritten ≡ said.is_unwritten }
     {
         Ending {

@@ -47,7 +47,7 @@ pub fn write_whole<'a, 'r>(
     ensures unwritten { IfErr result (Tells (λ told. told ≡ name.now)) }
 {
     let ended = match NewFile::create(rt, name) {
-        Ok(file) => filled(rt.alloc(), file, name, bytes),
+        Ok(file) => fill_new(rt.alloc(), file, name, bytes),
         Err(error) => Err(error),
     };
     match ended {
@@ -61,7 +61,7 @@ pub fn write_whole<'a, 'r>(
 /// # Errors
 ///
 /// A write or the renaming failed, or memory ran out.
-fn filled<'a, 'r>(
+fn fill_new<'a, 'r>(
     alloc: Global,
     mut file: NewFile<'r>,
     name: &str,
