@@ -20,7 +20,7 @@ use Rattle.byzlab.specs.declared.no_request.Why.{Why}
 use Rattle.byzlab.specs.declared.no_request.Why.TheVariants as why
 use Rattle.byzlab.specs.declared.told_line.ReportOutcome.{ReportOutcome}
 use Rattle.std.specs.declared.io.ErrorKind.{ErrorKind as IoKind}
-use Rattle.std.specs.declared.io.ErrorKind.TheVariants.{OutOfMemory, InvalidData}
+use Rattle.std.specs.declared.io.ErrorKind.TheVariants.{OutOfMemory, InvalidData, PermissionDenied}
 
 -- Returns the line and the exit status for an error outside of a task: the words cannot be read, help cannot be
 -- printed, or memory runs out.
@@ -80,12 +80,18 @@ abbrev pub explained_text : Option (List ℕ) → Option IoKind → Option (List
 explained_text lines None = lines
 explained_text lines (Some kind) = lines ++? Some (codes "\nerror: " ++ reason_text kind)
 
--- States which sentence is reported for a failed output: that for its kind of error, if the exit status is 1 and the
--- task explains what it rejects, otherwise none.
-abbrev pub IsWhy : ℕ → Bool → Option IoKind → Option (List ℕ) → Type 0
-IsWhy status true (Some kind) why =
-    ((status ≡ 1) × (why ≡ Some (reason_text kind))) ⊎ ((status ≢ 1) × (why ≡ None))
-IsWhy status _ _ why = why ≡ None
+-- Returns the sentence for an output that failed with an error of this kind. An output that is named needs a new file
+-- in its folder.
+abbrev pub why_text : Bool → IoKind → List ℕ
+why_text true PermissionDenied = codes "the system does not permit it, or permits no new file in its folder"
+why_text named kind = reason_text kind
+
+-- States which sentence is reported for a failed output, which may be named: that for its kind of error, if the exit
+-- status is 1 and the reason is wanted, otherwise none.
+abbrev pub IsWhy : ℕ → Bool → Bool → Option IoKind → Option (List ℕ) → Type 0
+IsWhy status true named (Some kind) why =
+    ((status ≡ 1) × (why ≡ Some (why_text named kind))) ⊎ ((status ≢ 1) × (why ≡ None))
+IsWhy status _ named _ why = why ≡ None
 
 -- States that this is the report that the file of this name is not read.
 abbrev pub IsUnreadable : Option (List ℕ) → TaskFailure → Type 0

@@ -34,10 +34,6 @@ abbrev pub Tells : (List ℕ → Type 0) → Unkept → Type 0
 Tells P (Unwritten told kind) = P (string_bytes told) × (kind ≢ OutOfMemory)
 Tells P Memory = ⊤
 
--- Returns the name under which a file is written first. The file is renamed once it is whole.
-abbrev pub name_beside : List ℕ → List ℕ
-name_beside name = name ++ codes ".new"
-
 -- Returns the name of the file in a folder that contains the schedule of the outcome of this number.
 abbrev pub schedule_name : List ℕ → ℕ → List ℕ
 schedule_name folder number = folder ++ (codes "/outcome-" ++ (decimal number ++ codes ".schedule"))

@@ -12,7 +12,7 @@ ghost use Rattle.byzlab.specs.Files.{IsServedFor, IsTargetOf, IsTextOf};
 ghost use Rattle.byzlab.specs.Kept.{IsExplorationKept, IsScheduleKept, IsUnexplored};
 
 use crate::input::Input;
-use crate::kept_files::Unkept;
+use crate::kept_files::{KeptFile, Unkept};
 use crate::rejection::{TurnedDown, tell_unkept, turn_down};
 use crate::stop::Stopped;
 use crate::target::Target;
@@ -22,12 +22,11 @@ use cli_answers::serve;
 use cli_tasks::TaskFailure;
 use cli_words::TaskRequest;
 use std::alloc::{AllocError, Global};
-use std::fs::File;
 use std::io::Write;
 use std::snapshot::Snapshot;
 use std::sync::Wait;
 use std::thread::Threads;
-use streams::{Filled, Output, Source};
+use streams::{Output, Source};
 
 /// The report that the output failed.
 type NotPrinted = TurnedDown<TaskFailure<'static>>;
@@ -42,7 +41,7 @@ pub struct Ending {
 }
 
 impl Ending {
-    ghost use Rattle.std.specs.Prelude.{◌≡◌, IfErr, OnErr, OnOk, false, true};
+    ghost use Rattle.std.specs.Prelude.{◌≡◌, ◌≢◌, IfErr, OnErr, OnOk, false, true};
     ghost use Rattle.byzlab.specs.Failures.{IsStatus, status_said};
 
     /// Returns an ending with this exit status, and with an output that did not fail.
@@ -60,6 +59,7 @@ impl Ending {
     pub fn refused(said: ReportOutcome) -> Ending
         ensures status { result.status ≡ status_said said.is_lacking }
         ensures either { IsStatus result.status }
+        ensures undone { result.status ≢ 0 }
         ensures unwritten { result.is_unwritten ≡ said.is_unwritten }
     {
         Ending {
@@ -218,7 +218,7 @@ impl<'a> Served<'a, Input<'a>, Target<'a>> {
     pub fn with_schedule(
         self,
         rt: &HostRuntime,
-        written: Result<Filled<'_, File>, Unkept>,
+        written: Result<KeptFile<'_, '_>, Unkept>,
     ) -> Result<Ending, AllocError>
         requires its_own { IsServedFor self.request.now.task self.first.value self.second.value self.target.value.stream }
         requires written { IfOk written (IsScheduleKept self.request.now.task) }
@@ -260,7 +260,7 @@ impl<'a, O: Output> Printed<'a, O> {
         rt: &HostRuntime,
         request: &'a TaskRequest,
         scenario: &[u8],
-        kept: Result<Vec<Filled<'_, File>>, Unkept>,
+        kept: Result<Vec<KeptFile<'_, '_>>, Unkept>,
         text: &str,
         out: &mut O,
     ) -> Result<Printed<'a, O>, AllocError>

@@ -1,11 +1,12 @@
 //! What is said about files that cannot be read or written and outputs that failed: the line, and the sentence with the
 //! reason.
 
-ghost use Rattle.std.specs.Prelude.{◌≡◌, ◌↔◌, IfOk, IsErr, None, Some, if◌then◌else◌, option_map};
+ghost use Rattle.std.specs.Prelude.{◌≡◌, ◌↔◌, ◌||◌, IfOk, IsErr, None, Some, if◌then◌else◌, is_some, option_map};
 ghost use Rattle.std.specs.IoError.{error_kind};
 ghost use Rattle.cli_tasks.specs.Whys.{is_explained};
 ghost use Rattle.cli_tasks.specs.declared.failure.TaskFailure.TheVariants.{Read as unreadable};
-ghost use Rattle.byzlab.specs.Failures.{IsWhy};
+ghost use Rattle.cli_words.specs.Tasks.{target_of};
+ghost use Rattle.byzlab.specs.Failures.{IsWhy, why_text};
 
 use cli_tasks::{FileName, TaskFailure, is_explained, reason};
 use cli_words::Task;
@@ -87,13 +88,28 @@ pub fn unread<'a>(
     Ok(Explained::by(task, TaskFailure::Read(name), Some(kind)))
 }
 
-/// Returns the sentence for a failed output, given the exit status of its task. Returns `None` if the status is not 1,
-/// the task does not explain what it rejects, or the output did not fail.
-pub fn why_unwritten(status: u8, task: &Task, fault: Option<ErrorKind>) -> Option<&'static str>
-    ensures { IsWhy status (is_explained task.now) fault (option_map (λ why. why.now) result) }
+/// Returns the sentence for an output that failed with an error of this kind. `named` says whether the words name the
+/// output.
+fn why(named: bool, kind: ErrorKind) -> &'static str
+    ensures { result.now ≡ why_text named kind }
 {
+    match kind {
+        ErrorKind::PermissionDenied if named => {
+            "the system does not permit it, or permits no new file in its folder"
+        }
+        kind => reason(kind),
+    }
+}
+
+/// Returns the sentence for a failed output, given the exit status of its task. Returns `None` if the status is not 1,
+/// the output did not fail, or the task neither names its output nor explains what it rejects.
+pub fn why_unwritten(status: u8, task: &Task, fault: Option<ErrorKind>) -> Option<&'static str>
+    ensures { IsWhy status (is_some (target_of task.now) || is_explained task.now) (is_some (target_of task.now)) fault
+        (option_map (λ why. why.now) result) }
+{
+    let named = task.target().is_some();
     match fault {
-        Some(kind) if status == 1 && is_explained(task) => Some(reason(kind)),
+        Some(kind) if status == 1 && (named || is_explained(task)) => Some(why(named, kind)),
         _ => None,
     }
 }

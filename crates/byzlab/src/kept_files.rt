@@ -2,12 +2,16 @@
 //! written whole or not at all.
 ghost use Rattle.std.specs.Prelude.{◌≡◌, ◌++◌, ◌∷◌, [], IfErr, IfOk, OnOk, length, map, string_bytes};
 ghost use Rattle.streams.specs.Filling.{IsFilledBy, file_of};
-ghost use Rattle.byzlab.specs.Kept.{IsKeptIn, IsUnwritten, Tells, kept_files, name_beside, schedule_name};
+ghost use Rattle.byzlab.specs.Kept.{IsKeptIn, IsUnwritten, Tells, kept_files, schedule_name};
 
+use crate::new_file::NewFile;
 use std::alloc::{AllocError, Global};
-use std::fs::{File, create_dir, metadata, remove_file, rename, symlink_metadata};
+use std::fs::{create_dir, metadata};
 use std::io::{self, ErrorKind};
 use streams::{Filled, fill};
+
+/// A record that a file was written whole.
+pub type KeptFile<'a, 'r> = Filled<'a, NewFile<'r>>;
 
 /// Why a file was not written.
 #[derive(Drop)]
@@ -29,41 +33,21 @@ impl From<AllocError> for Unkept {
     }
 }
 
-/// Writes a file of this name. A regular file is written whole or not at all: the bytes go to a new file `NAME.new`,
-/// which is then renamed. Anything else (a device, a pipe, a link) is kept as it is, and the bytes are written to it.
-///
-/// # Errors
-///
-/// The file cannot be written, `NAME.new` exists already, or memory runs out.
-pub fn write_whole<'a>(
-    rt: &HostRuntime,
-    name: &str,
-    bytes: &'a [u8],
-) -> Result<Filled<'a, File>, Unkept>
-    ensures written { IfOk result (IsFilledBy name.now bytes.now) }
-    ensures unwritten { IfErr result (Tells (λ told. told ≡ name.now)) }
-{
-    match symlink_metadata(rt, name) {
-        Ok(found) if !found.is_file() => write_through(rt, name, bytes),
-        _ => write_beside(rt, name, bytes),
-    }
-}
-
-/// Opens the file of this name, and writes the bytes to it directly.
+/// Writes a file of this name, whole or not at all, as `NewFile` does.
 ///
 /// # Errors
 ///
 /// The file cannot be written, or memory runs out.
-fn write_through<'a>(
-    rt: &HostRuntime,
+pub fn write_whole<'a, 'r>(
+    rt: &'r HostRuntime,
     name: &str,
     bytes: &'a [u8],
-) -> Result<Filled<'a, File>, Unkept>
+) -> Result<KeptFile<'a, 'r>, Unkept>
     ensures written { IfOk result (IsFilledBy name.now bytes.now) }
     ensures unwritten { IfErr result (Tells (λ told. told ≡ name.now)) }
 {
-    let ended = match File::create(rt, name) {
-        Ok(mut file) => fill(rt.alloc(), &mut file, name, bytes),
+    let ended = match NewFile::create(rt, name) {
+        Ok(file) => fill_new(rt.alloc(), file, name, bytes),
         Err(error) => Err(error),
     };
     match ended {
@@ -72,57 +56,24 @@ fn write_through<'a>(
     }
 }
 
-/// Writes the bytes to a new file `NAME.new`, and renames it to this name. The new file is removed if that fails.
-///
-/// # Errors
-///
-/// The file cannot be written, `NAME.new` exists already, or memory runs out.
-fn write_beside<'a>(
-    rt: &HostRuntime,
-    name: &str,
-    bytes: &'a [u8],
-) -> Result<Filled<'a, File>, Unkept>
-    ensures written { IfOk result (IsFilledBy name.now bytes.now) }
-    ensures unwritten { IfErr result (Tells (λ told. told ≡ name.now)) }
-{
-    let beside = name_beside(rt.alloc(), name)?;
-    let file = match File::create_new(rt, beside.as_str()) {
-        Ok(file) => file,
-        Err(error) => return Err(unwritten(rt, name, error.kind())),
-    };
-    match named(rt, file, beside.as_str(), name, bytes) {
-        Ok(written) => Ok(written),
-        Err(error) => {
-            let _ = remove_file(rt, beside.as_str());
-            Err(unwritten(rt, name, error.kind()))
-        }
-    }
-}
-
-/// Writes the bytes to the open file `beside`, and renames it to `name`.
+/// Writes the bytes to the file of this name, which has just been begun. The file is given up if that fails.
 ///
 /// # Errors
 ///
 /// A write or the renaming failed, or memory ran out.
-fn named<'a>(
-    rt: &HostRuntime,
-    mut file: File,
-    beside: &str,
+fn fill_new<'a, 'r>(
+    alloc: Global,
+    mut file: NewFile<'r>,
     name: &str,
     bytes: &'a [u8],
-) -> io::Result<Filled<'a, File>>
+) -> io::Result<KeptFile<'a, 'r>>
     ensures { IfOk result (IsFilledBy name.now bytes.now) }
 {
-    let written = fill(rt.alloc(), &mut file, name, bytes)?;
-    rename(rt, beside, name)?;
-    Ok(written)
-}
-
-/// Returns the name under which a file is written first: `NAME.new`.
-fn name_beside(alloc: Global, name: &str) -> Result<String, AllocError>
-    ensures { IfOk result (λ beside. string_bytes beside ≡ name_beside name.now) }
-{
-    format!(in alloc; "{name}.new")
+    let written = fill(alloc, &mut file, name, bytes);
+    if written.is_err() {
+        file.abandon();
+    }
+    written
 }
 
 /// Returns the error that the file or the folder of this name cannot be written, or `Memory` if memory ran out.
@@ -168,9 +119,9 @@ fn schedule_name(alloc: Global, folder: &str, number: u64) -> Result<String, All
 /// # Errors
 ///
 /// The file cannot be written, or memory runs out.
-fn keep_file<'a>(
-    rt: &HostRuntime,
-    files: &mut Vec<Filled<'a, File>>,
+fn keep_file<'a, 'r>(
+    rt: &'r HostRuntime,
+    files: &mut Vec<KeptFile<'a, 'r>>,
     name: &str,
     bytes: &'a [u8],
 ) -> Result<(), Unkept>
@@ -191,12 +142,12 @@ fn keep_file<'a>(
 /// # Errors
 ///
 /// A file or the folder cannot be written, or memory runs out.
-pub fn keep<'a>(
-    rt: &HostRuntime,
+pub fn keep<'a, 'r>(
+    rt: &'r HostRuntime,
     folder: &str,
     scenario: &'a [u8],
     schedules: &'a [String],
-) -> Result<Vec<Filled<'a, File>>, Unkept>
+) -> Result<Vec<KeptFile<'a, 'r>>, Unkept>
     ensures kept { IfOk result (λ files.
         map file_of files.items ≡ kept_files folder.now scenario.now (map string_bytes schedules.now)) }
     ensures unkept { IfErr result (Tells (IsKeptIn folder.now (length schedules.now))) }

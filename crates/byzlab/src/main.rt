@@ -8,8 +8,10 @@ mod failures;
 mod folder;
 mod input;
 mod kept_files;
+mod new_file;
 mod no_request;
 mod noted_line;
+mod overwriting;
 mod progress;
 mod rejection;
 mod stop;
@@ -29,6 +31,7 @@ ghost use Rattle.cli_report.specs.Refused.{IsTold};
 ghost use Rattle.byzlab.specs.Files.{IsInputIf, IsOpened, IsSecondIf, IsSeededIf, IsSeen, IsServedFor, IsTargetOf, IsTextOf};
 ghost use Rattle.byzlab.specs.Kept.{IsUnexplored, KeepsIn};
 ghost use Rattle.byzlab.specs.Failures.{AsksNothing, IsStatus, IsUnreadable, failure_of};
+ghost use Rattle.byzlab.specs.Overwriting.{overwrites};
 ghost use Rattle.byzlab.specs.Rejected.{IsRejected};
 ghost use Rattle.byzlab.specs.Turns.{AreDone, AreEndingsOf};
 
@@ -43,6 +46,7 @@ use folder::FolderOf;
 use input::{Input, Opened};
 use kept_files::{keep, write_whole};
 use no_request::Unasked;
+use overwriting::overwritten;
 use progress::ProgressLine;
 use rejection::{Rejected, TurnedDown, Unread, given_or_told, tell_neighbour, turn_down};
 use std::alloc::AllocError;
@@ -159,7 +163,7 @@ fn settled(rt: &HostRuntime, outcome: Result<Ending, AllocError>) -> Ending
 }
 
 /// Serves one request: opens its files, does the task, and writes the schedule or the files of an exploration that it
-/// asks for.
+/// asks for. A request that would write over a file that it reads is refused first.
 ///
 /// # Errors
 ///
@@ -170,7 +174,11 @@ fn answered<'a, T: Threads + Wait + Sync>(
     request: &'a TaskRequest,
 ) -> Result<Ending, AllocError>
     ensures status { IfOk result (λ ending. IsStatus ending.status) }
+    ensures overwriting { overwrites request.now.task ≡ true → IfOk result (λ ending. ending.status ≢ 0) }
 {
+    if let Some(lines) = overwritten(rt, &request.task) {
+        return Ok(Ending::refused(turn_down(rt, request, lines).said()));
+    }
     let (first, second) = match files(rt, request)? {
         Ok(files) => files,
         Err(told) => return Ok(Ending::refused(told.said())),
@@ -247,8 +255,8 @@ fn unexplored(refusal: InputRefusal) -> Result<Option<Ending>, AllocError>
     }
 }
 
-/// Serves the request on these files. If its output fails and the task explains what it rejects, also says on standard
-/// error why the output failed.
+/// Serves the request on these files. If its output fails, and the task names it or explains what it rejects, also says
+/// on standard error why the output failed. A new file that is not whole is removed.
 fn served<'a, T: Threads + Wait + Sync>(
     rt: &'a HostRuntime,
     threads: &T,
@@ -276,6 +284,7 @@ fn served<'a, T: Threads + Wait + Sync>(
     if let Some(why) = why_unwritten(done.status(), &request.task, target.fault()) {
         let _ = rt.eprintln(format_args!("error: {why}"));
     }
+    target.into_stream().abandon();
     done
 }
 

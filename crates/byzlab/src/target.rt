@@ -1,10 +1,10 @@
-//! Where a task's answer is written: standard output, or a file that is created by the first write.
+//! Where a task's answer is written: standard output, or a file that is begun by the first write.
 ghost use Rattle.std.specs.Prelude.{◌≡◌, ◌⊎◌, IfErr, IfOk, option_map};
 ghost use Rattle.std.specs.Io.{WritesAtMost};
 ghost use Rattle.std.specs.Io.KnownBytes.{Keeps, WriteAppends};
 ghost use Rattle.byzlab.specs.Files.{IsMadeOf, IsPlaceOf, IsTargetOf, contents_of};
 
-use std::fs::File;
+use crate::new_file::NewFile;
 use std::io::{self, Stdout, Write};
 
 /// A file that has not been created yet.
@@ -26,18 +26,18 @@ pub trait Unmade: Drop {
         ensures made { IfOk result (λ made. Self.Made.contents made ≡ contents self.now) };
 }
 
-/// The file of this name. If there is one already, it is overwritten when this file is created.
+/// The file of this name. If there is one already, it is replaced once the new one is whole.
 #[derive(Drop)]
 pub struct Named<'a> {
     pub rt: &'a HostRuntime,
     pub name: &'a str,
 }
 
-impl Unmade for Named<'_> {
-    type Made = File;
+impl<'a> Unmade for Named<'a> {
+    type Made = NewFile<'a>;
 
-    fn make(&self) -> io::Result<File> {
-        File::create(self.rt, self.name)
+    fn make(&self) -> io::Result<NewFile<'a>> {
+        NewFile::create(self.rt, self.name)
     }
 }
 
@@ -62,6 +62,15 @@ pub fn target_of<'a>(rt: &'a HostRuntime, name: Option<&'a str>) -> Target<'a>
     match name {
         None | Some("-") => Destination::Standard(rt.stdout()),
         Some(name) => Destination::Unmade(Named { rt, name }),
+    }
+}
+
+impl Target<'_> {
+    /// Gives up a file that was begun and is not whole.
+    pub fn abandon(self) {
+        if let Destination::File(file) = self {
+            file.abandon();
+        }
     }
 }
 

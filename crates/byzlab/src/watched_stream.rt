@@ -32,6 +32,14 @@ impl<W: Write + Drop> Watched<W> {
         self.fault
     }
 
+    /// Returns the stream.
+    pub fn into_stream(self) -> W
+        ensures { result ≡ self.stream }
+    {
+        let Watched { stream, .. } = self;
+        stream
+    }
+
     /// Returns the result unchanged, and stores the kind of its error if it is one.
     fn kept<T>(&mut self, answer: io::Result<T>) -> io::Result<T>
         ensures answer { result ≡ answer }
