@@ -12,7 +12,7 @@ use Rattle.surveys.specs.declared.adversary.Adversary.{Adversary}
 use Rattle.surveys.specs.declared.manner.Manner.{Manner}
 use Rattle.surveys.specs.declared.breach.Breach.{Breach}
 use Rattle.surveys.specs.declared.breach.Breaking.{Breaking}
-use Rattle.surveys.specs.Shrinking.{ComesWell, IsLeast, IsPartOf, IsRefusedOf, ShrinksTo}
+use Rattle.surveys.specs.Shrinking.{ComesWell, IsBroken, IsLeast, IsPartOf, IsRefusedOf, ShrinksTo}
 
 -- Returns how many statements the traitors of a campaign have.
 abbrev pub statements : Plot → ℕ
@@ -28,9 +28,11 @@ abbrev pub is_before : Breach → Breach → Bool
 is_before a b =
     is_below (length a.plot.traitors) (statements a.plot) a.seed (length b.plot.traitors) (statements b.plot) b.seed
 
--- States that this is a campaign reduced as far as possible, with the seed that gave it.
+-- States that the campaign `p` of the seed `by` is broken, and that `b` is this campaign reduced as far as possible, with
+-- this seed.
 pub record IsBreachOf (p : Plot) (by : ℕ) (b : Breach) : Type 0 where
   pub seed : b.seed ≡ by
+  pub whole : IsBroken p
   pub least : IsLeast b.plot
   pub part : IsPartOf p b.plot
   pub course : ShrinksTo b.plot p

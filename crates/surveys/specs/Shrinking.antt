@@ -84,6 +84,7 @@ pub record IsWithoutFirstTraitor (p q : Plot) : Type 0 where
   pub place : ℕ
   pub within : place < length p.traitors
   pub less : q ≡ without_traitor p place
+  pub broken : IsBroken q
   pub needed : (before : ℕ) → before < place → ComesWell (without_traitor p before)
 
 -- States that the first statement of the traitor at this index whose removal leaves the campaign broken is removed.
@@ -91,6 +92,7 @@ pub record IsWithoutFirstLieOf (p : Plot) (place : ℕ) (q : Plot) : Type 0 wher
   pub index : ℕ
   pub within : index < length (traitor_at p place).lies
   pub less : q ≡ without_lie p place index
+  pub broken : IsBroken q
   pub needed : (before : ℕ) → before < index → ComesWell (without_lie p place before)
 
 -- States that the first statement of all whose removal leaves the campaign broken is removed.

@@ -33,6 +33,7 @@ pub fn shrunk(alloc: Global, plot: Plot) -> Result<Option<Plot>, ScenarioError>
     ensures least { IfOk result (λ left. IfSome left IsLeast) }
     ensures part { IfOk result (λ left. IfSome left (IsPartOf plot)) }
     ensures course { IfOk result (λ left. IfSome left (λ q. ShrinksTo q plot)) }
+    ensures whole { IfOk result (λ left. IfSome left (λ _. IsBroken plot)) }
     ensures well { IfOk result (λ left. IfNone left (ComesWell plot)) }
     ensures refused { IfErr result (λ e. e ≢ Memory → IsRefusedOf plot e) }
 {

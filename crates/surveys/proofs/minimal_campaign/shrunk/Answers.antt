@@ -46,3 +46,6 @@ returns-in_err-left-clause-refused c =
 
 pub returns-clause-course : goal.returns-clause-course
 returns-clause-course c = c.loop-left.invariant.far c.loop-left.left nothing_more
+
+pub returns-clause-whole : goal.returns-clause-whole
+returns-clause-whole c = subst (λ (x : Bool). Comes x c.args.plot) c.if-branch.false c.in_ok-comes_well.ensures.comes
