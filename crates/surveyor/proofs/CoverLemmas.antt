@@ -1,6 +1,6 @@
 -- Whether each seed is told once.
-use Rattle.std.proofs.Common.{ℕ, ◌+◌, ◌<◌, ◌≤◌, ◌≡◌, ◌≢◌, Bool, true, false, cond, List, [], ◌∷◌, ◌++◌, length, refl, sym, ap, subst, ◌∙◌, arith, append_assoc, append-nil, Option, None, Some, ◌⊎◌, ⊎_elim, inl, inr}
-use Rattle.std.specs.Prelude.{nat_le, min, max, ◌==◌, ◌&&◌}
+use Rattle.std.proofs.Common.{ℕ, ◌+◌, ◌<◌, ◌≤◌, ◌≡◌, ◌≢◌, Bool, true, false, cond, List, [], ◌∷◌, ◌++◌, length, refl, sym, ap, subst, ◌∙◌, arith, append_assoc, append-nil, Option, None, Some, Ok, Err, ◌⊎◌, ⊎_elim, inl, inr}
+use Rattle.std.specs.Prelude.{nat_le, min, max, ◌==◌, ◌&&◌, OnErr, OnOk}
 use Rattle.std.specs.List.{fold}
 use Rattle.std.proofs.lemmas.Bool.{and_parts, cases_lt, eq-eqb, eqb-true, le-leb, leb-true}
 use Rattle.std.proofs.lemmas.Bool.Decides.{nat_tests}
@@ -11,7 +11,11 @@ use Rattle.surveys.specs.Parts.{AreOf}
 use Rattle.surveys.specs.Covering.{AreApart, AreDoubles, AreHoles, is_in, seeds_in, times}
 use Rattle.surveys.specs.declared.stretch.Stretch.{Stretch}
 use Rattle.surveys.proofs.Exactness.{times_more}
-use Rattle.surveyor.specs.Summed.{AreEnds, IsAskedFor, IsCovered, IsCoveredBy, AreLeastAndGreatest, IsToldOf, span_of, with_seed}
+use Rattle.std.specs.Io.KnownBytes.{Appends}
+use Rattle.std.specs.declared.result.Result.{Result}
+use Rattle.std.proofs.KnownBytes.{Appends-nil}
+use Rattle.surveyor.specs.Statuses.{IsReported}
+use Rattle.surveyor.specs.Summed.{AreEnds, IsAskedFor, IsCovered, IsCoveredBy, IsSeedReport, AreLeastAndGreatest, IsToldOf, report_text, span_of, with_seed}
 
 -- one campaign more
 times_push : (x : ℕ) (found : List Finding) (f : Finding) → times x (seeds_in (found ++ f ∷ [])) ≡ times x (seeds_in found) + cond (f.seed == x) 1 0
@@ -181,3 +185,28 @@ none_asked None found span status asked is zero =
       ill = λ some. absurd (some zero);
     }
 none_asked (Some s) found span status asked is zero = absurd (let e : Some s ≡ None = sym asked ∙ is in cc)
+
+-- what is reported of seeds
+pub seeds_reported : (seeds : Option (ℕ × ℕ)) (found : List Finding) (first last : ℕ) (span : Option (ℕ × ℕ)) (holes doubles : List Stretch) (Reports : Option (List ℕ) → Type 0) → IsAskedFor seeds found span → span ≡ Some (first, last)
+    → AreHoles first last (seeds_in found) holes → AreDoubles (seeds_in found) doubles → Reports (Some (report_text holes doubles)) → IsSeedReport seeds found Reports
+seeds_reported seeds found first last span holes doubles Reports asked is h d told =
+    record { span = Some (first, last); asked = subst (IsAskedFor seeds found) is asked; holes = holes; doubles = doubles; missing = h; repeated = d; reported = told }
+
+pub nothing_reported : (seeds : Option (ℕ × ℕ)) (found : List Finding) (span : Option (ℕ × ℕ)) (Fails : Type 0) (old : Option (List ℕ)) → IsAskedFor seeds found span → span ≡ None → IsSeedReport seeds found (IsReported Fails old old)
+nothing_reported None found span Fails old asked is =
+    let none : found ≡ [] = subst (AreEnds found) is asked in
+    record {
+      span = None;
+      asked = none;
+      holes = [];
+      doubles = [];
+      missing = refl;
+      repeated = subst (λ (l : List Finding). AreDoubles (seeds_in l) []) (sym none) (λ x. refl);
+      reported = inr (Appends-nil old);
+    }
+nothing_reported (Some s) found span Fails old asked is = absurd (let e : Some s ≡ None = sym asked ∙ is in cc)
+
+-- a text that is written, or whose stream fails
+pub put_reported : {T E : Type 0} (r : Result T E) (Fails : Type 0) (old new : Option (List ℕ)) (text told : List ℕ) → OnOk r (Appends old new text) → OnErr r Fails → text ≡ told → IsReported Fails old new (Some told)
+put_reported (Ok x) Fails old new text told ok err is = inr (subst (Appends old new) is ok)
+put_reported (Err e) Fails old new text told ok err is = inl err

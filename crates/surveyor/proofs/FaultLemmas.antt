@@ -14,9 +14,8 @@ use Rattle.surveyor.specs.declared.task.Survey.{Survey}
 use Rattle.surveyor.specs.declared.fault.SurveyFailure.{SurveyFailure}
 use Rattle.surveyor.specs.declared.fault.SurveyFailure.TheVariants.{Unread, NotText, Unwritten, Refused, Campaign, Words, Memory}
 use Rattle.surveyor.specs.Ends.{IsDrawnRefused, IsStopped, IsUnended, IsUnsurveyed}
-use Rattle.surveys.specs.declared.parts.PartError.{PartError}
 use Rattle.surveyor.specs.declared.task.Merge.{Merge}
-use Rattle.surveyor.specs.Faults.{IsFile, IsKeptIn, IsNoPart, IsUnkept, IsUnkeptIn, IsUnprinted, IsUnread, IsUnsummed, IsUntaken, IsUntold}
+use Rattle.surveyor.specs.Faults.{IsFile, IsKeptIn, IsUnkept, IsUnkeptIn, IsUnprinted, IsUnread, IsUnsummed, IsUntaken, IsUntold}
 use Rattle.surveyor.specs.Words.{IsFamilyOf}
 
 pub stopped_printing : (s : Survey) (R : ℕ → ℕ → ScenarioError → Type 0) (fault : SurveyFailure) → IsUnprinted fault → IsStopped s R fault
@@ -129,7 +128,7 @@ drawn Least s f fault not h = absurd (not refl)
 pub unended_drawn : (s : Survey) (f : Family) (fault : SurveyFailure) → s.shape ≢ Least → IsFamilyOf s f → IsStopped s (IsRefusedIn f) fault → IsUnsurveyed s fault
 unended_drawn s f fault not family h = unended s (IsDrawnRefused s.shape) f fault family (drawn s.shape s f fault not h)
 
--- one of the files that are summed cannot be read, or is refused
+-- one of the files that are summed cannot be read
 pub unread_one : (m : Merge) (k : ℕ) (own : String Global) (fault : SurveyFailure) → k < length m.names.items → get_or m.names.items k own ≡ own → IsUnread (string_bytes own) fault → IsUntold m fault
 unread_one m k own (Unread name) less at h = (k, own, less, at, sym h)
 unread_one m k own (NotText name) less at h = absurd h
@@ -138,15 +137,6 @@ unread_one m k own Memory less at h = tt
 unread_one m k own (Refused line) less at h = absurd h
 unread_one m k own (Campaign first last e) less at h = absurd h
 unread_one m k own Words less at h = absurd h
-
-pub no_part_told : (m : Merge) (k : ℕ) (own : String Global) (first : List ℕ) (error : PartError) (fault : SurveyFailure) → k < length m.names.items → get_or m.names.items k own ≡ own → IsNoPart (string_bytes own) first error fault → IsUntold m fault
-no_part_told m k own first error (Unread name) less at h = absurd h
-no_part_told m k own first error (NotText name) less at h = absurd h
-no_part_told m k own first error (Unwritten name) less at h = absurd h
-no_part_told m k own first error Memory less at h = tt
-no_part_told m k own first error (Refused line) less at h = (string_bytes own, first, error, (k, own, less, at, refl), h)
-no_part_told m k own first error (Campaign low high e) less at h = absurd h
-no_part_told m k own first error Words less at h = absurd h
 
 -- or their sums are not printed
 pub untold_summed : (m : Merge) (fault : SurveyFailure) → IsUntold m fault → IsUnsummed m fault

@@ -1,5 +1,6 @@
 -- Defines what is done for the words of the command line, and why it cannot be finished.
 use Rattle.std.specs.Prelude.{ℕ, ◌≡◌, List, [], Option, Result, Ok, Err, IfErr, IfOk}
+use Rattle.std.specs.Fmt.{with_newline}
 use Rattle.clap.specs.Words.{Text, fault_of, matches_of}
 use Rattle.surveyor.specs.Broken.{IsBreakAnswered}
 use Rattle.surveyor.specs.Ends.{IsSearchRefused, IsUnended, IsUnsurveyed}
@@ -8,7 +9,7 @@ use Rattle.surveyor.specs.Flags.{survey_app}
 use Rattle.surveyor.specs.Kept.{File}
 use Rattle.surveyor.specs.Meant.{Asks}
 use Rattle.surveyor.specs.Printed.{IsSurveyed}
-use Rattle.surveyor.specs.Statuses.{IsUnasked, IsUnhelped}
+use Rattle.surveyor.specs.Statuses.{IsUnasked, IsUnhelped, complaint}
 use Rattle.surveyor.specs.Summed.{IsSummed}
 use Rattle.surveyor.specs.Wrong.{IsUnmet}
 use Rattle.surveyor.specs.declared.task.Asked.{Asked}
@@ -22,14 +23,16 @@ pub record IsAskedBy (words : List Text) (asked : Result Asked AskedError) : Typ
   pub taken : IfOk asked (λ _. fault_of survey_app words ≡ [])
   pub refused : IfErr asked (IsUnmet words)
 
--- States what is done: the change of the output and of the kept files, and the exit status. If nothing is asked for,
--- neither the output nor the files change.
-abbrev pub IsDone : Result Asked AskedError → Option (List ℕ) → Option (List ℕ) → Option (List File) → Option (List File) → ℕ → Type 0
-IsDone (Ok (Survey s)) old new before after status = IsSurveyed s old new before after × (status ≡ 0)
-IsDone (Ok (Break s is_table)) old new before after status =
+-- States what is done: the change of the output and of the kept files, what is reported, and the exit status. If nothing
+-- is asked for, the reason is reported, and neither the output nor the files change.
+abbrev pub IsDone : Result Asked AskedError → Option (List ℕ) → Option (List ℕ) → Option (List File)
+    → Option (List File) → (Option (List ℕ) → Type 0) → ℕ → Type 0
+IsDone (Ok (Survey s)) old new before after Reports status = IsSurveyed s old new before after × (status ≡ 0)
+IsDone (Ok (Break s is_table)) old new before after Reports status =
     IsBreakAnswered s is_table old new × (after ≡ before) × (status ≡ 0)
-IsDone (Ok (Merge m)) old new before after status = IsSummed m old new status × (after ≡ before)
-IsDone (Err error) old new before after status = IsUnasked error status × (new ≡ old) × (after ≡ before)
+IsDone (Ok (Merge m)) old new before after Reports status = IsSummed m old new Reports status × (after ≡ before)
+IsDone (Err error) old new before after Reports status =
+    IsUnasked error status × Reports (with_newline (complaint error)) × (new ≡ old) × (after ≡ before)
 
 -- States that this failure can keep the request from being finished.
 abbrev pub IsUndone : Result Asked AskedError → SurveyFailure → Type 0

@@ -1,12 +1,17 @@
 -- Defines which failure is returned for which cause (docs/FORMATS.md, "Surveys").
-use Rattle.std.specs.Prelude.{⊤, ℕ, ◌≡◌, ◌≢◌, ◌⊎◌, ◌++◌, Bool, true, List, codes, decimal, Option, None, Some, Err, IfSome, IsSomeAnd, string_bytes}
-use Rattle.std.specs.List.{Any}
+use Rattle.std.specs.Prelude.{⊤, ℕ, ◌≡◌, ◌≢◌, ◌<◌, ◌⊎◌, ◌++◌, Bool, true, List, [], ◌∷◌, String, codes, get_or, length, decimal, Option, None, Some, Err, IfSome, IsSomeAnd, string_bytes}
+use Rattle.std.specs.Global.{Global}
+use Rattle.std.specs.List.{All, AllZip, Any}
 use Rattle.std.specs.Fmt.{◌++?◌}
+use Rattle.std.specs.declared.io.ErrorKind.{ErrorKind}
+use Rattle.std.specs.declared.io.ErrorKind.TheVariants.{AlreadyExists, InvalidData, OutOfMemory}
 use Rattle.asm.specs.ErrorText as asm_text
 use Rattle.asm.specs.Program.{program_of, said}
 use Rattle.asm.specs.declared.fault.AsmError.{AsmError}
 use Rattle.asm.specs.declared.fault.AsmError.TheVariants as asm
 use Rattle.streams.specs.Names.{shown}
+use Rattle.surveys.specs.Parts.{IsFaulty, IsPart}
+use Rattle.surveys.specs.declared.finding.Finding.{Finding}
 use Rattle.surveys.specs.declared.parts.PartError.{PartError}
 use Rattle.surveys.specs.declared.parts.PartError.TheVariants as part
 use Rattle.verify.specs.ErrorText as verifier_text
@@ -16,6 +21,7 @@ use Rattle.verify.specs.declared.error.VerifyError.TheVariants as verifier
 use Rattle.surveyor.specs.declared.task.Merge.{Merge}
 use Rattle.surveyor.specs.declared.fault.SurveyFailure.{SurveyFailure}
 use Rattle.surveyor.specs.declared.fault.SurveyFailure.TheVariants.{Unread, NotText, Unwritten, Refused, Campaign, Words, Memory}
+use Rattle.surveyor.specs.Summed.{joined, span_of}
 use Rattle.surveyor.specs.Words.{IsProgramOf}
 
 -- States the failure for a file of this name that cannot be read: it names the file, unless memory ran out.
@@ -29,6 +35,18 @@ abbrev pub IsUnprinted : SurveyFailure → Type 0
 IsUnprinted (Unwritten None) = ⊤
 IsUnprinted Memory = ⊤
 IsUnprinted _ = ⊥
+
+-- Returns the failure for a standard output that cannot be written, by the kind of its error.
+abbrev pub unprinted : ErrorKind → SurveyFailure
+unprinted OutOfMemory = Memory
+unprinted _ = Unwritten None
+
+-- Returns the failure for an error of this kind that does not concern a file: words that are not UTF-8, or as for
+-- standard output.
+abbrev pub failure_of : ErrorKind → SurveyFailure
+failure_of OutOfMemory = Memory
+failure_of InvalidData = Words
+failure_of _ = Unwritten None
 
 -- ---- a file of assembly
 
@@ -103,6 +121,13 @@ IsUnkept name beside (Unwritten (Some own)) = (string_bytes own ≡ name) ⊎ (s
 IsUnkept name beside Memory = ⊤
 IsUnkept name beside _ = ⊥
 
+-- Returns the failure for a file that cannot be written, by the kind of the error. It names `beside` if that file exists
+-- already, and `name` otherwise.
+abbrev pub unwritten : ErrorKind → String Global → String Global → SurveyFailure
+unwritten OutOfMemory name beside = Memory
+unwritten AlreadyExists name beside = Unwritten (Some beside)
+unwritten _ name beside = Unwritten (Some name)
+
 -- States the failure for a file of a campaign that cannot be written, whatever its name: it names a file, unless memory
 -- ran out.
 abbrev pub IsUnkeptIn : SurveyFailure → Type 0
@@ -144,12 +169,41 @@ IsNoPart name first error _ = ⊥
 abbrev pub IsNameIn : Merge → List ℕ → Type 0
 IsNameIn m name = Any (λ own. string_bytes own ≡ name) m.names.items
 
+-- States that the file at this index has this name.
+abbrev pub IsNameAt : Merge → ℕ → List ℕ → Type 0
+IsNameAt m place name = (own : String Global) × (place < length m.names.items)
+    × (get_or m.names.items place own ≡ own) × (string_bytes own ≡ name)
+
+-- Which file begins the survey, and with which head, if these are the texts of the files before `name`: the first of them
+-- that is not empty, or `name` itself if all are empty. Then there is no head yet.
+pub data IsFirst (m : Merge) (texts : List (List ℕ)) (name : List ℕ) : List ℕ → List ℕ → Type 0 where
+  itself : All (λ text. text ≡ []) texts → IsFirst m texts name [] name
+  earlier : (empty rest : List (List ℕ)) (text head first : List ℕ) → texts ≡ empty ++ text ∷ rest
+      → All (λ t. t ≡ []) empty → text ≢ [] → IsNameAt m (length empty) first → IsFirst m texts name head first
+
+-- States that a file is rejected and that this line says why. The files before it are parts of one survey, and `error`
+-- is what is wrong with its text.
+pub record IsRefusedFile (m : Merge) (line : List ℕ) : Type 0 where
+  pub texts : List (List ℕ)
+  pub parts : List (List Finding)
+  pub head : List ℕ
+  pub each : AllZip (IsPart head) texts parts
+  pub name : List ℕ
+  pub named : IsNameAt m (length texts) name
+  pub first : List ℕ
+  pub begins : IsFirst m texts name head first
+  pub text : List ℕ
+  pub error : PartError
+  pub after : List ℕ
+  pub found : List Finding
+  pub wrong : IsFaulty head after text (span_of m.seeds).0 (span_of m.seeds).1 (joined parts) found error
+  pub told : IsPartLine name first error line
+
 -- States that this failure can occur when the files are read: one of them cannot be read, its lines are rejected, or
 -- memory ran out.
 abbrev pub IsUntold : Merge → SurveyFailure → Type 0
 IsUntold m (Unread name) = IsNameIn m (string_bytes name)
-IsUntold m (Refused line) = (name first : List ℕ) × (error : PartError)
-    × IsNameIn m name × IsPartLine name first error (string_bytes line)
+IsUntold m (Refused line) = IsRefusedFile m (string_bytes line)
 IsUntold m Memory = ⊤
 IsUntold m _ = ⊥
 

@@ -1,12 +1,16 @@
 -- Defines the exit status and the reported line if a survey cannot be finished or the words ask for nothing
 -- (docs/FORMATS.md, "Surveys").
-use Rattle.std.specs.Prelude.{ℕ, ◌≡◌, ◌≢◌, ◌⊎◌, ◌++◌, List, Option, None, Some, codes, decimal, string_bytes}
+use Rattle.std.specs.Prelude.{ℕ, ◌≡◌, ◌≢◌, ◌⊎◌, ◌++◌, List, Option, None, Some, IfSome, codes, decimal, string_bytes}
 use Rattle.std.specs.Fmt.{◌++?◌}
+use Rattle.std.specs.Io.KnownBytes.{Appends}
 use Rattle.clap.specs.Words.{kind_of}
+use Rattle.clap.specs.declared.error.Error.{Error}
 use Rattle.clap.specs.declared.error.kind.ErrorKind.{ErrorKind}
 use Rattle.clap.specs.declared.error.kind.ErrorKind.TheVariants.{DisplayHelp, DisplayVersion}
+use Rattle.combine.specs.Names.{rule_names}
 use Rattle.scenario.specs.ErrorText.{told}
 use Rattle.streams.specs.Names.{shown}
+use Rattle.surveyor.specs.Faults.{IsUnprinted}
 use Rattle.surveyor.specs.declared.task.AskedError.{AskedError}
 use Rattle.surveyor.specs.declared.task.AskedError.TheVariants as asked
 use Rattle.surveyor.specs.declared.fault.SurveyFailure.{SurveyFailure}
@@ -36,20 +40,40 @@ fault_text (Campaign first last error) = Some (codes "refused " ++ (told error
 fault_text Words = Some (codes "error: the words are not UTF-8")
 fault_text Memory = Some (codes "out of memory")
 
+-- States that a text has been appended to standard error, or that standard error fails. Nothing is stated if it is not
+-- known what is reported.
+abbrev pub IsReported : Type 0 → Option (List ℕ) → Option (List ℕ) → Option (List ℕ) → Type 0
+IsReported Fails old new text = Fails ⊎ IfSome text (Appends old new)
+
+-- Returns the line that says why words ask for nothing. It is not known which text `clap` has.
+abbrev pub complaint : AskedError → Option (List ℕ)
+complaint (asked.Words refusal) = None
+complaint (asked.Value why) = Some (codes "error: " ++ why.now)
+complaint asked.Rule = Some (codes "error: --rule takes " ++ rule_names)
+complaint asked.Memory = Some (codes "out of memory")
+
 -- States that `clap` rejects the words, and that they ask neither for help nor for the version.
 abbrev pub IsMistake : ErrorKind → Type 0
 IsMistake kind = (kind ≢ DisplayHelp) × (kind ≢ DisplayVersion)
 
+-- States the exit status of words that `clap` rejects: 0 if they ask for help or for the version, and otherwise 2.
+abbrev pub IsRefusedByClap : Error → ℕ → Type 0
+IsRefusedByClap refusal status =
+    (IsMistake (kind_of refusal) × (status ≡ 2)) ⊎ (¬ IsMistake (kind_of refusal) × (status ≡ 0))
+
 -- States the exit status of words that ask for nothing: 0 if they ask for help or for the version, and otherwise 2.
 abbrev pub IsUnasked : AskedError → ℕ → Type 0
-IsUnasked (asked.Words refusal) status =
-    (IsMistake (kind_of refusal) × (status ≡ 2)) ⊎ (¬ IsMistake (kind_of refusal) × (status ≡ 0))
+IsUnasked (asked.Words refusal) status = IsRefusedByClap refusal status
 IsUnasked (asked.Value why) status = status ≡ 2
 IsUnasked asked.Rule status = status ≡ 2
 IsUnasked asked.Memory status = ⊥
 
+-- States the failure for help or the version: standard output cannot be written, or memory ran out.
+abbrev pub IsUnhelpedBy : Error → SurveyFailure → Type 0
+IsUnhelpedBy refusal fault = ¬ IsMistake (kind_of refusal) × IsUnprinted fault
+
 -- States this failure after words that ask for nothing: help or the version cannot be printed, or memory ran out.
 abbrev pub IsUnhelped : AskedError → SurveyFailure → Type 0
-IsUnhelped (asked.Words refusal) fault = ¬ IsMistake (kind_of refusal)
+IsUnhelped (asked.Words refusal) fault = IsUnhelpedBy refusal fault
 IsUnhelped asked.Memory fault = fault ≡ Memory
 IsUnhelped _ fault = ⊥

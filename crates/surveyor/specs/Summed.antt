@@ -1,10 +1,11 @@
 -- Defines the sum of files with lines of a survey, and which seeds they must contain (docs/FORMATS.md, "Surveys").
-use Rattle.std.specs.Prelude.{ℕ, ◌≡◌, ◌≢◌, ◌≤◌, ◌-◌, ◌^◌, min, max, List, [], ◌∷◌, ◌++◌, length, Option, None, Some}
+use Rattle.std.specs.Prelude.{ℕ, ◌≡◌, ◌≢◌, ◌≤◌, ◌-◌, ◌^◌, min, max, List, [], ◌∷◌, ◌++◌, codes, decimal, flat_map, length, Option, None, Some}
 use Rattle.std.specs.List.{AllZip}
 use Rattle.std.specs.Io.KnownBytes.{Appends}
 use Rattle.surveys.specs.declared.finding.Finding.{Finding}
 use Rattle.surveys.specs.Parts.{AreOf, IsPart}
-use Rattle.surveys.specs.Covering.{seeds_in, times}
+use Rattle.surveys.specs.Covering.{AreDoubles, AreHoles, seeds_in, times}
+use Rattle.surveys.specs.declared.stretch.Stretch.{Stretch}
 use Rattle.surveyor.specs.declared.task.Merge.{Merge}
 use Rattle.surveyor.specs.Printed.{summary_text}
 
@@ -66,11 +67,39 @@ abbrev pub IsAskedFor : Option (ℕ × ℕ) → List Finding → Option (ℕ × 
 IsAskedFor None found span = AreEnds found span
 IsAskedFor (Some seeds) found span = span ≡ Some seeds
 
--- States that the summary of the files' campaigns is printed, and that the exit status says whether the seeds are
--- covered.
-pub record IsSummed (m : Merge) (old new : Option (List ℕ)) (status : ℕ) : Type 0 where
+-- Returns the line that reports a range of seeds.
+abbrev pub stretch_text : List ℕ → Stretch → List ℕ
+stretch_text name s =
+    name ++ (codes " " ++ (decimal s.first ++ (codes ".." ++ (decimal s.last ++ codes "\n"))))
+
+-- Returns the lines that report missing seeds, and then those that report repeated seeds.
+abbrev pub report_text : List Stretch → List Stretch → List ℕ
+report_text holes doubles =
+    flat_map (stretch_text (codes "hole")) holes ++ flat_map (stretch_text (codes "double")) doubles
+
+-- States that the ranges contain just the seeds of the span that do not occur. Without a span none is missing.
+abbrev pub AreMissing : Option (ℕ × ℕ) → List ℕ → List Stretch → Type 0
+AreMissing None seeds holes = holes ≡ []
+AreMissing (Some span) seeds holes = AreHoles span.0 span.1 seeds holes
+
+-- States that the missing and the repeated seeds are reported.
+pub record IsSeedReport (seeds : Option (ℕ × ℕ)) (found : List Finding) (Reports : Option (List ℕ) → Type 0)
+    : Type 0 where
+  pub span : Option (ℕ × ℕ)
+  pub asked : IsAskedFor seeds found span
+  pub holes : List Stretch
+  pub doubles : List Stretch
+  pub missing : AreMissing span (seeds_in found) holes
+  pub repeated : AreDoubles (seeds_in found) doubles
+  pub reported : Reports (Some (report_text holes doubles))
+
+-- States that the summary of the files' campaigns is printed, that the missing and the repeated seeds are reported, and
+-- that the exit status says whether there are such seeds.
+pub record IsSummed (m : Merge) (old new : Option (List ℕ)) (Reports : Option (List ℕ) → Type 0) (status : ℕ)
+    : Type 0 where
   pub head : List ℕ
   pub found : List Finding
   pub told : IsTold m head found
   pub written : Appends old new (summary_text m.shape found)
+  pub reported : IsSeedReport m.seeds found Reports
   pub covered : IsCoveredBy m.seeds found status

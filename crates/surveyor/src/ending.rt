@@ -1,35 +1,38 @@
 //! How a call ended: what was asked for, and the exit status. Only functions of this file make a `SurveyEnding`, from
 //! what was done or from words that ask for nothing.
 ghost use Rattle.std.specs.Prelude.{◌≡◌, IfErr, IfOk};
+ghost use Rattle.std.specs.Fmt.{with_newline};
 ghost use Rattle.surveyor.specs.Asked.{IsAsked};
 ghost use Rattle.surveyor.specs.Done.{IsDone, IsUndone};
-ghost use Rattle.surveyor.specs.Statuses.{IsUnasked, IsUnhelped};
+ghost use Rattle.surveyor.specs.Statuses.{IsRefusedByClap, IsReported, IsUnasked, IsUnhelped, IsUnhelpedBy, complaint};
 
 use crate::breaches::broken;
 use crate::fault::SurveyFailure;
 use crate::file_sums::summed;
 use crate::keeper::Keeper;
 use crate::played_survey::surveyed;
+use crate::printer::unprinted;
 use crate::task::{Asked, AskedError};
-use combine::Rule;
 use std::marker::PhantomData;
 use std::thread::Threads;
 use streams::Output;
 
-/// How a call ended. `O` is the type of its output, and `K` is the type of the keeper of its campaigns.
+/// How a call ended. `O` is the type of its output, `F` that of its standard error, and `K` that of the keeper of its
+/// campaigns.
 #[derive(Drop)]
-pub struct SurveyEnding<O, K> {
+pub struct SurveyEnding<O, F, K> {
     /// What the words ask for, or why they ask for nothing.
     asked: Result<Asked, AskedError>,
     /// The exit status.
     status: u8,
     output: PhantomData<O>,
+    error: PhantomData<F>,
     keeper: PhantomData<K>,
 }
 
-impl<O: Output, K: Keeper> SurveyEnding<O, K> {
-    /// Does the task in `asked`, or reports the error if `asked` is one. Returns how the call ended, with its output
-    /// and the keeper of its campaigns.
+impl<O: Output, F: Output, K: Keeper> SurveyEnding<O, F, K> {
+    /// Does the task in `asked`. If `asked` is an error, reports it on `error`, which is standard error. Returns how the
+    /// call ended, with its output and the keeper of its campaigns.
     ///
     /// # Errors
     ///
@@ -38,21 +41,23 @@ impl<O: Output, K: Keeper> SurveyEnding<O, K> {
         rt: &HostRuntime,
         threads: &T,
         out: &mut O,
+        error: &mut F,
         keeper: &mut K,
         asked: Result<Asked, AskedError>,
-    ) -> Result<SurveyEnding<O, K>, SurveyFailure>
+    ) -> Result<SurveyEnding<O, F, K>, SurveyFailure>
         requires { IfOk asked IsAsked }
         ensures asked { IfOk result (λ ending. ending.asked ≡ asked) }
         ensures done { IfOk result (λ ending.
             IsDone asked (O.contents out.old) (O.contents out.new) (K.files keeper.old) (K.files keeper.new)
-            ending.status) }
+            (IsReported (F.fails error.old) (F.contents error.old) (F.contents error.new)) ending.status) }
         ensures undone { IfErr result (IsUndone asked) }
     {
-        let status = done(rt, threads, out, keeper, &asked)?;
+        let status = done(rt, threads, out, error, keeper, &asked)?;
         Ok(SurveyEnding {
             asked,
             status,
             output: PhantomData,
+            error: PhantomData,
             keeper: PhantomData,
         })
     }
@@ -65,21 +70,24 @@ impl<O: Output, K: Keeper> SurveyEnding<O, K> {
     }
 }
 
-/// Does the task in `asked`, or reports the error if `asked` is one. Returns the exit status.
+/// Does the task in `asked`. If `asked` is an error, reports it on `error`, which is standard error. Returns the exit
+/// status.
 ///
 /// # Errors
 ///
 /// The request cannot be finished, help cannot be printed, or memory runs out.
-fn done<T: Threads + Sync, O: Output, K: Keeper>(
+fn done<T: Threads + Sync, O: Output, F: Output, K: Keeper>(
     rt: &HostRuntime,
     threads: &T,
     out: &mut O,
+    error: &mut F,
     keeper: &mut K,
     asked: &Result<Asked, AskedError>,
 ) -> Result<u8, SurveyFailure>
     requires { IfOk asked.now IsAsked }
     ensures done { IfOk result
-        (IsDone asked.now (O.contents out.old) (O.contents out.new) (K.files keeper.old) (K.files keeper.new)) }
+        (IsDone asked.now (O.contents out.old) (O.contents out.new) (K.files keeper.old) (K.files keeper.new)
+        (IsReported (F.fails error.old) (F.contents error.old) (F.contents error.new))) }
     ensures undone { IfErr result (IsUndone asked.now) }
 {
     match asked {
@@ -91,39 +99,52 @@ fn done<T: Threads + Sync, O: Output, K: Keeper>(
             broken(rt, threads, out, survey, *is_table)?;
             Ok(0)
         }
-        Ok(Asked::Merge(merge)) => summed(rt, out, merge),
-        Err(error) => unasked(rt, error),
+        Ok(Asked::Merge(merge)) => summed(rt, out, error, merge),
+        Err(why) => unasked(rt, error, why),
     }
 }
 
-/// Reports the error of words that give no task, or prints help if the words ask for it. Returns the exit status: 2, or
-/// 0 for help.
+/// Reports on `error`, which is standard error, why the words give no task, or prints help if they ask for it. Returns
+/// the exit status: 2, or 0 for help.
 ///
 /// # Errors
 ///
 /// Help cannot be printed, or memory ran out.
-fn unasked(rt: &HostRuntime, error: &AskedError) -> Result<u8, SurveyFailure>
-    ensures status { IfOk result (IsUnasked error.now) }
-    ensures unhelped { IfErr result (IsUnhelped error.now) }
+fn unasked<F: Output>(
+    rt: &HostRuntime,
+    error: &mut F,
+    why: &AskedError,
+) -> Result<u8, SurveyFailure>
+    ensures status { IfOk result (IsUnasked why.now) }
+    ensures told { IfOk result (λ _. IsReported (F.fails error.old) (F.contents error.old) (F.contents error.new)
+        (with_newline (complaint why.now))) }
+    ensures unhelped { IfErr result (IsUnhelped why.now) }
 {
-    match error {
-        AskedError::Words(error) => {
-            if error.use_stderr() {
-                let _ = error.print(rt);
-                return Ok(2);
-            }
-            error.print(rt)?;
-            Ok(0)
-        }
-        AskedError::Value(why) => {
-            let _ = rt.eprintln(format_args!("error: {why}"));
-            Ok(2)
-        }
-        AskedError::Rule => {
-            let names = Rule::names();
-            let _ = rt.eprintln(format_args!("error: --rule takes {names}"));
-            Ok(2)
-        }
+    match why {
+        AskedError::Words(refusal) => printed(rt, refusal),
         AskedError::Memory => Err(SurveyFailure::Memory),
+        why => {
+            let _ = error.tell(why);
+            Ok(2)
+        }
+    }
+}
+
+/// Prints why `clap` rejects the words, or the help that they ask for. Returns the exit status: 2, or 0 for help.
+///
+/// # Errors
+///
+/// Help cannot be printed, or memory ran out.
+fn printed(rt: &HostRuntime, refusal: &clap::Error) -> Result<u8, SurveyFailure>
+    ensures status { IfOk result (IsRefusedByClap refusal.now) }
+    ensures unhelped { IfErr result (IsUnhelpedBy refusal.now) }
+{
+    let printed = refusal.print(rt);
+    if refusal.use_stderr() {
+        return Ok(2);
+    }
+    match printed {
+        Ok(()) => Ok(0),
+        Err(error) => Err(unprinted(error.kind())),
     }
 }

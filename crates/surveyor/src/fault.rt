@@ -78,10 +78,11 @@ impl<T: Drop> From<AllocFailed<T>> for SurveyFailure {
 
 impl From<io::Error> for SurveyFailure {
     ghost use Rattle.std.specs.Prelude.{◌≡◌, ◌⊎◌};
-    ghost use Rattle.surveyor.specs.Faults.{IsUnprinted};
+    ghost use Rattle.std.specs.IoError.{error_kind};
+    ghost use Rattle.surveyor.specs.Faults.{IsUnprinted, failure_of};
     ghost use Rattle.surveyor.specs.declared.fault.SurveyFailure.TheVariants.{Words as NotTextual};
 
-    ghost from_gives = { λ _ fault. (fault ≡ NotTextual) ⊎ IsUnprinted fault };
+    ghost from_gives = { λ error fault. (fault ≡ failure_of (error_kind error)) × ((fault ≡ NotTextual) ⊎ IsUnprinted fault) };
 
     fn from(error: io::Error) -> SurveyFailure {
         match error.kind() {

@@ -1,8 +1,9 @@
 //! `--sum`: sums the lines of several files, and reports the seeds that are missing or occur more than once.
-ghost use Rattle.std.specs.Prelude.{◌≡◌, ◌≢◌, IfErr, IfOk, length};
+ghost use Rattle.std.specs.Prelude.{◌≡◌, ◌≢◌, [], ◌++◌, IfErr, IfOk, OnOk, flat_map, length, string_bytes};
 ghost use Rattle.surveys.specs.Parts.{AreOf};
 ghost use Rattle.surveyor.specs.Faults.{IsNoPart, IsUnsummed, IsUntold};
-ghost use Rattle.surveyor.specs.Summed.{AreEnds, IsAskedFor, IsCoveredBy, IsSummed, IsTold, span_of, with_seed};
+ghost use Rattle.surveyor.specs.Statuses.{IsReported};
+ghost use Rattle.surveyor.specs.Summed.{AreEnds, IsAskedFor, IsCoveredBy, IsSeedReport, IsSummed, IsTold, report_text, span_of, stretch_text, with_seed};
 
 use crate::fault::SurveyFailure;
 use crate::input::bytes_of;
@@ -12,22 +13,28 @@ use std::alloc::{AllocError, Global};
 use streams::{FileName, Output};
 use surveys::{Finding, PartError, Parts, Stretch, doubles, holes, read_part};
 
-/// Sums the lines of files, and prints the summary. Reports on standard error which seeds are missing, and which occur
-/// more than once. Returns the exit status: 1 if there are such seeds, and otherwise 0.
+/// Sums the lines of files, and prints the summary. Reports on `error`, which is standard error, which seeds are missing,
+/// and which occur more than once. Returns the exit status: 1 if there are such seeds, and otherwise 0.
 ///
 /// # Errors
 ///
 /// A file cannot be read, a line is rejected, the output cannot be written, or memory runs out.
 #[tactic(auto, using(crate::proofs::FaultLemmas::untold_summed, crate::proofs::FaultLemmas::unprinted_summed, crate::proofs::FaultLemmas::unsummed_by_memory))]
-pub fn summed<O: Output>(rt: &HostRuntime, out: &mut O, asked: &Merge) -> Result<u8, SurveyFailure>
-    ensures summed { IfOk result (IsSummed asked.now (O.contents out.old) (O.contents out.new)) }
+pub fn summed<O: Output, F: Output>(
+    rt: &HostRuntime,
+    out: &mut O,
+    error: &mut F,
+    asked: &Merge,
+) -> Result<u8, SurveyFailure>
+    ensures summed { IfOk result (IsSummed asked.now (O.contents out.old) (O.contents out.new)
+        (IsReported (F.fails error.old) (F.contents error.old) (F.contents error.new))) }
     ensures refused { IfErr result (IsUnsummed asked.now) }
 {
     let alloc = rt.alloc();
     let parts = told(rt, asked)?;
     let findings = parts.findings.as_slice();
     put_summary(alloc, out, asked.shape, findings)?;
-    covered(rt, asked.seeds, findings)
+    covered(alloc, error, asked.seeds, findings)
 }
 
 /// Reads the lines of all files.
@@ -35,7 +42,7 @@ pub fn summed<O: Output>(rt: &HostRuntime, out: &mut O, asked: &Merge) -> Result
 /// # Errors
 ///
 /// A file cannot be read, a line is rejected, or memory runs out.
-#[tactic(auto, using(crate::proofs::FaultLemmas::unread_one, crate::proofs::FaultLemmas::no_part_told))]
+#[tactic(auto, using(crate::proofs::FaultLemmas::unread_one, crate::proofs::SumLemmas::none_told, crate::proofs::SumLemmas::told_more, crate::proofs::SumLemmas::no_part_told))]
 fn told(rt: &HostRuntime, asked: &Merge) -> Result<Parts, SurveyFailure>
     ensures told { IfOk result (λ parts. IsTold asked.now parts.head.items parts.findings.items) }
     ensures refused { IfErr result (IsUntold asked.now) }
@@ -45,21 +52,24 @@ fn told(rt: &HostRuntime, asked: &Merge) -> Result<Parts, SurveyFailure>
         head: Vec::new(alloc),
         findings: Vec::new(alloc),
     };
-    let mut first: Option<&String> = None;
+    let mut first = "";
     for name in &asked.names {
         let bytes = bytes_of(rt, name.as_str())?;
-        if parts.head.is_empty() {
-            first = Some(name);
-        }
+        first = first_name(&parts, first, name.as_str());
         match read_part(alloc, &mut parts, bytes.as_slice(), span_of(asked.seeds)) {
             Ok(()) => {}
-            Err(error) => {
-                let first = first.unwrap_or(name);
-                return Err(refused(alloc, name.as_str(), first.as_str(), error));
-            }
+            Err(error) => return Err(refused(alloc, name.as_str(), first, error)),
         }
     }
     Ok(parts)
+}
+
+/// Returns the name of the file that begins the survey: `first`, or `name` if no file had lines so far.
+fn first_name<'a>(parts: &Parts, first: &'a str, name: &'a str) -> &'a str
+    ensures none { parts.now.head.items ≡ [] → result.now ≡ name.entry.now }
+    ensures some { parts.now.head.items ≢ [] → result.now ≡ first.entry.now }
+{
+    if parts.head.is_empty() { name } else { first }
 }
 
 /// Returns the first and the last seed that may occur: those of `--seeds`, or 0 and 2^64 - 1 if it is not given.
@@ -166,22 +176,25 @@ fn status_of(holes: &[Stretch], doubles: &[Stretch]) -> u8
     0
 }
 
-/// Reports on standard error which seeds are missing, and which occur more than once. Returns the exit status: 1 if
-/// there are such seeds, and otherwise 0.
+/// Reports on `error` which seeds are missing, and which occur more than once. Returns the exit status: 1 if there are
+/// such seeds, and otherwise 0.
 ///
 /// # Errors
 ///
 /// Memory ran out.
-fn covered(
-    rt: &HostRuntime,
+#[tactic(auto, using(crate::proofs::CoverLemmas::seeds_reported, crate::proofs::CoverLemmas::nothing_reported, crate::proofs::CoverLemmas::put_reported))]
+fn covered<F: Output>(
+    alloc: Global,
+    error: &mut F,
     seeds: Option<(u64, u64)>,
     all: &[Finding],
 ) -> Result<u8, SurveyFailure>
     requires { AreOf (span_of seeds).0 (span_of seeds).1 all.now }
     ensures covered { IfOk result (IsCoveredBy seeds all.now) }
+    ensures told { IfOk result (λ _. IsSeedReport seeds all.now
+        (IsReported (F.fails error.old) (F.contents error.old) (F.contents error.new))) }
     ensures memory { IfErr result (λ fault. fault ≡ SurveyFailure.Memory) }
 {
-    let alloc = rt.alloc();
     let span = asked_for(seeds, all);
     let Some((first, last)) = span else {
         return Ok(0);
@@ -189,15 +202,48 @@ fn covered(
     let holes = holes(alloc, all, first, last)?;
     let doubles = doubles(alloc, all)?;
     let status = status_of(holes.as_slice(), doubles.as_slice());
-    tell_stretches(rt, "hole", holes.as_slice());
-    tell_stretches(rt, "double", doubles.as_slice());
+    let report = report_text(alloc, holes.as_slice(), doubles.as_slice())?;
+    let _ = error.put(report.as_bytes());
     Ok(status)
 }
 
-/// Reports these stretches of seeds on standard error, in the form that `--seeds` takes. Each line begins with `name`.
-fn tell_stretches(rt: &HostRuntime, name: &str, stretches: &[Stretch]) {
+/// Returns the lines that report missing seeds (`holes`), and then those that report repeated seeds (`doubles`).
+///
+/// # Errors
+///
+/// `AllocError` if memory runs out.
+fn report_text(alloc: Global, holes: &[Stretch], doubles: &[Stretch]) -> Result<String, AllocError>
+    ensures { IfOk result (λ text. string_bytes text ≡ report_text holes.now doubles.now) }
+{
+    let mut out = String::new(alloc);
+    put_stretches(&mut out, "hole", holes)?;
+    put_stretches(&mut out, "double", doubles)?;
+    Ok(out)
+}
+
+/// Appends a line for each of these stretches of seeds, in the form that `--seeds` takes. Each line begins with `name`.
+///
+/// # Errors
+///
+/// `AllocError` if memory runs out.
+fn put_stretches(out: &mut String, name: &str, stretches: &[Stretch]) -> Result<(), AllocError>
+    ensures { OnOk result
+        (string_bytes out.new ≡ string_bytes out.old ++ flat_map (stretch_text name.now) stretches.now) }
+{
     for stretch in stretches {
-        let (first, last) = (stretch.first, stretch.last);
-        let _ = rt.eprintln(format_args!("{name} {first}..{last}"));
+        put_stretch(out, name, stretch)?;
     }
+    Ok(())
+}
+
+/// Appends the line of a stretch of seeds, which begins with `name`.
+///
+/// # Errors
+///
+/// `AllocError` if memory runs out.
+fn put_stretch(out: &mut String, name: &str, stretch: &Stretch) -> Result<(), AllocError>
+    ensures { OnOk result (string_bytes out.new ≡ string_bytes out.old ++ stretch_text name.now stretch.now) }
+{
+    let (first, last) = (stretch.first, stretch.last);
+    writeln!(out, "{name} {first}..{last}")
 }

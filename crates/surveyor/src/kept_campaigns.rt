@@ -1,13 +1,21 @@
 //! Writes campaigns to the folder of `--keep`. No contract can say whether the files are still there later.
-ghost use Rattle.std.specs.Prelude.{IfErr, IfOk, string_bytes};
+ghost use Rattle.std.specs.Prelude.{◌≡◌, IfErr, IfOk, string_bytes};
 ghost use Rattle.streams.specs.Filling.{IsFilledBy};
-ghost use Rattle.surveyor.specs.Faults.{IsUnkept, tried_name};
+ghost use Rattle.surveyor.specs.Faults.{IsUnkept, tried_name, unwritten};
 ghost use Rattle.surveyor.specs.Kept.{beside_name, kept_name};
 
 use crate::fault::SurveyFailure;
+use std::alloc::{AllocError, Global};
 use std::fs::{File, OpenOptions, create_dir, metadata, remove_file, rename};
 use std::io::{self, ErrorKind};
 use streams::{Filled, fill};
+
+/// The name of a file, and the name under which it is written first.
+#[derive(Drop)]
+struct FileNames {
+    name: String,
+    beside: String,
+}
 
 /// Writes the campaign of a seed to FOLDER/SEED.toml. The text is written to FOLDER/.SEED.toml.new first, which is then
 /// renamed, so FOLDER/SEED.toml is never incomplete. If that fails, the new file is removed.
@@ -24,17 +32,30 @@ pub fn keep<'t>(
     ensures written { IfOk result (IsFilledBy (kept_name folder.now seed) text.now) }
     ensures unkept { IfErr result (IsUnkept (kept_name folder.now seed) (beside_name folder.now seed)) }
 {
-    let alloc = rt.alloc();
-    let name = format!(in alloc; "{folder}/{seed}.toml")?;
-    let beside = format!(in alloc; "{folder}/.{seed}.toml.new")?;
-    let written = match new_file(rt, beside.as_str()) {
-        Ok(file) => moved(rt, file, beside.as_str(), name.as_str(), text),
+    let names = names_of(rt.alloc(), folder, seed)?;
+    let written = match new_file(rt, names.beside.as_str()) {
+        Ok(file) => moved(rt, file, &names, text),
         Err(error) => Err(error),
     };
     match written {
         Ok(filled) => Ok(filled),
-        Err(error) => Err(unwritten(error.kind(), name, beside)),
+        Err(error) => Err(unwritten(error.kind(), names)),
     }
+}
+
+/// Returns the names of the file with the campaign of a seed: FOLDER/SEED.toml and FOLDER/.SEED.toml.new.
+///
+/// # Errors
+///
+/// `AllocError` if memory runs out.
+fn names_of(alloc: Global, folder: &str, seed: u64) -> Result<FileNames, AllocError>
+    ensures name { IfOk result (λ names. string_bytes names.name ≡ kept_name folder.now seed) }
+    ensures beside { IfOk result (λ names. string_bytes names.beside ≡ beside_name folder.now seed) }
+{
+    Ok(FileNames {
+        name: format!(in alloc; "{folder}/{seed}.toml")?,
+        beside: format!(in alloc; "{folder}/.{seed}.toml.new")?,
+    })
 }
 
 /// Makes the folder of this name unless it exists, and checks that a file can be written to it. `number` is part of the
@@ -47,23 +68,26 @@ pub fn open_folder(rt: &HostRuntime, folder: &str, number: u64) -> Result<(), Su
     ensures { IfErr result (IsUnkept folder.now (tried_name folder.now number)) }
 {
     let alloc = rt.alloc();
-    let name = String::from_str(alloc, folder)?;
-    let tried = format!(in alloc; "{folder}/.{number}.survey.new")?;
-    match opened(rt, folder, tried.as_str()) {
+    let names = FileNames {
+        name: String::from_str(alloc, folder)?,
+        beside: format!(in alloc; "{folder}/.{number}.survey.new")?,
+    };
+    match opened(rt, folder, names.beside.as_str()) {
         Ok(()) => Ok(()),
-        Err(error) => Err(unwritten(error.kind(), name, tried)),
+        Err(error) => Err(unwritten(error.kind(), names)),
     }
 }
 
-/// Returns the failure for a file that cannot be written. It names `beside` if that file exists already, and `name`
-/// otherwise. If memory ran out, it names no file.
-fn unwritten(kind: ErrorKind, name: String, beside: String) -> SurveyFailure
-    ensures { IsUnkept (string_bytes name) (string_bytes beside) result }
+/// Returns the failure for a file that cannot be written, by the kind of the error. It names `beside` if that file
+/// exists already, and `name` otherwise. If memory ran out, it names no file.
+fn unwritten(kind: ErrorKind, names: FileNames) -> SurveyFailure
+    ensures same { result ≡ unwritten kind names.name names.beside }
+    ensures unkept { IsUnkept (string_bytes names.name) (string_bytes names.beside) result }
 {
     match kind {
         ErrorKind::OutOfMemory => SurveyFailure::Memory,
-        ErrorKind::AlreadyExists => SurveyFailure::Unwritten(Some(beside)),
-        _ => SurveyFailure::Unwritten(Some(name)),
+        ErrorKind::AlreadyExists => SurveyFailure::Unwritten(Some(names.beside)),
+        _ => SurveyFailure::Unwritten(Some(names.name)),
     }
 }
 
@@ -113,15 +137,14 @@ fn new_file(rt: &HostRuntime, name: &str) -> io::Result<File> {
 fn moved<'t>(
     rt: &HostRuntime,
     file: File,
-    beside: &str,
-    name: &str,
+    names: &FileNames,
     text: &'t str,
 ) -> io::Result<Filled<'t, File>>
-    ensures { IfOk result (IsFilledBy name.now text.now) }
+    ensures { IfOk result (IsFilledBy (string_bytes names.now.name) text.now) }
 {
-    let written = named(rt, file, beside, name, text);
+    let written = named(rt, file, names, text);
     if written.is_err() {
-        let _ = remove_file(rt, beside);
+        let _ = remove_file(rt, names.beside.as_str());
     }
     written
 }
@@ -134,14 +157,13 @@ fn moved<'t>(
 fn named<'t>(
     rt: &HostRuntime,
     mut file: File,
-    beside: &str,
-    name: &str,
+    names: &FileNames,
     text: &'t str,
 ) -> io::Result<Filled<'t, File>>
-    ensures { IfOk result (IsFilledBy name.now text.now) }
+    ensures { IfOk result (IsFilledBy (string_bytes names.now.name) text.now) }
 {
-    let filled = fill(rt.alloc(), &mut file, name, text.as_bytes())?;
+    let filled = fill(rt.alloc(), &mut file, names.name.as_str(), text.as_bytes())?;
     drop(file);
-    rename(rt, beside, name)?;
+    rename(rt, names.beside.as_str(), names.name.as_str())?;
     Ok(filled)
 }

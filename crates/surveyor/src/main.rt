@@ -34,7 +34,7 @@ use ending::SurveyEnding;
 use fault::{SurveyFailure, tell};
 use keeper::Disk;
 use std::env;
-use std::io::Stdout;
+use std::io::{Stderr, Stdout};
 use std::process::ExitCode;
 use std::thread::Threads;
 use task::request;
@@ -56,7 +56,7 @@ fn main(rt: HostRuntime) -> ExitCode {
 fn called<'a, T: Threads + Sync>(
     rt: &'a HostRuntime,
     threads: &T,
-) -> Result<SurveyEnding<Stdout, Disk<'a>>, SurveyFailure>
+) -> Result<SurveyEnding<Stdout, Stderr, Disk<'a>>, SurveyFailure>
     ensures asked { IfOk result (λ ending. (words : List Text) × IsAskedBy words ending.asked) }
     ensures undone { IfErr result (λ fault. (fault ≡ NotTextual) ⊎ IsUnprinted fault
         ⊎ ((words : List Text) × (asked : Result Wish NoWish) × IsAskedBy words asked × IsUndone asked fault)) }
@@ -79,10 +79,11 @@ fn answered<'a, T: Threads + Sync>(
     rt: &'a HostRuntime,
     threads: &T,
     words: &[&str],
-) -> Result<SurveyEnding<Stdout, Disk<'a>>, SurveyFailure>
+) -> Result<SurveyEnding<Stdout, Stderr, Disk<'a>>, SurveyFailure>
     ensures asked { IfOk result (λ ending. IsAskedBy (words_of words.now) ending.asked) }
     ensures undone { IfErr result (λ fault. (asked : Result Wish NoWish) × IsAskedBy (words_of words.now) asked × IsUndone asked fault) }
 {
     let asked = request(rt.alloc(), words);
-    SurveyEnding::of(rt, threads, &mut rt.stdout(), &mut Disk { rt }, asked)
+    let (mut out, mut error) = (rt.stdout(), rt.stderr());
+    SurveyEnding::of(rt, threads, &mut out, &mut error, &mut Disk { rt }, asked)
 }

@@ -2,7 +2,7 @@
 ghost use Rattle.std.specs.Prelude.{◌≡◌, IfErr, IfOk, OnErr, OnOk, string_bytes};
 ghost use Rattle.std.specs.Io.KnownBytes.{Appends};
 ghost use Rattle.streams.specs.Writing.{AppendsFront};
-ghost use Rattle.surveyor.specs.Faults.{IsUnprinted};
+ghost use Rattle.surveyor.specs.Faults.{IsUnprinted, unprinted};
 ghost use Rattle.surveyor.specs.Printed.{summary_text};
 
 use crate::fault::SurveyFailure;
@@ -30,8 +30,9 @@ pub fn print<O: Output>(out: &mut O, text: &str) -> Result<(), SurveyFailure>
 }
 
 /// Returns the failure for a standard output that cannot be written, or `Memory` if memory ran out.
-fn unprinted(kind: ErrorKind) -> SurveyFailure
-    ensures { IsUnprinted result }
+pub fn unprinted(kind: ErrorKind) -> SurveyFailure
+    ensures same { result ≡ unprinted kind }
+    ensures unprinted { IsUnprinted result }
 {
     match kind {
         ErrorKind::OutOfMemory => SurveyFailure::Memory,

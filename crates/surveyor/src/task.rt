@@ -9,7 +9,9 @@ ghost use Rattle.surveyor.specs.Wrong.{IsByClap, IsUnmet};
 use crate::flags::{command, rules};
 use crate::task_words::meant;
 use clap::error::ErrorKind;
+use combine::Rule;
 use std::alloc::{AllocError, Global};
+use std::fmt;
 use surveys::{CountRange, Manner};
 
 /// A request of the command line.
@@ -76,6 +78,21 @@ pub enum AskedError {
     Rule,
     /// Memory ran out.
     Memory,
+}
+
+impl fmt::Display for AskedError {
+    ghost use Rattle.surveyor.specs.Statuses.{complaint};
+
+    ghost output = { complaint };
+
+    fn fmt<W: fmt::Write>(&self, f: &mut fmt::Formatter<W>) -> fmt::Result {
+        match self {
+            AskedError::Words(refusal) => write!(f, "{refusal}"),
+            AskedError::Value(why) => write!(f, "error: {why}"),
+            AskedError::Rule => write!(f, "error: --rule takes {}", Rule::names()),
+            AskedError::Memory => f.write_str("out of memory"),
+        }
+    }
 }
 
 impl From<AllocError> for AskedError {
