@@ -50,8 +50,8 @@ fn most_bytes(key: ReferenceKey) -> usize
     }
 }
 
-/// Reads a file that the scenario names from the folder, unless it has too many bytes. The key by which it is named says whether the file is
-/// assembly, bytecode or an object.
+/// Reads a file that the scenario names from the folder, unless it has too many bytes. The key by which it is named
+/// says whether the file is assembly, bytecode or an object.
 pub(crate) fn beside<D: Folder>(
     alloc: Global,
     folder: &D,
