@@ -14,7 +14,7 @@ use crate::schedules::{instructions, steps_to_access};
 use crate::state::{State, with_access};
 use round::Scenario;
 use std::alloc::{AllocError, Global};
-use world::{PlayableWorld, Progress, World, named_round, play_names, wind_up};
+use world::{PlayableWorld, Progress, World, names_played, round_finished, round_played};
 
 /// Plays a campaign from its start and returns its world after these accesses. `rows` lists the generals who made the
 /// accesses of the closed rounds, and `names` those of the open round.
@@ -29,10 +29,11 @@ fn again(
     let mut world = World::open(alloc, scenario.copy(alloc)?)?;
     for (round, row) in rows.iter().enumerate() {
         let _ = round;
-        named_round(&mut world, row.as_slice())?;
+        let next = round_played(world, row.as_slice())?;
+        world = next;
     }
-    play_names(&mut world, names)?;
-    Ok(world)
+    let last = names_played(world, names)?;
+    Ok(last)
 }
 
 /// Returns the state after a general has made his next access, in a world that is played again. Returns `None` if he
@@ -108,8 +109,8 @@ fn closed(
       names = [];
     }) }
 {
-    let mut world = again(alloc, scenario, rows.as_slice(), names.as_slice())?;
-    wind_up(&mut world)?;
+    let played = again(alloc, scenario, rows.as_slice(), names.as_slice())?;
+    let world = round_finished(played)?;
     let mut rows = rows;
     rows.push(names)?;
     Ok(State::new(world, ways, rows, Vec::new(alloc)))

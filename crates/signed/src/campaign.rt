@@ -13,7 +13,7 @@ use crate::chronicle::SignedChronicle;
 use crate::signed_world::SignedWorld;
 use round::Scenario;
 use std::alloc::{AllocError, Global};
-use world::{Schedule, play_listed, play_named};
+use world::{Schedule, rounds_played, schedule_played};
 
 /// Plays the signed campaign of a scenario by a schedule and returns its chronicle. In each round the schedule's
 /// entries come first, one by one. Then come the letters of all loyal generals and the remaining instructions of the
@@ -87,8 +87,8 @@ fn played_listed(
     ensures finished { IfOk result IsFinished }
 {
     scenario.recall();
-    let mut world = SignedWorld::open(alloc, scenario)?;
-    play_listed(&mut world, schedule)?;
+    let opened = SignedWorld::open(alloc, scenario)?;
+    let world = schedule_played(opened, schedule)?;
     Ok(world)
 }
 
@@ -104,7 +104,7 @@ fn played_named(
     ensures finished { IfOk result IsFinished }
 {
     scenario.recall();
-    let mut world = SignedWorld::open(alloc, scenario)?;
-    play_named(&mut world, names)?;
+    let opened = SignedWorld::open(alloc, scenario)?;
+    let world = rounds_played(opened, names)?;
     Ok(world)
 }

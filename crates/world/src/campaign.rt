@@ -1,5 +1,5 @@
 //! Plays campaigns from a scenario to their chronicle, by a schedule or as a replay. The functions that take a world
-//! work for every kind of campaign.
+//! work for every kind of campaign. If one of these fails, nothing is known about the world.
 ghost use Rattle.std.specs.Prelude.{◌≡◌, IfOk, ◌<◌, [], suc, OnOk, replicate, slice_get, slice_index_or};
 ghost use Rattle.round.specs.Letters.{messages};
 ghost use Rattle.world.specs.Agreement.{IsFinished};
@@ -186,12 +186,7 @@ fn tick_to_access<W: PlayableWorld>(world: &mut W, general: u32) -> Result<(), A
 }
 
 /// Lets the generals that are named for a round make their accesses in this order.
-///
-/// # Errors
-///
-/// Fails with `AllocError` if it runs out of memory. The world is then valid, but nothing else is known about it, and
-/// it should be dropped.
-pub fn play_names<W: PlayableWorld>(world: &mut W, names: &[u8]) -> Result<(), AllocError>
+pub(crate) fn play_names<W: PlayableWorld>(world: &mut W, names: &[u8]) -> Result<(), AllocError>
     ensures { OnOk result (W.seen world.new
         ≡ run_of W.kind (W.seen world.old) (names_events W.kind (W.seen world.old) names.now)) }
 {
@@ -261,12 +256,7 @@ fn end_round<W: PlayableWorld>(world: &mut W) -> Result<(), AllocError>
 }
 
 /// Finishes the round: all loyal generals post, all traitors run to their ends, and the round is closed.
-///
-/// # Errors
-///
-/// Fails with `AllocError` if it runs out of memory. The world is then valid, but nothing else is known about it, and
-/// it should be dropped.
-pub fn wind_up<W: PlayableWorld>(world: &mut W) -> Result<(), AllocError>
+pub(crate) fn wind_up<W: PlayableWorld>(world: &mut W) -> Result<(), AllocError>
     ensures { OnOk result (W.seen world.new ≡ run_of W.kind (W.seen world.old) (wound_up (W.seen world.old).scenario)) }
 {
     all_post(world);
@@ -286,12 +276,7 @@ fn listed_round<W: PlayableWorld>(world: &mut W, line: &[Repeat]) -> Result<(), 
 }
 
 /// Plays a round in which these generals make their accesses in this order, and finishes it.
-///
-/// # Errors
-///
-/// Fails with `AllocError` if it runs out of memory. The world is then valid, but nothing else is known about it, and
-/// it should be dropped.
-pub fn named_round<W: PlayableWorld>(world: &mut W, names: &[u8]) -> Result<(), AllocError>
+pub(crate) fn named_round<W: PlayableWorld>(world: &mut W, names: &[u8]) -> Result<(), AllocError>
     ensures { OnOk result (W.seen world.new
         ≡ run_of W.kind (run_of W.kind (W.seen world.old) (names_events W.kind (W.seen world.old) names.now))
         (wound_up (W.seen world.old).scenario)) }
@@ -301,12 +286,10 @@ pub fn named_round<W: PlayableWorld>(world: &mut W, names: &[u8]) -> Result<(), 
 }
 
 /// Plays `bound + 1` rounds by a schedule. From the opening of a world on, this is the whole campaign.
-///
-/// # Errors
-///
-/// Fails with `AllocError` if it runs out of memory. The world is then valid, but nothing else is known about it, and
-/// it should be dropped.
-pub fn play_listed<W: PlayableWorld>(world: &mut W, schedule: &Schedule) -> Result<(), AllocError>
+pub(crate) fn play_listed<W: PlayableWorld>(
+    world: &mut W,
+    schedule: &Schedule,
+) -> Result<(), AllocError>
     ensures { OnOk result (W.seen world.new
         ≡ run_of W.kind (W.seen world.old)
         (listed_rounds (W.seen world.old).scenario (suc (W.seen world.old).scenario.bound) (lines_by schedule.now))) }
@@ -320,12 +303,10 @@ pub fn play_listed<W: PlayableWorld>(world: &mut W, schedule: &Schedule) -> Resu
 
 /// Plays `bound + 1` rounds in which these generals, by round, make their accesses in this order. Accesses that are not
 /// named follow as each round is finished. From the opening of a world on, this is the whole campaign.
-///
-/// # Errors
-///
-/// Fails with `AllocError` if it runs out of memory. The world is then valid, but nothing else is known about it, and
-/// it should be dropped.
-pub fn play_named<W: PlayableWorld>(world: &mut W, names: &[Vec<u8>]) -> Result<(), AllocError>
+pub(crate) fn play_named<W: PlayableWorld>(
+    world: &mut W,
+    names: &[Vec<u8>],
+) -> Result<(), AllocError>
     ensures { OnOk result (W.seen world.new
         ≡ run_of W.kind (W.seen world.old)
         (replayed_rounds W.kind (W.seen world.old) (suc (W.seen world.old).scenario.bound) (lists_in names.now))) }
