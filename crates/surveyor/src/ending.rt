@@ -9,6 +9,7 @@ use crate::breaches::broken;
 use crate::fault::SurveyFailure;
 use crate::file_sums::summed;
 use crate::keeper::Keeper;
+use crate::mistake::print_mistake;
 use crate::played_survey::surveyed;
 use crate::task::{Asked, AskedError};
 use combine::Rule;
@@ -107,7 +108,7 @@ fn unasked(rt: &HostRuntime, error: &AskedError) -> Result<u8, SurveyFailure>
     match error {
         AskedError::Words(error) => {
             if error.use_stderr() {
-                let _ = error.print(rt);
+                print_mistake(rt, error);
                 return Ok(2);
             }
             error.print(rt)?;
