@@ -7,7 +7,7 @@
 
 _byzlab() {
     local words=("${COMP_WORDS[@]}") at=$COMP_CWORD script="prove release install uninstall serve --try" offered program= start=
-    local commands="check asm dis book table muster play audit explore tree draw page schedule survey help"
+    local commands="check asm dis book table refute muster play audit explore tree draw page schedule survey help"
     program=$(type -P -- "${words[0]}") && LC_ALL=C read -r -n 4 start <"$program"
     if [ "$start" = $'\x7fELF' ]; then
         script= commands=${commands/ survey/}
@@ -34,6 +34,7 @@ _byzlab() {
     *:dis:-*) offered="--elf --units --explain --partial --entry -h --help" ;;
     *:book:-*) offered="--explain --json --traitors -h --help" ;;
     *:table:-*) offered="--loyal --lie -h --help" ;;
+    *:refute:-*) offered="--rule --story -h --help" ;;
     *:tree:-*) offered="--text --ascii --dot --svg --fold --of --traitors --depth -h --help" ;;
     *:draw:-*) offered="--schedule --chronicle -h --help" ;;
     *:page:-*) offered="--schedule --chronicle -o -h --help" ;;

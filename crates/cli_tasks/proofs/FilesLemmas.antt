@@ -10,7 +10,7 @@ use Rattle.cli_words.specs.declared.tasks.Accesses.TheVariants.{OfChronicle, Lis
 use Rattle.cli_words.specs.declared.tasks.Course.TheVariants.{Scheduled, Recorded}
 use Rattle.cli_words.specs.declared.tasks.Lieutenants.{Lieutenants}
 use Rattle.cli_words.specs.declared.tasks.Task.{Task}
-use Rattle.cli_words.specs.declared.tasks.Task.TheVariants.{Check, Assemble, AssemblePartly, Disassemble, DisassemblePartly, Book, ExplainDecisions, Form, Play, Muster, Audit, Explore, Tree, Draw, Page, Retrace}
+use Rattle.cli_words.specs.declared.tasks.Task.TheVariants.{Check, Assemble, AssemblePartly, Disassemble, DisassemblePartly, Book, ExplainDecisions, Form, Refute, Play, Muster, Audit, Explore, Tree, Draw, Page, Retrace}
 use Rattle.round.specs.Scenario.{Scenario}
 use Rattle.scenario.specs.declared.messages.Campaign.{Campaign}
 use Rattle.world.specs.declared.schedule.Repeat.{Repeat}
@@ -67,6 +67,7 @@ answered_played (DisassemblePartly file notation explained) files first text s t
 answered_played (Book file) files first text s told why are comes by = absurd comes
 answered_played (ExplainDecisions file traitors) files first text s told why are comes by = absurd comes
 answered_played (Form n m c filling) files first text s told why are comes by = absurd comes
+answered_played (Refute n m c rule story) files first text s told why are comes by = absurd comes
 answered_played (Play scenario listing account explained) files first text s told why are comes (schedule, listed, played) =
     let same = subst (λ (a : Account). IsPlayed s schedule a why text) comes.1 played in
     (first, are, (listed.0, listed.1, (s, comes.0, (schedule, listed.2, subst (λ (e : Option Lieutenants). IsPlayed s schedule account e text) comes.2 same))))
@@ -93,6 +94,7 @@ answered_mustered (DisassemblePartly file notation explained) files first text s
 answered_mustered (Book file) files first text s why are comes mustered = absurd comes
 answered_mustered (ExplainDecisions file traitors) files first text s why are comes mustered = absurd comes
 answered_mustered (Form n m c filling) files first text s why are comes mustered = absurd comes
+answered_mustered (Refute n m c rule story) files first text s why are comes mustered = absurd comes
 answered_mustered (Play scenario listing account explained) files first text s why are comes mustered = absurd comes
 answered_mustered (Muster scenario explained) files first text s why are comes mustered =
     let some = some_second files.second in (first, are, (some.0, some.1, (s, comes.0, subst (λ (e : Option Lieutenants). IsMustered s e text) comes.1 mustered)))
@@ -118,6 +120,7 @@ answered_audited (DisassemblePartly file notation explained) files first text s 
 answered_audited (Book file) files first text s why are comes audit = absurd comes
 answered_audited (ExplainDecisions file traitors) files first text s why are comes audit = absurd comes
 answered_audited (Form n m c filling) files first text s why are comes audit = absurd comes
+answered_audited (Refute n m c rule story) files first text s why are comes audit = absurd comes
 answered_audited (Play scenario listing account explained) files first text s why are comes audit = absurd comes
 answered_audited (Muster scenario explained) files first text s why are comes audit = absurd comes
 answered_audited (Audit scenario chronicle explained) files first text s why are comes (bytes, known, audited) =
@@ -152,6 +155,7 @@ answered_tried (DisassemblePartly file notation explained) files first text prog
 answered_tried (Book file) files first text program steps are comes tried = absurd comes
 answered_tried (ExplainDecisions file traitors) files first text program steps are comes tried = absurd comes
 answered_tried (Form n m c filling) files first text program steps are comes tried = absurd comes
+answered_tried (Refute n m c rule story) files first text program steps are comes tried = absurd comes
 answered_tried (Play scenario listing account explained) files first text program steps are comes tried = absurd comes
 answered_tried (Muster scenario explained) files first text program steps are comes tried = absurd comes
 answered_tried (Audit scenario chronicle explained) files first text program steps are comes tried = absurd comes
@@ -176,6 +180,7 @@ answered_drawn (DisassemblePartly file notation explained) files first text s ar
 answered_drawn (Book file) files first text s are comes by = absurd comes
 answered_drawn (ExplainDecisions file traitors) files first text s are comes by = absurd comes
 answered_drawn (Form n m c filling) files first text s are comes by = absurd comes
+answered_drawn (Refute n m c rule story) files first text s are comes by = absurd comes
 answered_drawn (Play scenario listing account explained) files first text s are comes by = absurd comes
 answered_drawn (Muster scenario explained) files first text s are comes by = absurd comes
 answered_drawn (Audit scenario chronicle explained) files first text s are comes by = absurd comes
@@ -201,6 +206,7 @@ answered_recorded (DisassemblePartly file notation explained) files first text s
 answered_recorded (Book file) files first text s are comes by = absurd comes
 answered_recorded (ExplainDecisions file traitors) files first text s are comes by = absurd comes
 answered_recorded (Form n m c filling) files first text s are comes by = absurd comes
+answered_recorded (Refute n m c rule story) files first text s are comes by = absurd comes
 answered_recorded (Play scenario listing account explained) files first text s are comes by = absurd comes
 answered_recorded (Muster scenario explained) files first text s are comes by = absurd comes
 answered_recorded (Audit scenario chronicle explained) files first text s are comes by = absurd comes
@@ -227,6 +233,7 @@ answered_paged (DisassemblePartly file notation explained) files first page s te
 answered_paged (Book file) files first page s text are comes by = absurd comes
 answered_paged (ExplainDecisions file traitors) files first page s text are comes by = absurd comes
 answered_paged (Form n m c filling) files first page s text are comes by = absurd comes
+answered_paged (Refute n m c rule story) files first page s text are comes by = absurd comes
 answered_paged (Play scenario listing account explained) files first page s text are comes by = absurd comes
 answered_paged (Muster scenario explained) files first page s text are comes by = absurd comes
 answered_paged (Audit scenario chronicle explained) files first page s text are comes by = absurd comes
@@ -252,6 +259,7 @@ answered_page_recorded (DisassemblePartly file notation explained) files first p
 answered_page_recorded (Book file) files first page s text are comes by = absurd comes
 answered_page_recorded (ExplainDecisions file traitors) files first page s text are comes by = absurd comes
 answered_page_recorded (Form n m c filling) files first page s text are comes by = absurd comes
+answered_page_recorded (Refute n m c rule story) files first page s text are comes by = absurd comes
 answered_page_recorded (Play scenario listing account explained) files first page s text are comes by = absurd comes
 answered_page_recorded (Muster scenario explained) files first page s text are comes by = absurd comes
 answered_page_recorded (Audit scenario chronicle explained) files first page s text are comes by = absurd comes
@@ -279,6 +287,7 @@ answered_retraced (DisassemblePartly file notation explained) files first text s
 answered_retraced (Book file) files first text s are comes by = absurd comes
 answered_retraced (ExplainDecisions file traitors) files first text s are comes by = absurd comes
 answered_retraced (Form n m c filling) files first text s are comes by = absurd comes
+answered_retraced (Refute n m c rule story) files first text s are comes by = absurd comes
 answered_retraced (Play scenario listing account explained) files first text s are comes by = absurd comes
 answered_retraced (Muster scenario explained) files first text s are comes by = absurd comes
 answered_retraced (Audit scenario chronicle explained) files first text s are comes by = absurd comes

@@ -3,7 +3,7 @@ use Rattle.std.proofs.Common.{ℕ, ◌≡◌, ◌∙◌, List, ap, refl, subst, 
 use Rattle.std.specs.Prelude.{Bool, true, false, Option, None, Some, unwrap_or}
 use Rattle.cli_words.specs.declared.tasks.Notation.{Notation}
 use Rattle.cli_words.specs.declared.tasks.Task.{Task}
-use Rattle.cli_words.specs.declared.tasks.Task.TheVariants.{Check, Assemble, AssemblePartly, Disassemble, DisassemblePartly, Book, ExplainDecisions, Form, Play, Muster, Audit, Explore, Tree, Draw, Page, Retrace}
+use Rattle.cli_words.specs.declared.tasks.Task.TheVariants.{Check, Assemble, AssemblePartly, Disassemble, DisassemblePartly, Book, ExplainDecisions, Form, Refute, Play, Muster, Audit, Explore, Tree, Draw, Page, Retrace}
 use Rattle.insn.specs.declared.insn.Insn.{Insn}
 use Rattle.label.specs.declared.shape.Shape.{Shape}
 use Rattle.semantics.specs.Run.{IsSound}
@@ -44,6 +44,7 @@ placeless (DisassemblePartly file own explained) files text none (first, are, (s
 placeless (Book file) files text none (first, are, (second, have, prints)) = (first, are, (second, have, prints, refl))
 placeless (ExplainDecisions file traitors) files text none (first, are, (second, have, prints)) = (first, are, (second, have, prints, refl))
 placeless (Form n m c filling) files text none (first, are, (second, have, prints)) = (first, are, (second, have, prints, refl))
+placeless (Refute n m c rule story) files text none (first, are, (second, have, prints)) = (first, are, (second, have, prints, refl))
 placeless (Play scenario schedule account explained) files text none (first, are, (second, have, prints)) = (first, are, (second, have, prints, refl))
 placeless (Muster scenario explained) files text none (first, are, (second, have, prints)) = (first, are, (second, have, prints, refl))
 placeless (Audit scenario chronicle explained) files text none (first, are, (second, have, prints)) = (first, are, (second, have, prints, refl))
@@ -93,6 +94,7 @@ placed_trial (DisassemblePartly file own explained) files first text program not
 placed_trial (Book file) files first text program notation steps place are is has accepted sound tried = absurd cc
 placed_trial (ExplainDecisions file traitors) files first text program notation steps place are is has accepted sound tried = absurd cc
 placed_trial (Form n m c filling) files first text program notation steps place are is has accepted sound tried = absurd cc
+placed_trial (Refute n m c rule story) files first text program notation steps place are is has accepted sound tried = absurd cc
 placed_trial (Play scenario schedule account explained) files first text program notation steps place are is has accepted sound tried = absurd cc
 placed_trial (Muster scenario explained) files first text program notation steps place are is has accepted sound tried = absurd cc
 placed_trial (Audit scenario chronicle explained) files first text program notation steps place are is has accepted sound tried = absurd cc
@@ -114,6 +116,7 @@ place_there (DisassemblePartly file own explained) files text (first, are, (seco
 place_there (Book file) files text (first, are, (second, have, prints)) = (None, (first, are, (second, have, prints, refl)))
 place_there (ExplainDecisions file traitors) files text (first, are, (second, have, prints)) = (None, (first, are, (second, have, prints, refl)))
 place_there (Form n m c filling) files text (first, are, (second, have, prints)) = (None, (first, are, (second, have, prints, refl)))
+place_there (Refute n m c rule story) files text (first, are, (second, have, prints)) = (None, (first, are, (second, have, prints, refl)))
 place_there (Play scenario schedule account explained) files text (first, are, (second, have, prints)) = (None, (first, are, (second, have, prints, refl)))
 place_there (Muster scenario explained) files text (first, are, (second, have, prints)) = (None, (first, are, (second, have, prints, refl)))
 place_there (Audit scenario chronicle explained) files text (first, are, (second, have, prints)) = (None, (first, are, (second, have, prints, refl)))
@@ -138,6 +141,7 @@ goes_on (DisassemblePartly file own explained) first program notation steps is h
 goes_on (Book file) first program notation steps is has accepted sound = absurd cc
 goes_on (ExplainDecisions file traitors) first program notation steps is has accepted sound = absurd cc
 goes_on (Form n m c filling) first program notation steps is has accepted sound = absurd cc
+goes_on (Refute n m c rule story) first program notation steps is has accepted sound = absurd cc
 goes_on (Play scenario schedule account explained) first program notation steps is has accepted sound = absurd cc
 goes_on (Muster scenario explained) first program notation steps is has accepted sound = absurd cc
 goes_on (Audit scenario chronicle explained) first program notation steps is has accepted sound = absurd cc
@@ -161,6 +165,7 @@ refuses_trial (DisassemblePartly file own explained) bytes refusal notation step
 refuses_trial (Book file) bytes refusal notation steps is refuses = absurd cc
 refuses_trial (ExplainDecisions file traitors) bytes refusal notation steps is refuses = absurd cc
 refuses_trial (Form n m c filling) bytes refusal notation steps is refuses = absurd cc
+refuses_trial (Refute n m c rule story) bytes refusal notation steps is refuses = absurd cc
 refuses_trial (Play scenario schedule account explained) bytes refusal notation steps is refuses = absurd cc
 refuses_trial (Muster scenario explained) bytes refusal notation steps is refuses = absurd cc
 refuses_trial (Audit scenario chronicle explained) bytes refusal notation steps is refuses = absurd cc

@@ -8,6 +8,8 @@ use Rattle.asm.specs.declared.fault.AsmError.TheVariants as asm
 use Rattle.book.specs.declared.fault.TableError.{TableError}
 use Rattle.book.specs.declared.fault.TableError.TheVariants as table
 use Rattle.toml.specs.Parse.{parse_document}
+use Rattle.bounds.specs.declared.refusal.RefutationError.{RefutationError}
+use Rattle.bounds.specs.declared.refusal.RefutationError.TheVariants as refutation
 use Rattle.campaign_schedules.specs.declared.fault.AccessesError.{AccessesError}
 use Rattle.campaign_schedules.specs.declared.fault.AccessesError.TheVariants as accesses
 use Rattle.scenario.specs.Reading.{Reads, ReadsAny}
@@ -28,7 +30,7 @@ use Rattle.trace.specs.declared.fault.TraceError.TheVariants as trace
 use Rattle.verify.specs.declared.error.VerifyError.{VerifyError}
 use Rattle.verify.specs.declared.error.VerifyError.TheVariants as verifier
 use Rattle.cli_tasks.specs.declared.refusal.InputRefusal.{InputRefusal}
-use Rattle.cli_tasks.specs.declared.refusal.InputRefusal.TheVariants.{Codec, Verifier, Assembly, Table, Scenario, Setting, Trace, Threads, Accesses, NotText, Memory}
+use Rattle.cli_tasks.specs.declared.refusal.InputRefusal.TheVariants.{Codec, Verifier, Assembly, Table, Scenario, Setting, Trace, Threads, Accesses, Tolerated, NotText, Memory}
 
 -- Returns the refusal for an error of the codec. Running out of memory gives the same refusal for all kinds of errors.
 abbrev pub codec_refusal : CodecError → InputRefusal
@@ -49,6 +51,12 @@ assembly_refusal error = Assembly error
 abbrev pub table_refusal : TableError → InputRefusal
 table_refusal table.Memory = Memory
 table_refusal error = Table error
+
+-- Returns the refusal for numbers among which no story breaks a rule.
+abbrev pub refutation_refusal : RefutationError → InputRefusal
+refutation_refusal (refutation.Table table.Memory) = Memory
+refutation_refusal (refutation.Table error) = Table error
+refutation_refusal refutation.Enough = Tolerated
 
 -- Returns the refusal for an error of a scenario.
 abbrev pub scenario_refusal : ScenarioError → InputRefusal

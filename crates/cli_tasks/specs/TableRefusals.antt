@@ -1,11 +1,13 @@
 -- Defines why a text is not a message table, or does not have the generals who are named.
 use Rattle.std.specs.Prelude.{ℕ, ◌≡◌, Bool, true, false, List, Option, Some, Err}
 use Rattle.book.specs.Grammar.{opened, table_told}
+use Rattle.bounds.specs.Refutation.{refusal_in}
+use Rattle.bounds.specs.declared.refusal.RefutationError.TheVariants as refutation
 use Rattle.book.specs.Numbers.{HasGenerals as AreNumbersOf, numbers_in}
 use Rattle.cli_tasks.specs.Picturing.{is_toml}
 use Rattle.cli_tasks.specs.Strangers.{HasGenerals, HasNumbers, liars, stranger_among, stranger_to_tree}
 use Rattle.cli_tasks.specs.declared.refusal.InputRefusal.{InputRefusal}
-use Rattle.cli_tasks.specs.declared.refusal.InputRefusal.TheVariants.{Table, Stranger, Memory}
+use Rattle.cli_tasks.specs.declared.refusal.InputRefusal.TheVariants.{Table, Stranger, Tolerated, Memory}
 use Rattle.cli_tasks.specs.Refusals.{RefusesScenario}
 
 -- States that the words are not the numbers of a campaign, by the fault of a first line that has them, or that memory
@@ -21,6 +23,14 @@ abbrev pub RefusesFilled : List ℕ → List ℕ → List ℕ → Option ℕ →
 RefusesFilled n m c liar (Stranger general generals) =
     AreNumbersOf n m c generals × (stranger_among generals (liars liar) ≡ Some general)
 RefusesFilled n m c liar refusal = RefusesForm n m c refusal
+
+-- States why no table breaks a rule. The words are not the numbers of a campaign, by the fault of a first line that has
+-- them, there are more than 3m generals, or memory ran out.
+abbrev pub RefusesRefutation : List ℕ → List ℕ → List ℕ → InputRefusal → Type 0
+RefusesRefutation n m c (Table error) = refusal_in (numbers_in n m c) ≡ Some (refutation.Table error)
+RefusesRefutation n m c Tolerated = refusal_in (numbers_in n m c) ≡ Some refutation.Enough
+RefusesRefutation n m c Memory = Unit {0}
+RefusesRefutation n m c _ = ⊥
 
 -- States that the text is not a message table, by this first fault, or that memory ran out.
 abbrev pub RefusesTable : List ℕ → InputRefusal → Type 0

@@ -5,12 +5,13 @@ use Rattle.semantics.specs.Run.{IsSound}
 use Rattle.cli_words.specs.declared.tasks.Notation.{Notation}
 use Rattle.cli_words.specs.declared.tasks.Spelling.TheVariants.{Hex, Raw}
 use Rattle.cli_words.specs.declared.tasks.Task.{Task}
-use Rattle.cli_words.specs.declared.tasks.Task.TheVariants.{Check, Assemble, AssemblePartly, Disassemble, DisassemblePartly, Book, ExplainDecisions, Form, Play, Muster, Audit, Explore, Tree, Draw, Page, Retrace}
+use Rattle.cli_words.specs.declared.tasks.Task.TheVariants.{Check, Assemble, AssemblePartly, Disassemble, DisassemblePartly, Book, ExplainDecisions, Form, Refute, Play, Muster, Audit, Explore, Tree, Draw, Page, Retrace}
 use Rattle.cli_words.specs.declared.tasks.Accesses.TheVariants.{OfChronicle, Listed}
 use Rattle.cli_words.specs.declared.tasks.Course.TheVariants.{Scheduled, Recorded}
 use Rattle.scenario.specs.Reading.{Tells, TellsAny}
 use Rattle.scenario.specs.declared.messages.Campaign.TheVariants.{Oral}
 use Rattle.book.specs.Answers.{DecidesTable, ExplainsTable, IsFilled, IsFormOf}
+use Rattle.bounds.specs.Refutation.{Refutes}
 use Rattle.verify.specs.Judgement.{judged}
 use Rattle.trial.specs.Setting.{Setting}
 use Rattle.trial.specs.Answers.{Tells as TellsSetting}
@@ -47,6 +48,8 @@ Prints (Form n m c None) first second text = IsFormOf (string_bytes n) (string_b
 Prints (Form n m c (Some filling)) first second text =
     KnowsLiar (string_bytes n) (string_bytes m) (string_bytes c) filling.liar
     × IsFilled (string_bytes n) (string_bytes m) (string_bytes c) filling.order filling.liar text
+Prints (Refute n m c rule story) first second text =
+    Refutes (string_bytes n) (string_bytes m) (string_bytes c) rule story text
 Prints (Play scenario schedule account explained) first second text = Plays account explained first second text
 Prints (Muster scenario explained) first second text = Musters explained first text
 Prints (Audit scenario chronicle explained) first second text = Audits explained first second text

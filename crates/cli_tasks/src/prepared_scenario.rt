@@ -32,7 +32,8 @@ pub fn reads_scenario(task: &Task) -> bool
         | Task::DisassemblePartly { .. }
         | Task::Book(_)
         | Task::ExplainDecisions { .. }
-        | Task::Form { .. } => false,
+        | Task::Form { .. }
+        | Task::Refute { .. } => false,
     }
 }
 

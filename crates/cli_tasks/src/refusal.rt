@@ -1,6 +1,7 @@
 //! Why the input of a task is rejected: one type for the errors of all readers, with conversions into it.
 use asm::AsmError;
 use book::TableError;
+use bounds::RefutationError;
 use campaign_schedules::{AccessFault, AccessesError};
 use cli_report::{ShownScenarioError, ShownSettingError};
 use codec::CodecError;
@@ -39,6 +40,8 @@ pub enum InputRefusal {
     /// The general is named but is not one of this number of generals, or is the commander where a lieutenant is
     /// needed.
     Stranger { general: u8, generals: u8 },
+    /// There are enough generals: no message table with at most m traitors breaks the rule.
+    Tolerated,
     /// The bytes are not UTF-8 text.
     NotText,
     /// Memory ran out.
@@ -64,6 +67,9 @@ impl fmt::Display for InputRefusal {
             InputRefusal::Threads(error) => write!(f, "{error}"),
             InputRefusal::Accesses(fault) => write!(f, "{fault}"),
             InputRefusal::Stranger { general, .. } => write!(f, "G1 general {general}"),
+            InputRefusal::Tolerated => f.write_str(
+                "B5 more than 3m generals tolerate m traitors: no message table with at most m traitors breaks the rule",
+            ),
             InputRefusal::NotText => f.write_str("not UTF-8"),
             InputRefusal::Memory => f.write_str("out of memory"),
         }
@@ -146,6 +152,21 @@ impl From<TableError> for InputRefusal {
         match error {
             TableError::Memory => InputRefusal::Memory,
             error => InputRefusal::Table(error),
+        }
+    }
+}
+
+impl From<RefutationError> for InputRefusal {
+    ghost use Rattle.std.specs.Prelude.{◌≡◌};
+    ghost use Rattle.cli_tasks.specs.Refusals.{refutation_refusal};
+
+    ghost from_gives = { λ error refusal. refusal ≡ refutation_refusal error };
+
+    fn from(error: RefutationError) -> InputRefusal {
+        match error {
+            RefutationError::Table(TableError::Memory) => InputRefusal::Memory,
+            RefutationError::Table(error) => InputRefusal::Table(error),
+            RefutationError::Enough => InputRefusal::Tolerated,
         }
     }
 }

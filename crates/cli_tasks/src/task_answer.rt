@@ -11,6 +11,7 @@ use crate::explained_campaign::{mustered_campaign, played_campaign};
 use crate::exploration::explored as orders_of;
 use crate::first_answer::FirstAnswer;
 use crate::forms::{filled, formed};
+use crate::refutations::refuted;
 use crate::parts::{assembled_partly, assembled_partly_raw, disassembled_partly};
 use crate::program_check::accepted_in;
 use crate::refusal::InputRefusal;
@@ -96,6 +97,20 @@ pub fn answer(alloc: Global, task: &Task, bytes: &[u8]) -> Result<FirstAnswer, I
             bound.as_str(),
             commander.as_str(),
             *filling,
+        )?)),
+        Task::Refute {
+            generals,
+            bound,
+            commander,
+            rule,
+            story,
+        } => Ok(FirstAnswer::Text(refuted(
+            alloc,
+            generals.as_str(),
+            bound.as_str(),
+            commander.as_str(),
+            *rule,
+            *story,
         )?)),
         Task::Tree {
             general,

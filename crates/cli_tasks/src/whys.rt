@@ -45,6 +45,7 @@ pub fn is_explained(task: &Task) -> bool
         | Task::Audit { explained, .. } => explained.is_some(),
         Task::Book(_)
         | Task::Form { .. }
+        | Task::Refute { .. }
         | Task::Explore { .. }
         | Task::Tree { .. }
         | Task::Draw { .. }
@@ -150,6 +151,7 @@ fn told_by(
         InputRefusal::Stranger { general, generals } => {
             cli_report::of_stranger(alloc, name, bytes, *general, *generals)
         }
+        InputRefusal::Tolerated => Ok(String::new(alloc)),
         InputRefusal::NotText => Ok(String::new(alloc)),
         InputRefusal::Memory => Ok(String::new(alloc)),
     }

@@ -3,6 +3,8 @@ use Rattle.std.specs.Prelude.{◌&&◌, ◌||◌, not, Bool, true, List, [], ◌
 use Rattle.std.specs.Prelude.{codes, if◌then◌else◌, is_some, map, option_and_then, option_map}
 use Rattle.std.specs.Borrow.{Bor}
 use Rattle.std.specs.Option.{option_map_or}
+use Rattle.combine.specs.Names.{rule_named}
+use Rattle.bounds.specs.Stories.{story_numbered}
 use Rattle.cli_words.specs.Generals.{count_in, depth_in, general_in, generals_in, order_in, seed_in}
 use Rattle.cli_words.specs.Tasks.{Told, are_two, campaigns, coursed, has, is_of, is_text, of_one, of_traitors, programs, word_of}
 use Rattle.cli_words.specs.Usage.{Text, Usage, taken_in, value_at}
@@ -41,6 +43,10 @@ abbrev pub has_filling : Told → Bool
 has_filling told = reads order_in (codes "loyal") told && reads general_in (codes "lie") told
     && wants (codes "lie") (codes "loyal") told
 
+-- Holds if the rule and the story can be read.
+abbrev pub has_refutation : Told → Bool
+has_refutation told = reads rule_named (codes "rule") told && reads story_numbered (codes "story") told
+
 -- Holds if a lieutenant is named, the depth is a number of levels, and the tree is drawn in one way only.
 abbrev pub has_tree : Told → Bool
 has_tree told = has (codes "of") told && reads depth_in (codes "depth") told
@@ -71,6 +77,7 @@ is_meant told = if_of programs told (has_notation told)
     && if_of (codes "dis" ∷ []) told (excludes (codes "partial") (codes "units") told)
     && if_of coursed told (excludes (codes "chronicle") (codes "schedule") told)
     && if_of (codes "play" ∷ []) told (has_turns told)
+    && if_of (codes "refute" ∷ []) told (has_refutation told)
 
 -- Returns what the words ask for, if `clap` accepts them and they are not misused.
 abbrev pub asked : List Text → Option Told

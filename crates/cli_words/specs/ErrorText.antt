@@ -4,7 +4,7 @@ use Rattle.std.specs.Fmt.{debug_str}
 use Rattle.cli_words.specs.declared.errors.TaskError.{TaskError}
 use Rattle.cli_words.specs.declared.errors.TaskError.TheVariants as error
 use Rattle.cli_words.specs.declared.errors.Misuse.{Misuse}
-use Rattle.cli_words.specs.declared.errors.Misuse.TheVariants.{Traitors, Of, Lie, Loyal, Most, Depth, NobodyNamed, TwoDrawings, TwoNotations, UnitsOfParts, TwoCourses, EntryAlone, OfAlone, LieAlone, Seed, TwoSchedules, OutAlone}
+use Rattle.cli_words.specs.declared.errors.Misuse.TheVariants.{Traitors, Of, Lie, Loyal, Most, Depth, NobodyNamed, TwoDrawings, TwoNotations, UnitsOfParts, TwoCourses, EntryAlone, OfAlone, LieAlone, Seed, Rule, Story, TwoSchedules, OutAlone}
 
 -- Returns the text for a word that the option does not accept, and says what the option accepts.
 abbrev pub invalid : List ℕ → List ℕ → List ℕ → Option (List ℕ)
@@ -23,6 +23,9 @@ misuse_text (Most word) =
 misuse_text (Depth word) = invalid (string_bytes word) (codes "--depth <D>") (codes "a number of levels, 0 to 4")
 misuse_text (Seed word) =
     invalid (string_bytes word) (codes "--seed <S>") (codes "a whole number, 0 to 18446744073709551615")
+misuse_text (Rule word) = invalid (string_bytes word) (codes "--rule <RULE>") (codes "majority or median")
+misuse_text (Story word) =
+    invalid (string_bytes word) (codes "--story <K>") (codes "the number of a story, 1 to 3")
 misuse_text NobodyNamed = Some (codes "the argument '--of <G>' is required")
 misuse_text TwoDrawings =
     Some (codes "the arguments '--dot' and '--svg' cannot be used with each other, or with '--text' or '--ascii'")

@@ -4,6 +4,10 @@ use Rattle.std.specs.List.{list_any}
 use Rattle.std.specs.Str.{bytes_eq}
 use Rattle.std.specs.String.{string_bytes}
 use Rattle.text.specs.Options.{◌>>=◌}
+use Rattle.combine.specs.Names.{default_rule, rule_named}
+use Rattle.combine.specs.declared.campaign_rule.Rule.{Rule}
+use Rattle.bounds.specs.Stories.{story_numbered}
+use Rattle.bounds.specs.declared.story.Story.{Story}
 use Rattle.clap.specs.Words.{kind_of}
 use Rattle.clap.specs.declared.error.Error.{Error}
 use Rattle.clap.specs.declared.error.kind.ErrorKind.TheVariants.{OutOfMemory}
@@ -26,11 +30,11 @@ use Rattle.cli_words.specs.declared.tasks.TaskRequest.{TaskRequest}
 use Rattle.cli_words.specs.declared.tasks.Spelling.{Spelling}
 use Rattle.cli_words.specs.declared.tasks.Spelling.TheVariants.{Hex, Raw}
 use Rattle.cli_words.specs.declared.tasks.Task.{Task}
-use Rattle.cli_words.specs.declared.tasks.Task.TheVariants.{Check, Assemble, AssemblePartly, Disassemble, DisassemblePartly, Book, ExplainDecisions, Form, Play, Muster, Audit, Explore, Tree, Draw, Page, Retrace}
+use Rattle.cli_words.specs.declared.tasks.Task.TheVariants.{Check, Assemble, AssemblePartly, Disassemble, DisassemblePartly, Book, ExplainDecisions, Form, Refute, Play, Muster, Audit, Explore, Tree, Draw, Page, Retrace}
 use Rattle.cli_words.specs.declared.tasks.Turns.{Turns}
 use Rattle.cli_words.specs.declared.tasks.Turns.TheVariants.{OfFile, OfSeed}
 use Rattle.cli_words.specs.declared.errors.Misuse.{Misuse}
-use Rattle.cli_words.specs.declared.errors.Misuse.TheVariants.{Traitors, Of, Lie, Loyal, Most, Depth, NobodyNamed, TwoDrawings, TwoNotations, UnitsOfParts, TwoCourses, EntryAlone, OfAlone, LieAlone, Seed, TwoSchedules, OutAlone}
+use Rattle.cli_words.specs.declared.errors.Misuse.TheVariants.{Traitors, Of, Lie, Loyal, Most, Depth, NobodyNamed, TwoDrawings, TwoNotations, UnitsOfParts, TwoCourses, EntryAlone, OfAlone, LieAlone, Seed, Rule as BadRule, Story as BadStory, TwoSchedules, OutAlone}
 use Rattle.cli_words.specs.declared.errors.TaskError.{TaskError}
 use Rattle.cli_words.specs.declared.errors.TaskError.TheVariants as error
 
@@ -105,6 +109,16 @@ abbrev pub IsFilling : Told → Option Filling → Type 0
 IsFilling told None = (word_of (codes "loyal") told ≡ None) × (word_of (codes "lie") told ≡ None)
 IsFilling told (Some filling) =
     ((word_of (codes "loyal") told >>= order_in) ≡ Some filling.order) × NamesGeneral (codes "lie") told filling.liar
+
+-- Returns the rule that the word names, or the default rule if there is no word.
+abbrev pub rule_in : Option Text → Option Rule
+rule_in None = Some default_rule
+rule_in (Some word) = rule_named word
+
+-- The option names this story, or it is not used and there is no story.
+abbrev pub NamesStory : Told → Option Story → Type 0
+NamesStory told None = word_of (codes "story") told ≡ None
+NamesStory told (Some story) = (word_of (codes "story") told >>= story_numbered) ≡ Some story
 
 -- Holds if a campaign is printed as its message table.
 abbrev pub is_table : Account → Bool
@@ -200,6 +214,10 @@ Says told (ExplainDecisions file traitors) = (told.name ≡ codes "book")
 Says told (Form n m c filling) = (told.name ≡ codes "table")
     × (word_of (codes "GENERALS") told ≡ Some (string_bytes n)) × (word_of (codes "BOUND") told ≡ Some (string_bytes m))
     × (word_of (codes "COMMANDER") told ≡ Some (string_bytes c)) × IsFilling told filling
+Says told (Refute n m c rule story) = (told.name ≡ codes "refute")
+    × (word_of (codes "GENERALS") told ≡ Some (string_bytes n)) × (word_of (codes "BOUND") told ≡ Some (string_bytes m))
+    × (word_of (codes "COMMANDER") told ≡ Some (string_bytes c))
+    × (rule_in (word_of (codes "rule") told) ≡ Some rule) × NamesStory told story
 Says told (Play scenario turns account explained) = (told.name ≡ codes "play")
     × (word_of (codes "SCENARIO") told ≡ Some (string_bytes scenario)) × AreTurns told turns
     × (has (codes "table") told ≡ is_table account) × AreExplained told explained
@@ -240,6 +258,7 @@ file_of (DisassemblePartly file notation explained) = Some (string_bytes file)
 file_of (Book file) = Some (string_bytes file)
 file_of (ExplainDecisions file traitors) = Some (string_bytes file)
 file_of (Form n m c filling) = None
+file_of (Refute n m c rule story) = None
 file_of (Play scenario turns account explained) = Some (string_bytes scenario)
 file_of (Muster scenario explained) = Some (string_bytes scenario)
 file_of (Audit scenario chronicle explained) = Some (string_bytes scenario)
@@ -332,6 +351,10 @@ IsMisused told (Depth word) = (is_of (codes "tree" ∷ []) told ≡ true)
     × (word_of (codes "depth") told ≡ Some (string_bytes word)) × (depth_in (string_bytes word) ≡ None)
 IsMisused told (Seed word) = (is_of (codes "play" ∷ []) told ≡ true)
     × (word_of (codes "seed") told ≡ Some (string_bytes word)) × (seed_in (string_bytes word) ≡ None)
+IsMisused told (BadRule word) = (is_of (codes "refute" ∷ []) told ≡ true)
+    × (word_of (codes "rule") told ≡ Some (string_bytes word)) × (rule_named (string_bytes word) ≡ None)
+IsMisused told (BadStory word) = (is_of (codes "refute" ∷ []) told ≡ true)
+    × (word_of (codes "story") told ≡ Some (string_bytes word)) × (story_numbered (string_bytes word) ≡ None)
 IsMisused told NobodyNamed = (is_of (codes "tree" ∷ []) told ≡ true) × (has (codes "of") told ≡ false)
 IsMisused told TwoDrawings = (is_of (codes "tree" ∷ []) told ≡ true)
     × (are_two (is_text told) (has (codes "dot") told) (has (codes "svg") told) ≡ true)

@@ -40,6 +40,13 @@ table = record {
   flags = option (codes "loyal") ∷ option (codes "lie") ∷ [];
 }
 
+abbrev pub refute : Usage
+refute = record {
+  name = codes "refute";
+  places = codes "GENERALS" ∷ codes "BOUND" ∷ codes "COMMANDER" ∷ [];
+  flags = option (codes "rule") ∷ option (codes "story") ∷ [];
+}
+
 abbrev pub muster : Usage
 muster = record {
   name = codes "muster";
@@ -101,7 +108,7 @@ schedule = record {
 
 -- The usages of all subcommands, in the order in which help lists them.
 abbrev pub usages : List Usage
-usages = check ∷ asm ∷ dis ∷ book ∷ table ∷ muster ∷ play ∷ audit ∷ explore ∷ tree ∷ draw ∷ page ∷ schedule ∷ []
+usages = check ∷ asm ∷ dis ∷ book ∷ table ∷ refute ∷ muster ∷ play ∷ audit ∷ explore ∷ tree ∷ draw ∷ page ∷ schedule ∷ []
 
 -- Returns the usage of the subcommand with this name.
 abbrev pub usage_named : Text → Option Usage

@@ -31,6 +31,10 @@ pub enum Misuse {
     Depth(String),
     /// The value of `--seed` is not a seed.
     Seed(String),
+    /// The value of `--rule` is not the name of a rule.
+    Rule(String),
+    /// The value of `--story` is not the number of a story.
+    Story(String),
     /// `--asm` and `--elf` are used together, so that a file has two notations.
     TwoNotations,
     /// `--units` and `--partial` are used together, although only an instruction has its unit before it.
@@ -103,6 +107,14 @@ impl fmt::Display for Misuse {
             Misuse::Seed(word) => write!(
                 f,
                 "invalid value {word:?} for '--seed <S>': a whole number, 0 to 18446744073709551615"
+            ),
+            Misuse::Rule(word) => write!(
+                f,
+                "invalid value {word:?} for '--rule <RULE>': majority or median"
+            ),
+            Misuse::Story(word) => write!(
+                f,
+                "invalid value {word:?} for '--story <K>': the number of a story, 1 to 3"
             ),
             Misuse::NobodyNamed => f.write_str("the argument '--of <G>' is required"),
             Misuse::TwoDrawings => f.write_str(

@@ -4,7 +4,7 @@ ghost use Rattle.clap.specs.Words.{subcommand_rows_of};
 ghost use Rattle.cli_words.specs.Lab.{is_given, task_met};
 ghost use Rattle.cli_words.specs.Tasks.{IsDrawing, levels_in, named};
 ghost use Rattle.cli_words.specs.Met.{has_places, told_by};
-ghost use Rattle.cli_words.specs.Tasks.{AreExplained, AreTurns, Asks, IsCourse, IsErrorOf, IsFilling, IsNotation, NamesCount, NamesGeneral, NamesSeed, Says, campaigns, coursed, has, is_of, is_raw, is_table, programs, word_of};
+ghost use Rattle.cli_words.specs.Tasks.{AreExplained, AreTurns, Asks, IsCourse, IsErrorOf, IsFilling, IsNotation, NamesCount, NamesGeneral, NamesSeed, NamesStory, Says, campaigns, coursed, has, is_of, is_raw, is_table, programs, rule_in, word_of};
 
 use crate::errors::{Misuse, TaskError};
 use crate::generals::{GeneralsError, count, depth, general, generals, order, seed};
@@ -12,8 +12,10 @@ use crate::tasks::{
     Accesses, Account, Course, Drawing, Filling, Lieutenants, Notation, Spelling, Task,
     TaskRequest, Turns,
 };
+use bounds::Story;
 use clap::ArgMatches;
 use clap::parser::ValueSource;
+use combine::Rule;
 use std::alloc::{AllocError, Global};
 
 /// A subcommand that `clap` parsed, and the values of its places and flags.
@@ -96,6 +98,7 @@ impl<'m, 'a> ParsedWords<'m, 'a> {
             "dis" => self.disassemble(alloc),
             "book" => self.book(alloc),
             "table" => self.form(alloc),
+            "refute" => self.refute(alloc),
             "muster" => self.muster(alloc),
             "play" => self.play(alloc),
             "audit" => self.audit(alloc),
@@ -236,6 +239,24 @@ impl<'m, 'a> ParsedWords<'m, 'a> {
             bound: self.required(alloc, "BOUND")?,
             commander: self.required(alloc, "COMMANDER")?,
             filling: self.filling(alloc)?,
+        })
+    }
+
+    /// Returns the task of `refute`.
+    fn refute(self, alloc: Global) -> Result<Task, TaskError>
+        requires name { self.name.now ≡ codes "refute" }
+        requires generals { has (codes "GENERALS") (told_by self) ≡ true }
+        requires bound { has (codes "BOUND") (told_by self) ≡ true }
+        requires commander { has (codes "COMMANDER") (told_by self) ≡ true }
+        ensures task { IfOk result (Says (told_by self.entry)) }
+        ensures refused { IfErr result (IsErrorOf (told_by self.entry)) }
+    {
+        Ok(Task::Refute {
+            generals: self.required(alloc, "GENERALS")?,
+            bound: self.required(alloc, "BOUND")?,
+            commander: self.required(alloc, "COMMANDER")?,
+            rule: self.rule(alloc)?,
+            story: self.story(alloc)?,
         })
     }
 
@@ -562,6 +583,36 @@ impl<'m, 'a> ParsedWords<'m, 'a> {
         match general(word.as_bytes()) {
             Some(general) => Ok(Some(Lieutenants::One(general))),
             None => Err(TaskError::Misuse(Misuse::Of(String::from_str(alloc, word)?))),
+        }
+    }
+
+    /// Returns the rule that `--rule` names, or the default rule without it.
+    fn rule(self, alloc: Global) -> Result<Rule, TaskError>
+        requires { is_of (codes "refute" ∷ []) (told_by self) ≡ true }
+        ensures named { IfOk result (λ rule. rule_in (word_of (codes "rule") (told_by self.entry)) ≡ Some rule) }
+        ensures refused { IfErr result (IsErrorOf (told_by self.entry)) }
+    {
+        let Some(word) = self.value("rule") else {
+            return Ok(Rule::DEFAULT);
+        };
+        match Rule::named(word.as_bytes()) {
+            Some(rule) => Ok(rule),
+            None => Err(TaskError::Misuse(Misuse::Rule(String::from_str(alloc, word)?))),
+        }
+    }
+
+    /// Returns the story that `--story` names, or `None` without it.
+    fn story(self, alloc: Global) -> Result<Option<Story>, TaskError>
+        requires { is_of (codes "refute" ∷ []) (told_by self) ≡ true }
+        ensures named { IfOk result (NamesStory (told_by self.entry)) }
+        ensures refused { IfErr result (IsErrorOf (told_by self.entry)) }
+    {
+        let Some(word) = self.value("story") else {
+            return Ok(None);
+        };
+        match Story::numbered(word.as_bytes()) {
+            Some(story) => Ok(Some(story)),
+            None => Err(TaskError::Misuse(Misuse::Story(String::from_str(alloc, word)?))),
         }
     }
 

@@ -232,6 +232,37 @@ const TABLE: Subcommand<'static> = Subcommand {
     ],
 };
 
+const REFUTE: Subcommand<'static> = Subcommand {
+    name: "refute",
+    about: "Prints a message table that breaks a rule, if there are too few generals",
+    places: &[
+        Place {
+            name: "GENERALS",
+            help: "How many generals there are, 3 to 12",
+        },
+        Place {
+            name: "BOUND",
+            help: "The greatest number of traitors, 1 to 4, and at least a third of the generals",
+        },
+        Place {
+            name: "COMMANDER",
+            help: "The commander's number, from 0",
+        },
+    ],
+    flags: &[
+        Flag::Option {
+            name: "rule",
+            value: "RULE",
+            help: "The rule of combination, majority or median; by default the majority",
+        },
+        Flag::Option {
+            name: "story",
+            value: "K",
+            help: "Prints this story, 1 to 3; by default the first that breaks the rule",
+        },
+    ],
+};
+
 const MUSTER: Subcommand<'static> = Subcommand {
     name: "muster",
     about: "Runs a campaign with a thread for each general and prints its chronicle",
@@ -418,7 +449,7 @@ pub(crate) fn subcommands() -> &'static [Subcommand<'static>]
     ensures { map usage_of result.now ≡ usages }
 {
     &[
-        CHECK, ASM, DIS, BOOK, TABLE, MUSTER, PLAY, AUDIT, EXPLORE, TREE, DRAW, PAGE, SCHEDULE,
+        CHECK, ASM, DIS, BOOK, TABLE, REFUTE, MUSTER, PLAY, AUDIT, EXPLORE, TREE, DRAW, PAGE, SCHEDULE,
     ]
 }
 

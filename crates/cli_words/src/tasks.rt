@@ -1,5 +1,8 @@
 //! Defines the tasks that the command line can ask for: the subcommands with their files and flags.
 
+use bounds::Story;
+use combine::Rule;
+
 /// What the words ask for: a task, and how its answer is printed.
 #[derive(Drop)]
 pub struct TaskRequest {
@@ -63,6 +66,15 @@ pub enum Task {
         bound: String,
         commander: String,
         filling: Option<Filling>,
+    },
+    /// Print the message table of this story or, without one, of the first story that breaks the rule, for these numbers
+    /// of a campaign.
+    Refute {
+        generals: String,
+        bound: String,
+        commander: String,
+        rule: Rule,
+        story: Option<Story>,
     },
     /// Play a campaign by this schedule.
     Play {
@@ -295,7 +307,7 @@ impl Task {
             | Task::Draw { scenario: file, .. }
             | Task::Page { scenario: file, .. }
             | Task::Retrace { scenario: file, .. } => Some(file.as_str()),
-            Task::Form { .. } => None,
+            Task::Form { .. } | Task::Refute { .. } => None,
         }
     }
 
