@@ -28,21 +28,21 @@ _byzlab() {
     *:install:-* | *:uninstall:-*) offered="--prefix -h --help" ;;
     2:help:*) offered=$commands ;;
     *:help:*) offered= ;;
-    *:play:-*) offered="--table --explain --json --verdicts --schedule --seed --schedule-out --of -h --help" ;;
+    *:play:-*) offered="--table --explain --json --verdicts --schedule --seed --schedule-out --of --no-files -h --help" ;;
     *:check:-*) offered="--asm --elf --explain --trace --json --verdicts --context --entry -h --help" ;;
     *:asm:-*) offered="--raw --explain --partial -o -h --help" ;;
     *:dis:-*) offered="--elf --units --explain --partial --entry -h --help" ;;
     *:book:-*) offered="--explain --json --traitors -h --help" ;;
     *:table:-*) offered="--loyal --lie -h --help" ;;
     *:refute:-*) offered="--rule --story -h --help" ;;
-    *:tree:-*) offered="--text --ascii --dot --svg --fold --of --traitors --depth -h --help" ;;
-    *:draw:-*) offered="--schedule --chronicle -h --help" ;;
-    *:page:-*) offered="--schedule --chronicle -o -h --help" ;;
-    *:schedule:-*) offered="--accesses -h --help" ;;
-    *:explore:-*) offered="--most --keep -h --help" ;;
+    *:tree:-*) offered="--text --ascii --dot --svg --fold --of --traitors --depth --no-files -h --help" ;;
+    *:draw:-*) offered="--schedule --chronicle --no-files -h --help" ;;
+    *:page:-*) offered="--schedule --chronicle -o --no-files -h --help" ;;
+    *:schedule:-*) offered="--accesses --no-files -h --help" ;;
+    *:explore:-*) offered="--most --keep --no-files -h --help" ;;
     *:survey:-*) offered="--generals --bound --traitors --seeds --rule --patience --signed --adversary --lines --table --svg --shrink --break --keep --sum -h --help" ;;
-    *:muster:-*) offered="--explain --json --of -h --help" ;;
-    *:audit:-*) offered="--explain --json --verdicts --of -h --help" ;;
+    *:muster:-*) offered="--explain --json --of --no-files -h --help" ;;
+    *:audit:-*) offered="--explain --json --verdicts --of --no-files -h --help" ;;
     *) offered= ;;
     esac
     mapfile -t COMPREPLY < <(compgen -W "$offered" -- "$word")

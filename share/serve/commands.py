@@ -1,5 +1,4 @@
 """The commands that a browser may give: no word of a request becomes a word of a command line except by this table."""
-from .references import names_file
 from .refused import Refused
 
 TEXT, LINES, SVG, HTML = "text/plain", "application/x-ndjson", "image/svg+xml", "text/html"
@@ -20,7 +19,8 @@ class Call:
 
 class Command:
     """A command: its program and words, and what a request may add. `numbers` gives each number's option, least and greatest value;
-    `switches` the words that a 1 adds; `files` the words after the first file for the text of a second one."""
+    `switches` the words that a 1 adds; `files` the words after the first file for the text of a second one. A scenario may name no
+    file: the program refuses it."""
 
     def __init__(self, words, kind, numbers=None, switches=None, program="byzlab", files=None, is_scenario=True):
         self.words, self.kind, self.program, self.files = words, kind, program, files or {}
@@ -30,6 +30,8 @@ class Command:
     def call(self, request):
         """Returns the call that a request asks for."""
         words, files, text, second = list(self.words), ["-"], None, None
+        if self.is_scenario and self.program == "byzlab":
+            words.append("--no-files")
         for name, value in request.items():
             if name == "text" and self.program == "byzlab":
                 text = encoded(value)
@@ -40,8 +42,6 @@ class Command:
                 words += self.option(name, value)
         if text is None and self.program == "byzlab":
             raise Refused("400 Bad Request", "A request has a text.")
-        if text is not None and self.is_scenario and names_file(request["text"]):
-            raise Refused("422 Unprocessable Content", "A scenario in the browser contains its programs, and refers to no file.")
         return Call(words + files if self.program == "byzlab" else words, text, second)
 
     def option(self, name, value):

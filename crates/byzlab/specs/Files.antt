@@ -1,5 +1,5 @@
 -- Defines which file a name means, as input and as target; the contents of an open file are not known (own).
-use Rattle.std.specs.Prelude.{ℕ, ◌≡◌, ◌≢◌, List, [], Option, None, Some, IfSome, codes, false}
+use Rattle.std.specs.Prelude.{ℕ, ◌≡◌, ◌≢◌, Bool, List, [], Option, None, Some, IfSome, codes, false}
 use Rattle.std.specs.Io.Cursor.{cursor_inner, cursor_position, cursor_remaining}
 use Rattle.campaign_schedules.specs.Seeded.{seeded}
 use Rattle.cli_words.specs.Tasks.{file_of, second_of, seed_of, target_of}
@@ -39,9 +39,9 @@ IsTextOf bytes _ = ⊥
 
 -- States that the input is the text for a scenario: its own bytes, if they are known, with the contents of the files
 -- that it names, as far as those are known.
-abbrev pub IsSeen : {F S : Type 0} → Option (List ℕ) → (List ℕ → Option (List ℕ)) → Task → Opened F S → Type 0
-IsSeen known beside task input = (own : List ℕ) × (bytes : List ℕ) × IfSome known (λ all. own ≡ all)
-    × Sees beside own bytes × IsTextOf (with_story task own bytes) input
+abbrev pub IsSeen : {F S : Type 0} → Bool → Option (List ℕ) → (List ℕ → Option (List ℕ)) → Task → Opened F S → Type 0
+IsSeen no_files known beside task input = (own : List ℕ) × (bytes : List ℕ) × IfSome known (λ all. own ≡ all)
+    × Sees no_files beside own bytes × IsTextOf (with_story task own bytes) input
 
 -- States that the file is the random schedule of this seed. If there is no seed, there is no file.
 abbrev pub IsSeededIf : {F S : Type 0} → Option ℕ → Option (Opened F S) → Type 0

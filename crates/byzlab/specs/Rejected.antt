@@ -1,5 +1,5 @@
 -- Defines the reports about a file that is not written and a scenario that is rejected (own).
-use Rattle.std.specs.Prelude.{ℕ, ◌≡◌, ◌≢◌, List, Option, None, Some, IfSome, IsUtf8, String, if◌then◌else◌, string_bytes, ⊤}
+use Rattle.std.specs.Prelude.{ℕ, ◌≡◌, ◌≢◌, Bool, List, Option, None, Some, IfSome, IsUtf8, String, if◌then◌else◌, string_bytes, ⊤}
 use Rattle.std.specs.Global.{Global}
 use Rattle.cli_words.specs.declared.tasks.Task.{Task}
 use Rattle.cli_tasks.specs.Whys.{is_explained}
@@ -37,14 +37,14 @@ said_of (rejected.Refused told) = told.said
 
 -- States that the scenario of these bytes is rejected together with the files that it names, and that the report names
 -- its own lines and theirs.
-abbrev pub TellsRefused : (List ℕ → Option (List ℕ)) → Task → List ℕ → String Global → Type 0
-TellsRefused beside task own lines = (made : List ℕ) × Sees beside own made × (own ≢ made)
+abbrev pub TellsRefused : Bool → (List ℕ → Option (List ℕ)) → Task → List ℕ → String Global → Type 0
+TellsRefused no_files beside task own lines = (made : List ℕ) × Sees no_files beside own made × (own ≢ made)
     × (IsUtf8 own → IsUtf8 made → IsTold task own made (Some (string_bytes lines)))
 
 -- States why the scenario of this name is rejected: it cannot be read; a file that it names is rejected, about which
 -- nothing is said here; or its own bytes, with the files that it names, are rejected.
-abbrev pub IsRejected : Option (List ℕ) → (List ℕ → Option (List ℕ)) → Task → List ℕ → Rejected → Type 0
-IsRejected known beside task name (rejected.Unread told) = IsUnreadable (Some name) told.line.lines
-IsRejected known beside task name (rejected.Untaken told) = ⊤
-IsRejected known beside task name (rejected.Refused told) =
-    (own : List ℕ) × IfSome known (λ all. own ≡ all) × TellsRefused beside task own told.line
+abbrev pub IsRejected : Bool → Option (List ℕ) → (List ℕ → Option (List ℕ)) → Task → List ℕ → Rejected → Type 0
+IsRejected no_files known beside task name (rejected.Unread told) = IsUnreadable (Some name) told.line.lines
+IsRejected no_files known beside task name (rejected.Untaken told) = ⊤
+IsRejected no_files known beside task name (rejected.Refused told) =
+    (own : List ℕ) × IfSome known (λ all. own ≡ all) × TellsRefused no_files beside task own told.line

@@ -5,7 +5,8 @@ ghost use Rattle.byzlab.specs.Beside.{IsFolderOf, IsPathOf};
 use cli_tasks::Folder;
 use std::alloc::{AllocError, Global};
 use std::fs::File;
-use std::io::{self, Read};
+use std::io::{self, ErrorKind};
+use streams::Source;
 
 /// The folder of the scenario of this name. If the name contains no slash, as for standard input, it is the working
 /// directory.
@@ -16,10 +17,12 @@ pub struct FolderOf<'a> {
 }
 
 impl Folder for FolderOf<'_> {
-    fn read(&self, alloc: Global, name: &str) -> io::Result<Vec<u8>> {
+    fn read(&self, alloc: Global, name: &str, most: usize) -> io::Result<Vec<u8>> {
         let path = path_of(alloc, self.scenario, name)?;
-        let mut bytes = Vec::new(alloc);
-        File::open(self.rt, path.as_str())?.read_to_end(&mut bytes)?;
+        let bytes = File::open(self.rt, path.as_str())?.read_front(alloc, most)?;
+        if bytes.len() > most {
+            return Err(io::Error::from(ErrorKind::FileTooLarge));
+        }
         Ok(bytes)
     }
 }

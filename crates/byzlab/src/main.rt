@@ -376,9 +376,9 @@ fn completed<'a>(
 ) -> Result<Result<Input<'a>, Rejected<'a>>, AllocError>
     ensures other { reads_scenario request.now.task ≡ false → result ≡ Ok (Ok first.entry) }
     ensures seen { reads_scenario request.now.task ≡ true → IfSome (file_of request.now.task) (λ _. IfOk result
-        (λ input. IfOk input (IsSeen None (λ _. None) request.now.task))) }
+        (λ input. IfOk input (IsSeen request.now.no_files None (λ _. None) request.now.task))) }
     ensures rejected { IfSome (file_of request.now.task) (λ name. IfOk result (λ input. IfErr input
-        (IsRejected None (λ _. None) request.now.task name))) }
+        (IsRejected request.now.no_files None (λ _. None) request.now.task name))) }
 {
     match request.task.file() {
         Some(name) if reads_scenario(&request.task) => {
@@ -403,16 +403,16 @@ fn seen<'a, R: Read + Drop, D: Folder>(
     folder: &D,
 ) -> Result<Result<Input<'a>, Rejected<'a>>, AllocError>
     ensures seen { IfOk result
-        (λ input. IfOk input (IsSeen (R.remaining file) (D.bytes folder.now) request.now.task)) }
+        (λ input. IfOk input (IsSeen request.now.no_files (R.remaining file) (D.bytes folder.now) request.now.task)) }
     ensures rejected { IfOk result (λ input. IfErr input
-        (IsRejected (R.remaining file) (D.bytes folder.now) request.now.task name.entry.now)) }
+        (IsRejected request.now.no_files (R.remaining file) (D.bytes folder.now) request.now.task name.entry.now)) }
 {
     let bytes = match read(rt, request, name, file)? {
         Ok(bytes) => bytes,
         Err(told) => return Ok(Err(Rejected::Unread(told))),
     };
     let own = bytes.clone()?;
-    match with_files(rt.alloc(), bytes, folder) {
+    match with_files(rt.alloc(), bytes, folder, request.no_files) {
         Ok(bytes) => match made(rt, request, own.as_slice(), bytes)? {
             Ok(input) => Ok(Ok(input)),
             Err(told) => Ok(Err(Rejected::Refused(told))),

@@ -238,7 +238,7 @@ unfolding place_told
 place_report name text f place = report (IsInText text) name _ _ _ (place-says f place) (place-in text f place)
 
 entry-says : (b : Bool)
-    → (if b then codes "this key does not fit the table's other keys: a table has one program, and `general` or `generals`; `generals` is a list, a file's name is a text, and `entry` needs `elf`"
+    → (if b then codes "this key does not fit the table's other keys: a table has one program, and `general` or `generals`; `generals` is a list, a file's name is a text, `entry` needs `elf`, and --no-files permits no file"
     else codes "a traitor's table has no such key") ≢ []
 entry-says true e = cc
 entry-says false e = cc

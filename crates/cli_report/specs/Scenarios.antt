@@ -136,7 +136,7 @@ abbrev pub entry_sentence : Option (List ℕ) → List ℕ → List ℕ
 entry_sentence known key =
     if is_itself known key
     then codes "this key does not fit the table's other keys: a table has one program, and `general` or `generals`; "
-    ++ codes "`generals` is a list, a file's name is a text, and `entry` needs `elf`"
+    ++ codes "`generals` is a list, a file's name is a text, `entry` needs `elf`, and --no-files permits no file"
     else codes "a traitor's table has no such key"
 
 -- Returns the close key, unless it is the key itself.

@@ -270,7 +270,7 @@ fn entry_sentence(known: Option<&'static str>, word: &[u8]) -> &'static str
 {
     if is_itself(known, word) {
         "this key does not fit the table's other keys: a table has one program, and `general` or `generals`; \
-         `generals` is a list, a file's name is a text, and `entry` needs `elf`"
+         `generals` is a list, a file's name is a text, `entry` needs `elf`, and --no-files permits no file"
     } else {
         "a traitor's table has no such key"
     }

@@ -1,7 +1,7 @@
 -- Defines the sentence which says why a file could not be read or written, by the kind of the system's error.
 use Rattle.std.specs.Prelude.{ℕ, List, codes}
 use Rattle.std.specs.declared.io.ErrorKind.{ErrorKind}
-use Rattle.std.specs.declared.io.ErrorKind.TheVariants.{NotFound, PermissionDenied, IsADirectory, NotADirectory, InvalidFilename, FilesystemLoop, ReadOnlyFilesystem, StorageFull, BrokenPipe}
+use Rattle.std.specs.declared.io.ErrorKind.TheVariants.{NotFound, PermissionDenied, IsADirectory, NotADirectory, InvalidFilename, FilesystemLoop, FileTooLarge, ReadOnlyFilesystem, StorageFull, BrokenPipe}
 
 -- Returns the sentence for an error of this kind.
 abbrev pub reason_text : ErrorKind → List ℕ
@@ -11,6 +11,7 @@ reason_text IsADirectory = codes "it is a folder"
 reason_text NotADirectory = codes "a part of its path is not a folder"
 reason_text InvalidFilename = codes "its name is longer than the system allows"
 reason_text FilesystemLoop = codes "its path has too many links"
+reason_text FileTooLarge = codes "it is larger than it may be"
 reason_text ReadOnlyFilesystem = codes "its file system is read-only"
 reason_text StorageFull = codes "there is no space left for it"
 reason_text BrokenPipe = codes "its reader has closed it"

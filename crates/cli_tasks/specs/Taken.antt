@@ -1,5 +1,5 @@
 -- The files that a scenario names, as they are read, and the report on a file that cannot be used (own).
-use Rattle.std.specs.Prelude.{ℕ, ◌≡◌, ◌⊎◌, List, ◌∷◌, ◌++◌, Option, None, Some, Ok, Err, IfSome, IsUtf8, codes, string_bytes}
+use Rattle.std.specs.Prelude.{ℕ, ◌≡◌, ◌≤◌, ◌⊎◌, List, ◌∷◌, ◌++◌, Option, None, Some, Ok, Err, IfSome, IsUtf8, codes, length, string_bytes}
 use Rattle.std.specs.List.{AllZip}
 use Rattle.std.specs.Fmt.{decimal}
 use Rattle.std.specs.declared.io.ErrorKind.{ErrorKind}
@@ -40,9 +40,18 @@ pub record IsFile (a : Asked) (bytes : List ℕ) (f : File) : Type 0 where
 abbrev pub AreBytes : (List ℕ → Option (List ℕ)) → List ℕ → List ℕ → Type 0
 AreBytes known name bytes = IfSome (known name) (λ own. bytes ≡ own)
 
--- States that this is the file that is asked for, read from the bytes of the file with its name.
+-- Returns how many bytes a file of this kind may have: for bytecode as many as the longest program, for assembly eight
+-- times as many.
+abbrev pub most_bytes : ReferenceKey → ℕ
+most_bytes Assembly = 262144
+most_bytes Bytecode = 32768
+most_bytes Object = 1048576
+
+-- States that this is the file that is asked for, read from the bytes of the file with its name. They are no more than
+-- such a file may have.
 abbrev pub IsBeside : (List ℕ → Option (List ℕ)) → Asked → File → Type 0
-IsBeside known a f = (bytes : List ℕ) × AreBytes known a.name bytes × IsFile a bytes f
+IsBeside known a f =
+    (bytes : List ℕ) × (length bytes ≤ most_bytes a.key) × AreBytes known a.name bytes × IsFile a bytes f
 
 -- Returns the lines which report that a file could not be read or is not UTF-8 text. `name` is the file's name as it is
 -- printed.

@@ -4,7 +4,7 @@ use std::io;
 
 /// A folder from which the files that a scenario names are read.
 pub trait Folder {
-    ghost use Rattle.std.specs.Prelude.{◌≡◌, ℕ, List, None, Option, IfErr, IfOk, IfSome};
+    ghost use Rattle.std.specs.Prelude.{◌≡◌, ◌≤◌, ℕ, List, None, Option, IfErr, IfOk, IfSome, length};
     ghost use Rattle.std.specs.IoError.{error_kind};
     ghost use Rattle.std.specs.declared.io.ErrorKind.{ErrorKind};
 
@@ -14,12 +14,14 @@ pub trait Folder {
     // States what is known after a read of the file with a given name failed with an error of this kind.
     ghost fails: { Self → List ℕ → ErrorKind → Type 0 } = { λ _ _ _. Unit {0} };
 
-    /// Reads all bytes of the file with this name.
+    /// Reads all bytes of the file with this name, if it has at most `most` bytes.
     ///
     /// # Errors
     ///
-    /// Fails if the file cannot be opened or read, or if memory runs out.
-    fn read(&self, alloc: Global, name: &str) -> io::Result<Vec<u8>>
+    /// Fails if the file has more bytes, with the kind `FileTooLarge`. Fails if it cannot be opened or read, or if
+    /// memory runs out.
+    fn read(&self, alloc: Global, name: &str, most: usize) -> io::Result<Vec<u8>>
+        ensures few { IfOk result (λ all. length all.items ≤ most) }
         ensures whole { IfOk result (λ all. IfSome (bytes self.now name.now) (λ known. all.items ≡ known)) }
         ensures failed { IfErr result (λ error. fails self.now name.now (error_kind error)) };
 }

@@ -5,7 +5,7 @@ ghost use Rattle.object.specs.Entry.{entry_of};
 ghost use Rattle.object.specs.Symbol.{asked};
 ghost use Rattle.scenario.specs.declared.reference_key.ReferenceKey.TheVariants.{Assembly, Object};
 ghost use Rattle.streams.specs.Names.{shown};
-ghost use Rattle.cli_tasks.specs.Taken.{IsBeside, IsFile, IsNamed, IsUnread, IsUntakenIn, IsUntakenOf, fault_lines, fault_told, refused_lines, refused_told};
+ghost use Rattle.cli_tasks.specs.Taken.{IsBeside, IsFile, IsNamed, IsUnread, IsUntakenIn, IsUntakenOf, fault_lines, fault_told, most_bytes, refused_lines, refused_told};
 ghost use Rattle.cli_tasks.specs.declared.named_files.FileProblem.TheVariants.{Memory};
 
 use crate::folder::Folder;
@@ -38,8 +38,20 @@ impl From<AllocError> for FileProblem {
     }
 }
 
-/// Reads a file that the scenario names from the folder. The key by which it is named says whether the file is
-/// assembly, bytecode or an object.
+/// Returns how many bytes a file of this kind may have: for bytecode as many as the longest program, for assembly eight
+/// times as many.
+fn most_bytes(key: ReferenceKey) -> usize
+    ensures { result ≡ most_bytes key }
+{
+    match key {
+        ReferenceKey::Assembly => 262_144,
+        ReferenceKey::Bytecode => 32_768,
+        ReferenceKey::Object => 1_048_576,
+    }
+}
+
+/// Reads a file that the scenario names from the folder, unless it has too many bytes. The key by which it is named
+/// says whether the file is assembly, bytecode or an object.
 pub(crate) fn beside<D: Folder>(
     alloc: Global,
     folder: &D,
@@ -48,7 +60,7 @@ pub(crate) fn beside<D: Folder>(
     ensures file { IfOk result (IsBeside (D.bytes folder.now) named.now) }
     ensures untaken { IfErr result (IsUntakenOf (D.bytes folder.now) (D.fails folder.now) named.now) }
 {
-    let bytes = match folder.read(alloc, named.name.as_str()) {
+    let bytes = match folder.read(alloc, named.name.as_str(), most_bytes(named.key)) {
         Ok(bytes) => bytes,
         Err(error) => return Err(unread(alloc, &error, named)?),
     };

@@ -3,7 +3,7 @@ ghost use Rattle.std.specs.Prelude.{◌≡◌, ◌++◌, ◌∷◌, [], IfErr, I
 ghost use Rattle.std.specs.List.{AllZip};
 ghost use Rattle.toml.specs.Parse.{parse_document};
 ghost use Rattle.scenario.specs.Asking.{asked};
-ghost use Rattle.cli_tasks.specs.Seen.{Sees, SeesIn, reads_scenario};
+ghost use Rattle.cli_tasks.specs.Seen.{Sees, SeesIn, opened, reads_scenario};
 ghost use Rattle.cli_tasks.specs.Taken.{IsBeside, IsUntaken};
 
 use crate::folder::Folder;
@@ -39,7 +39,8 @@ pub fn reads_scenario(task: &Task) -> bool
 
 /// Returns the bytes of a scenario in which the files that it names replace their names, and each traitor has a table
 /// of his own. Returns the same bytes if they are not UTF-8, are not TOML, or name neither files nor generals who share
-/// a table.
+/// a table. If `no_files`, no file is read, and the names of files remain, which the reader of scenarios refuses as
+/// unknown keys.
 ///
 /// # Errors
 ///
@@ -48,15 +49,16 @@ pub fn with_files<D: Folder>(
     alloc: Global,
     bytes: Vec<u8>,
     folder: &D,
+    no_files: bool,
 ) -> Result<Vec<u8>, FileProblem>
-    ensures seen { IfOk result (λ new. Sees (D.bytes folder.now) bytes.items new.items) }
+    ensures seen { IfOk result (λ new. Sees no_files (D.bytes folder.now) bytes.items new.items) }
     ensures untaken { IfErr result
-        (IsUntaken (D.bytes folder.now) (D.fails folder.now) (asked (parse_document bytes.items))) }
+        (IsUntaken (D.bytes folder.now) (D.fails folder.now) (opened no_files (asked (parse_document bytes.items)))) }
 {
     let Ok(text) = str::from_utf8(bytes.as_slice()) else {
         return Ok(bytes);
     };
-    match with_named(alloc, text, folder)? {
+    match with_named(alloc, text, folder, no_files)? {
         Some(new) => Ok(new.into_bytes()),
         None => Ok(bytes),
     }
@@ -68,15 +70,27 @@ fn with_named<D: Folder>(
     alloc: Global,
     text: &str,
     folder: &D,
+    no_files: bool,
 ) -> Result<Option<String>, FileProblem>
     ensures seen { IfOk result
-        (λ new. SeesIn (D.bytes folder.now) (parse_document text.now) (option_map string_bytes new)) }
+        (λ new. SeesIn no_files (D.bytes folder.now) (parse_document text.now) (option_map string_bytes new)) }
     ensures untaken { IfErr result
-        (IsUntaken (D.bytes folder.now) (D.fails folder.now) (asked (parse_document text.now))) }
+        (IsUntaken (D.bytes folder.now) (D.fails folder.now) (opened no_files (asked (parse_document text.now)))) }
 {
-    let named = asked(alloc, text)?;
+    let named = opened(alloc, text, no_files)?;
     let files = read_all(alloc, named.as_slice(), folder)?;
     Ok(resolved(alloc, text, files.as_slice())?)
+}
+
+/// Returns the files that are read of those that the text names: none if no file may be named.
+fn opened(alloc: Global, text: &str, no_files: bool) -> Result<Vec<Reference>, AllocError>
+    ensures { IfOk result (λ all. all.items ≡ opened no_files (asked (parse_document text.now))) }
+{
+    if no_files {
+        Ok(Vec::new(alloc))
+    } else {
+        asked(alloc, text)
+    }
 }
 
 /// Reads the named files, in this order.

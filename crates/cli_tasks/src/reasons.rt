@@ -15,6 +15,7 @@ pub fn reason(kind: ErrorKind) -> &'static str
         ErrorKind::NotADirectory => "a part of its path is not a folder",
         ErrorKind::InvalidFilename => "its name is longer than the system allows",
         ErrorKind::FilesystemLoop => "its path has too many links",
+        ErrorKind::FileTooLarge => "it is larger than it may be",
         ErrorKind::ReadOnlyFilesystem => "its file system is read-only",
         ErrorKind::StorageFull => "there is no space left for it",
         ErrorKind::BrokenPipe => "its reader has closed it",

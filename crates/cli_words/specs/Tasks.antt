@@ -241,10 +241,12 @@ Says told (Page scenario course target) = (told.name ≡ codes "page")
 Says told (Retrace scenario accesses) = (told.name ≡ codes "schedule")
     × (word_of (codes "SCENARIO") told ≡ Some (string_bytes scenario)) × AreAccesses told accesses
 
--- States that the words ask for this task, and say whether its answer is printed as JSON, or as one line.
+-- States that the words ask for this task, and say whether its answer is printed as JSON, or as one line, and whether a
+-- scenario may name files.
 abbrev pub Asks : Told → TaskRequest → Type 0
 Asks told request =
     Says told request.task × (has (codes "json") told ≡ request.json) × (has (codes "verdicts") told ≡ request.verdicts)
+    × (has (codes "no-files") told ≡ request.no_files)
 
 -- ---- the names of a task's files: the only or first one, the second one, and the one that it writes
 

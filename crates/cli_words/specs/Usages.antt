@@ -51,7 +51,7 @@ abbrev pub muster : Usage
 muster = record {
   name = codes "muster";
   places = codes "SCENARIO" ∷ [];
-  flags = switch (codes "explain") ∷ switch (codes "json") ∷ option (codes "of") ∷ [];
+  flags = switch (codes "explain") ∷ switch (codes "json") ∷ option (codes "of") ∷ switch (codes "no-files") ∷ [];
 }
 
 abbrev pub play : Usage
@@ -60,21 +60,21 @@ play = record {
   places = codes "SCENARIO" ∷ [];
   flags = switch (codes "table") ∷ switch (codes "explain") ∷ switch (codes "json") ∷ switch (codes "verdicts") ∷ option
       (codes "schedule")
-      ∷ option (codes "seed") ∷ option (codes "schedule-out") ∷ option (codes "of") ∷ [];
+      ∷ option (codes "seed") ∷ option (codes "schedule-out") ∷ option (codes "of") ∷ switch (codes "no-files") ∷ [];
 }
 
 abbrev pub audit : Usage
 audit = record {
   name = codes "audit";
   places = codes "SCENARIO" ∷ codes "CHRONICLE" ∷ [];
-  flags = switch (codes "explain") ∷ switch (codes "json") ∷ switch (codes "verdicts") ∷ option (codes "of") ∷ [];
+  flags = switch (codes "explain") ∷ switch (codes "json") ∷ switch (codes "verdicts") ∷ option (codes "of") ∷ switch (codes "no-files") ∷ [];
 }
 
 abbrev pub explore : Usage
 explore = record {
   name = codes "explore";
   places = codes "SCENARIO" ∷ [];
-  flags = option (codes "most") ∷ option (codes "keep") ∷ [];
+  flags = option (codes "most") ∷ option (codes "keep") ∷ switch (codes "no-files") ∷ [];
 }
 
 abbrev pub tree : Usage
@@ -82,28 +82,28 @@ tree = record {
   name = codes "tree";
   places = codes "FILE" ∷ [];
   flags = switch (codes "text") ∷ switch (codes "ascii") ∷ switch (codes "dot") ∷ switch (codes "svg")
-      ∷ switch (codes "fold") ∷ option (codes "of") ∷ option (codes "traitors") ∷ option (codes "depth") ∷ [];
+      ∷ switch (codes "fold") ∷ option (codes "of") ∷ option (codes "traitors") ∷ option (codes "depth") ∷ switch (codes "no-files") ∷ [];
 }
 
 abbrev pub draw : Usage
 draw = record {
   name = codes "draw";
   places = codes "SCENARIO" ∷ [];
-  flags = option (codes "schedule") ∷ option (codes "chronicle") ∷ [];
+  flags = option (codes "schedule") ∷ option (codes "chronicle") ∷ switch (codes "no-files") ∷ [];
 }
 
 abbrev pub page : Usage
 page = record {
   name = codes "page";
   places = codes "SCENARIO" ∷ [];
-  flags = option (codes "schedule") ∷ option (codes "chronicle") ∷ letter (codes "target") 111 ∷ [];
+  flags = option (codes "schedule") ∷ option (codes "chronicle") ∷ letter (codes "target") 111 ∷ switch (codes "no-files") ∷ [];
 }
 
 abbrev pub schedule : Usage
 schedule = record {
   name = codes "schedule";
   places = codes "SCENARIO" ∷ codes "CHRONICLE" ∷ [];
-  flags = switch (codes "accesses") ∷ [];
+  flags = switch (codes "accesses") ∷ switch (codes "no-files") ∷ [];
 }
 
 -- The usages of all subcommands, in the order in which help lists them.

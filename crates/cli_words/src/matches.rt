@@ -82,6 +82,7 @@ impl<'m, 'a> ParsedWords<'m, 'a> {
         Ok(TaskRequest {
             json: self.has("json"),
             verdicts: self.has("verdicts"),
+            no_files: self.has("no-files"),
             task: self.task(alloc)?,
         })
     }

@@ -72,6 +72,12 @@ const RECORDED: Flag<'static> = Flag::Option {
     help: "Shows what this chronicle records",
 };
 
+/// The switch `--no-files` of the subcommands that read a scenario.
+const NO_FILES: Flag<'static> = Flag::Switch {
+    name: "no-files",
+    help: "Refuses a scenario that names a file, without opening it",
+};
+
 /// The option `-o` of `page`.
 const PAGE_TARGET: Flag<'static> = Flag::Letter {
     name: "target",
@@ -281,6 +287,7 @@ const MUSTER: Subcommand<'static> = Subcommand {
             value: "G",
             help: OF,
         },
+        NO_FILES,
     ],
 };
 
@@ -321,6 +328,7 @@ pub(crate) const PLAY: Subcommand<'static> = Subcommand {
             value: "G",
             help: OF,
         },
+        NO_FILES,
     ],
 };
 
@@ -346,6 +354,7 @@ pub(crate) const AUDIT: Subcommand<'static> = Subcommand {
             value: "G",
             help: OF,
         },
+        NO_FILES,
     ],
 };
 
@@ -364,6 +373,7 @@ const EXPLORE: Subcommand<'static> = Subcommand {
             value: "DIR",
             help: "Writes the scenario and a schedule for each outcome to this folder",
         },
+        NO_FILES,
     ],
 };
 
@@ -410,6 +420,7 @@ const TREE: Subcommand<'static> = Subcommand {
             value: "D",
             help: "How many levels below the commander's are drawn; by default all",
         },
+        NO_FILES,
     ],
 };
 
@@ -424,6 +435,7 @@ const DRAW: Subcommand<'static> = Subcommand {
             value: "FILE",
             help: "Draws what this chronicle records",
         },
+        NO_FILES,
     ],
 };
 
@@ -431,17 +443,20 @@ const PAGE: Subcommand<'static> = Subcommand {
     name: "page",
     about: "Describes a campaign on one page of HTML",
     places: &[SCENARIO],
-    flags: &[SCHEDULED, RECORDED, PAGE_TARGET],
+    flags: &[SCHEDULED, RECORDED, PAGE_TARGET, NO_FILES],
 };
 
 const SCHEDULE: Subcommand<'static> = Subcommand {
     name: "schedule",
     about: "Prints the schedule by which a campaign has this chronicle, or these accesses",
     places: &[SCENARIO, ACCESSES],
-    flags: &[Flag::Switch {
-        name: "accesses",
-        help: "CHRONICLE is not a file, but the generals in the order of their accesses, with a slash between rounds",
-    }],
+    flags: &[
+        Flag::Switch {
+            name: "accesses",
+            help: "CHRONICLE is not a file, but the generals in the order of their accesses, with a slash between rounds",
+        },
+        NO_FILES,
+    ],
 };
 
 /// Returns all subcommands, in the order in which help lists them.

@@ -11,6 +11,8 @@ pub struct TaskRequest {
     pub json: bool,
     /// Whether the answer is printed as one line only, after the file's name.
     pub verdicts: bool,
+    /// Whether a scenario that names a file is refused, without opening the file.
+    pub no_files: bool,
 }
 
 /// A task: a subcommand with the names of its files, and what its flags say.

@@ -90,14 +90,15 @@ fn answered_one<R: Threads + Wait + Sync + AllocGlobal>(
     let alloc = rt.alloc();
     let told = opened(rt, request, shelf, output)?;
     if told.status == 0 {
-        keep(alloc, &request.task, shelf)?;
+        keep(alloc, request, shelf)?;
     }
     written(alloc, &request.task, shelf, told)
 }
 
 /// Puts the files on the shelf that a task writes in addition to its answer: the schedule of a seed, or the outcomes of
 /// an exploration.
-fn keep(alloc: Global, task: &Task, shelf: &mut Shelf) -> Result<()> {
+fn keep(alloc: Global, request: &TaskRequest, shelf: &mut Shelf) -> Result<()> {
+    let task = &request.task;
     if let (Some(seed), Some(name)) = (task.seed(), task.schedule_target()) {
         let text = seeded(alloc, seed)?;
         shelf.put(alloc, name, FileContent::Bytes(text.into_bytes()))?;
@@ -114,7 +115,7 @@ fn keep(alloc: Global, task: &Task, shelf: &mut Shelf) -> Result<()> {
     let Some(bytes) = shelf.bytes(scenario.as_str()) else {
         bail!("{scenario}: there is no such file");
     };
-    let Ok(bytes) = with_files(alloc, bytes.to_vec(alloc)?, shelf) else {
+    let Ok(bytes) = with_files(alloc, bytes.to_vec(alloc)?, shelf, request.no_files) else {
         bail!("{scenario}: a file that it names is not taken");
     };
     let Ok((_, schedules)) = with_schedules(alloc, bytes.as_slice(), *most) else {
@@ -196,7 +197,7 @@ fn completed<R: Threads + Wait + Sync + AllocGlobal>(
         _ => return Ok(served(rt, request, first, second, output)),
     };
     let own = bytes.clone()?;
-    match with_files(alloc, bytes, shelf) {
+    match with_files(alloc, bytes, shelf, request.no_files) {
         Ok(text) => match cli_report::refused(
             alloc,
             &request.task,

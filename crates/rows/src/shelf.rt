@@ -85,9 +85,12 @@ impl Shelf {
 }
 
 impl Folder for Shelf {
-    fn read(&self, alloc: Global, name: &str) -> io::Result<Vec<u8>> {
+    fn read(&self, alloc: Global, name: &str, most: usize) -> io::Result<Vec<u8>> {
         match self.find(name) {
-            Some(FileContent::Bytes(bytes)) => Ok(bytes.as_slice().to_vec(alloc)?),
+            Some(FileContent::Bytes(bytes)) if bytes.len() <= most => {
+                Ok(bytes.as_slice().to_vec(alloc)?)
+            }
+            Some(FileContent::Bytes(_)) => Err(io::Error::from(ErrorKind::FileTooLarge)),
             Some(FileContent::Unreadable) | None => Err(io::Error::from(ErrorKind::NotFound)),
         }
     }

@@ -1,14 +1,15 @@
 -- Lists of tables, one element after the other.
-use Rattle.std.proofs.Common.{◌≡◌, ℕ, zero, suc, ◌+◌, ◌<◌, ◌≤◌, List, [], ◌∷◌, ◌++◌, length, drop, get_or, refl, sym, ap, ◌∙◌, arith, append_assoc, append-nil}
+use Rattle.std.proofs.Common.{◌≡◌, ℕ, zero, suc, ◌+◌, ◌<◌, ◌≤◌, List, [], ◌∷◌, ◌++◌, length, drop, get_or, refl, sym, ap, ◌∙◌, arith}
 use Rattle.toml.specs.Data.{Data, Items, Members, no_items, item, push_item, as_table, table}
 use Rattle.std.specs.Prelude.{Some}
 use Rattle.toml.specs.View.{items_view, view}
 use Rattle.toml.specs.declared.value.Value.{Value}
 use Rattle.toml.proofs.Views.{items_view-drop, items_view-push}
-use Rattle.scenario.specs.Asking.{Asked, asked_in, asked_of}
+use Rattle.scenario.specs.Asking.{Asked, asked_in, asked_of, gathered}
+use Rattle.scenario.proofs.AskLemmas.{gathered_more}
 use Rattle.scenario.specs.Members.{join}
 use Rattle.scenario.specs.ReferenceNames.{File}
-use Rattle.scenario.specs.Resolved.{one_each, rebuilt, resolved, tables_of}
+use Rattle.scenario.specs.Resolved.{further, one_each, rebuilt, tables_of, with_tables}
 
 pub join_push : (ds es : Items) (d : Data) → join (push_item ds d) es ≡ join ds (item d es)
 join_push no_items es d = refl
@@ -48,20 +49,18 @@ module _ (files : List File) where
   pub each_done : (ms : Members) (i : ℕ) (vs : List Value) (old : Items) (total : Items) → length vs ≤ i → join old (one_each files ms (items_view (drop i vs))) ≡ total → old ≡ total
   each_done ms i vs old total l so_far = sym (join_none old) ∙ rw (no_more i vs l) at so_far
 
-  first_tables : (i : ℕ) (vs : List Value) (v : Value) → i < length vs → v ≡ get_or vs i v
-      → resolved files (items_view (drop i vs)) ≡ join (tables_of files (view v)) (resolved files (items_view (drop (i + 1) vs)))
-  first_tables i vs v l e = rw (items_view-drop vs i v l, ← e) refl
+  first_tables : (done : Items) (i : ℕ) (vs : List Value) (v : Value) → i < length vs → v ≡ get_or vs i v
+      → further files done (items_view (drop i vs)) ≡ further files (with_tables files done (view v)) (items_view (drop (i + 1) vs))
+  first_tables done i vs v l e = rw (items_view-drop vs i v l, ← e) refl
 
   -- one element more
   pub resolved_further : (old new : List Value) (i : ℕ) (vs : List Value) (v : Value) (total : Items) → i < length vs → v ≡ get_or vs i v
-      → items_view new ≡ join (items_view old) (tables_of files (view v))
-      → join (items_view old) (resolved files (items_view (drop i vs))) ≡ total → join (items_view new) (resolved files (items_view (drop (i + 1) vs))) ≡ total
-  resolved_further old new i vs v total l e is so_far =
-      rw (is, join_join (items_view old) (tables_of files (view v)) (resolved files (items_view (drop (i + 1) vs))))
-      (ap (join (items_view old)) (sym (first_tables i vs v l e)) ∙ so_far)
+      → items_view new ≡ with_tables files (items_view old) (view v)
+      → further files (items_view old) (items_view (drop i vs)) ≡ total → further files (items_view new) (items_view (drop (i + 1) vs)) ≡ total
+  resolved_further old new i vs v total l e is so_far = rw is (sym (first_tables (items_view old) i vs v l e) ∙ so_far)
 
-  pub resolved_done : (i : ℕ) (vs : List Value) (old total : Items) → length vs ≤ i → join old (resolved files (items_view (drop i vs))) ≡ total → old ≡ total
-  resolved_done i vs old total l so_far = sym (join_none old) ∙ rw (no_more i vs l) at so_far
+  pub resolved_done : (i : ℕ) (vs : List Value) (old total : Items) → length vs ≤ i → further files old (items_view (drop i vs)) ≡ total → old ≡ total
+  resolved_done i vs old total l so_far = rw (no_more i vs l) at so_far
 
 first_asked : (i : ℕ) (vs : List Value) (v : Value) → i < length vs → v ≡ get_or vs i v
     → asked_in i (items_view (drop i vs)) ≡ asked_of i (as_table (view v)) ++ asked_in (i + 1) (items_view (drop (i + 1) vs))
@@ -69,10 +68,11 @@ first_asked i vs v l e = rw (items_view-drop vs i v l, ← e) refl
 
 -- the files of one element more
 pub asked_further : (old new : List Asked) (i : ℕ) (vs : List Value) (v : Value) (total : List Asked) → i < length vs → v ≡ get_or vs i v
-    → new ≡ old ++ asked_of i (as_table (view v)) → old ++ asked_in i (items_view (drop i vs)) ≡ total → new ++ asked_in (i + 1) (items_view (drop (i + 1) vs)) ≡ total
+    → new ≡ gathered old (asked_of i (as_table (view v))) → gathered old (asked_in i (items_view (drop i vs))) ≡ total
+    → gathered new (asked_in (i + 1) (items_view (drop (i + 1) vs))) ≡ total
 asked_further old new i vs v total l e is so_far =
-    rw (is, append_assoc old (asked_of i (as_table (view v))) (asked_in (i + 1) (items_view (drop (i + 1) vs))))
-    (ap (λ (x : List Asked). old ++ x) (sym (first_asked i vs v l e)) ∙ so_far)
+    rw (is, ← gathered_more old (asked_of i (as_table (view v))) (asked_in (i + 1) (items_view (drop (i + 1) vs))))
+    (ap (gathered old) (sym (first_asked i vs v l e)) ∙ so_far)
 
-pub asked_done : (i : ℕ) (vs : List Value) (old total : List Asked) → length vs ≤ i → old ++ asked_in i (items_view (drop i vs)) ≡ total → old ≡ total
-asked_done i vs old total l so_far = sym (append-nil old) ∙ rw (no_more i vs l) at so_far
+pub asked_done : (i : ℕ) (vs : List Value) (old total : List Asked) → length vs ≤ i → gathered old (asked_in i (items_view (drop i vs))) ≡ total → old ≡ total
+asked_done i vs old total l so_far = rw (no_more i vs l) at so_far

@@ -1,6 +1,6 @@
 -- The files that a traitor's table names, and the generals who share it (own).
-use Rattle.std.specs.Prelude.{ℕ, Bool, true, false, ◌&&◌, ◌||◌, if◌then◌else◌, cond, List, [], ◌∷◌, Option, None, Some, is_some, option_and_then, codes, bytes_eq}
-use Rattle.toml.specs.Data.{Items, Members, get_member, as_array, as_str}
+use Rattle.std.specs.Prelude.{ℕ, zero, suc, Bool, true, false, ◌&&◌, ◌||◌, if◌then◌else◌, cond, List, [], ◌∷◌, Option, None, Some, is_some, option_and_then, option_map, codes, bytes_eq}
+use Rattle.toml.specs.Data.{Items, Members, no_items, item, get_member, as_array, as_str}
 use Rattle.scenario.specs.declared.reference_key.ReferenceKey.{ReferenceKey}
 use Rattle.scenario.specs.declared.reference_key.ReferenceKey.TheVariants.{Assembly, Bytecode, Object}
 
@@ -68,10 +68,22 @@ abbrev pub function_at : ReferenceKey → Members → Option (List ℕ)
 function_at Object ms = option_and_then as_str (get_member (codes "entry") ms)
 function_at key ms = None
 
--- Returns the generals who share a table, unless it has a general of its own.
+-- Returns the first `n` items, or all of them if there are fewer.
+abbrev pub first_items : ℕ → Items → Items
+first_items n no_items = no_items
+first_items zero (item d ds) = no_items
+first_items (suc n) (item d ds) = item d (first_items n ds)
+
+-- Returns the generals who share a table, unless it has a general of its own. At most 13 can be right, so of more than 14
+-- the first 14 have the first fault.
 abbrev pub seats : Members → Option Items
 seats ms = cond (is_some (get_member (codes "general") ms)) None
-    (option_and_then as_array (get_member (codes "generals") ms))
+    (option_map (first_items 14) (option_and_then as_array (get_member (codes "generals") ms)))
+
+-- Returns whether a table is shared by an empty list of generals
+abbrev pub is_nobodys : Option Items → Bool
+is_nobodys (Some no_items) = true
+is_nobodys _ = false
 
 -- Returns the list of traitors.
 abbrev pub traitors : Members → Option Items

@@ -1,11 +1,12 @@
 -- A scenario in which programs replace the names of their files, and each traitor has a table of his own (own).
-use Rattle.std.specs.Prelude.{◌≡◌, ◌≤◌, ℕ, Bool, true, false, ◌||◌, ◌&&◌, cond, if◌then◌else◌, List, Option, None, Some, is_some, option_map, option_and_then, codes, bytes_eq}
+use Rattle.std.specs.Prelude.{◌≡◌, ◌≤◌, ℕ, Bool, true, false, ◌||◌, ◌&&◌, cond, if◌then◌else◌, List, Option, None, Some, is_some, option_map, option_and_then, codes, bytes_eq, nat_le}
 use Rattle.toml.specs.Data.{Data, string, array, table, Items, no_items, item, Members, no_members, member, as_table, get_member, members_depth, members_have_valid_dates}
 use Rattle.toml.specs.Parse.{parse_document}
 use Rattle.scenario.specs.declared.reference_key.ReferenceKey.{ReferenceKey}
 use Rattle.scenario.specs.declared.reference_key.ReferenceKey.TheVariants.{Object}
 use Rattle.scenario.specs.ReferenceNames.{File, function_at, key_of, name_at, place_of, seats, text_named, traitors}
 use Rattle.scenario.specs.Members.{join, put}
+use Rattle.scenario.specs.Origins.{count}
 
 -- Returns the kind and the text of the file that a table names by the key `k`, if the file was read.
 abbrev pub program : List File → Members → List ℕ → Option (ReferenceKey × List ℕ)
@@ -63,10 +64,19 @@ tables_by files d (Some ms) = tables files ms
 abbrev pub tables_of : List File → Data → Items
 tables_of files d = tables_by files d (as_table d)
 
+-- Returns the tables with those that replace an element, unless there are 14 already. At most 13 traitors can be right, so
+-- the first 14 tables have the first fault.
+abbrev pub with_tables : List File → Items → Data → Items
+with_tables files done d = cond (nat_le 14 (count done)) done (join done (tables_of files d))
+
+-- Returns the tables with those that replace the further elements.
+abbrev pub further : List File → Items → Items → Items
+further files done no_items = done
+further files done (item d ds) = further files (with_tables files done d) ds
+
 -- Returns the list of traitors in which each has a table of his own.
 abbrev pub resolved : List File → Items → Items
-resolved files no_items = no_items
-resolved files (item d ds) = join (tables_of files d) (resolved files ds)
+resolved files ds = further files no_items ds
 
 -- Returns the document whose list of traitors is replaced by the resolved list.
 abbrev pub with_traitors : List File → Items → Members → Members

@@ -117,7 +117,7 @@ impl LoadedFile {
 }
 
 /// Returns whether both functions are absent, or both have the same name.
-fn are_same(own: Option<&str>, other: Option<&str>) -> bool
+pub(crate) fn are_same(own: Option<&str>, other: Option<&str>) -> bool
     ensures { result ≡ are_same (option_map (λ f. f.now) own.entry) (option_map (λ f. f.now) other.entry) }
 {
     match (own, other) {

@@ -1,15 +1,19 @@
 //! Lists the files that a scenario names.
-ghost use Rattle.std.specs.Prelude.{◌≡◌, ◌++◌, IfOk, OnOk, option_map, string_bytes};
+ghost use Rattle.std.specs.Prelude.{◌≡◌, [], IfOk, OnOk, option_map, string_bytes};
 ghost use Rattle.toml.specs.Data.{as_table};
 ghost use Rattle.toml.specs.Parse.{parse_document};
 ghost use Rattle.toml.specs.View.{items_view, table_view, view};
-ghost use Rattle.scenario.specs.Asking.{asked, asked_by, asked_in, asked_of};
+ghost use Rattle.scenario.specs.Asking.{asked, asked_all, asked_by, asked_in, asked_of, gathered, is_asked, with_asked};
 
+use crate::neighbour_files::are_same;
 use crate::reference_key::ReferenceKey;
-use crate::text_tables::{document, function_at, name_at, traitors};
+use crate::text_tables::{document, function_at, is_nobodys, name_at, traitors};
 use std::alloc::{AllocError, Global};
 use std::marker::Model;
 use toml::{Table, Value};
+
+/// How many files are read at most. At most 14 tables matter, of which each names at most three files.
+const MOST_FILES: usize = 42;
 
 /// A reference: a file that a traitor's table names.
 #[derive(Drop)]
@@ -36,6 +40,21 @@ impl Model for Reference {
     } };
 }
 
+impl Reference {
+    ghost use Rattle.std.specs.Prelude.{◌≡◌, ◌&&◌, bytes_eq, option_map};
+    ghost use Rattle.scenario.specs.ReferenceNames.{are_same, is_same};
+
+    /// Returns whether the reference has this key, this name and this function.
+    fn is_for(&self, key: ReferenceKey, name: &str, function: Option<&str>) -> bool
+        ensures { result ≡ (is_same self.now.key key && (bytes_eq self.now.name name.now
+            && are_same self.now.function (option_map (λ f. f.now) function.entry))) }
+    {
+        self.key.is_same(key)
+            && self.name.as_str() == name
+            && are_same(self.function.as_deref(), function)
+    }
+}
+
 /// Returns a copy of a text, if there is one.
 ///
 /// # Errors
@@ -50,6 +69,50 @@ pub(crate) fn copied(alloc: Global, text: Option<&str>) -> Result<Option<String>
     }
 }
 
+/// Returns whether one of these references has this key, this name and this function.
+fn is_asked(all: &[Reference], key: ReferenceKey, name: &str, function: Option<&str>) -> bool
+    ensures { result ≡ is_asked key name.now (option_map (λ f. f.now) function.entry) all.now }
+{
+    for own in all {
+        if own.is_for(key, name, function) {
+            return true;
+        }
+    }
+    false
+}
+
+/// Appends a reference, unless there is one to the same file already, or there are 42 references.
+///
+/// # Errors
+///
+/// `AllocError` if an allocation fails.
+fn add(
+    alloc: Global,
+    done: &mut Vec<Reference>,
+    index: usize,
+    key: ReferenceKey,
+    name: &str,
+    function: Option<&str>,
+) -> Result<(), AllocError>
+    ensures { OnOk result (done.new.items ≡ with_asked done.old.items (record {
+      index = index;
+      key = key;
+      name = name.now;
+      function = option_map (λ f. f.now) function.entry;
+    })) }
+{
+    if done.len() >= MOST_FILES || is_asked(done.as_slice(), key, name, function) {
+        return Ok(());
+    }
+    done.push(Reference {
+        index,
+        key,
+        name: String::from_str(alloc, name)?,
+        function: copied(alloc, function)?,
+    })?;
+    Ok(())
+}
+
 /// Appends the file that a table names by this key, if it names one.
 ///
 /// # Errors
@@ -62,57 +125,69 @@ fn ask(
     table: &Table,
     key: ReferenceKey,
 ) -> Result<(), AllocError>
-    ensures { OnOk result (done.new.items ≡ done.old.items ++ asked_by index (table_view table.now) key) }
+    ensures { OnOk result (done.new.items ≡ gathered done.old.items (asked_by index (table_view table.now) key)) }
 {
-    if let Some(name) = name_at(table, key) {
-        done.push(Reference {
-            index,
-            key,
-            name: String::from_str(alloc, name)?,
-            function: copied(alloc, function_at(table, key))?,
-        })?;
+    match name_at(table, key) {
+        Some(name) => add(alloc, done, index, key, name, function_at(table, key)),
+        None => Ok(()),
     }
-    Ok(())
 }
 
-/// Appends the files that an element of the list names.
+/// Appends the files that a table names.
 ///
 /// # Errors
 ///
 /// `AllocError` if an allocation fails.
+#[tactic(auto, using(crate::proofs::AskLemmas::gathered_more))]
 fn ask_all(
     alloc: Global,
     done: &mut Vec<Reference>,
     index: usize,
-    value: &Value,
+    table: &Table,
 ) -> Result<(), AllocError>
-    ensures { OnOk result (done.new.items ≡ done.old.items ++ asked_of index (as_table (view value.now))) }
+    ensures { OnOk result (done.new.items ≡ gathered done.old.items (asked_all index (table_view table.now))) }
 {
-    let Some(table) = value.as_table() else {
-        return Ok(());
-    };
     ask(alloc, done, index, table, ReferenceKey::Assembly)?;
     ask(alloc, done, index, table, ReferenceKey::Bytecode)?;
     ask(alloc, done, index, table, ReferenceKey::Object)
 }
 
-/// Returns the files that the tables of the list name.
+/// Appends the files that an element of the list names. A table for no general names none.
+///
+/// # Errors
+///
+/// `AllocError` if an allocation fails.
+fn ask_element(
+    alloc: Global,
+    done: &mut Vec<Reference>,
+    index: usize,
+    value: &Value,
+) -> Result<(), AllocError>
+    ensures { OnOk result (done.new.items ≡ gathered done.old.items (asked_of index (as_table (view value.now)))) }
+{
+    match value.as_table() {
+        Some(table) if !is_nobodys(table) => ask_all(alloc, done, index, table),
+        _ => Ok(()),
+    }
+}
+
+/// Returns the files that the tables of the list name: the first 42, each once.
 ///
 /// # Errors
 ///
 /// `AllocError` if an allocation fails.
 fn asked_in(alloc: Global, values: &[Value]) -> Result<Vec<Reference>, AllocError>
-    ensures { IfOk result (λ all. all.items ≡ asked_in 0 (items_view values.now)) }
+    ensures { IfOk result (λ all. all.items ≡ gathered [] (asked_in 0 (items_view values.now))) }
 {
     let mut done = Vec::new(alloc);
     for index in 0..values.len() {
-        ask_all(alloc, &mut done, index, &values[index])?;
+        ask_element(alloc, &mut done, index, &values[index])?;
     }
     Ok(done)
 }
 
-/// Returns the files that the text of a scenario names, in the order of its tables. There are none if the text is not
-/// TOML.
+/// Returns the files that the text of a scenario names, in the order of its tables. Each is listed once, and of more than
+/// 42 the first 42 are listed: no more can be right. There are none if the text is not TOML.
 ///
 /// # Errors
 ///

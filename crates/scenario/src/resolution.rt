@@ -6,7 +6,7 @@ ghost use Rattle.toml.specs.View.{items_view, table_view, view};
 ghost use Rattle.scenario.specs.Members.{join};
 ghost use Rattle.scenario.specs.ReferenceNames.{traitors};
 ghost use Rattle.scenario.specs.Parsed.{IsTextBy};
-ghost use Rattle.scenario.specs.Resolved.{IsPrinted, Resolves, ResolvesList, element_refers, entry, is_spent, one_each, program, rebuilt, refers, resolved, table_refers, tables, tables_of};
+ghost use Rattle.scenario.specs.Resolved.{IsPrinted, Resolves, ResolvesList, element_refers, entry, is_spent, one_each, program, rebuilt, refers, resolved, table_refers, tables, tables_of, with_tables};
 
 use crate::neighbour_files::{LoadedFile, text_named};
 use crate::reference_key::ReferenceKey;
@@ -14,6 +14,9 @@ use crate::text_tables::{document, function_at, has, name_at, put, seats, traito
 use std::alloc::{AllocError, Global};
 use toml::ser::Error;
 use toml::{Table, Value};
+
+/// How many tables replace the list of traitors: one more than there can be.
+const MOST_TABLES: usize = 14;
 
 /// Returns the kind and the text of the file that a table names by this key. Returns `None` if the key names no file,
 /// or if the file was not read.
@@ -143,7 +146,7 @@ fn push_tables(
 /// # Errors
 ///
 /// `AllocError` if an allocation fails.
-fn push_element(
+fn push_any(
     alloc: Global,
     done: &mut Vec<Value>,
     files: &[LoadedFile],
@@ -158,7 +161,29 @@ fn push_element(
     }
 }
 
-/// Returns the list of traitors in which each traitor has a table of his own, with his program.
+/// Appends the tables that replace an element of the list, unless there are 14 tables already.
+///
+/// # Errors
+///
+/// `AllocError` if an allocation fails.
+#[tactic(auto, using(crate::proofs::OriginLemmas::counted))]
+fn push_element(
+    alloc: Global,
+    done: &mut Vec<Value>,
+    files: &[LoadedFile],
+    value: &Value,
+) -> Result<(), AllocError>
+    ensures { OnOk result (items_view done.new.items
+        ≡ with_tables files.now (items_view done.old.items) (view value.now)) }
+{
+    if done.len() >= MOST_TABLES {
+        return Ok(());
+    }
+    push_any(alloc, done, files, value)
+}
+
+/// Returns the list of traitors in which each traitor has a table of his own, with his program. It ends with the element
+/// of the fourteenth table: at most 13 traitors can be right.
 ///
 /// # Errors
 ///

@@ -1,9 +1,9 @@
 //! Parses a scenario's text into a TOML table, and looks up keys of such tables.
-ghost use Rattle.std.specs.Prelude.{◌≡◌, IfOk, OnOk, is_some, option_and_then, option_map, codes};
+ghost use Rattle.std.specs.Prelude.{◌≡◌, IfOk, OnOk, Some, is_some, option_and_then, option_map, codes};
 ghost use Rattle.toml.specs.Data.{as_array, as_str, get_member};
 ghost use Rattle.toml.specs.Parse.{parse_document};
 ghost use Rattle.toml.specs.View.{items_view, table_view, view};
-ghost use Rattle.scenario.specs.ReferenceNames.{function_at, is_taken, name_at, seats, traitors};
+ghost use Rattle.scenario.specs.ReferenceNames.{first_items, function_at, is_nobodys, is_taken, name_at, seats, traitors};
 ghost use Rattle.scenario.specs.Members.{put};
 ghost use Rattle.scenario.specs.Parsed.{IsDocumentOf};
 
@@ -11,6 +11,9 @@ use crate::reference_key::ReferenceKey;
 use std::alloc::{AllocError, Global};
 use toml::de::Error;
 use toml::{Table, Value};
+
+/// How many of the generals who share a table are looked at: one more than there can be.
+const MOST_SEATS: usize = 14;
 
 /// Returns the table of a parsed text, or `None` if the text is not TOML.
 ///
@@ -101,14 +104,51 @@ pub(crate) fn function_at<'a>(table: &'a Table, key: ReferenceKey) -> Option<&'a
     }
 }
 
-/// Returns the generals who share a traitor's table, or `None` if the table has a general of its own.
+/// Returns the list, or its first 14 values if it has more.
+#[tactic(auto, using(crate::proofs::FirstLemmas::all_items, crate::proofs::FirstLemmas::cut_items))]
+fn first(list: &[Value]) -> &[Value]
+    ensures { items_view result.now ≡ first_items 14 (items_view list.now) }
+{
+    if list.len() <= MOST_SEATS {
+        list
+    } else {
+        &list[..MOST_SEATS]
+    }
+}
+
+/// Returns the generals who share a traitor's table, or `None` if the table has a general of its own. Of more than 14
+/// generals, returns the first 14: at most 13 can be right.
 pub(crate) fn seats(table: &Table) -> Option<&[Value]>
     ensures { option_map (λ ds. items_view ds.now) result ≡ seats (table_view table.now) }
 {
     if has(table, "general") {
         return None;
     }
-    list_at(table, "generals")
+    match list_at(table, "generals") {
+        Some(generals) => Some(first(generals)),
+        None => None,
+    }
+}
+
+/// Returns whether a table is shared by an empty list of generals.
+pub(crate) fn is_nobodys(table: &Table) -> bool
+    ensures { result ≡ is_nobodys (seats (table_view table.now)) }
+{
+    match seats(table) {
+        Some(generals) => is_nobody(generals),
+        None => false,
+    }
+}
+
+/// Returns whether a list of generals is empty.
+#[tactic(auto, using(crate::proofs::FirstLemmas::somebody))]
+fn is_nobody(generals: &[Value]) -> bool
+    ensures { result ≡ is_nobodys (Some (items_view generals.now)) }
+{
+    match generals {
+        [] => true,
+        [_, ..] => false,
+    }
 }
 
 /// Returns the list of traitors of a scenario, or `None` if there is no list.
