@@ -7,6 +7,7 @@ use crate::rejection::note;
 use clap::Error;
 use cli_words::TaskError;
 use std::io::{self, ErrorKind, Stderr};
+use streams::{Escaped, Kept};
 
 /// Words that ask for no task, after the reason was reported or help was printed. Only `Unasked::told` makes this
 /// value.
@@ -64,14 +65,28 @@ impl Unasked {
 ///
 /// # Errors
 ///
-/// Help or the version cannot be printed.
+/// Help or the version cannot be printed, or memory ran out.
 fn print(rt: &HostRuntime, refusal: &Error) -> io::Result<u8>
     ensures { IfOk result (IsUnaskedBy refusal.now) }
 {
     if refusal.use_stderr() {
-        let _ = refusal.print(rt);
+        print_mistake(rt, refusal)?;
         return Ok(2);
     }
     refusal.print(rt)?;
     Ok(0)
+}
+
+/// Prints on standard error why `clap` rejects the words. Control characters of the words are escaped.
+///
+/// # Errors
+///
+/// Memory ran out.
+fn print_mistake(rt: &HostRuntime, refusal: &Error) -> io::Result<()> {
+    let text = format!(in rt.alloc(); "{refusal}")?;
+    let _ = rt.eprint(Escaped {
+        text: text.as_str(),
+        kept: Kept::LineFeed,
+    });
+    Ok(())
 }

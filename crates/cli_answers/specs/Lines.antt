@@ -3,14 +3,17 @@ use Rattle.std.specs.Prelude.{ℕ, List, [], ◌∷◌, ◌++◌, Option, codes}
 use Rattle.label.specs.declared.shape.Shape.{Shape}
 use Rattle.serde_json.specs.Data.{Members, object, put, string}
 use Rattle.serde_json.specs.Written.{compact_text}
+use Rattle.streams.specs.Escapes.{escaped}
+use Rattle.streams.specs.declared.escaped.Kept.TheVariants.{Nothing}
 use Rattle.text.specs.Parts.{lines_of}
 use Rattle.cli_answers.specs.declared.position.Held.{Held}
 use Rattle.cli_answers.specs.Labels.{heard, held_by}
 use Rattle.cli_answers.specs.Objects.{line_object}
 
--- Returns an object as a line of JSON.
+-- Returns an object as a line of JSON. Each control character in its strings is escaped, also those that JSON allows
+-- (U+007F to U+009F).
 abbrev pub object_line : Members → List ℕ
-object_line ms = compact_text (object ms) ++ 10 ∷ []
+object_line ms = escaped Nothing (compact_text (object ms)) ++ 10 ∷ []
 
 -- Returns the objects of lines, one after the other.
 abbrev pub objects : Held → List (List ℕ) → List Members

@@ -10,9 +10,10 @@ use crate::position::Held;
 use label::Shape;
 use serde_json::{Map, Value};
 use std::alloc::{AllocError, Global};
+use streams::{Escaped, Kept};
 use text::line;
 
-/// Appends an object as a line of JSON.
+/// Appends an object as a line of JSON. Each control character in its strings is escaped, also those that JSON allows.
 pub(crate) fn push_object(
     alloc: Global,
     out: &mut Vec<u8>,
@@ -22,7 +23,12 @@ pub(crate) fn push_object(
     ensures { OnOk result (out.new.items ≡ out.old.items ++ object_line (members_view object.entries)) }
 {
     let text = Value::Object(object).to_string(alloc)?;
-    out.extend_from_slice(text.as_bytes())?;
+    let shown = Escaped {
+        text: text.as_str(),
+        kept: Kept::Nothing,
+    };
+    let line = format!(in alloc; "{shown}")?;
+    out.extend_from_slice(line.as_bytes())?;
     out.push(b'\n')?;
     Ok(())
 }

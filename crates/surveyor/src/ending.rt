@@ -10,6 +10,7 @@ use crate::breaches::broken;
 use crate::fault::SurveyFailure;
 use crate::file_sums::summed;
 use crate::keeper::Keeper;
+use crate::mistake::print_mistake;
 use crate::played_survey::surveyed;
 use crate::printer::unprinted;
 use crate::task::{Asked, AskedError};
@@ -139,11 +140,11 @@ fn printed(rt: &HostRuntime, refusal: &clap::Error) -> Result<u8, SurveyFailure>
     ensures status { IfOk result (IsRefusedByClap refusal.now) }
     ensures unhelped { IfErr result (IsUnhelpedBy refusal.now) }
 {
-    let printed = refusal.print(rt);
     if refusal.use_stderr() {
+        print_mistake(rt, refusal);
         return Ok(2);
     }
-    match printed {
+    match refusal.print(rt) {
         Ok(()) => Ok(0),
         Err(error) => Err(unprinted(error.kind())),
     }

@@ -12,6 +12,7 @@ mod input;
 mod keeper;
 mod kept_campaigns;
 mod minimal_campaigns;
+mod mistake;
 mod numbers;
 mod pieces;
 mod played_survey;
