@@ -1,5 +1,5 @@
 -- The first story that breaks a rule, and the message table of a story.
-use Rattle.std.specs.Prelude.{ℕ, ◌*◌, ◌<◌, ◌≤◌, ◌≡◌, nat_lt, if◌then◌else◌, false, List, [], ◌∷◌, filter, count_by, Option, None, Some, Result, Ok, Err}
+use Rattle.std.specs.Prelude.{ℕ, ◌*◌, ◌<◌, ◌≤◌, ◌≡◌, nat_lt, if◌then◌else◌, false, List, [], ◌∷◌, count_by, Option, None, Some, Result, Ok, Err}
 use Rattle.std.specs.List.{AllByRecursion}
 use Rattle.combine.specs.declared.campaign_rule.Rule.{Rule}
 use Rattle.combine.specs.Names.{default_rule}
@@ -33,10 +33,6 @@ earlier Third = First ∷ Second ∷ []
 pub record IsFirstBroken (rule : Rule) (n c m : ℕ) (s : Story) : Type 0 where
   pub broken : ¬ AgreesIn rule n c m s
   pub first : AllByRecursion (AgreesIn rule n c m) (earlier s)
-
--- Returns the traitors of a story, in ascending order.
-abbrev pub traitors_of : Story → ℕ → ℕ → List ℕ
-traitors_of s n c = filter (is_traitor_in s c) (generals n)
 
 -- States that a text is the message table of a story: it is read as a table with these numbers, this rule and the
 -- messages of the story. In this table, at most m generals are traitors, and all others are faithful.
