@@ -5,7 +5,6 @@ use Rattle.std.specs.Io.KnownBytes.{Appends}
 use Rattle.cli_words.specs.declared.tasks.TaskRequest.{TaskRequest}
 use Rattle.label.specs.declared.shape.Shape.{Shape}
 use Rattle.cli_tasks.specs.Serving.{Files, IsPrinted}
-use Rattle.cli_tasks.proofs.PlaceLemmas.{place_there}
 use Rattle.cli_answers.specs.Printing.{answer_as, answer_by, is_shaped, judged}
 use Rattle.cli_answers.specs.Serving.{IsShown}
 
@@ -15,6 +14,5 @@ as_it_is true verdicts name text place plain = absurd cc
 as_it_is false true name text place plain = absurd cc
 
 pub shown_plainly : (request : TaskRequest) (files : Files) (old new : Option (List ℕ)) → is_shaped request ≡ false → IsPrinted request.task files old new → IsShown request files old new
-shown_plainly request files old new plain (text, answer, appends) =
-    let there = place_there request.task files text answer in
-    (text, (there.0, there.1, subst (λ (told : Option (List ℕ)). IfSome told (Appends old new)) (sym (as_it_is request.json request.verdicts (judged request.task) text there.0 plain)) appends))
+shown_plainly request files old new plain (text, (place, answer), appends) =
+    (text, (place, answer, subst (λ (told : Option (List ℕ)). IfSome told (Appends old new)) (sym (as_it_is request.json request.verdicts (judged request.task) text place plain)) appends))

@@ -71,7 +71,7 @@ where
     if !is_shaped(request) {
         return cli_tasks::serve(rt, alloc, task, first, second, out, fault);
     }
-    match cli_tasks::placed(rt, alloc, task, first, second) {
+    match cli_tasks::answered(rt, alloc, task, first, second) {
         Ok(answer) => {
             let Answer { text, place } = answer;
             show_answer(alloc, request, place, text.as_slice(), out, fault)

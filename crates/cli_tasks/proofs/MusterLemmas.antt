@@ -1,13 +1,8 @@
 -- An answer of which only the error is told otherwise.
 use Rattle.std.proofs.Common.{◌≡◌, sym, subst}
-use Rattle.std.specs.Prelude.{Result, Ok, Err, IfOk, IfErr, IsErrAnd, MatchResult}
+use Rattle.std.specs.Prelude.{Result, Ok, Err, IfErr, IsErrAnd, MatchResult}
 
 -- what is said of both is said of it
-pub either_ok : {T E F : Type 0} (Q : E → F → Type 0) (P : T → Type 0) (answer : Result T E) (own : Result T F) → MatchResult answer (λ t. own ≡ Ok t) (λ e. IsErrAnd own (Q e)) → IfOk answer P → IfOk own P
-either_ok {T} {E} {F} Q P (Ok t) own is p = subst (λ (r : Result T F). IfOk r P) (sym is) p
-either_ok {T} {E} {F} Q P (Err e) (Ok t) is p = absurd is
-either_ok {T} {E} {F} Q P (Err e) (Err f) is p = tt
-
 pub either_err : {T E F : Type 0} (Q : E → F → Type 0) (R : E → Type 0) (P : F → Type 0) (answer : Result T E) (own : Result T F) → MatchResult answer (λ t. own ≡ Ok t) (λ e. IsErrAnd own (Q e))
     → ((e : E) (f : F) → R e → Q e f → P f) → IfErr answer R → IfErr own P
 either_err {T} {E} {F} Q R P (Ok t) own is weaker r = subst (λ (x : Result T F). IfErr x P) (sym is) tt

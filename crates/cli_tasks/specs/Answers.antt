@@ -1,5 +1,5 @@
 -- Defines what `check`, `asm` and `dis` print of a program.
-use Rattle.std.specs.Prelude.{ℕ, ◌≡◌, ◌++◌, Bool, true, false, List, [], Option, None, Some, String, codes, length, map, string_bytes, unwrap_or}
+use Rattle.std.specs.Prelude.{ℕ, ◌≡◌, ◌++◌, Bool, true, false, List, [], Option, None, Some, String, codes, length, map, string_bytes}
 use Rattle.std.specs.declared.alloc.Global.{Global}
 use Rattle.insn.specs.declared.insn.Insn.{Insn}
 use Rattle.insn.specs.Program.{slots_of}
@@ -68,18 +68,6 @@ IsTriedIn s traced asked bytes program text =
 abbrev pub IsTriedAt : Shape → Bool → Option Notation → List ℕ → List ℕ → List Insn → List ℕ → Type 0
 IsTriedAt shape traced asked first second program text =
     (s : Setting) × TellsSetting second s × (shape ≡ s.shape) × IsTriedIn s traced asked first program text
-
--- States that the text is that of a trial in the setting that the second file describes.
-abbrev pub IsTriedBy : Bool → Option Notation → List ℕ → List ℕ → List Insn → List ℕ → Type 0
-IsTriedBy traced asked first second program text =
-    (s : Setting) × TellsSetting second s × IsTriedIn s traced asked first program text
-
--- States that the first file contains a program which is sound and which the verifier accepts, and that the text is
--- that of its trial in the setting that the second file describes. A missing second file counts as an empty one.
-abbrev pub Tries : Notation → Bool → Bool → List ℕ → Option (List ℕ) → List ℕ → Type 0
-Tries notation explained traced first second text =
-    (program : List Insn) × HasProgram notation first program × (judged program ≡ None) × IsSound program
-    × IsTriedBy traced (if_asked explained notation) first (unwrap_or second []) program text
 
 -- States that the text assembles to a program, and that this is its bytecode.
 abbrev pub AssemblesRaw : List ℕ → List ℕ → Type 0

@@ -1,5 +1,5 @@
 -- Defines what `play`, `muster` and `audit` print of a campaign.
-use Rattle.std.specs.Prelude.{ℕ, suc, ◌≡◌, false, true, List, [], ◌∷◌, ◌++◌, Option, None, Some, unwrap_or}
+use Rattle.std.specs.Prelude.{ℕ, suc, ◌≡◌, List, [], ◌∷◌, ◌++◌, Option, None, Some}
 use Rattle.cli_words.specs.declared.tasks.Account.{Account}
 use Rattle.cli_words.specs.declared.tasks.Account.TheVariants as accounts
 use Rattle.cli_words.specs.declared.tasks.Lieutenants.{Lieutenants}
@@ -26,8 +26,7 @@ use Rattle.trace.specs.SignedText.{signed_text}
 use Rattle.trace.specs.Text.{chronicle_text}
 use Rattle.cli_tasks.specs.AuditLines.{sound_lines}
 use Rattle.cli_tasks.specs.Promises.{IsCompleteRun}
-use Rattle.cli_tasks.specs.Explained.{TellsAsked}
-use Rattle.cli_tasks.specs.Schedules.{played, signed_played, is_chronicle, IsSchedule}
+use Rattle.cli_tasks.specs.Schedules.{played, signed_played}
 
 -- States that the text gives this account of an oral campaign: its chronicle, or the message table of its letters,
 -- whose decisions are those of the chronicle.
@@ -89,14 +88,6 @@ abbrev pub IsPlayed : Campaign → List (List Repeat) → Account → Option Lie
 IsPlayed (Oral s) schedule account explained text = IsOralPlayed s schedule account explained text
 IsPlayed (Signed s) schedule account explained text = IsSignedPlayed s schedule explained text
 
--- States that the first file describes a campaign and the second a schedule, and that this is the text of the campaign
--- played by it. If there is no second file, the schedule is empty. A general whose decision is explained is a lieutenant
--- of the campaign, here and in what follows.
-abbrev pub Plays : Account → Option Lieutenants → List ℕ → Option (List ℕ) → List ℕ → Type 0
-Plays account explained first second text =
-    (c : Campaign) × TellsAsked (is_chronicle account) explained first c
-    × ((schedule : List (List Repeat)) × IsSchedule second schedule × IsPlayed c schedule account explained text)
-
 -- States that the text is the chronicle of a complete run, followed by the explanation, if it is asked for. The run is
 -- the replay of its own accesses, no activation in it traps or takes more steps than its program has instructions, and
 -- its letters are whole. The decisions agree under the bound, and the verdict describes them correctly.
@@ -108,10 +99,6 @@ pub record IsMustered (s : Scenario) (explained : Option Lieutenants) (text : Li
   pub agree : AgreeUnderBound s chronicle.decisions
   pub verdict : IsVerdictOn s chronicle.decisions chronicle.verdict
   pub well : IsWellUnderBound chronicle.verdict
-
--- States that the file describes an oral campaign, and that this is the text of a run of it with threads.
-abbrev pub Musters : Option Lieutenants → List ℕ → List ℕ → Type 0
-Musters explained first text = (s : Scenario) × TellsAsked false explained first (Oral s) × IsMustered s explained text
 
 -- States that the bytes are the text of a chronicle of the oral campaign. The lines say so, give the verdict of its
 -- replay, which is a complete run, and then the explanation, if it is asked for.
@@ -133,9 +120,3 @@ pub record IsSignedAudited (s : Scenario) (explained : Option Lieutenants) (byte
 abbrev pub IsAudited : Campaign → Option Lieutenants → List ℕ → List ℕ → Type 0
 IsAudited (Oral s) explained bytes text = IsOralAudited s explained bytes text
 IsAudited (Signed s) explained bytes text = IsSignedAudited s explained bytes text
-
--- States that the first file describes a campaign, and that these are the lines of the audit of the second file. If
--- there is no second file, empty bytes are audited.
-abbrev pub Audits : Option Lieutenants → List ℕ → Option (List ℕ) → List ℕ → Type 0
-Audits explained first second text =
-    (c : Campaign) × TellsAsked true explained first c × IsAudited c explained (unwrap_or second []) text

@@ -1,15 +1,12 @@
 -- Defines what `draw` prints of a campaign: a space-time diagram.
-use Rattle.std.specs.Prelude.{ℕ, ◌≡◌, false, List, [], Option, Ok, unwrap_or}
+use Rattle.std.specs.Prelude.{ℕ, ◌≡◌, false, List, Ok}
 use Rattle.std.specs.List.{All}
 use Rattle.book.specs.Grammar.{table_told}
 use Rattle.book.specs.Table.{MessageTable}
-use Rattle.cli_words.specs.declared.tasks.Course.{Course}
-use Rattle.cli_words.specs.declared.tasks.Course.TheVariants.{Scheduled, Recorded}
 use Rattle.show_diagram.specs.Laws.{BlamesTraitors, IsDrawnHonest}
 use Rattle.show_diagram.specs.Svg.{svg_text}
 use Rattle.show_table.specs.Retold.{table_of}
 use Rattle.round.specs.Scenario.{is_traitor}
-use Rattle.scenario.specs.Reading.{TellsAny}
 use Rattle.scenario.specs.declared.messages.Campaign.{Campaign}
 use Rattle.scenario.specs.declared.messages.Campaign.TheVariants.{Oral, Signed}
 use Rattle.show_chains.specs.Strokes.{strokes_of}
@@ -19,7 +16,7 @@ use Rattle.trace.specs.Names.{chronicle_told}
 use Rattle.trace.specs.SignedAudit.{IsSoundSignedText, signed_chronicle_told}
 use Rattle.world.specs.declared.schedule.Repeat.{Repeat}
 use Rattle.world.specs.Chronicle.{Chronicle}
-use Rattle.cli_tasks.specs.Schedules.{IsSchedule, played, signed_played}
+use Rattle.cli_tasks.specs.Schedules.{played, signed_played}
 use Rattle.cli_tasks.specs.Promises.{KeepsPromises, KeepsSignedPromises}
 
 -- States that the picture shows the chronicle of an oral campaign and the message table that its letters give. It draws
@@ -54,13 +51,3 @@ IsRecordDrawn (Oral s) bytes picture =
 IsRecordDrawn (Signed s) bytes picture =
     IsSoundSignedText s bytes × IsSignedDiagram (signed_chronicle_told s bytes) picture
     × KeepsSignedPromises s (signed_chronicle_told s bytes)
-
--- States that the first file describes a campaign, and that the picture shows its chronicle. By the course, this is the
--- chronicle of the campaign played by the schedule in the second file, or the chronicle in the second file. If there is
--- no second file, the schedule or the chronicle's text is empty.
-abbrev pub Draws : Course → List ℕ → Option (List ℕ) → List ℕ → Type 0
-Draws (Scheduled file) first second picture =
-    (c : Campaign) × TellsAny first c
-    × ((schedule : List (List Repeat)) × IsSchedule second schedule × IsCampaignDrawn c schedule picture)
-Draws (Recorded file) first second picture =
-    (c : Campaign) × TellsAny first c × IsRecordDrawn c (unwrap_or second []) picture

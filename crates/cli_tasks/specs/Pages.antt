@@ -1,14 +1,11 @@
 -- Defines what `page` prints of a campaign: an HTML page.
-use Rattle.std.specs.Prelude.{ℕ, ◌≡◌, ◌≤◌, List, [], length, Option, None, Some, Ok, unwrap_or}
+use Rattle.std.specs.Prelude.{ℕ, ◌≡◌, ◌≤◌, List, length, Option, None, Some, Ok}
 use Rattle.book.specs.Grammar.{table_told}
 use Rattle.book.specs.Table.{MessageTable}
 use Rattle.show_page.specs.Account.{page_text}
 use Rattle.show_page.specs.Room.{longest_page}
-use Rattle.cli_words.specs.declared.tasks.Course.{Course}
-use Rattle.cli_words.specs.declared.tasks.Course.TheVariants.{Scheduled, Recorded}
 use Rattle.show_diagram.specs.Laws.{BlamesTraitors}
 use Rattle.show_table.specs.Retold.{table_of}
-use Rattle.scenario.specs.Reading.{TellsAny}
 use Rattle.scenario.specs.declared.messages.Campaign.{Campaign}
 use Rattle.scenario.specs.declared.messages.Campaign.TheVariants.{Oral, Signed}
 use Rattle.show_page.specs.SignedAccount.{signed_page_text}
@@ -17,7 +14,7 @@ use Rattle.trace.specs.Names.{chronicle_told}
 use Rattle.trace.specs.SignedAudit.{IsSoundSignedText, signed_chronicle_told}
 use Rattle.world.specs.declared.schedule.Repeat.{Repeat}
 use Rattle.world.specs.Chronicle.{Chronicle}
-use Rattle.cli_tasks.specs.Schedules.{IsSchedule, played, signed_played}
+use Rattle.cli_tasks.specs.Schedules.{played, signed_played}
 use Rattle.cli_tasks.specs.Diagrams.{BlamesSignedTraitors}
 use Rattle.cli_tasks.specs.Promises.{KeepsPromises, KeepsSignedPromises}
 
@@ -53,13 +50,3 @@ IsRecordTold (Oral s) text bytes page =
 IsRecordTold (Signed s) text bytes page =
     IsSoundSignedText s bytes × IsSignedPage text None (signed_chronicle_told s bytes) page
     × KeepsSignedPromises s (signed_chronicle_told s bytes)
-
--- States that the first file describes a campaign, and that the page shows this file and a chronicle of the campaign.
--- By the course, this is the chronicle of the campaign played by the schedule in the second file, or the chronicle in
--- the second file. If there is no second file, the schedule or the chronicle's text is empty.
-abbrev pub TellsPage : Course → List ℕ → Option (List ℕ) → List ℕ → Type 0
-TellsPage (Scheduled file) first second page =
-    (c : Campaign) × TellsAny first c
-    × ((schedule : List (List Repeat)) × IsSchedule second schedule × IsCampaignPaged c first schedule page)
-TellsPage (Recorded file) first second page =
-    (c : Campaign) × TellsAny first c × IsRecordTold c first (unwrap_or second []) page

@@ -1,5 +1,5 @@
 -- Defines what `schedule` prints: a schedule for a chronicle, or for listed accesses.
-use Rattle.std.specs.Prelude.{ℕ, List, [], Option, unwrap_or}
+use Rattle.std.specs.Prelude.{ℕ, List}
 use Rattle.campaign_schedules.specs.Arranged.{IsArranged}
 use Rattle.campaign_schedules.specs.Retraced.{IsRetraced}
 use Rattle.round.specs.Scenario.{Scenario}
@@ -10,11 +10,6 @@ use Rattle.trace.specs.Laws.{IsSoundText}
 -- which the campaign has this chronicle.
 abbrev pub IsScheduleFor : Scenario → List ℕ → List ℕ → Type 0
 IsScheduleFor s bytes lines = IsSoundText s bytes × IsRetraced s bytes lines
-
--- States that the first file describes an oral campaign, and that these are the lines of a schedule by which it has the
--- chronicle in the second file.
-abbrev pub Retraces : List ℕ → Option (List ℕ) → List ℕ → Type 0
-Retraces first second lines = (s : Scenario) × Tells first s × IsScheduleFor s (unwrap_or second []) lines
 
 -- States that the first file describes an oral campaign, and that these are the lines of a schedule by which it has the
 -- accesses in `list`.

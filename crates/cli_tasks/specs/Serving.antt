@@ -1,5 +1,5 @@
 -- Defines how a task on its files ends. The bytes of a file and the content of a stream may be unknown.
-use Rattle.std.specs.Prelude.{ℕ, ◌≡◌, ◌≢◌, ◌⊎◌, Bool, true, false, List, [], ◌∷◌, ◌++◌, Option, None, Some, IfSome, IsSomeAnd, codes, option_map, unwrap_or}
+use Rattle.std.specs.Prelude.{ℕ, ◌≡◌, ◌≢◌, ◌⊎◌, Bool, true, false, List, [], ◌∷◌, ◌++◌, Option, None, Some, IfSome, IsSomeAnd, codes, option_map, string_bytes, unwrap_or}
 use Rattle.std.specs.Io.KnownBytes.{Appends}
 use Rattle.cli_words.specs.Tasks.{file_of, second_of}
 use Rattle.cli_words.specs.declared.tasks.Account.{Account}
@@ -16,9 +16,9 @@ use Rattle.cli_tasks.specs.declared.refusal.InputRefusal.{InputRefusal}
 use Rattle.cli_tasks.specs.declared.refusal.InputRefusal.TheVariants.{NotText, Memory}
 use Rattle.cli_tasks.specs.declared.first_answer.FirstAnswer.{FirstAnswer}
 use Rattle.cli_tasks.specs.declared.first_answer.FirstAnswer.TheVariants as answer
-use Rattle.cli_tasks.specs.TaskAnswers.{GoesOn, IsPlace, Prints}
-use Rattle.cli_tasks.specs.Answers.{IsTriedAt, IsTriedBy}
-use Rattle.cli_tasks.specs.Campaigns.{IsAudited, IsPlayed}
+use Rattle.cli_tasks.specs.TaskAnswers.{ComesTo, GoesOn}
+use Rattle.cli_tasks.specs.Answers.{IsTriedAt}
+use Rattle.cli_tasks.specs.Campaigns.{IsAudited, IsMustered, IsPlayed}
 use Rattle.cli_tasks.specs.Schedules.{IsSchedule}
 use Rattle.cli_tasks.specs.Diagrams.{IsCampaignDrawn, IsRecordDrawn}
 use Rattle.cli_tasks.specs.Pages.{IsCampaignPaged, IsRecordTold}
@@ -26,7 +26,7 @@ use Rattle.cli_tasks.specs.Retracing.{IsScheduleFor}
 use Rattle.streams.specs.Names.{shown}
 use Rattle.streams.specs.Reading.{AreBytes}
 use Rattle.cli_tasks.specs.Hints.{hint_behind}
-use Rattle.cli_tasks.specs.TaskHints.{IsHint}
+use Rattle.cli_tasks.specs.TaskHints.{IsHint, explained_in}
 use Rattle.cli_tasks.specs.declared.hint.Hint.{Hint}
 use Rattle.cli_tasks.specs.ErrorText.{refusal_text}
 use Rattle.cli_tasks.specs.Whys.{Role, TellsWhyOf, is_explained}
@@ -62,12 +62,6 @@ AreSecond (Some known) second = IsSomeAnd second (AreBytes known)
 abbrev pub AreSecondBytes : Option (Option (List ℕ)) → List ℕ → Type 0
 AreSecondBytes None bytes = bytes ≡ []
 AreSecondBytes (Some known) bytes = AreBytes known bytes
-
--- States that the task prints this text on the files.
-abbrev pub IsAnswer : Task → Files → List ℕ → Type 0
-IsAnswer task files text =
-    (first : List ℕ) × AreBytes files.first first
-    × ((second : Option (List ℕ)) × AreSecond files.second second × Prints task first second text)
 
 -- States that this is the schedule in the second file. If there is no second file, the schedule is empty.
 abbrev pub IsScheduleOf : Option (Option (List ℕ)) → List (List Repeat) → Type 0
@@ -106,19 +100,6 @@ IsPagedAs known c text page = (bytes : List ℕ) × AreSecondBytes known bytes �
 abbrev pub IsRetracedBy : Option (Option (List ℕ)) → Scenario → List ℕ → Type 0
 IsRetracedBy known s lines = (bytes : List ℕ) × AreSecondBytes known bytes × IsScheduleFor s bytes lines
 
--- States that the text is that of the program's trial in the setting that the second file describes.
-abbrev pub IsTrialOf : Option (Option (List ℕ)) → Bool → Option Notation → List ℕ → List Insn → List ℕ → Type 0
-IsTrialOf known traced asked first program text =
-    (bytes : List ℕ) × AreSecondBytes known bytes × IsTriedBy traced asked first bytes program text
-
--- States that the task prints this text on the files. If the task tries a program in the setting of its second file,
--- `place` is the relay of the trial, and otherwise it is `None`.
-abbrev pub IsPlacedAnswer : Task → Files → List ℕ → Option Shape → Type 0
-IsPlacedAnswer task files text place =
-    (first : List ℕ) × AreBytes files.first first
-    × ((second : Option (List ℕ)) × AreSecond files.second second × Prints task first second text
-    × IsPlace task second place)
-
 -- States that the text is that of the program's trial in the setting that the second file describes, and that `place`
 -- is the relay of the trial.
 abbrev pub IsTrialAt : Option (Option (List ℕ)) → Bool → Option Notation → List ℕ → List Insn → List ℕ → Option Shape →
@@ -126,6 +107,38 @@ abbrev pub IsTrialAt : Option (Option (List ℕ)) → Bool → Option Notation �
 IsTrialAt known traced asked first program text place =
     (bytes : List ℕ) × AreSecondBytes known bytes
     × ((shape : Shape) × IsTriedAt shape traced asked first bytes program text × (place ≡ Some shape))
+
+-- States that this is the text of a task that goes on with `more` after its first file.
+abbrev pub IsTextAfter : Option (Option (List ℕ)) → FirstAnswer → List ℕ → Type 0
+IsTextAfter known (answer.Text all) text = text ≡ string_bytes all
+IsTextAfter known (answer.Bytes all) text = text ≡ all.items
+IsTextAfter known (answer.Play c account explained) text = IsPlayedBy known c account explained text
+IsTextAfter known (answer.Muster s explained) text = IsMustered s explained text
+IsTextAfter known (answer.Audit c explained) text = IsAuditOf known c explained text
+IsTextAfter known (answer.Draw c) text = IsDrawnBy known c text
+IsTextAfter known (answer.DrawRecorded c) text = IsDrawnAs known c text
+IsTextAfter known (answer.Page c scenario) text = IsPagedBy known c (string_bytes scenario) text
+IsTextAfter known (answer.PageRecorded c scenario) text = IsPagedAs known c (string_bytes scenario) text
+IsTextAfter known (answer.Retrace s) text = IsRetracedBy known s text
+IsTextAfter known _ text = ⊥
+
+-- States that this is the text of a task that goes on with `more` after its first file. If the task tries a program in
+-- the setting of its second file, `place` is the relay of the trial, and otherwise it is `None`.
+abbrev pub EndsIn : Task → List ℕ → Option (Option (List ℕ)) → FirstAnswer → List ℕ → Option Shape → Type 0
+EndsIn task first known (answer.Trial program told) text place =
+    IsTrialAt known told (explained_in task) first program text place
+EndsIn task first known more text place = IsTextAfter known more text × (place ≡ None)
+
+-- States that the task prints this text on the files. If the task tries a program in the setting of its second file,
+-- `place` is the relay of the trial, and otherwise it is `None`.
+abbrev pub IsPlacedAnswer : Task → Files → List ℕ → Option Shape → Type 0
+IsPlacedAnswer task files text place =
+    (first : List ℕ) × AreBytes files.first first
+    × ((more : FirstAnswer) × ComesTo task first more × EndsIn task first files.second more text place)
+
+-- States that the task prints this text on the files.
+abbrev pub IsAnswer : Task → Files → List ℕ → Type 0
+IsAnswer task files text = (place : Option Shape) × IsPlacedAnswer task files text place
 
 -- States that the task has an answer on the files, and that `stands` holds of this answer.
 abbrev pub HasAnswer : (List ℕ → Type 0) → Task → Files → Type 0

@@ -1,8 +1,6 @@
--- Defines what a task prints on files with given bytes.
-use Rattle.std.specs.Prelude.{ℕ, ◌≡◌, Bool, false, true, List, [], Option, None, Some, string_bytes, unwrap_or}
-use Rattle.label.specs.declared.shape.Shape.{Shape}
+-- Defines what a task results in on its first file.
+use Rattle.std.specs.Prelude.{ℕ, ◌≡◌, false, true, List, None, Some, string_bytes}
 use Rattle.semantics.specs.Run.{IsSound}
-use Rattle.cli_words.specs.declared.tasks.Notation.{Notation}
 use Rattle.cli_words.specs.declared.tasks.Spelling.TheVariants.{Hex, Raw}
 use Rattle.cli_words.specs.declared.tasks.Task.{Task}
 use Rattle.cli_words.specs.declared.tasks.Task.TheVariants.{Check, Assemble, AssemblePartly, Disassemble, DisassemblePartly, Book, ExplainDecisions, Form, Refute, Play, Muster, Audit, Explore, Tree, Draw, Page, Retrace}
@@ -13,54 +11,42 @@ use Rattle.scenario.specs.declared.messages.Campaign.TheVariants.{Oral}
 use Rattle.book.specs.Answers.{DecidesTable, ExplainsTable, IsFilled, IsFormOf}
 use Rattle.bounds.specs.Refutation.{Refutes}
 use Rattle.verify.specs.Judgement.{judged}
-use Rattle.trial.specs.Setting.{Setting}
-use Rattle.trial.specs.Answers.{Tells as TellsSetting}
 use Rattle.cli_tasks.specs.Exploring.{Explores}
 use Rattle.cli_tasks.specs.Programs.{HasProgram}
-use Rattle.cli_tasks.specs.Campaigns.{Audits, Musters, Plays}
 use Rattle.cli_tasks.specs.Explained.{TellsAsked}
 use Rattle.cli_tasks.specs.Schedules.{is_chronicle}
-use Rattle.cli_tasks.specs.Diagrams.{Draws}
 use Rattle.cli_tasks.specs.Parts.{AssemblesPartly, AssemblesPartlyRaw, DisassemblesPartly}
 use Rattle.cli_tasks.specs.Picturing.{Pictures, is_toml}
-use Rattle.cli_tasks.specs.Pages.{TellsPage}
-use Rattle.cli_tasks.specs.Retracing.{Arranges, Retraces}
+use Rattle.cli_tasks.specs.Retracing.{Arranges}
 use Rattle.cli_tasks.specs.Strangers.{KnowsAll, KnowsLiar, KnowsTree}
 use Rattle.cli_tasks.specs.declared.first_answer.FirstAnswer.{FirstAnswer}
 use Rattle.cli_tasks.specs.declared.first_answer.FirstAnswer.TheVariants as answer
-use Rattle.cli_tasks.specs.Answers.{IsChecked, Tries, AssemblesRaw, Assembles, Disassembles}
+use Rattle.cli_tasks.specs.Answers.{IsChecked, AssemblesRaw, Assembles, Disassembles}
 
--- States that the task prints this text on files with these bytes.
-abbrev pub Prints : Task → List ℕ → Option (List ℕ) → List ℕ → Type 0
-Prints (Check file notation None explained traced) first second text = IsChecked notation explained traced first text
-Prints (Check file notation (Some context) explained traced) first second text =
-    Tries notation explained traced first second text
-Prints (Assemble file Hex target explained) first second text = Assembles first text
-Prints (Assemble file Raw target explained) first second text = AssemblesRaw first text
-Prints (AssemblePartly file Hex target explained) first second text = AssemblesPartly first text
-Prints (AssemblePartly file Raw target explained) first second text = AssemblesPartlyRaw first text
-Prints (Disassemble file notation units explained) first second text = Disassembles notation units first text
-Prints (DisassemblePartly file notation explained) first second text = DisassemblesPartly notation first text
-Prints (Book file) first second text = DecidesTable first text
-Prints (ExplainDecisions file traitors) first second text =
+-- States that the task prints this text on a first file with these bytes, and needs no second file.
+abbrev pub Prints : Task → List ℕ → List ℕ → Type 0
+Prints (Check file notation None explained traced) first text = IsChecked notation explained traced first text
+Prints (Assemble file Hex target explained) first text = Assembles first text
+Prints (Assemble file Raw target explained) first text = AssemblesRaw first text
+Prints (AssemblePartly file Hex target explained) first text = AssemblesPartly first text
+Prints (AssemblePartly file Raw target explained) first text = AssemblesPartlyRaw first text
+Prints (Disassemble file notation units explained) first text = Disassembles notation units first text
+Prints (DisassemblePartly file notation explained) first text = DisassemblesPartly notation first text
+Prints (Book file) first text = DecidesTable first text
+Prints (ExplainDecisions file traitors) first text =
     KnowsAll first traitors.items × ExplainsTable first traitors.items text
-Prints (Form n m c None) first second text = IsFormOf (string_bytes n) (string_bytes m) (string_bytes c) text
-Prints (Form n m c (Some filling)) first second text =
+Prints (Form n m c None) first text = IsFormOf (string_bytes n) (string_bytes m) (string_bytes c) text
+Prints (Form n m c (Some filling)) first text =
     KnowsLiar (string_bytes n) (string_bytes m) (string_bytes c) filling.liar
     × IsFilled (string_bytes n) (string_bytes m) (string_bytes c) filling.order filling.liar text
-Prints (Refute n m c rule story) first second text =
+Prints (Refute n m c rule story) first text =
     Refutes (string_bytes n) (string_bytes m) (string_bytes c) rule story text
-Prints (Play scenario schedule account explained) first second text = Plays account explained first second text
-Prints (Muster scenario explained) first second text = Musters explained first text
-Prints (Audit scenario chronicle explained) first second text = Audits explained first second text
-Prints (Explore scenario most folder) first second text = Explores most first text
-Prints (Tree file general traitors drawing depth folded) first second text =
+Prints (Explore scenario most folder) first text = Explores most first text
+Prints (Tree file general traitors drawing depth folded) first text =
     KnowsTree (is_toml first) first general traitors.items
     × Pictures general traitors.items drawing depth folded first text
-Prints (Draw scenario course) first second text = Draws course first second text
-Prints (Page scenario course target) first second text = TellsPage course first second text
-Prints (Retrace scenario (OfChronicle file)) first second text = Retraces first second text
-Prints (Retrace scenario (Listed list)) first second text = Arranges (string_bytes list) first text
+Prints (Retrace scenario (Listed list)) first text = Arranges (string_bytes list) first text
+Prints _ first text = ⊥
 
 -- States that the task goes on with this after its first file: with a program to try and whether its steps are printed,
 -- or with a campaign.
@@ -82,22 +68,15 @@ GoesOn (Page scenario (Recorded file) target) first (answer.PageRecorded c text)
 GoesOn (Retrace scenario (OfChronicle file)) first (answer.Retrace s) = Tells first s
 GoesOn _ first _ = ⊥
 
--- States that the task results in this on its first file: in a text or bytes to print, whatever the second file
--- contains, or in something with which it goes on.
+-- States that the task results in this on its first file: in a text or bytes to print, or in something with which it
+-- goes on.
 abbrev pub ComesTo : Task → List ℕ → FirstAnswer → Type 0
-ComesTo task first (answer.Text text) = (second : Option (List ℕ)) → Prints task first second (string_bytes text)
-ComesTo task first (answer.Bytes bytes) = (second : Option (List ℕ)) → Prints task first second bytes.items
+ComesTo task first (answer.Text text) = Prints task first (string_bytes text)
+ComesTo task first (answer.Bytes bytes) = Prints task first bytes.items
 ComesTo task first more = GoesOn task first more
 
--- Returns the notation of the program that the task tries in the setting of its second file, and whether the steps of
--- the trial are printed. Returns `None` for any other task.
-abbrev pub trial_of : Task → Option (Notation × Bool)
-trial_of (Check file notation (Some context) explained traced) = Some (notation, traced)
-trial_of _ = None
-
--- States that `place` is the relay in the setting of the task's second file if the task tries a program in it, and
--- `None` otherwise.
-abbrev pub IsPlace : Task → Option (List ℕ) → Option Shape → Type 0
-IsPlace (Check file notation (Some context) explained traced) second place =
-    (s : Setting) × TellsSetting (unwrap_or second []) s × (place ≡ Some s.shape)
-IsPlace _ second place = place ≡ None
+-- States that the task goes on after its first file.
+abbrev pub IsUnfinished : FirstAnswer → Type 0
+IsUnfinished (answer.Text text) = ⊥
+IsUnfinished (answer.Bytes bytes) = ⊥
+IsUnfinished _ = Unit {0}

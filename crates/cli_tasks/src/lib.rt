@@ -63,7 +63,7 @@ pub use muster::mustered;
 pub use named_files::FileProblem;
 pub use pages::{paged, record_paged};
 pub use parts::{assembled_partly, assembled_partly_raw, disassembled_partly};
-pub use placed_answer::{Answer, placed};
+pub use placed_answer::Answer;
 pub use prepared_scenario::{reads_scenario, with_files};
 pub use program_check::{Checked, accepted, accepted_in, accepted_text, check};
 pub use program_explanation::explanation;

@@ -4,9 +4,10 @@ ghost use Rattle.std.specs.Fmt.{with_newline};
 ghost use Rattle.std.specs.Io.KnownBytes.{Appends};
 ghost use Rattle.cli_tasks.specs.Faults.{IsToldIf, Stops, fault_text, status_of};
 ghost use Rattle.cli_tasks.specs.TaskFaults.{Undoes, Prevents};
+ghost use Rattle.cli_tasks.specs.TaskAnswers.{IsUnfinished};
 ghost use Rattle.cli_tasks.specs.TaskHints.{explained_in};
 ghost use Rattle.cli_tasks.specs.Whys.{Nothing, TellsWhyOf, is_explained};
-ghost use Rattle.cli_tasks.specs.Serving.{IsAnswer, IsAuditOf, IsFault, IsPlayedBy, IsPrinted, IsScheduleOf, IsScheduleTold, IsToldLater, IsTrialOf, Tells, files, second_name};
+ghost use Rattle.cli_tasks.specs.Serving.{EndsIn, IsAuditOf, IsFault, IsPlacedAnswer, IsPlayedBy, IsPrinted, IsScheduleOf, IsScheduleTold, IsToldLater, IsTrialAt, Tells, files};
 ghost use Rattle.cli_tasks.specs.declared.first_answer.FirstAnswer.TheVariants.{Trial, Play, Audit};
 ghost use Rattle.cli_tasks.specs.declared.failure.TaskFailure.TheVariants.{Write as unwritten};
 ghost use Rattle.streams.specs.Writing.{AppendsFront};
@@ -14,15 +15,16 @@ ghost use Rattle.streams.specs.Writing.{AppendsFront};
 use crate::audit::audited;
 use crate::campaign_course::{draw_by, draw_record, page_by, page_record, retrace_of};
 use crate::campaigns::schedule_of;
-use crate::check_explanation::refused;
+use crate::check_explanation::{explained_in, refused};
 use crate::chronicle::played;
 use crate::failure::TaskFailure;
 use crate::first_answer::FirstAnswer;
 use crate::muster::mustered;
-use crate::placed_answer::trial_at;
+use crate::placed_answer::Answer;
 use crate::reader::{read_first, read_schedule, read_second};
 use crate::refusal::InputRefusal;
 use crate::task_answer::answer;
+use crate::trials::tried_by;
 use crate::whys::{FileRole, is_explained, later};
 use cli_words::{Account, Lieutenants, Task};
 use scenario::Campaign;
@@ -88,6 +90,7 @@ fn ended<F: Output>(failure: &TaskFailure<'_>, fault: &mut F) -> u8
 
 /// Prints the whole answer, or nothing if there is no answer. If the output fails, at most a beginning of the answer
 /// was printed.
+#[tactic(auto, using(crate::proofs::FilesLemmas::answer_there))]
 fn print<'a, T, R, O>(
     rt: &T,
     alloc: Global,
@@ -107,14 +110,15 @@ where
         (AppendsFront (O.contents out.old) (O.contents out.new)) task.entry.now (files R.bytes first second)) }
     ensures unprinted { IfErr result (λ fault. fault ≢ unwritten → out.new ≡ out.old) }
 {
-    let text = answered(rt, alloc, task, first, second)?;
-    match out.put(text.as_slice()) {
+    let answer = answered(rt, alloc, task, first, second)?;
+    match out.put(answer.text.as_slice()) {
         Ok(()) => Ok(()),
         Err(_) => Err(TaskFailure::Write),
     }
 }
 
-/// Computes the answer of a task on its files, which `serve` prints.
+/// Computes the answer of a task on its files, which `serve` prints. If the task tries a program in the setting of its
+/// second file, the answer includes the relay of the trial.
 ///
 /// # Errors
 ///
@@ -125,48 +129,78 @@ pub fn answered<'a, T, R>(
     task: &'a Task,
     first: R,
     second: Option<R>,
-) -> Result<Vec<u8>, TaskFailure<'a>>
+) -> Result<Answer, TaskFailure<'a>>
 where
     T: Threads + Wait + Sync,
     R: Source,
     ensures answer { IfOk result
-        (λ text. IsAnswer task.entry.now (files R.bytes first second) text.items) }
+        (λ answer. IsPlacedAnswer task.entry.now (files R.bytes first second) answer.text.items answer.place) }
     ensures fault { IfErr result
         (Prevents (R.fails first) (IsSomeAnd second R.fails) task.entry.now (files R.bytes first second)) }
 {
     let bytes = read_first(alloc, task, first)?;
     let file = task.second().unwrap_or("");
-    let reported = is_explained(task);
     match answer(alloc, task, bytes.as_slice()) {
-        Ok(FirstAnswer::Text(text)) => Ok(text.into_bytes()),
-        Ok(FirstAnswer::Bytes(bytes)) => Ok(bytes),
-        Ok(FirstAnswer::Trial(program, traced)) => {
-            trial_of(alloc, task, bytes.as_slice(), program, traced, file, second)
-        }
-        Ok(FirstAnswer::Play(campaign, account, explained)) => {
-            play_by(alloc, campaign, account, explained, reported, file, second)
-        }
-        Ok(FirstAnswer::Muster(scenario, explained)) => {
-            let text = mustered(rt, alloc, scenario, explained);
-            mustered_text(alloc, text, reported, file)
-        }
-        Ok(FirstAnswer::Audit(campaign, explained)) => {
-            audit_of(alloc, &campaign, explained, reported, file, second)
-        }
-        Ok(FirstAnswer::Draw(campaign)) => draw_by(alloc, campaign, reported, file, second),
-        Ok(FirstAnswer::DrawRecorded(campaign)) => {
-            draw_record(alloc, &campaign, reported, file, second)
-        }
-        Ok(FirstAnswer::Page(campaign, text)) => {
-            page_by(alloc, campaign, text, reported, file, second)
-        }
-        Ok(FirstAnswer::PageRecorded(campaign, text)) => {
-            page_record(alloc, campaign, text, reported, file, second)
-        }
-        Ok(FirstAnswer::Retrace(scenario)) => {
-            retrace_of(alloc, &scenario, reported, file, second)
-        }
+        Ok(more) => completed(rt, alloc, task, bytes.as_slice(), more, file, second),
         Err(refusal) => Err(refused(alloc, task, refusal, bytes.as_slice())),
+    }
+}
+
+/// Computes the answer of a task that results in `more` on its first file, which has the bytes `first`. `file` is the
+/// name of the task's second file.
+fn completed<'a, T, R>(
+    rt: &T,
+    alloc: Global,
+    task: &Task,
+    first: &[u8],
+    more: FirstAnswer,
+    file: &'a str,
+    second: Option<R>,
+) -> Result<Answer, TaskFailure<'a>>
+where
+    T: Threads + Wait + Sync,
+    R: Source,
+    ensures answer { IfOk result
+        (λ answer. EndsIn task.now first.now (option_map R.bytes second) more answer.text.items answer.place) }
+    ensures fault { IfErr result
+        (λ fault. IsUnfinished more
+        × Stops (IsSomeAnd second R.fails)
+        (IsToldLater (is_explained task.now) file.entry.now (option_map R.bytes second) more) file.entry.now fault) }
+{
+    let told = is_explained(task);
+    match more {
+        FirstAnswer::Text(text) => Ok(Answer::plain(text.into_bytes())),
+        FirstAnswer::Bytes(bytes) => Ok(Answer::plain(bytes)),
+        FirstAnswer::Trial(program, traced) => {
+            trial_of(alloc, task, first, &program, traced, file, second)
+        }
+        FirstAnswer::Play(campaign, account, explained) => {
+            let text = play_by(alloc, campaign, account, explained, told, file, second)?;
+            Ok(Answer::plain(text))
+        }
+        FirstAnswer::Muster(scenario, explained) => {
+            let text = mustered(rt, alloc, scenario, explained);
+            Ok(Answer::plain(mustered_text(alloc, text, told, file)?))
+        }
+        FirstAnswer::Audit(campaign, explained) => {
+            let text = audit_of(alloc, &campaign, explained, told, file, second)?;
+            Ok(Answer::plain(text))
+        }
+        FirstAnswer::Draw(campaign) => {
+            Ok(Answer::plain(draw_by(alloc, campaign, told, file, second)?))
+        }
+        FirstAnswer::DrawRecorded(campaign) => {
+            Ok(Answer::plain(draw_record(alloc, &campaign, told, file, second)?))
+        }
+        FirstAnswer::Page(campaign, text) => {
+            Ok(Answer::plain(page_by(alloc, campaign, text, told, file, second)?))
+        }
+        FirstAnswer::PageRecorded(campaign, text) => {
+            Ok(Answer::plain(page_record(alloc, campaign, text, told, file, second)?))
+        }
+        FirstAnswer::Retrace(scenario) => {
+            Ok(Answer::plain(retrace_of(alloc, &scenario, told, file, second)?))
+        }
     }
 }
 
@@ -188,28 +222,45 @@ fn mustered_text<'a>(
     }
 }
 
-/// Tries a program in the setting that the second file describes, and returns what is printed of this trial.
-#[tactic(auto, using(crate::proofs::PlaceLemmas::of_place))]
+/// Tries a program in the setting that the second file describes. Returns what is printed of this trial, and its relay.
 fn trial_of<'a, R: Source>(
     alloc: Global,
     task: &Task,
     first: &[u8],
-    program: Verified,
+    program: &Verified,
     traced: bool,
     file: &'a str,
     second: Option<R>,
-) -> Result<Vec<u8>, TaskFailure<'a>>
+) -> Result<Answer, TaskFailure<'a>>
     ensures tried { IfOk result
-        (λ text. IsTrialOf (option_map R.bytes second) traced
-        (explained_in task.now) first.now program text.items) }
+        (λ answer. IsTrialAt (option_map R.bytes second) traced
+        (explained_in task.now) first.now program.now answer.text.items answer.place) }
     ensures fault { IfErr result
         (Stops (IsSomeAnd second R.fails)
         (IsToldLater (is_explained task.now) file.entry.now (option_map R.bytes second)
-        (Trial program traced)) file.entry.now) }
+        (Trial program.now traced)) file.entry.now) }
 {
-    match trial_at(alloc, task, first, &program, traced, file, second) {
-        Ok(answer) => Ok(answer.text),
-        Err(failure) => Err(failure),
+    let bytes = read_second(alloc, file, second)?;
+    match tried_by(
+        alloc,
+        program,
+        traced,
+        explained_in(task),
+        first,
+        bytes.as_slice(),
+    ) {
+        Ok((text, shape)) => Ok(Answer {
+            text: text.into_bytes(),
+            place: Some(shape),
+        }),
+        Err(refusal) => Err(later(
+            alloc,
+            is_explained(task),
+            FileRole::Nothing,
+            refusal,
+            file,
+            bytes.as_slice(),
+        )),
     }
 }
 

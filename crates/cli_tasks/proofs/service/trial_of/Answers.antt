@@ -3,7 +3,7 @@ use Rattle.cli_tasks.specs.Serving.{IsRefusedLater}
 use Rattle.cli_tasks.specs.Whys.{is_explained, Nothing}
 use Rattle.cli_tasks.specs.declared.first_answer.FirstAnswer.TheVariants.{Trial}
 use Rattle.cli_tasks.proofs.WhyLemmas.{stops_later}
-use Rattle.cli_tasks.proofs.placed_answer.trial_at.Goals as goal
+use Rattle.cli_tasks.proofs.service.trial_of.Goals as goal
 
 pub returns-clause-fault : goal.returns-clause-fault
 returns-clause-fault g c =
