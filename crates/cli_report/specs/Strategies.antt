@@ -25,13 +25,13 @@ misnaming_table Range (Entry index Strategy) = Some index
 misnaming_table fault place = None
 
 -- Returns the line that names a strategy which does not exist, if this is the fault.
-abbrev pub misnaming_line : ScenarioFault → ScenarioPlace → List ℕ → Option Found
+unfoldable pub misnaming_line : ScenarioFault → ScenarioPlace → List ℕ → Option Found
 misnaming_line fault place text =
     option_and_then (λ index. found (index + 1) (codes "strategy") text) (misnaming_table fault place)
 
 -- Returns the help message for a fault at a place: a strategy with a similar name, if no strategy has the name that the
 -- table gives.
-abbrev pub strategy_help : ScenarioFault → ScenarioPlace → List ℕ → Option (List ℕ)
+unfoldable pub strategy_help : ScenarioFault → ScenarioPlace → List ℕ → Option (List ℕ)
 strategy_help fault place text =
     option_map (near_words (codes "strategy"))
     (option_and_then (λ line. near (quoted_value line) strategy_names) (misnaming_line fault place text))

@@ -40,6 +40,7 @@ fn misnaming_table(fault: ScenarioFault, place: ScenarioPlace) -> Option<usize>
 }
 
 /// Returns the line that names a strategy which does not exist, if this is the fault.
+#[tactic(auto, unfolding(crate::specs::Strategies::misnaming_line))]
 fn misnaming_line(fault: ScenarioFault, place: ScenarioPlace, text: &[u8]) -> Option<Found<'_>>
     ensures { option_map found_view result ≡ misnaming_line fault place text.now }
 {
@@ -57,6 +58,7 @@ fn near_strategy(alloc: Global, word: &[u8]) -> Result<Option<&'static str>, All
 
 /// Returns the help message for a fault at a place: a strategy with a similar name, if no strategy has the name that the
 /// table gives.
+#[tactic(auto, unfolding(crate::specs::Strategies::strategy_help))]
 pub(crate) fn strategy_help(
     alloc: Global,
     fault: ScenarioFault,
