@@ -6,16 +6,15 @@ TOP = os.path.dirname(os.path.dirname(os.path.dirname(os.path.dirname(os.path.re
 
 HEAD = """\
 //! Lists the strategies. Written by checks/generate from examples/strategies, without the programs' comments.
-use crate::strategy::Strategy;
 
-/// The strategies, by name.
+/// The name of each strategy, ascending, and its program in assembly.
 """
 
 ROW = """\
-    Strategy {{
-        name: "{name}",
-        program: "{program}",
-    }},
+    (
+        "{name}",
+        "{program}",
+    ),
 """
 
 
@@ -33,4 +32,4 @@ def table():
         if not program.isascii() or '"' in program or "\\" in program:
             raise ValueError(f"{path}: a character that is not plain in a text of Rust")
         rows.append(ROW.format(name=os.path.basename(path).removesuffix(".asm"), program=program))
-    return f"{HEAD}pub(crate) static STRATEGIES: [Strategy; {len(rows)}] = [\n{''.join(rows)}];\n"
+    return f"{HEAD}pub const STRATEGIES: [(&str, &str); {len(rows)}] = [\n{''.join(rows)}];\n"

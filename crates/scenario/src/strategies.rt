@@ -1,11 +1,10 @@
 //! Lists the strategies. Written by checks/generate from examples/strategies, without the programs' comments.
-use crate::strategy::Strategy;
 
-/// The strategies, by name.
-pub(crate) static STRATEGIES: [Strategy; 14] = [
-    Strategy {
-        name: "alternates",
-        program: "ldw r7, [r1+16]
+/// The name of each strategy, ascending, and its program in assembly.
+pub const STRATEGIES: [(&str, &str); 14] = [
+    (
+        "alternates",
+        "ldw r7, [r1+16]
 and r7, 1
 mov r6, 0
 mov r1, r6
@@ -62,10 +61,10 @@ call sway
 add r6, 1
 exit
 ",
-    },
-    Strategy {
-        name: "always_attacks",
-        program: "mov r7, 1
+    ),
+    (
+        "always_attacks",
+        "mov r7, 1
 mov r6, 0
 mov r1, r6
 mov r2, r7
@@ -121,10 +120,10 @@ call sway
 add r6, 1
 exit
 ",
-    },
-    Strategy {
-        name: "always_retreats",
-        program: "mov r7, 0
+    ),
+    (
+        "always_retreats",
+        "mov r7, 0
 mov r6, 0
 mov r1, r6
 mov r2, r7
@@ -180,10 +179,10 @@ call sway
 add r6, 1
 exit
 ",
-    },
-    Strategy {
-        name: "colludes",
-        program: "mov r0, 0
+    ),
+    (
+        "colludes",
+        "mov r0, 0
 ldw r2, [r1+20]
 jeq r2, 0, out
 ldw r8, [r1+0]
@@ -289,10 +288,10 @@ rsh r7, 1
 add r6, 1
 out: exit
 ",
-    },
-    Strategy {
-        name: "flatters",
-        program: "mov r7, r1
+    ),
+    (
+        "flatters",
+        "mov r7, r1
 mov r6, 0
 mov r8, 4096
 ldw r2, [r7+16]
@@ -500,10 +499,10 @@ call sway
 add r6, 1
 exit
 ",
-    },
-    Strategy {
-        name: "frames",
-        program: "ldw r7, [r1+32]
+    ),
+    (
+        "frames",
+        "ldw r7, [r1+32]
 xor r7, 1
 ldw r9, [r1+16]
 ldw r2, [r1+8]
@@ -635,10 +634,10 @@ call send
 add r6, 1
 exit
 ",
-    },
-    Strategy {
-        name: "inverts",
-        program: "ldw r7, [r1+32]
+    ),
+    (
+        "inverts",
+        "ldw r7, [r1+32]
 xor r7, 1
 mov r6, 0
 mov r1, r6
@@ -695,10 +694,10 @@ call sway
 add r6, 1
 exit
 ",
-    },
-    Strategy {
-        name: "random",
-        program: "lddw r6, 0x9e3779b97f4a7c15
+    ),
+    (
+        "random",
+        "lddw r6, 0x9e3779b97f4a7c15
 mov r1, 0
 mov r2, r6
 call board_add
@@ -797,10 +796,10 @@ rsh r7, 1
 add r6, 1
 exit
 ",
-    },
-    Strategy {
-        name: "releases_late",
-        program: "ldw r6, [r1+12]
+    ),
+    (
+        "releases_late",
+        "ldw r6, [r1+12]
 ldw r7, [r1+16]
 ldw r8, [r1+4]
 mov r9, 0
@@ -824,10 +823,10 @@ mov r2, r6
 call pass_on
 exit
 ",
-    },
-    Strategy {
-        name: "signs_two",
-        program: "ldw r8, [r1+0]
+    ),
+    (
+        "signs_two",
+        "ldw r8, [r1+0]
 sub r8, 1
 rsh r8, 1
 ldw r2, [r1+12]
@@ -846,16 +845,16 @@ xor r2, 8191
 call sign_order
 exit
 ",
-    },
-    Strategy {
-        name: "silent",
-        program: "mov r0, 0
+    ),
+    (
+        "silent",
+        "mov r0, 0
 exit
 ",
-    },
-    Strategy {
-        name: "splits",
-        program: "ldw r8, [r1+0]
+    ),
+    (
+        "splits",
+        "ldw r8, [r1+0]
 sub r8, 1
 rsh r8, 1
 ldw r2, [r1+12]
@@ -942,10 +941,10 @@ call sway
 add r6, 1
 exit
 ",
-    },
-    Strategy {
-        name: "truthful_until_last",
-        program: "ldw r7, [r1+32]
+    ),
+    (
+        "truthful_until_last",
+        "ldw r7, [r1+32]
 xor r7, 1
 ldw r8, [r1+16]
 ldw r9, [r1+4]
@@ -1043,10 +1042,10 @@ call sway
 add r6, 1
 exit
 ",
-    },
-    Strategy {
-        name: "withholds",
-        program: "ldw r8, [r1+0]
+    ),
+    (
+        "withholds",
+        "ldw r8, [r1+0]
 sub r8, 1
 rsh r8, 1
 ldw r2, [r1+12]
@@ -1064,5 +1063,5 @@ mov r2, r6
 call pass_on
 exit
 ",
-    },
+    ),
 ];

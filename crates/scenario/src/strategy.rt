@@ -1,25 +1,18 @@
-//! Finds the program of a strategy by its name.
+//! Finds the program of a strategy by its name. A strategy is a traitor's program for any campaign.
 ghost use Rattle.std.specs.Prelude.{◌≡◌, IfOk, map, option_map};
 ghost use Rattle.scenario.specs.Strategies.{program_among, program_named, strategy_names};
 
 use crate::strategies::STRATEGIES;
 use std::alloc::{AllocError, Global};
 
-/// A strategy: a traitor's program for any campaign, which a scenario names.
-#[derive(Clone, Copy)]
-pub(crate) struct Strategy {
-    pub name: &'static str,
-    /// The program in assembly.
-    pub program: &'static str,
-}
-
-/// Returns the program of the first of these strategies that has this name.
-fn program_among(strategies: &[Strategy], name: &str) -> Option<&'static str>
-    ensures { option_map (λ program. program.now) result ≡ program_among name.now strategies.now }
+/// Returns the program of the first of these strategies that has this name. Each has its name and its program.
+fn program_among(strategies: &[(&'static str, &'static str)], name: &str) -> Option<&'static str>
+    ensures { option_map (λ program. program.now) result
+        ≡ program_among name.now (map (λ strategy. (strategy.0.now, strategy.1.now)) strategies.now) }
 {
-    for strategy in strategies {
-        if strategy.name == name {
-            return Some(strategy.program);
+    for (known, program) in strategies {
+        if *known == name {
+            return Some(*program);
         }
     }
     None
@@ -38,13 +31,16 @@ pub(crate) fn program_named(name: &str) -> Option<&'static str>
 /// # Errors
 ///
 /// `AllocError` if an allocation fails.
-fn names_of(alloc: Global, strategies: &[Strategy]) -> Result<Vec<&'static str>, AllocError>
+fn names_of(
+    alloc: Global,
+    strategies: &[(&'static str, &'static str)],
+) -> Result<Vec<&'static str>, AllocError>
     ensures { IfOk result (λ names. map (λ name. name.now) names.items
-        ≡ map (λ strategy. strategy.name.now) strategies.now) }
+        ≡ map (λ strategy. strategy.0.now) strategies.now) }
 {
     let mut names = Vec::new(alloc);
-    for strategy in strategies {
-        names.push(strategy.name)?;
+    for (name, _) in strategies {
+        names.push(*name)?;
     }
     Ok(names)
 }
