@@ -73,7 +73,7 @@ export function fromScenario(text) {
 function fromTable(table) {
   const asm = table.match(/^asm *= *"""\r?\n?((?:[^"\\]|\\.|"(?!""))*)"""/ms)?.[1];
   if (asm !== undefined) return { text: asm.replace(/\\(["\\])/g, "$1") };
-  const name = table.match(/^asm_file *= *"(?:[./\w]*\/)?strategies\/(\w+)\.asm"/m)?.[1];
+  const name = table.match(/^strategy *= *"(\w+)"/m)?.[1] ?? table.match(/^asm_file *= *"(?:[./\w]*\/)?strategies\/(\w+)\.asm"/m)?.[1];
   return name !== undefined && Object.hasOwn(strategies, name) ? { name } : null;
 }
 

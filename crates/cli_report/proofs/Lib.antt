@@ -3,6 +3,7 @@ pub mod TakenLemmas
 pub mod FeedLemmas
 pub mod MadeLemmas
 pub mod PlaceLemmas
+pub mod StrategyLemmas
 pub mod SayingLemmas
 pub mod TellingLaws
 pub mod ErrorLemmas

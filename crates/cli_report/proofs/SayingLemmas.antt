@@ -172,6 +172,7 @@ missing-says names.Traitor = λ e. cc
 missing-says names.General = λ e. cc
 missing-says names.Asm = λ e. cc
 missing-says names.Code = λ e. cc
+missing-says names.Strategy = λ e. cc
 
 kind-says : (name : ScenarioKey) → kind_sentence name ≢ []
 kind-says names.Generals = λ e. cc
@@ -186,6 +187,7 @@ kind-says names.Traitor = λ e. cc
 kind-says names.General = λ e. cc
 kind-says names.Asm = λ e. cc
 kind-says names.Code = λ e. cc
+kind-says names.Strategy = λ e. cc
 
 name_range-says : (name : ScenarioKey) → name_range_sentence name ≢ []
 name_range-says names.Generals = λ e. cc
@@ -200,6 +202,7 @@ name_range-says names.Traitor = λ e. cc
 name_range-says names.General = λ e. cc
 name_range-says names.Asm = λ e. cc
 name_range-says names.Code = λ e. cc
+name_range-says names.Strategy = λ e. cc
 
 name-says : (f : ScenarioFault) (name : ScenarioKey) → name_sentence f name ≢ []
 name-says faults.Key name = missing-says name

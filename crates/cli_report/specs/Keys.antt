@@ -67,6 +67,15 @@ value_end line = from Solid (drop 1 (from equals line))
 abbrev pub value_in : List ℕ → List ℕ
 value_in line = trimmed (before hash (value_end line))
 
+-- Returns the text after the first quotation mark, up to the next.
+abbrev pub quoted : List ℕ → List ℕ
+quoted [] = []
+quoted (mark ∷ text) = before (Byte mark) text
+
+-- Returns what is between the quotation marks of the value in a line.
+abbrev pub quoted_value : Found → List ℕ
+quoted_value f = quoted (value_end f.line)
+
 -- Returns how many headers there are up to the first line `general = G`.
 abbrev pub table_of_on : List ℕ → ℕ → List (List ℕ) → Option ℕ
 table_of_on digits tables [] = None

@@ -11,6 +11,7 @@ pub mod Musters
 pub mod Keys
 pub mod Toml
 pub mod Units
+pub mod Strategies
 pub mod Scenarios
 pub mod Settings
 pub mod ShownErrors

@@ -1,7 +1,5 @@
 -- Defines the report of an error of a scenario that names files, at its own lines or at those of the files (own).
 use Rattle.std.specs.Prelude.{ℕ, ◌≡◌, ◌+◌, ◌*◌, true, false, nat_le, if◌then◌else◌, List, [], ◌∷◌, ◌++◌, Option, None, Some, codes, drop, take, option_and_then, option_map, string_bytes}
-use Rattle.text.specs.Parts.{before}
-use Rattle.text.specs.declared.stop.Stop.TheVariants.{Byte}
 use Rattle.toml.specs.Data.{Members}
 use Rattle.toml.specs.Parse.{parse_document}
 use Rattle.asm.specs.declared.fault.AsmFault.{AsmFault}
@@ -24,10 +22,11 @@ use Rattle.cli_report.specs.Assembly.{assembly_sentence, assembly_told, unit_mar
 use Rattle.cli_report.specs.Bytecode.{unit_sentence}
 use Rattle.cli_report.specs.Errors.{memory_told}
 use Rattle.cli_report.specs.Judged.{IsExplainedBy, judged_of}
-use Rattle.cli_report.specs.Keys.{Found, entry_line, found, or_else, shown_at, value_end}
+use Rattle.cli_report.specs.Keys.{Found, entry_line, found, or_else, quoted_value, shown_at}
 use Rattle.cli_report.specs.Lines.{line_at}
 use Rattle.cli_report.specs.Report.{Mark, report_text, shown_line}
 use Rattle.cli_report.specs.Scenarios.{IsUnitShown, code_line_told, is_of_value, place_mark, place_sentence, text_told, unknown_told, verifier_sentence}
+use Rattle.cli_report.specs.Strategies.{strategy_help}
 use Rattle.cli_report.specs.Toml.{TellsToml}
 use Rattle.cli_report.specs.Units.{IsUnitLine}
 
@@ -68,7 +67,8 @@ own_mark f place own = place_mark f place own
 
 -- Returns the report of a fault at a place in the scenario's own text.
 unfoldable pub own_place_told : List ℕ → List ℕ → ScenarioFault → ScenarioPlace → List ℕ
-own_place_told name own f place = report_text name (place_sentence f place) (own_mark f place own) None
+own_place_told name own f place =
+    report_text name (place_sentence f place) (own_mark f place own) (strategy_help f place own)
 
 -- Returns the number of the table in the scenario's own text from which table `at` of the resolved text comes.
 abbrev pub own_index : Option Members → Option ℕ → Option ℕ
@@ -80,18 +80,9 @@ own_index own at = option_map (λ index. origin index own) at
 abbrev pub own_line : Option ℕ → List ℕ → List ℕ → Option Found
 own_line table word own = option_and_then (λ index. found (index + 1) word own) table
 
--- Returns the text after the first quotation mark, up to the next.
-abbrev pub quoted : List ℕ → List ℕ
-quoted [] = []
-quoted (mark ∷ name) = before (Byte mark) name
-
--- Returns the name between the quotation marks of the value.
-abbrev pub file_named : Found → List ℕ
-file_named f = quoted (value_end f.line)
-
 -- Returns the name of a file, as it is shown.
 abbrev pub file_shown : Found → List ℕ
-file_shown f = shown_line (file_named f)
+file_shown f = shown_line (quoted_value f)
 
 -- Returns the assembly of a program, or an empty text if the program is not written in assembly.
 abbrev pub assembly_of : Option Source → List ℕ

@@ -30,6 +30,7 @@ use Rattle.cli_report.specs.Keys.{Found, entry_line, found, header, or_else, sho
 use Rattle.cli_report.specs.Lines.{line_at, marked, trimmed}
 use Rattle.cli_report.specs.Nearest.{near}
 use Rattle.cli_report.specs.Report.{Mark, near_words, report_text}
+use Rattle.cli_report.specs.Strategies.{strategy_help, strategy_sentence}
 use Rattle.cli_report.specs.Units.{IsUnitLine}
 
 -- ---- a fault at a place
@@ -38,7 +39,7 @@ use Rattle.cli_report.specs.Units.{IsUnitLine}
 abbrev pub missing_sentence : ScenarioKey → List ℕ
 missing_sentence names.Rule = codes "a signed campaign combines no orders, so it has no rule"
 missing_sentence names.Asm =
-    codes "a traitor's table must have exactly one of `asm`, `code`, `asm_file`, `code_file` and `elf`"
+    codes "a traitor's table must have exactly one of `asm`, `code`, `asm_file`, `code_file`, `elf` and `strategy`"
 missing_sentence name = codes "the key `" ++ text_of name ++ codes "` is missing"
 
 -- Returns the sentence for a value of the wrong type.
@@ -49,6 +50,7 @@ kind_sentence names.Messages = codes "messages must be a text, \"oral\" or \"sig
 kind_sentence names.Traitor = codes "the traitors must be a list of tables, each of which begins with `[[traitor]]`"
 kind_sentence names.Asm = codes "a program must be a text in quotation marks, such as `asm = \"mov r0, 0\\nexit\"`"
 kind_sentence names.Code = codes "bytecode must be a text of hex digits in quotation marks"
+kind_sentence names.Strategy = strategy_sentence
 kind_sentence name = codes "a whole number is expected here"
 
 -- Returns the sentence for a value out of its range.
@@ -62,6 +64,7 @@ range_sentence names.Patience = codes "a patience must be 1 to 4096 steps"
 range_sentence names.Rule = codes "a rule must be one of these texts, in quotation marks: " ++ rule_names
 range_sentence names.Messages =
     codes "messages must be \"oral\" or \"signed\", and \"oral\" for `muster` and `play --table`"
+range_sentence names.Strategy = strategy_sentence
 range_sentence name = codes "this value is out of range"
 
 -- Returns the sentence for a fault of a key or its value.
@@ -99,7 +102,8 @@ place_mark f (places.Entry index name) text =
 
 -- Returns the report of a fault at a place in a scenario with this name and text.
 unfoldable pub place_told : List ℕ → List ℕ → ScenarioFault → ScenarioPlace → List ℕ
-place_told name text f place = report_text name (place_sentence f place) (place_mark f place text) None
+place_told name text f place =
+    report_text name (place_sentence f place) (place_mark f place text) (strategy_help f place text)
 
 -- ---- an unknown key
 
@@ -112,7 +116,7 @@ top_keys =
 -- The keys of a traitor's table.
 abbrev pub entry_keys : List (List ℕ)
 entry_keys = codes "general" ∷ codes "generals" ∷ codes "asm" ∷ codes "asm_file" ∷ codes "code" ∷ codes "code_file" ∷
-    codes "elf" ∷ codes "entry" ∷ []
+    codes "elf" ∷ codes "entry" ∷ codes "strategy" ∷ []
 
 -- Returns the report of an unknown key: the sentence, the key in its line, and a close key.
 abbrev pub key_told : List ℕ → List ℕ → List ℕ → Option Found → Option (List ℕ) → List ℕ

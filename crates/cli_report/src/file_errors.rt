@@ -6,12 +6,12 @@ ghost use Rattle.scenario.specs.Seen.{source_of};
 ghost use Rattle.scenario.specs.Sources.{source_by};
 ghost use Rattle.cli_report.specs.Judged.{judged_of};
 ghost use Rattle.cli_report.specs.Keys.{found_view};
-ghost use Rattle.cli_report.specs.Made.{IsMadeJudged, IsOwnUnitTold, IsRefusedFile, IsRefusedTold, IsUnitTold, ReportsMade, ReportsProgram, TellsMade, asm_told, assembly_of, bytes_shown, code_shown, digits_of, file_named, file_source, file_told, hex_told, in_file, key_told, line_shown, other_key, own_index, own_line, own_mark, own_place, own_place_told, own_source, own_word, unit_digits, unit_told};
+ghost use Rattle.cli_report.specs.Made.{IsMadeJudged, IsOwnUnitTold, IsRefusedFile, IsRefusedTold, IsUnitTold, ReportsMade, ReportsProgram, TellsMade, asm_told, assembly_of, bytes_shown, code_shown, digits_of, file_source, file_told, hex_told, in_file, key_told, line_shown, other_key, own_index, own_line, own_mark, own_place, own_place_told, own_source, own_word, unit_digits, unit_told};
 ghost use Rattle.cli_report.specs.Report.{mark_view, report_text};
 
 use crate::assembly::{of_assembly, sentence, unit_mark, whole};
 use crate::bytecode::unit_sentence;
-use crate::keys::{Found, entry_line, find_line, shown_at, value_end};
+use crate::keys::{Found, entry_line, find_line, quoted_value, shown_at};
 use crate::lines::line_at;
 use crate::program_faults::{code_line_told, text_told, unit_shown, verifier_sentence};
 use crate::program_judgements::{explained_of, judged_of};
@@ -20,6 +20,7 @@ use crate::scenarios::{
     is_of_value, key_mark, place_mark, place_sentence, unknown_told, value_mark,
 };
 use crate::sources::{source_in, table_in};
+use crate::strategies::strategy_help;
 use crate::toml_errors::not_toml;
 use crate::units::line_of_unit;
 use scenario::{
@@ -27,7 +28,6 @@ use scenario::{
     seat,
 };
 use std::alloc::{AllocError, Global};
-use text::{Stop, cut};
 use toml::Table;
 use verify::Reason;
 
@@ -108,7 +108,8 @@ fn own_place_told(
 {
     let sentence = place_sentence(alloc, fault, place)?;
     let mark = own_mark(fault, place, own);
-    report(alloc, name, sentence.as_str(), mark, None)
+    let help = strategy_help(alloc, fault, place, own)?;
+    report(alloc, name, sentence.as_str(), mark, help)
 }
 
 /// Returns the line of a key in this table of the own text, if the table has the key.
@@ -118,16 +119,6 @@ fn own_line<'a>(table: Option<usize>, word: &[u8], own: &'a [u8]) -> Option<Foun
     match table {
         Some(index) => find_line(index as u128 + 1, word, own),
         None => None,
-    }
-}
-
-/// Returns the name of the file that a line has as its value, without the quotation marks.
-fn file_named(line: Found<'_>) -> &[u8]
-    ensures { result.now ≡ file_named (found_view line.entry) }
-{
-    match value_end(line.line) {
-        [mark, name @ ..] => cut(Stop::Byte(*mark), name).0,
-        [] => &[],
     }
 }
 
@@ -167,7 +158,7 @@ fn file_told(
     let Some(key) = key else {
         return report(alloc, name, sentence(fault, &[]), None, None);
     };
-    let file = shown_line(alloc, file_named(key))?;
+    let file = shown_line(alloc, quoted_value(key))?;
     let text = assembly_of(source).as_bytes();
     of_assembly(alloc, file.as_str(), text, fault, number)
 }
@@ -352,7 +343,7 @@ fn refused_file_told(
 {
     match own_line(table, b"asm_file", own) {
         Some(key) => {
-            let file = shown_line(alloc, file_named(key))?;
+            let file = shown_line(alloc, quoted_value(key))?;
             unit_of_file_told(alloc, file.as_str(), reason, unit, assembly_of(source))
         }
         None => key_told(alloc, name, reason, unit, code_shown(table, own)),

@@ -1,6 +1,6 @@
 //! Finds the line of a key in a TOML text, and marks the key or its value there.
 ghost use Rattle.std.specs.Prelude.{◌≡◌, ◌+◌, ◌<◌, ◌≤◌, ◌^◌, IfOk, option_map};
-ghost use Rattle.cli_report.specs.Keys.{begins_with, ends_word, entry_line, found, found_view, header, shown_at, table_at, table_of, value_end, value_in, value_marked, word_marked};
+ghost use Rattle.cli_report.specs.Keys.{begins_with, ends_word, entry_line, found, found_view, header, quoted_value, shown_at, table_at, table_of, value_end, value_in, value_marked, word_marked};
 ghost use Rattle.cli_report.specs.Report.{mark_view};
 
 use crate::lines::{all_marked, marked, trimmed};
@@ -95,6 +95,17 @@ pub(crate) fn value_in(line: &[u8]) -> &[u8]
     ensures { result.now ≡ value_in line.now }
 {
     trimmed(cut(Stop::Byte(b'#'), value_end(line)).0)
+}
+
+/// Returns what is between the quotation marks of the value in a line: the text after the value's first byte, up to the
+/// next byte that is the same.
+pub(crate) fn quoted_value(line: Found<'_>) -> &[u8]
+    ensures { result.now ≡ quoted_value (found_view line.entry) }
+{
+    match value_end(line.line) {
+        [mark, text @ ..] => cut(Stop::Byte(*mark), text).0,
+        [] => &[],
+    }
 }
 
 /// Returns how many headers there are up to the first line `general = G`, where G is the number of this general.

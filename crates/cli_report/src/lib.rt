@@ -23,6 +23,7 @@ mod scenarios;
 mod settings;
 mod shown_errors;
 mod sources;
+mod strategies;
 mod toml_errors;
 mod units;
 

@@ -8,6 +8,7 @@ ghost use Rattle.cli_report.specs.Scenarios.{entry_key_told, entry_keys, entry_s
 use crate::keys::{Found, entry_line, find_line, header, shown_at};
 use crate::nearest_name::near;
 use crate::report::{Help, Mark, report};
+use crate::strategies::{strategy_help, strategy_sentence};
 use combine::Rule;
 use scenario::{ScenarioFault, ScenarioKey, ScenarioPlace};
 use std::alloc::{AllocError, Global};
@@ -26,7 +27,7 @@ static TOP_KEYS: [&'static str; 9] = [
 ];
 
 /// The keys of a traitor's table.
-static ENTRY_KEYS: [&'static str; 8] = [
+static ENTRY_KEYS: [&'static str; 9] = [
     "general",
     "generals",
     "asm",
@@ -35,6 +36,7 @@ static ENTRY_KEYS: [&'static str; 8] = [
     "code_file",
     "elf",
     "entry",
+    "strategy",
 ];
 
 /// Returns the sentence for a key that is missing, or that must not be there.
@@ -48,7 +50,7 @@ fn missing_sentence(alloc: Global, name: ScenarioKey) -> Result<String, AllocErr
         ),
         ScenarioKey::Asm => String::from_str(
             alloc,
-            "a traitor's table must have exactly one of `asm`, `code`, `asm_file`, `code_file` and `elf`",
+            "a traitor's table must have exactly one of `asm`, `code`, `asm_file`, `code_file`, `elf` and `strategy`",
         ),
         name => format!(in alloc; "the key `{}` is missing", name.text()),
     }
@@ -70,6 +72,7 @@ fn kind_sentence(alloc: Global, name: ScenarioKey) -> Result<String, AllocError>
         ScenarioKey::Asm =>
             "a program must be a text in quotation marks, such as `asm = \"mov r0, 0\\nexit\"`",
         ScenarioKey::Code => "bytecode must be a text of hex digits in quotation marks",
+        ScenarioKey::Strategy => return strategy_sentence(alloc),
         _ => "a whole number is expected here",
     };
     String::from_str(alloc, sentence)
@@ -94,6 +97,7 @@ fn range_sentence(alloc: Global, name: ScenarioKey) -> Result<String, AllocError
         ScenarioKey::Patience => "a patience must be 1 to 4096 steps",
         ScenarioKey::Messages =>
             "messages must be \"oral\" or \"signed\", and \"oral\" for `muster` and `play --table`",
+        ScenarioKey::Strategy => return strategy_sentence(alloc),
         _ => "this value is out of range",
     };
     String::from_str(alloc, sentence)
@@ -194,7 +198,8 @@ pub(crate) fn place_told(
 {
     let sentence = place_sentence(alloc, fault, place)?;
     let mark = place_mark(fault, place, text);
-    report(alloc, name, sentence.as_str(), mark, None)
+    let help = strategy_help(alloc, fault, place, text)?;
+    report(alloc, name, sentence.as_str(), mark, help)
 }
 
 /// Returns the key at the top of a scenario that is close to the word, if there is one.

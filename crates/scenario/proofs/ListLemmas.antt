@@ -9,7 +9,7 @@ use Rattle.scenario.specs.Asking.{Asked, asked_in, asked_of, gathered}
 use Rattle.scenario.proofs.AskLemmas.{gathered_more}
 use Rattle.scenario.specs.Members.{join}
 use Rattle.scenario.specs.ReferenceNames.{File}
-use Rattle.scenario.specs.Resolved.{further, one_each, rebuilt, tables_of, with_tables}
+use Rattle.scenario.specs.Resolved.{further, one_each, rebuilt, with_tables}
 
 pub join_push : (ds es : Items) (d : Data) → join (push_item ds d) es ≡ join ds (item d es)
 join_push no_items es d = refl

@@ -14,7 +14,8 @@ use Rattle.scenario.specs.declared.fault.ScenarioFault.{ScenarioFault}
 use Rattle.scenario.specs.declared.fault.ScenarioFault.TheVariants as faults
 use Rattle.scenario.specs.Flaws.{Flaw, unknown, faulty, ◌>>=◌}
 use Rattle.scenario.specs.Checks.{Head, head, number, optional_number, general, rule, messages, board, board_words, over, word, tables}
-use Rattle.scenario.specs.Tables.{Table, Assembly, source, table_in, table}
+use Rattle.scenario.specs.Strategies.{program_named}
+use Rattle.scenario.specs.Tables.{Table, Assembly, source, strategy, table_in, table}
 
 -- a text of these lines, checked up to its tables
 checked : List (List ℕ) → Option (Result Head Flaw)
@@ -169,7 +170,7 @@ nameless : tabled 0 (codes "[[traitor]]" ∷ codes "asm = \"exit\"" ∷ []) ≡ 
 unfolding tabled halts toml_on_literals tables table table_in source general
 nameless = refl
 
--- exactly one of asm and code, before their kinds
+-- exactly one of asm, code and strategy, before their kinds
 both : tabled 0 (codes "[[traitor]]" ∷ codes "general = 1" ∷ codes "asm = 1" ∷ codes "code = 2" ∷ []) ≡ halts faults.Key (places.Entry 0 names.Asm)
 unfolding tabled halts toml_on_literals tables table table_in source general
 both = refl
@@ -181,6 +182,22 @@ neither = refl
 code_of_number : tabled 0 (codes "[[traitor]]" ∷ codes "general = 1" ∷ codes "code = 2" ∷ []) ≡ halts faults.Kind (places.Entry 0 names.Code)
 unfolding tabled halts toml_on_literals tables table table_in source general
 code_of_number = refl
+
+strategy_beside_code : tabled 0 (codes "[[traitor]]" ∷ codes "general = 1" ∷ codes "code = \"\"" ∷ codes "strategy = 2" ∷ []) ≡ halts faults.Key (places.Entry 0 names.Asm)
+unfolding tabled halts toml_on_literals tables table table_in source strategy general
+strategy_beside_code = refl
+
+strategy_of_number : tabled 0 (codes "[[traitor]]" ∷ codes "general = 1" ∷ codes "strategy = 2" ∷ []) ≡ halts faults.Kind (places.Entry 0 names.Strategy)
+unfolding tabled halts toml_on_literals tables table table_in source strategy general
+strategy_of_number = refl
+
+no_strategy : tabled 0 (codes "[[traitor]]" ∷ codes "general = 1" ∷ codes "strategy = \"split\"" ∷ []) ≡ halts faults.Range (places.Entry 0 names.Strategy)
+unfolding tabled halts toml_on_literals tables table table_in source strategy program_named general
+no_strategy = refl
+
+silent : tabled 0 (codes "[[traitor]]" ∷ codes "general = 1" ∷ codes "strategy = \"silent\"" ∷ []) ≡ Some (Ok (record { general = 1; source = Assembly (codes "mov r0, 0\nexit\n") }))
+unfolding tabled halts toml_on_literals tables table table_in source strategy program_named general
+silent = refl
 
 other_key : tabled 0 (codes "[[traitor]]" ∷ codes "general = 9" ∷ codes "colour = 2" ∷ []) ≡ Some (Err (unknown (Some 0) (codes "colour")))
 unfolding tabled halts toml_on_literals tables table table_in source general

@@ -7,6 +7,7 @@ pub mod Origins
 pub mod Names
 pub mod Flaws
 pub mod Checks
+pub mod Strategies
 pub mod Tables
 pub mod Reading
 pub mod Seen

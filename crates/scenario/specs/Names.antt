@@ -2,7 +2,7 @@
 use Rattle.std.specs.Prelude.{ℕ, Bool, ◌||◌, List, codes}
 use Rattle.std.specs.Str.{bytes_eq}
 use Rattle.scenario.specs.declared.place.ScenarioKey.{ScenarioKey}
-use Rattle.scenario.specs.declared.place.ScenarioKey.TheVariants.{Generals, Bound, Commander, Order, Board, Patience, Rule, Messages, Traitor, General, Asm, Code}
+use Rattle.scenario.specs.declared.place.ScenarioKey.TheVariants.{Generals, Bound, Commander, Order, Board, Patience, Rule, Messages, Traitor, General, Asm, Code, Strategy}
 
 abbrev pub text_of : ScenarioKey → List ℕ
 text_of Generals = codes "generals"
@@ -17,6 +17,7 @@ text_of Traitor = codes "traitor"
 text_of General = codes "general"
 text_of Asm = codes "asm"
 text_of Code = codes "code"
+text_of Strategy = codes "strategy"
 
 -- Returns whether a scenario may have this key at its top.
 abbrev pub is_top_key : List ℕ → Bool
@@ -33,4 +34,8 @@ is_top_key k =
 
 -- Returns whether a traitor's table may have this key.
 abbrev pub is_entry_key : List ℕ → Bool
-is_entry_key k = bytes_eq k (codes "general") || (bytes_eq k (codes "asm") || bytes_eq k (codes "code"))
+is_entry_key k =
+    bytes_eq k (codes "general") || (
+    bytes_eq k (codes "asm") || (
+    bytes_eq k (codes "code") ||
+    bytes_eq k (codes "strategy")))

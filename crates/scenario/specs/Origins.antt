@@ -1,5 +1,5 @@
 -- The element of the list of traitors from which a table of the resolved list comes (own).
-use Rattle.std.specs.Prelude.{ℕ, suc, ℤ, pos, ◌+◌, ◌-◌, ◌==◌, ◌||◌, Bool, false, nat_lt, if◌then◌else◌, List, Option, None, Some, codes, option_and_then}
+use Rattle.std.specs.Prelude.{ℕ, suc, ℤ, pos, ◌+◌, ◌-◌, ◌==◌, ◌||◌, Bool, false, nat_lt, if◌then◌else◌, Option, None, Some, codes, option_and_then}
 use Rattle.toml.specs.Data.{Data, Items, no_items, item, Members, as_integer, as_table, get_member}
 use Rattle.scenario.specs.ReferenceNames.{seats, traitors}
 

@@ -8,6 +8,7 @@ use Rattle.scenario.specs.declared.place.ScenarioPlace.TheVariants as places
 use Rattle.scenario.specs.declared.fault.ScenarioFault.TheVariants as faults
 use Rattle.scenario.specs.Names.{is_entry_key}
 use Rattle.scenario.specs.Flaws.{Flaw, faulty, ◌>>=◌}
+use Rattle.scenario.specs.Strategies.{program_named}
 use Rattle.scenario.specs.Checks.{first_unknown, known, general, test}
 
 -- A program as a table gives it: assembly, or bytecode in hex.
@@ -20,12 +21,23 @@ pub record Table : Type 0 where
   pub general : ℕ
   pub source : Source
 
--- Returns the program of a table, which has exactly one of the keys `asm` and `code`, with a text.
-unfoldable pub source : ℕ → Option Data → Option Data → Result Source Flaw
-source i None None = Err (faulty faults.Key (places.Entry i names.Asm))
-source i (Some a) (Some b) = Err (faulty faults.Key (places.Entry i names.Asm))
-source i (Some a) None = ok_or (as_str a) (faulty faults.Kind (places.Entry i names.Asm)) >>= λ t. Ok (Assembly t)
-source i None (Some b) = ok_or (as_str b) (faulty faults.Kind (places.Entry i names.Code)) >>= λ t. Ok (Hex t)
+-- Returns the program of the strategy with this name.
+abbrev pub source_named : ℕ → List ℕ → Result Source Flaw
+source_named i name =
+    ok_or (program_named name) (faulty faults.Range (places.Entry i names.Strategy)) >>= λ t. Ok (Assembly t)
+
+-- Returns the program of the strategy that a value names.
+unfoldable pub strategy : ℕ → Data → Result Source Flaw
+strategy i d = do
+  name ← ok_or (as_str d) (faulty faults.Kind (places.Entry i names.Strategy))
+  source_named i name
+
+-- Returns the program of a table, which has exactly one of the keys `asm`, `code` and `strategy`, with a text.
+unfoldable pub source : ℕ → Option Data → Option Data → Option Data → Result Source Flaw
+source i (Some a) None None = ok_or (as_str a) (faulty faults.Kind (places.Entry i names.Asm)) >>= λ t. Ok (Assembly t)
+source i None (Some b) None = ok_or (as_str b) (faulty faults.Kind (places.Entry i names.Code)) >>= λ t. Ok (Hex t)
+source i None None (Some s) = strategy i s
+source i asm code named = Err (faulty faults.Key (places.Entry i names.Asm))
 
 -- For each general, the program that an earlier table gave him, if any.
 abbrev pub Seats : Type 0
@@ -42,7 +54,7 @@ table_in n seats i ms = do
   none ← known (Some i) (first_unknown is_entry_key ms)
   g ← general (places.Entry i names.General) faults.General n (get_member (codes "general") ms)
   once ← test (not (is_seated seats g)) faults.Twice (places.Entry i names.General)
-  s ← source i (get_member (codes "asm") ms) (get_member (codes "code") ms)
+  s ← source i (get_member (codes "asm") ms) (get_member (codes "code") ms) (get_member (codes "strategy") ms)
   Ok (record { general = g; source = s })
 
 -- Returns the general and the program of element `i` of the list, or its first fault, which may be that it is not a

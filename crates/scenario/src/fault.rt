@@ -11,12 +11,12 @@ use verify::Reason;
 /// A fault at a place of a scenario.
 #[derive(Clone, Copy, Debug, PartialEq, Eq)]
 pub enum ScenarioFault {
-    /// A required key is missing, or `rule` is set where messages are signed. At `asm`, the table has both or neither
-    /// of `asm` and `code`.
+    /// A required key is missing, or `rule` is set where messages are signed. At `asm`, the table has none or several
+    /// of `asm`, `code` and `strategy`.
     Key,
     /// The value is of the wrong kind.
     Kind,
-    /// The value is out of its range.
+    /// The value is out of its range, or no rule or strategy has this name.
     Range,
     /// There is no general with this number.
     General,

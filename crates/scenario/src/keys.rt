@@ -32,7 +32,7 @@ pub fn is_top_key(key: &str) -> bool
 pub fn is_entry_key(key: &str) -> bool
     ensures { result ≡ is_entry_key key.now }
 {
-    key == "general" || key == "asm" || key == "code"
+    key == "general" || key == "asm" || key == "code" || key == "strategy"
 }
 
 /// Returns the first key that a scenario may not have at its top.

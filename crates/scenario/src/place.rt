@@ -19,6 +19,7 @@ pub enum ScenarioKey {
     General,
     Asm,
     Code,
+    Strategy,
 }
 
 impl ScenarioKey {
@@ -39,6 +40,7 @@ impl ScenarioKey {
             ScenarioKey::General => "general",
             ScenarioKey::Asm => "asm",
             ScenarioKey::Code => "code",
+            ScenarioKey::Strategy => "strategy",
         }
     }
 }

@@ -4,7 +4,7 @@ ghost use Rattle.toml.specs.Data.{as_table};
 ghost use Rattle.toml.specs.View.{view, items_view, table_view};
 ghost use Rattle.scenario.specs.Checks.{test};
 ghost use Rattle.scenario.specs.Flaws.{Gives, OrMemory, faulty};
-ghost use Rattle.scenario.specs.Tables.{is_seated, source, table_in, table};
+ghost use Rattle.scenario.specs.Tables.{is_seated, source, source_named, strategy, table_in, table};
 ghost use Rattle.scenario.specs.Reading.{TableGives};
 ghost use Rattle.scenario.specs.Seen.{source_of};
 
@@ -12,42 +12,85 @@ use crate::fault::{ScenarioError, ScenarioFault};
 use crate::keys::{at, entry_is_known, general};
 use crate::place::{ScenarioKey, ScenarioPlace};
 use crate::programs::{ProgramText, accepted, program};
+use crate::strategy::program_named;
 use round::Player;
 use std::alloc::Global;
 use toml::{Table, Value};
 use verify::Verified;
 
-/// Returns the program as it is written in the traitor's table of this number.
+/// Returns the program of the strategy with this name, for the traitor's table of this number.
 ///
 /// # Errors
 ///
-/// `At` with `Key` at `asm` if the table has both or neither of `asm` and `code`. `At` with `Kind` if the value is not
-/// a text.
+/// `At` with `Range` at `strategy` if no strategy has this name.
+fn source_named<'a>(index: usize, name: &str) -> Result<ProgramText<'a>, ScenarioError>
+    ensures { Gives source_of result (source_named index name.now) }
+{
+    match program_named(name) {
+        Some(program) => Ok(ProgramText::Asm(program)),
+        None => Err(ScenarioError::At(
+            ScenarioFault::Range,
+            ScenarioPlace::Entry(index, ScenarioKey::Strategy),
+        )),
+    }
+}
+
+/// Returns the program of the strategy that the traitor's table of this number names.
+///
+/// # Errors
+///
+/// `At` at `strategy`, with `Kind` if the value is not a text, or `Range` if no strategy has this name.
+#[tactic(auto, unfolding(crate::specs::Tables::strategy))]
+fn strategy<'a>(index: usize, value: &Value) -> Result<ProgramText<'a>, ScenarioError>
+    ensures { Gives source_of result (strategy index (view value.now)) }
+{
+    match value.as_str() {
+        Some(name) => source_named(index, name),
+        None => Err(ScenarioError::At(
+            ScenarioFault::Kind,
+            ScenarioPlace::Entry(index, ScenarioKey::Strategy),
+        )),
+    }
+}
+
+/// Returns the program as it is written in the traitor's table of this number, or that of the strategy that the table
+/// names.
+///
+/// # Errors
+///
+/// `At` with `Key` at `asm` unless the table has exactly one of `asm`, `code` and `strategy`. `At` with `Kind` if the
+/// value is not a text, or `Range` if no strategy has this name.
 #[tactic(auto, unfolding(crate::specs::Tables::source))]
 fn written<'a>(
     index: usize,
     asm: Option<&'a Value>,
     code: Option<&'a Value>,
+    named: Option<&'a Value>,
 ) -> Result<ProgramText<'a>, ScenarioError>
-    ensures { Gives source_of result
-        (source index (option_map (λ v. view v.now) asm.entry) (option_map (λ v. view v.now) code.entry)) }
+    ensures { Gives source_of result (source index (option_map (λ v. view v.now) asm.entry)
+        (option_map (λ v. view v.now) code.entry) (option_map (λ v. view v.now) named.entry)) }
 {
-    match (asm, code) {
-        (Some(asm), None) => match asm.as_str() {
+    match (asm, code, named) {
+        (Some(asm), None, None) => match asm.as_str() {
             Some(text) => Ok(ProgramText::Asm(text)),
             None => Err(ScenarioError::At(
                 ScenarioFault::Kind,
                 ScenarioPlace::Entry(index, ScenarioKey::Asm),
             )),
         },
-        (None, Some(code)) => match code.as_str() {
+        (None, Some(code), None) => match code.as_str() {
             Some(text) => Ok(ProgramText::Code(text)),
             None => Err(ScenarioError::At(
                 ScenarioFault::Kind,
                 ScenarioPlace::Entry(index, ScenarioKey::Code),
             )),
         },
-        (Some(_), Some(_)) | (None, None) => {
+        (None, None, Some(named)) => strategy(index, named),
+        (Some(_), Some(_), None)
+        | (Some(_), None, Some(_))
+        | (None, Some(_), Some(_))
+        | (Some(_), Some(_), Some(_))
+        | (None, None, None) => {
             Err(ScenarioError::At(
                 ScenarioFault::Key,
                 ScenarioPlace::Entry(index, ScenarioKey::Asm),
@@ -127,6 +170,7 @@ fn in_table<'a>(
         index,
         at(table, ScenarioKey::Asm),
         at(table, ScenarioKey::Code),
+        at(table, ScenarioKey::Strategy),
     )?;
     Ok((general, written))
 }

@@ -1,0 +1,37 @@
+-- Defines the report that a traitor's table does not name a strategy: the sentence, and a similar name (own).
+use Rattle.std.specs.Prelude.{ℕ, ◌+◌, List, ◌++◌, Option, None, Some, codes, option_and_then, option_map}
+use Rattle.std.specs.List.{join_by}
+use Rattle.scenario.specs.Strategies.{strategy_names}
+use Rattle.scenario.specs.declared.fault.ScenarioFault.{ScenarioFault}
+use Rattle.scenario.specs.declared.fault.ScenarioFault.TheVariants.{Range}
+use Rattle.scenario.specs.declared.place.ScenarioKey.TheVariants.{Strategy}
+use Rattle.scenario.specs.declared.place.ScenarioPlace.{ScenarioPlace}
+use Rattle.scenario.specs.declared.place.ScenarioPlace.TheVariants.{Entry}
+use Rattle.cli_report.specs.Keys.{Found, found, quoted_value}
+use Rattle.cli_report.specs.Nearest.{near}
+use Rattle.cli_report.specs.Report.{near_words}
+
+-- The names of all strategies, separated by commas.
+abbrev pub strategies_listed : List ℕ
+strategies_listed = join_by (λ name. name) (codes ", ") strategy_names
+
+-- The sentence for a value that is not the name of a strategy.
+abbrev pub strategy_sentence : List ℕ
+strategy_sentence = codes "a strategy must be one of these texts, in quotation marks: " ++ strategies_listed
+
+-- Returns the index of the table that names a strategy which does not exist, if this is the fault.
+abbrev pub misnaming_table : ScenarioFault → ScenarioPlace → Option ℕ
+misnaming_table Range (Entry index Strategy) = Some index
+misnaming_table fault place = None
+
+-- Returns the line that names a strategy which does not exist, if this is the fault.
+unfoldable pub misnaming_line : ScenarioFault → ScenarioPlace → List ℕ → Option Found
+misnaming_line fault place text =
+    option_and_then (λ index. found (index + 1) (codes "strategy") text) (misnaming_table fault place)
+
+-- Returns the help message for a fault at a place: a strategy with a similar name, if no strategy has the name that the
+-- table gives.
+unfoldable pub strategy_help : ScenarioFault → ScenarioPlace → List ℕ → Option (List ℕ)
+strategy_help fault place text =
+    option_map (near_words (codes "strategy"))
+    (option_and_then (λ line. near (quoted_value line) strategy_names) (misnaming_line fault place text))
