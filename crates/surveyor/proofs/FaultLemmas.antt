@@ -68,6 +68,20 @@ unended s R f (Refused line) family h = absurd h
 unended s R f (Campaign first last e) family h = (f, family, h)
 unended s R f Words family h = absurd h
 
+-- or the campaign is not printed
+pub unended_printing : (s : Survey) (R : Family → ℕ → ℕ → ScenarioError → Type 0) (fault : SurveyFailure) → IsUnprinted fault → IsUnended s R fault
+unended_printing s R (Unwritten None) h = tt
+unended_printing s R (Unwritten (Some name)) h = absurd h
+unended_printing s R Memory h = tt
+unended_printing s R (Unread name) h = absurd h
+unended_printing s R (NotText name) h = absurd h
+unended_printing s R (Refused line) h = absurd h
+unended_printing s R (Campaign first last e) h = absurd h
+unended_printing s R Words h = absurd h
+
+pub unended_by_memory : (s : Survey) (R : Family → ℕ → ℕ → ScenarioError → Type 0) (fault : SurveyFailure) → fault ≡ Memory → IsUnended s R fault
+unended_by_memory s R fault is = subst (IsUnended s R) (sym is) tt
+
 -- or without one
 pub untaken : (s : Survey) (R : Family → ℕ → ℕ → ScenarioError → Type 0) (fault : SurveyFailure) → IsFile (string_bytes s.adversary) → IsUntaken (string_bytes s.adversary) fault → IsUnended s R fault
 untaken s R (Unwritten None) file h = absurd h

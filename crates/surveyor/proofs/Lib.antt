@@ -8,3 +8,4 @@ mod NumberLemmas
 mod FaultLemmas
 mod FlagLemmas
 mod MeantLemmas
+mod PrintLemmas

@@ -10,16 +10,17 @@ use Rattle.combine.specs.declared.campaign_rule.Rule.{Rule as CombineRule}
 use Rattle.surveys.specs.declared.manner.Manner.TheVariants.{Oral}
 use Rattle.surveys.specs.declared.span.CountRange.{CountRange}
 use Rattle.surveyor.specs.Flags.{given, has, survey_app}
-use Rattle.surveyor.specs.Meant.{AreSaid, AreSeeds, Asks, IsBreaking, IsMerging, IsPatience, IsSurveying, IsWithin, bars_sum, break_shape, names_in, shape_in, some_traitors, value}
+use Rattle.surveyor.specs.Meant.{AreSaid, AreSeeds, Asks, IsBreaking, IsMerging, IsPatience, IsShowing, IsSurveying, IsWithin, bars_campaign, bars_sum, break_shape, names_in, shape_in, some_traitors, value}
 use Rattle.surveyor.specs.Numbers.{IsNoSpan, IsTold}
 use Rattle.surveyor.specs.Words.{manner_named}
-use Rattle.surveyor.specs.Wrong.{AreNoSeeds, AreTwice, AsksNothing, IsByClap, IsNoBreak, IsNoManner, IsNoPatience, IsNoRule, IsOutside, IsRefused, IsSaid, IsUnmet, IsWrong}
-use Rattle.surveyor.specs.Wrong.IsWrong.{generals, bound, traitors, seeds, patience, signed, shape, broken, keep, sum, twice}
+use Rattle.surveyor.specs.Wrong.{AreNoSeeds, AreTwice, AsksNothing, IsByClap, IsNoBreak, IsNoManner, IsNoPatience, IsNoRule, IsNoSeed, IsOutside, IsRefused, IsSaid, IsUnmet, IsWrong}
+use Rattle.surveyor.specs.Wrong.IsWrong.{generals, bound, traitors, seeds, patience, signed, shape, broken, keep, single, campaign, sum, twice}
 use Rattle.surveyor.specs.declared.task.Asked.{Asked}
-use Rattle.surveyor.specs.declared.task.Asked.TheVariants.{Survey as Surveys, Break, Merge as Merges}
+use Rattle.surveyor.specs.declared.task.Asked.TheVariants.{Survey as Surveys, Campaign, Break, Merge as Merges}
 use Rattle.surveyor.specs.declared.task.AskedError.{AskedError}
 use Rattle.surveyor.specs.declared.task.AskedError.TheVariants.{Words, Value, Rule, Memory}
 use Rattle.surveyor.specs.declared.task.Merge.{Merge}
+use Rattle.surveyor.specs.declared.task.OneCampaign.{OneCampaign}
 use Rattle.surveyor.specs.declared.task.ReportKind.{ReportKind}
 use Rattle.surveyor.specs.declared.task.Survey.{Survey}
 use Rattle.surveyor.proofs.FlagLemmas.{survey_free, survey_simple}
@@ -148,6 +149,21 @@ no_break_shape rows own e has_it is (inr h) = said_so rows (codes "--break canno
     (λ why same kept. keep same has_it (has_kept own.keep (given (codes "keep") rows) is.keep kept))
     (λ kept s is_table told. is_kept own.keep s.keep (given (codes "keep") rows) is.keep told.survey.keep kept told.keep) h
 
+-- ---- no campaign of one seed
+
+abbrev pub NoCampaign : Text → List Row → Type 0
+NoCampaign word rows = (c : OneCampaign) → IsShowing word rows c → ⊥
+
+pub no_shown_survey : (word : Text) (rows : List Row) (e : AskedError) → IsRefused rows (NoSurvey rows) e → IsRefused rows (NoCampaign word rows) e
+no_shown_survey word rows e h = refused_so rows (NoSurvey rows) (NoCampaign word rows) e (λ bars c told. bars c.survey told.survey) h
+
+pub no_shown_seed : (word : Text) (rows : List Row) (e : AskedError) → given (codes "campaign") rows ≡ Some word
+    → IsSaid (codes "--campaign prints one campaign: it can be used only with options of the family") (bars_campaign rows ≡ true) e ⊎ IsSaid (codes "--campaign takes a seed below 18446744073709551615") (IsNoSeed word) e → IsRefused rows (NoCampaign word rows) e
+no_shown_seed word rows e is (inl h) = said_so rows (codes "--campaign prints one campaign: it can be used only with options of the family") (bars_campaign rows ≡ true) (NoCampaign word rows) e
+    (λ why same bars. single same (ap (λ (o : Option Text). is_some o) is) bars) (λ bars c told. (let both = sym bars ∙ told.single in cc)) h
+no_shown_seed word rows e is (inr h) = said_so rows (codes "--campaign takes a seed below 18446744073709551615") (IsNoSeed word) (NoCampaign word rows) e
+    (λ why same none. campaign same word is none) (λ none c told. none c.seed told.seed) h
+
 -- ---- no sums of files
 
 abbrev pub NoMerge : List Text → List Row → Type 0
@@ -186,26 +202,41 @@ no_merge_asked names rows e is h = refused_so rows (NoMerge names rows) (AsksNot
   where
     go : NoMerge names rows → AsksNothing rows
     go bars (Surveys s) told = (let both = sym is ∙ told.0 in cc)
+    go bars (Campaign c) told = (let both = sym is ∙ told.0 in cc)
     go bars (Break s is_table) told = (let both = sym is ∙ told.0 in cc)
     go bars (Merges m) told =
         let both : Some told.0 ≡ Some names = sym told.1 ∙ is in
         let same : told.0 ≡ names = cc in
         bars m (subst (λ (l : List Text). IsMerging l rows m) same told.2)
 
-pub no_break_asked : (rows : List Row) (e : AskedError) → names_in rows ≡ None → has (codes "break") rows ≡ true → IsRefused rows (NoBreak rows) e → IsRefused rows (AsksNothing rows) e
-no_break_asked rows e is breaks h = refused_so rows (NoBreak rows) (AsksNothing rows) e go h
+pub no_campaign_asked : (word : Text) (rows : List Row) (e : AskedError) → names_in rows ≡ None → given (codes "campaign") rows ≡ Some word → IsRefused rows (NoCampaign word rows) e → IsRefused rows (AsksNothing rows) e
+no_campaign_asked word rows e is one h = refused_so rows (NoCampaign word rows) (AsksNothing rows) e go h
   where
-    go : NoBreak rows → AsksNothing rows
-    go bars (Surveys s) told = (let both = sym breaks ∙ told.1 in cc)
-    go bars (Break s is_table) told = bars s is_table told.2
+    go : NoCampaign word rows → AsksNothing rows
+    go bars (Surveys s) told = (let both = sym one ∙ told.1 in cc)
+    go bars (Campaign c) told =
+        let both : Some told.1 ≡ Some word = sym told.2 ∙ one in
+        let same : told.1 ≡ word = cc in
+        bars c (subst (λ (w : Text). IsShowing w rows c) same told.3)
+    go bars (Break s is_table) told = (let both = sym one ∙ told.1 in cc)
     go bars (Merges m) told = (let both = sym is ∙ told.1 in cc)
 
-pub no_survey_asked : (rows : List Row) (e : AskedError) → names_in rows ≡ None → has (codes "break") rows ≡ false → IsRefused rows (NoSurvey rows) e → IsRefused rows (AsksNothing rows) e
-no_survey_asked rows e is plain h = refused_so rows (NoSurvey rows) (AsksNothing rows) e go h
+pub no_break_asked : (rows : List Row) (e : AskedError) → names_in rows ≡ None → given (codes "campaign") rows ≡ None → has (codes "break") rows ≡ true → IsRefused rows (NoBreak rows) e → IsRefused rows (AsksNothing rows) e
+no_break_asked rows e is many breaks h = refused_so rows (NoBreak rows) (AsksNothing rows) e go h
+  where
+    go : NoBreak rows → AsksNothing rows
+    go bars (Surveys s) told = (let both = sym breaks ∙ told.2 in cc)
+    go bars (Campaign c) told = (let both = sym many ∙ told.2 in cc)
+    go bars (Break s is_table) told = bars s is_table told.3
+    go bars (Merges m) told = (let both = sym is ∙ told.1 in cc)
+
+pub no_survey_asked : (rows : List Row) (e : AskedError) → names_in rows ≡ None → given (codes "campaign") rows ≡ None → has (codes "break") rows ≡ false → IsRefused rows (NoSurvey rows) e → IsRefused rows (AsksNothing rows) e
+no_survey_asked rows e is many plain h = refused_so rows (NoSurvey rows) (AsksNothing rows) e go h
   where
     go : NoSurvey rows → AsksNothing rows
-    go bars (Surveys s) told = bars s told.2
-    go bars (Break s is_table) told = (let both = sym plain ∙ told.1 in cc)
+    go bars (Surveys s) told = bars s told.3
+    go bars (Campaign c) told = (let both = sym many ∙ told.2 in cc)
+    go bars (Break s is_table) told = (let both = sym plain ∙ told.2 in cc)
     go bars (Merges m) told = (let both = sym is ∙ told.1 in cc)
 
 -- ---- what `clap` has found, and what it refuses

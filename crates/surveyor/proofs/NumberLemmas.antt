@@ -1,5 +1,5 @@
 -- A word tells two numbers in one way at most.
-use Rattle.std.proofs.Common.{ℕ, ◌+◌, ◌*◌, ◌≤◌, ◌<◌, ◌≡◌, ◌≢◌, inl, inr, List, [], ◌∷◌, ◌++◌, refl, sym, ap, ◌∙◌, Option, None, Some, codes, cond, true, false, Bool, nat_eq, append_assoc, subst}
+use Rattle.std.proofs.Common.{ℕ, ◌+◌, ◌*◌, ◌≤◌, ◌<◌, ◌≡◌, ◌≢◌, inl, inr, List, [], ◌∷◌, ◌++◌, refl, sym, ap, ◌∙◌, arith, Option, None, Some, codes, cond, true, false, Bool, nat_eq, append_assoc, subst}
 use Rattle.std.specs.Prelude.{IfNone}
 use Rattle.text.specs.Number.{capped, decimal_of, digit_in, digits_on}
 use Rattle.text.specs.Options.{◌>>=◌}
@@ -96,3 +96,8 @@ no_span_whole limit word (Some r) parts none = tt
 pub any_none : {X : Type 0} (r : Option X) (P : Type 0) → P → IfNone r P
 any_none None P h = h
 any_none (Some x) P h = tt
+
+-- a word that says no number below the limit
+pub none_below : (limit : ℕ) (word : List ℕ) (r : Option ℕ) → IfNone r ((n : ℕ) → decimal_of word ≡ Some n → limit ≤ n) → IfNone r ((n : ℕ) → decimal_of word ≡ Some n → n < limit → ⊥)
+none_below limit word None more = λ n is less. (let le = more n is in omega arith)
+none_below limit word (Some x) more = tt

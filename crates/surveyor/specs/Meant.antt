@@ -9,8 +9,9 @@ use Rattle.surveyor.specs.Flags.{given, has, row_of}
 use Rattle.surveyor.specs.Numbers.{IsTold}
 use Rattle.surveyor.specs.Words.{manner_named}
 use Rattle.surveyor.specs.declared.task.Asked.{Asked}
-use Rattle.surveyor.specs.declared.task.Asked.TheVariants.{Survey as Surveys, Break, Merge as Merges}
+use Rattle.surveyor.specs.declared.task.Asked.TheVariants.{Survey as Surveys, Campaign, Break, Merge as Merges}
 use Rattle.surveyor.specs.declared.task.Merge.{Merge}
+use Rattle.surveyor.specs.declared.task.OneCampaign.{OneCampaign}
 use Rattle.surveyor.specs.declared.task.ReportKind.{ReportKind}
 use Rattle.surveyor.specs.declared.task.ReportKind.TheVariants.{Sums, Lines, Table, Picture, Least}
 use Rattle.surveyor.specs.declared.task.Survey.{Survey}
@@ -69,6 +70,23 @@ pub record IsSurveying (rows : List Row) (s : Survey) : Type 0 where
   pub shape : shape_in rows ≡ Some s.shape
   pub keep : option_map string_bytes s.keep ≡ given (codes "keep") rows
 
+-- States that the word is this seed.
+abbrev pub IsSeed : Text → ℕ → Type 0
+IsSeed word seed = (decimal_of word ≡ Some seed) × (seed < 2 ^ 64 - 1)
+
+-- Returns whether an option or switch is given that cannot be combined with `--campaign`: any that says which seeds are
+-- played, or what is printed or kept.
+abbrev pub bars_campaign : List Row → Bool
+bars_campaign rows = list_any (λ name. has name rows)
+    (codes "seeds" ∷ codes "lines" ∷ codes "table" ∷ codes "svg" ∷ codes "shrink" ∷ codes "break" ∷ codes "keep" ∷ [])
+
+-- States that the words ask for this campaign: that of the seed which the value of `--campaign` is, in the family of the
+-- survey which the other words describe.
+pub record IsShowing (word : Text) (rows : List Row) (c : OneCampaign) : Type 0 where
+  pub survey : IsSurveying rows c.survey
+  pub seed : IsSeed word c.seed
+  pub single : bars_campaign rows ≡ false
+
 -- Returns the form in which `--break` prints: only a table, or campaigns.
 abbrev pub break_shape : Bool → ReportKind
 break_shape true = Table
@@ -89,7 +107,8 @@ names_in rows = option_map (λ row. row.values) (row_of (codes "sum") rows)
 abbrev pub bars_sum : List Row → Bool
 bars_sum rows = list_any (λ name. has name rows)
     (codes "generals" ∷ codes "bound" ∷ codes "traitors" ∷ codes "rule" ∷ codes "patience" ∷ codes "signed"
-    ∷ codes "adversary" ∷ codes "lines" ∷ codes "shrink" ∷ codes "break" ∷ codes "keep" ∷ [])
+    ∷ codes "adversary" ∷ codes "lines" ∷ codes "shrink" ∷ codes "break" ∷ codes "campaign" ∷ codes "keep"
+    ∷ [])
 
 -- States that these are the first and the last seed of `--seeds`, if it is given.
 abbrev pub AreSaid : Option Text → Option (ℕ × ℕ) → Type 0
@@ -107,7 +126,12 @@ pub record IsMerging (names : List Text) (rows : List Row) (m : Merge) : Type 0 
 
 -- States that the words ask for this request.
 abbrev pub Asks : List Row → Asked → Type 0
-Asks rows (Surveys s) = (names_in rows ≡ None) × (has (codes "break") rows ≡ false) × IsSurveying rows s
+Asks rows (Surveys s) =
+    (names_in rows ≡ None) × (given (codes "campaign") rows ≡ None) × (has (codes "break") rows ≡ false)
+    × IsSurveying rows s
+Asks rows (Campaign c) =
+    (names_in rows ≡ None) × (word : Text) × (given (codes "campaign") rows ≡ Some word) × IsShowing word rows c
 Asks rows (Break s is_table) =
-    (names_in rows ≡ None) × (has (codes "break") rows ≡ true) × IsBreaking rows s is_table
+    (names_in rows ≡ None) × (given (codes "campaign") rows ≡ None) × (has (codes "break") rows ≡ true)
+    × IsBreaking rows s is_table
 Asks rows (Merges m) = (names : List Text) × (names_in rows ≡ Some names) × IsMerging names rows m

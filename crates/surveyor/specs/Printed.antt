@@ -10,7 +10,7 @@ use Rattle.surveys.specs.Judging.{IsFindingOf}
 use Rattle.surveys.specs.Lines.{line_text}
 use Rattle.surveys.specs.Plotting.{plot_of}
 use Rattle.surveys.specs.Sums.{is_sound, sums_of}
-use Rattle.surveys.specs.Wording.{plot_text}
+use Rattle.surveys.specs.Wording.{campaign_text, plot_text}
 use Rattle.surveys.specs.Counts.{sums_text}
 use Rattle.surveys.specs.Groups.{groups_of}
 use Rattle.surveys.specs.Pictures.{picture_text}
@@ -19,6 +19,7 @@ use Rattle.surveys.specs.declared.breach.Breach.{Breach}
 use Rattle.surveys.specs.Breaches.{IsLeastOf, IsShrunk, statements}
 use Rattle.surveyor.specs.declared.task.ReportKind.{ReportKind}
 use Rattle.surveyor.specs.declared.task.ReportKind.TheVariants.{Sums, Lines, Table, Picture, Least}
+use Rattle.surveyor.specs.declared.task.OneCampaign.{OneCampaign}
 use Rattle.surveyor.specs.declared.task.Survey.{Survey}
 use Rattle.surveyor.specs.Kept.{File, Gains, breach_files, campaign_files}
 use Rattle.surveyor.specs.Words.{IsFamilyOf}
@@ -107,3 +108,10 @@ pub record IsSurveyed (s : Survey) (old new : Option (List ℕ)) (before after :
   pub family : Family
   pub asked : IsFamilyOf s family
   pub printed : IsPrinted s family old new before after
+
+-- States that the campaign of the seed is printed, for the family that the survey asks for. It is the text of which that
+-- family's survey finds the result for this seed (`IsFindingOf`).
+pub record IsCampaignPrinted (c : OneCampaign) (old new : Option (List ℕ)) : Type 0 where
+  pub family : Family
+  pub asked : IsFamilyOf c.survey family
+  pub written : Appends old new (campaign_text family c.seed)

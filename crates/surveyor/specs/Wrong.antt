@@ -7,7 +7,7 @@ use Rattle.clap.specs.declared.error.kind.ErrorKind.TheVariants.{OutOfMemory}
 use Rattle.combine.specs.Names.{rule_named}
 use Rattle.surveys.specs.declared.span.CountRange.{CountRange}
 use Rattle.surveyor.specs.Flags.{given, has, survey_app}
-use Rattle.surveyor.specs.Meant.{AreSeeds, Asks, IsPatience, IsWithin, bars_sum, break_shape, names_in, shape_in, some_traitors, value}
+use Rattle.surveyor.specs.Meant.{AreSeeds, Asks, IsPatience, IsSeed, IsWithin, bars_campaign, bars_sum, break_shape, names_in, shape_in, some_traitors, value}
 use Rattle.surveyor.specs.declared.task.Asked.{Asked}
 use Rattle.surveyor.specs.declared.task.AskedError.{AskedError}
 use Rattle.surveyor.specs.declared.task.AskedError.TheVariants.{Words, Value, Rule, Memory}
@@ -20,6 +20,10 @@ IsOutside least most word = (span : CountRange) → IsWithin least most word spa
 -- States that the word is not a span of seeds.
 abbrev pub AreNoSeeds : Text → Type 0
 AreNoSeeds word = (seeds : ℕ × ℕ) → AreSeeds word seeds → ⊥
+
+-- States that the word is not a seed.
+abbrev pub IsNoSeed : Text → Type 0
+IsNoSeed word = (seed : ℕ) → IsSeed word seed → ⊥
 
 -- States that the word is not a number of steps for which a traitor is waited for.
 abbrev pub IsNoPatience : Option Text → Type 0
@@ -53,6 +57,10 @@ pub data IsWrong (rows : List Row) (why : Text) : Type 0 where
       has (codes "break") rows ≡ true → (shape : ReportKind) → shape_in rows ≡ Some shape → IsNoBreak shape → IsWrong rows why
   keep : why ≡ codes "--break cannot be used with --keep: redirect its output to a file" →
       has (codes "break") rows ≡ true → has (codes "keep") rows ≡ true → IsWrong rows why
+  single : why ≡ codes "--campaign prints one campaign: it can be used only with options of the family" →
+      has (codes "campaign") rows ≡ true → bars_campaign rows ≡ true → IsWrong rows why
+  campaign : why ≡ codes "--campaign takes a seed below 18446744073709551615" →
+      (word : Text) → given (codes "campaign") rows ≡ Some word → IsNoSeed word → IsWrong rows why
   sum : why ≡ codes "--sum plays nothing: it can be used only with --seeds, --table and --svg" →
       is_some (names_in rows) ≡ true → bars_sum rows ≡ true → IsWrong rows why
   twice : why ≡ codes "standard input can be read only once" →

@@ -88,6 +88,11 @@ const SHAPES: &[Flag<'static>] = &[
                traitors, statements and seed",
     },
     Flag {
+        name: "campaign",
+        value: Some("SEED"),
+        help: "Prints the campaign of this seed, broken or not, and plays nothing",
+    },
+    Flag {
         name: "keep",
         value: Some("DIR"),
         help: "Writes each broken campaign to DIR/SEED.toml",

@@ -13,6 +13,7 @@ mod keeper;
 mod kept_campaigns;
 mod minimal_campaigns;
 mod numbers;
+mod one_campaign;
 mod pieces;
 mod played_survey;
 mod printer;

@@ -83,6 +83,15 @@ pub fn seeds(word: &str) -> Option<(u64, u64)>
     }
 }
 
+/// Parses a seed, a number below 2^64 - 1. Returns `None` for any other word.
+pub fn seed(word: &str) -> Option<u64>
+    ensures inside { IfSome result (λ seed. seed < 2 ^ 64 - 1) }
+    ensures told { IfSome result (λ seed. decimal_of word.now ≡ Some seed) }
+    ensures refused { IfNone result ((seed : ℕ) → decimal_of word.now ≡ Some seed → seed < 2 ^ 64 - 1 → ⊥) }
+{
+    below(18_446_744_073_709_551_615, word)
+}
+
 /// Parses how many steps a traitor is waited for, 1 to 4,096. Returns `None` for any other word.
 pub fn patience(word: &str) -> Option<u32>
     ensures least { IfSome result (λ steps. 1 ≤ steps) }

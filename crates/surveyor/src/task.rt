@@ -1,4 +1,5 @@
-//! What the command line of a survey asks for: the request to play, to search or to sum, and why there is no request.
+//! What the command line of a survey asks for: the request to play, to search, to sum or to print one campaign, and why
+//! there is no request.
 ghost use Rattle.std.specs.Prelude.{◌≡◌, IfErr, IfOk, []};
 ghost use Rattle.clap.specs.Words.{fault_of, matches_of};
 ghost use Rattle.surveyor.specs.Asked.{IsAsked};
@@ -19,6 +20,8 @@ use surveys::{CountRange, Manner};
 pub enum Asked {
     /// Plays the campaigns that the seeds of a survey give.
     Survey(Survey),
+    /// Prints the campaign of one seed.
+    Campaign(OneCampaign),
     /// Searches what breaks agreement, for each number of generals and each bound. The flag says whether only a table
     /// is printed, without the campaigns.
     Break(Survey, bool),
@@ -39,6 +42,13 @@ pub enum ReportKind {
     Picture,
     /// The least broken campaign, from which no traitor and no statement can be removed.
     Least,
+}
+
+/// A request to print one campaign: that which the seed gives in the family of the survey.
+#[derive(Drop)]
+pub struct OneCampaign {
+    pub survey: Survey,
+    pub seed: u64,
 }
 
 /// A request to sum the lines of files.
