@@ -10,11 +10,11 @@ use Rattle.combine.specs.declared.campaign_rule.Rule.{Rule as CombineRule}
 use Rattle.surveys.specs.declared.manner.Manner.TheVariants.{Oral}
 use Rattle.surveys.specs.declared.span.CountRange.{CountRange}
 use Rattle.surveyor.specs.Flags.{given, has, survey_app}
-use Rattle.surveyor.specs.Meant.{AreSaid, AreSeeds, Asks, IsBreaking, IsMerging, IsPatience, IsShowing, IsSurveying, IsWithin, bars_campaign, bars_sum, break_shape, names_in, shape_in, some_traitors, value}
+use Rattle.surveyor.specs.Meant.{AreSaid, AreSeeds, Asks, IsBreaking, IsCommander, IsMerging, IsPatience, IsShowing, IsSurveying, IsWithin, bars_campaign, bars_sum, break_shape, names_in, shape_in, some_traitors, value}
 use Rattle.surveyor.specs.Numbers.{IsNoSpan, IsTold}
 use Rattle.surveyor.specs.Words.{manner_named}
-use Rattle.surveyor.specs.Wrong.{AreNoSeeds, AreTwice, AsksNothing, IsByClap, IsNoBreak, IsNoManner, IsNoPatience, IsNoRule, IsNoSeed, IsOutside, IsRefused, IsSaid, IsUnmet, IsWrong}
-use Rattle.surveyor.specs.Wrong.IsWrong.{generals, bound, traitors, seeds, patience, signed, shape, broken, keep, single, campaign, sum, twice}
+use Rattle.surveyor.specs.Wrong.{AreNoSeeds, AreTwice, AsksNothing, IsByClap, IsNoBreak, IsNoCommander, IsNoManner, IsNoPatience, IsNoRule, IsNoSeed, IsOutside, IsRefused, IsSaid, IsUnmet, IsWrong}
+use Rattle.surveyor.specs.Wrong.IsWrong.{generals, bound, traitors, seeds, commander, patience, signed, shape, broken, keep, single, campaign, sum, twice}
 use Rattle.surveyor.specs.declared.task.Asked.{Asked}
 use Rattle.surveyor.specs.declared.task.Asked.TheVariants.{Survey as Surveys, Campaign, Break, Merge as Merges}
 use Rattle.surveyor.specs.declared.task.AskedError.{AskedError}
@@ -84,6 +84,17 @@ pub no_seeds : (rows : List Row) (word : Text) (e : AskedError) → word ≡ val
 no_seeds rows word e is h =
     let own : AreNoSeeds word → AreNoSeeds (value (codes "seeds") (codes "1..1000") rows) = subst AreNoSeeds is in
     said_so rows seeds_text (AreNoSeeds word) (NoSurvey rows) e (λ why same bars. seeds same (own bars)) (λ bars s told. own bars (s.first, s.last) told.seeds) h
+
+pub no_commander : (rows : List Row) (many word : Text) (own : CountRange) (e : AskedError) → many ≡ value (codes "generals") (codes "4") rows → word ≡ value (codes "commander") (codes "0") rows → IsWithin 2 13 many own
+    → IsSaid (codes "--commander takes a number below the least of --generals") (IsNoCommander own.low word) e → IsRefused rows (NoSurvey rows) e
+no_commander rows many word own e all is inside h =
+    let within : IsWithin 2 13 (value (codes "generals") (codes "4") rows) own = subst (λ (t : Text). IsWithin 2 13 t own) all inside in
+    let here : IsNoCommander own.low word → IsNoCommander own.low (value (codes "commander") (codes "0") rows) = subst (IsNoCommander own.low) is in
+    said_so rows (codes "--commander takes a number below the least of --generals") (IsNoCommander own.low word) (NoSurvey rows) e
+    (λ why same none. commander same own within (here none))
+    (λ none s told.
+        (let lows = told_once (value (codes "generals") (codes "4") rows) s.generals.low s.generals.high own.low own.high told.generals.told within.told in
+        here none s.commander (subst (λ (n : ℕ). IsCommander n (value (codes "commander") (codes "0") rows) s.commander) lows.0 told.commander))) h
 
 no_rule : (o : Option Text) → IsSomeAnd o (λ word. rule_named word ≡ None) → manner_named o false ≡ None
 no_rule None h = absurd h

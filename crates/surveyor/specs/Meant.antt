@@ -54,6 +54,10 @@ pub record AreSeeds (word : Text) (seeds : ℕ × ℕ) : Type 0 where
   pub inside : seeds.1 < 2 ^ 64 - 1
   pub few : seeds.1 - seeds.0 < 10000000
 
+-- States that the word is this commander, one of `generals` generals.
+abbrev pub IsCommander : ℕ → Text → ℕ → Type 0
+IsCommander generals word c = (decimal_of word ≡ Some c) × (c < generals)
+
 -- Returns the default of `--traitors`.
 abbrev pub some_traitors : List Row → Text
 some_traitors rows = if has (codes "break") rows then codes "1..13" else codes "1"
@@ -63,6 +67,7 @@ pub record IsSurveying (rows : List Row) (s : Survey) : Type 0 where
   pub generals : IsWithin 2 13 (value (codes "generals") (codes "4") rows) s.generals
   pub bound : IsWithin 0 4 (value (codes "bound") (codes "1") rows) s.bound
   pub traitors : IsWithin 0 13 (value (codes "traitors") (some_traitors rows) rows) s.traitors
+  pub commander : IsCommander s.generals.low (value (codes "commander") (codes "0") rows) s.commander
   pub manner : manner_named (given (codes "rule") rows) (has (codes "signed") rows) ≡ Some s.manner
   pub patience : IsPatience (given (codes "patience") rows) s.patience
   pub adversary : string_bytes s.adversary ≡ value (codes "adversary") (codes "lies") rows
@@ -106,8 +111,8 @@ names_in rows = option_map (λ row. row.values) (row_of (codes "sum") rows)
 -- and `--svg`.
 abbrev pub bars_sum : List Row → Bool
 bars_sum rows = list_any (λ name. has name rows)
-    (codes "generals" ∷ codes "bound" ∷ codes "traitors" ∷ codes "rule" ∷ codes "patience" ∷ codes "signed"
-    ∷ codes "adversary" ∷ codes "lines" ∷ codes "shrink" ∷ codes "break" ∷ codes "campaign" ∷ codes "keep"
+    (codes "generals" ∷ codes "bound" ∷ codes "traitors" ∷ codes "commander" ∷ codes "rule" ∷ codes "patience"
+    ∷ codes "signed" ∷ codes "adversary" ∷ codes "lines" ∷ codes "shrink" ∷ codes "break" ∷ codes "campaign" ∷ codes "keep"
     ∷ [])
 
 -- States that these are the first and the last seed of `--seeds`, if it is given.

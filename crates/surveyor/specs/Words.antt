@@ -46,6 +46,7 @@ pub record IsFamilyOf (s : Survey) (f : Family) : Type 0 where
   pub generals : f.generals ≡ s.generals
   pub bound : f.bound ≡ s.bound
   pub traitors : f.traitors ≡ s.traitors
+  pub commander : f.commander ≡ s.commander
   pub manner : f.manner ≡ s.manner
   pub patience : f.patience ≡ s.patience
   pub adversary : IsNamed (string_bytes s.adversary) f.adversary

@@ -7,7 +7,7 @@ use Rattle.clap.specs.declared.error.kind.ErrorKind.TheVariants.{OutOfMemory}
 use Rattle.combine.specs.Names.{rule_named}
 use Rattle.surveys.specs.declared.span.CountRange.{CountRange}
 use Rattle.surveyor.specs.Flags.{given, has, survey_app}
-use Rattle.surveyor.specs.Meant.{AreSeeds, Asks, IsPatience, IsSeed, IsWithin, bars_campaign, bars_sum, break_shape, names_in, shape_in, some_traitors, value}
+use Rattle.surveyor.specs.Meant.{AreSeeds, Asks, IsCommander, IsPatience, IsSeed, IsWithin, bars_campaign, bars_sum, break_shape, names_in, shape_in, some_traitors, value}
 use Rattle.surveyor.specs.declared.task.Asked.{Asked}
 use Rattle.surveyor.specs.declared.task.AskedError.{AskedError}
 use Rattle.surveyor.specs.declared.task.AskedError.TheVariants.{Words, Value, Rule, Memory}
@@ -24,6 +24,10 @@ AreNoSeeds word = (seeds : ℕ × ℕ) → AreSeeds word seeds → ⊥
 -- States that the word is not a seed.
 abbrev pub IsNoSeed : Text → Type 0
 IsNoSeed word = (seed : ℕ) → IsSeed word seed → ⊥
+
+-- States that the word is not one of `generals` generals.
+abbrev pub IsNoCommander : ℕ → Text → Type 0
+IsNoCommander generals word = (c : ℕ) → IsCommander generals word c → ⊥
 
 -- States that the word is not a number of steps for which a traitor is waited for.
 abbrev pub IsNoPatience : Option Text → Type 0
@@ -47,6 +51,9 @@ pub data IsWrong (rows : List Row) (why : Text) : Type 0 where
       IsOutside 0 13 (value (codes "traitors") (some_traitors rows) rows) → IsWrong rows why
   seeds : why ≡ codes "--seeds takes at most 10000000 seeds below 18446744073709551615, such as 7 or 1..1000" →
       AreNoSeeds (value (codes "seeds") (codes "1..1000") rows) → IsWrong rows why
+  commander : why ≡ codes "--commander takes a number below the least of --generals" →
+      (span : CountRange) → IsWithin 2 13 (value (codes "generals") (codes "4") rows) span →
+      IsNoCommander span.low (value (codes "commander") (codes "0") rows) → IsWrong rows why
   patience : why ≡ codes "--patience takes 1 to 4096" →
       IsNoPatience (given (codes "patience") rows) → IsWrong rows why
   signed : why ≡ codes "signed messages have no rule" →

@@ -31,6 +31,7 @@ pub fn family_of(rt: &HostRuntime, survey: &Survey) -> Result<Family, SurveyFail
         survey.generals,
         survey.bound,
         survey.traitors,
+        survey.commander,
         survey.manner,
         survey.patience,
         adversary,

@@ -34,6 +34,11 @@ const FAMILY: &[Flag<'static>] = &[
         help: "How many traitors there are [default: 1; with --break: 1..13]",
     },
     Flag {
+        name: "commander",
+        value: Some("C"),
+        help: "Who commands, a number below the least number of generals [default: 0]",
+    },
+    Flag {
         name: "seeds",
         value: Some("N..M"),
         help: "The seeds, one for each campaign, at most 10000000 [default: 1..1000]",

@@ -52,6 +52,16 @@ fn ends(limit: u128, word: &str) -> Option<(u64, u64)>
     }
 }
 
+/// Parses a number below `limit`. Returns `None` for any other word.
+pub fn small(limit: u8, word: &str) -> Option<u8>
+    ensures inside { IfSome result (λ number. number < limit) }
+    ensures told { IfSome result (λ number. decimal_of word.now ≡ Some number) }
+    ensures refused { IfNone result ((number : ℕ) → decimal_of word.now ≡ Some number → number < limit → ⊥) }
+{
+    let number = below(u128::from(limit), word)?;
+    Some(number as u8)
+}
+
 /// Parses a span of numbers from 0 to 13. Returns `None` for any other word.
 pub fn span(word: &str) -> Option<CountRange>
     ensures ordered { IfSome result (λ s. s.low ≤ s.high) }

@@ -66,6 +66,8 @@ pub struct Survey {
     pub generals: CountRange,
     pub bound: CountRange,
     pub traitors: CountRange,
+    /// The commander of all campaigns.
+    pub commander: u8,
     pub manner: Manner,
     pub patience: Option<u32>,
     /// What the traitors do: `lies`, `silent`, `collude`, or the name of a file of assembly.

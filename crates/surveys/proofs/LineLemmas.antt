@@ -4,7 +4,7 @@ use Rattle.surveys.specs.declared.finding.Finding.{Finding}
 use Rattle.std.specs.Prelude.{decimal}
 use Rattle.surveys.specs.declared.span.CountRange.{CountRange}
 use Rattle.surveys.specs.Family.{Family}
-use Rattle.surveys.specs.Heads.{adversary_word, head_end, head_front, head_middle, head_text, manner_word, patience_word}
+use Rattle.surveys.specs.Heads.{adversary_word, commander_text, head_end, head_front, head_middle, head_text, manner_word, patience_word}
 use Rattle.surveys.specs.Lines.{back_text, front_text, line_text}
 
 -- a name, and what stands behind it
@@ -20,27 +20,30 @@ three_pieces s t u v a b c e f g = two_pieces s u v (a ++ b) c (two_pieces s t u
 pub four_pieces : (s t u v w a b c d : List ℕ) → t ≡ s ++ a → u ≡ t ++ b → v ≡ u ++ c → w ≡ v ++ d → w ≡ s ++ (a ++ (b ++ (c ++ d)))
 four_pieces s t u v w a b c d e f g h = three_pieces s u v w (a ++ b) c d (two_pieces s t u a b e f) g h ∙ ap (λ x. s ++ x) (append_assoc a b (c ++ d))
 
+pub five_pieces : (s t u v w x a b c d k : List ℕ) → t ≡ s ++ a → u ≡ t ++ b → v ≡ u ++ c → w ≡ v ++ d → x ≡ w ++ k → x ≡ s ++ (a ++ (b ++ (c ++ (d ++ k))))
+five_pieces s t u v w x a b c d k e f g h i = four_pieces s u v w x (a ++ b) c d k (two_pieces s t u a b e f) g h i ∙ ap (λ y. s ++ y) (append_assoc a b (c ++ (d ++ k)))
+
 -- a line's halves
 pub joined_halves : (old : List ℕ) (f : Finding) → (old ++ front_text f) ++ back_text f ≡ old ++ line_text f
 joined_halves old f = simp append_assoc
 
 -- a head's parts
-flat : (p w f1 x1 f2 x2 f3 x3 f4 x4 m1 y1 m2 y2 e1 z1 e2 z2 e3 : List ℕ)
-    → (((p ++ w) ++ (f1 ++ (x1 ++ (f2 ++ (x2 ++ (f3 ++ (x3 ++ (f4 ++ x4)))))))) ++ (m1 ++ (y1 ++ (m2 ++ y2)))) ++ (e1 ++ (z1 ++ (e2 ++ (z2 ++ e3))))
-    ≡ p ++ (w ++ (f1 ++ (x1 ++ (f2 ++ (x2 ++ (f3 ++ (x3 ++ (f4 ++ (x4 ++ (m1 ++ (y1 ++ (m2 ++ (y2 ++ (e1 ++ (z1 ++ (e2 ++ (z2 ++ e3)))))))))))))))))
-flat p w f1 x1 f2 x2 f3 x3 f4 x4 m1 y1 m2 y2 e1 z1 e2 z2 e3 = simp append_assoc
+flat : (p w f1 x1 f2 x2 k f3 x3 f4 x4 m1 y1 m2 y2 e1 z1 e2 z2 e3 : List ℕ)
+    → (((p ++ w) ++ (f1 ++ (x1 ++ (f2 ++ (x2 ++ (k ++ (f3 ++ (x3 ++ (f4 ++ x4))))))))) ++ (m1 ++ (y1 ++ (m2 ++ y2)))) ++ (e1 ++ (z1 ++ (e2 ++ (z2 ++ e3))))
+    ≡ p ++ (w ++ (f1 ++ (x1 ++ (f2 ++ (x2 ++ (k ++ (f3 ++ (x3 ++ (f4 ++ (x4 ++ (m1 ++ (y1 ++ (m2 ++ (y2 ++ (e1 ++ (z1 ++ (e2 ++ (z2 ++ e3))))))))))))))))))
+flat p w f1 x1 f2 x2 k f3 x3 f4 x4 m1 y1 m2 y2 e1 z1 e2 z2 e3 = simp append_assoc
 
-joined_head : (f : Family) → (((codes "{\"adversary\":" ++ adversary_word f.adversary) ++ head_front f.bound f.generals) ++ head_middle (manner_word f.manner) (patience_word f.patience)) ++ head_end f.traitors ≡ head_text f
+joined_head : (f : Family) → (((codes "{\"adversary\":" ++ adversary_word f.adversary) ++ head_front f.bound f.commander f.generals) ++ head_middle (manner_word f.manner) (patience_word f.patience)) ++ head_end f.traitors ≡ head_text f
 joined_head f =
-    flat (codes "{\"adversary\":") (adversary_word f.adversary) (codes ",\"bound_high\":") (decimal f.bound.high) (codes ",\"bound_low\":") (decimal f.bound.low) (codes ",\"generals_high\":") (decimal f.generals.high)
+    flat (codes "{\"adversary\":") (adversary_word f.adversary) (codes ",\"bound_high\":") (decimal f.bound.high) (codes ",\"bound_low\":") (decimal f.bound.low) (commander_text f.commander) (codes ",\"generals_high\":") (decimal f.generals.high)
     (codes ",\"generals_low\":") (decimal f.generals.low) (codes ",\"line\":\"family\",\"manner\":") (manner_word f.manner) (codes ",\"patience\":") (patience_word f.patience)
     (codes ",\"traitors_high\":") (decimal f.traitors.high) (codes ",\"traitors_low\":") (decimal f.traitors.low) (codes "}\n")
 
-pub whole_head : (f : Family) (o a b c d adversary manner patience : List ℕ) (bound generals traitors : CountRange) → o ≡ [] → adversary ≡ adversary_word f.adversary → manner ≡ manner_word f.manner → patience ≡ patience_word f.patience
-    → bound ≡ f.bound → generals ≡ f.generals → traitors ≡ f.traitors → a ≡ (o ++ codes "{\"adversary\":") ++ adversary → b ≡ a ++ head_front bound generals → c ≡ b ++ head_middle manner patience → d ≡ c ++ head_end traitors → d ≡ head_text f
-whole_head f o a b c d adversary manner patience bound generals traitors none ad ma pa bo ge tr e1 e2 e3 e4 =
+pub whole_head : (f : Family) (o a b c d adversary manner patience : List ℕ) (bound generals traitors : CountRange) (commander : ℕ) → o ≡ [] → adversary ≡ adversary_word f.adversary → manner ≡ manner_word f.manner → patience ≡ patience_word f.patience
+    → bound ≡ f.bound → generals ≡ f.generals → traitors ≡ f.traitors → commander ≡ f.commander → a ≡ (o ++ codes "{\"adversary\":") ++ adversary → b ≡ a ++ head_front bound commander generals → c ≡ b ++ head_middle manner patience → d ≡ c ++ head_end traitors → d ≡ head_text f
+whole_head f o a b c d adversary manner patience bound generals traitors commander none ad ma pa bo ge tr co e1 e2 e3 e4 =
     let one : a ≡ codes "{\"adversary\":" ++ adversary = e1 ∙ ap (λ (l : List ℕ). (l ++ codes "{\"adversary\":") ++ adversary) none in
-    let two = e2 ∙ ap (λ (l : List ℕ). l ++ head_front bound generals) one in
+    let two = e2 ∙ ap (λ (l : List ℕ). l ++ head_front bound commander generals) one in
     let three = e3 ∙ ap (λ (l : List ℕ). l ++ head_middle manner patience) two in
     let four = e4 ∙ ap (λ (l : List ℕ). l ++ head_end traitors) three in
-    four ∙ ((λ i. (((codes "{\"adversary\":" ++ ad i) ++ head_front (bo i) (ge i)) ++ head_middle (ma i) (pa i)) ++ head_end (tr i)) ∙ joined_head f)
+    four ∙ ((λ i. (((codes "{\"adversary\":" ++ ad i) ++ head_front (bo i) (co i) (ge i)) ++ head_middle (ma i) (pa i)) ++ head_end (tr i)) ∙ joined_head f)

@@ -27,6 +27,11 @@ generals_of f seed = within f.generals (draw seed 0)
 abbrev pub bound_of : Family → ℕ → ℕ
 bound_of f seed = min (within f.bound (draw seed 1)) (min 4 (generals_of f seed - 2))
 
+-- Returns the commander of a campaign with `n` generals: that of the family, or the last general if there is no such
+-- general.
+abbrev pub commander_of : Family → ℕ → ℕ
+commander_of f n = min f.commander (n - 1)
+
 -- Returns how many traitors the seed's campaign has.
 abbrev pub count_of : Family → ℕ → ℕ
 count_of f seed = min (within f.traitors (draw seed 2)) (generals_of f seed)
@@ -52,26 +57,26 @@ oral_lies counts g receiver drawn =
     (cond (drawn % 4 == 1) (Honest receiver ∷ [])
     (Sway receiver (said_by counts drawn) ∷ [])))
 
--- Returns what general `g` signs or passes on, and to whom, or nothing in one of four cases. Only the commander signs
--- orders.
-abbrev pub signed_lies : Bool → ℕ → ℕ → List Lie
-signed_lies counts g drawn =
+-- Returns what general `g` signs or passes on, and to whom, or nothing in one of four cases. Only `c`, the commander,
+-- signs orders.
+abbrev pub signed_lies : Bool → ℕ → ℕ → ℕ → List Lie
+signed_lies counts c g drawn =
     cond (drawn % 4 == 0) []
-    (cond (g == 0) (Sign (said_by counts drawn) (drawn / 8 % 8192) ∷ [])
+    (cond (g == c) (Sign (said_by counts drawn) (drawn / 8 % 8192) ∷ [])
     (Pass (said_by counts drawn) (drawn / 8 % 8192) ∷ []))
 
--- Returns all statements of general `g`. In an oral campaign there is at most one for each receiver, and in a signed
+-- Returns all statements of general `g` if `c` commands. In an oral campaign there is at most one for each receiver, and in a signed
 -- one there are at most four.
-abbrev pub lies_in : Manner → Bool → ℕ → ℕ → ℕ → List Lie
-lies_in (Oral rule) counts seed n g = flat_map (λ r. oral_lies counts g r (drawn_for seed g r)) (range_with_len 0 n)
-lies_in Signed counts seed n g = flat_map (λ r. signed_lies counts g (drawn_for seed g r)) (range_with_len 0 4)
+abbrev pub lies_in : Manner → Bool → ℕ → ℕ → ℕ → ℕ → List Lie
+lies_in (Oral rule) counts c seed n g = flat_map (λ r. oral_lies counts g r (drawn_for seed g r)) (range_with_len 0 n)
+lies_in Signed counts c seed n g = flat_map (λ r. signed_lies counts c g (drawn_for seed g r)) (range_with_len 0 4)
 
--- Returns the statements of general `g` as a traitor of this kind.
-abbrev pub lies_by : Adversary → Manner → ℕ → ℕ → ℕ → List Lie
-lies_by Lies manner seed n g = lies_in manner false seed n g
-lies_by Collude manner seed n g = lies_in manner true seed n g
-lies_by Silent manner seed n g = []
-lies_by (Given hex) manner seed n g = []
+-- Returns the statements of general `g` as a traitor of this kind, if `c` commands.
+abbrev pub lies_by : Adversary → Manner → ℕ → ℕ → ℕ → ℕ → List Lie
+lies_by Lies manner c seed n g = lies_in manner false c seed n g
+lies_by Collude manner c seed n g = lies_in manner true c seed n g
+lies_by Silent manner c seed n g = []
+lies_by (Given hex) manner c seed n g = []
 
 -- Checks whether traitors of this kind count on the board.
 abbrev pub do_count : Adversary → Bool
@@ -85,8 +90,11 @@ given_in _ = None
 
 -- Returns general `g` as a traitor of the family, with his statements.
 abbrev pub traitor_of : Family → ℕ → ℕ → ℕ → Traitor
-traitor_of f seed n g =
-    record { general = g; counts = do_count f.adversary; lies = lies_by f.adversary f.manner seed n g }
+traitor_of f seed n g = record {
+  general = g;
+  counts = do_count f.adversary;
+  lies = lies_by f.adversary f.manner (commander_of f n) seed n g;
+}
 
 -- Returns the campaign that a seed draws from a family.
 unfoldable pub plot_of : Family → ℕ → Plot
@@ -95,6 +103,7 @@ plot_of f seed =
     record {
       generals = n;
       bound = bound_of f seed;
+      commander = commander_of f n;
       order = draw seed 3 % 2;
       manner = f.manner;
       patience = f.patience;

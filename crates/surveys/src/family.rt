@@ -6,12 +6,14 @@ use crate::manner::Manner;
 use crate::span::CountRange;
 use std::marker::Model;
 
-/// A family of campaigns: the ranges of generals, bounds and traitors, how orders are sent, and what traitors do.
+/// A family of campaigns: the ranges of generals, bounds and traitors, who commands, how orders are sent, and what
+/// traitors do.
 #[derive(Drop)]
 pub struct Family {
     generals: CountRange,
     bound: CountRange,
     traitors: CountRange,
+    commander: u8,
     manner: Manner,
     patience: Option<u32>,
     adversary: Adversary,
@@ -26,6 +28,7 @@ impl Model for Family {
       generals = f.generals;
       bound = f.bound;
       traitors = f.traitors;
+      commander = f.commander;
       manner = f.manner;
       patience = f.patience;
       adversary = f.adversary;
@@ -35,6 +38,7 @@ impl Model for Family {
       generals = f.generals;
       bound = f.bound;
       traitors = f.traitors;
+      commander = f.commander;
       manner = f.manner;
       patience = f.patience;
       adversary = f.adversary;
@@ -46,12 +50,14 @@ impl Family {
 
     /// Returns a family of campaigns. A seed draws the number of generals, the bound and the number of traitors from
     /// these ranges. The number of generals is 2 to 13. A bound above 4 or above the number of generals less 2 is cut
-    /// to that, and a number of traitors above the number of generals is cut to that. If `patience` is given, 1 to
-    /// 4,096, a traitor may take that many steps. Otherwise he runs to his end.
+    /// to that, and a number of traitors above the number of generals is cut to that. In a campaign without a general
+    /// `commander` the last general commands. If `patience` is given, 1 to 4,096, a traitor may take that many steps.
+    /// Otherwise he runs to his end.
     pub fn new(
         generals: CountRange,
         bound: CountRange,
         traitors: CountRange,
+        commander: u8,
         manner: Manner,
         patience: Option<u32>,
         adversary: Adversary,
@@ -60,6 +66,7 @@ impl Family {
           generals = generals;
           bound = bound;
           traitors = traitors;
+          commander = commander;
           manner = manner;
           patience = patience;
           adversary = adversary;
@@ -68,6 +75,7 @@ impl Family {
           generals = generals;
           bound = bound;
           traitors = traitors;
+          commander = commander;
           manner = manner;
           patience = patience;
           adversary = adversary;
@@ -77,6 +85,7 @@ impl Family {
             generals,
             bound,
             traitors,
+            commander,
             manner,
             patience,
             adversary,
@@ -105,6 +114,13 @@ impl Family {
         ensures whole { IsFamily self.now }
     {
         self.traitors
+    }
+
+    /// Returns the commander of the campaigns that have a general of this number.
+    pub fn commander(&self) -> u8
+        ensures { result ≡ self.now.commander }
+    {
+        self.commander
     }
 
     /// Returns how orders are sent.

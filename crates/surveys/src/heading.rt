@@ -1,6 +1,6 @@
 //! Writes the head of a survey, which describes the family of its campaigns as a JSON object.
 ghost use Rattle.std.specs.Prelude.{◌≡◌, ◌++◌, IfOk, OnOk, codes, string_bytes};
-ghost use Rattle.surveys.specs.Heads.{adversary_word, head_end, head_front, head_middle, head_text, is_head, manner_word, patience_word};
+ghost use Rattle.surveys.specs.Heads.{adversary_word, commander_text, head_end, head_front, head_middle, head_text, is_head, manner_word, patience_word};
 
 use crate::adversary::Adversary;
 use crate::family::Family;
@@ -56,12 +56,28 @@ fn put_word(out: &mut String, name: &str, word: &str) -> Result<(), AllocError>
     out.push_str(word)
 }
 
-/// Writes the ranges of the bound and of the number of generals.
-fn put_front(out: &mut String, bound: CountRange, generals: CountRange) -> Result<(), AllocError>
-    ensures { OnOk result (string_bytes out.new ≡ string_bytes out.old ++ head_front bound generals) }
+/// Writes who commands, unless it is general 0.
+fn put_commander(out: &mut String, commander: u8) -> Result<(), AllocError>
+    ensures { OnOk result (string_bytes out.new ≡ string_bytes out.old ++ commander_text commander) }
+{
+    if commander == 0 {
+        return Ok(());
+    }
+    put_numbered(out, ",\"commander\":", u64::from(commander))
+}
+
+/// Writes the range of the bound, who commands, and the range of the number of generals.
+fn put_front(
+    out: &mut String,
+    bound: CountRange,
+    commander: u8,
+    generals: CountRange,
+) -> Result<(), AllocError>
+    ensures { OnOk result (string_bytes out.new ≡ string_bytes out.old ++ head_front bound commander generals) }
 {
     put_numbered(out, ",\"bound_high\":", u64::from(bound.high))?;
     put_numbered(out, ",\"bound_low\":", u64::from(bound.low))?;
+    put_commander(out, commander)?;
     put_numbered(out, ",\"generals_high\":", u64::from(generals.high))?;
     put_numbered(out, ",\"generals_low\":", u64::from(generals.low))?;
     Ok(())
@@ -99,7 +115,12 @@ pub fn head(alloc: Global, family: &Family) -> Result<String, AllocError>
     let patience = patience_word(alloc, family.patience())?;
     let mut out = String::new(alloc);
     put_word(&mut out, "{\"adversary\":", adversary.as_str())?;
-    put_front(&mut out, family.bound(), family.generals())?;
+    put_front(
+        &mut out,
+        family.bound(),
+        family.commander(),
+        family.generals(),
+    )?;
     put_middle(&mut out, manner.as_str(), patience.as_str())?;
     put_end(&mut out, family.traitors())?;
     Ok(out)

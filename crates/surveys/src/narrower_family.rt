@@ -36,6 +36,7 @@ pub(crate) fn narrowed(
         only(generals),
         only(bound),
         only(traitors),
+        family.commander(),
         family.manner(),
         family.patience(),
         adversary_copied(alloc, family.adversary())?,

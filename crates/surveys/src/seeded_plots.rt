@@ -2,7 +2,7 @@
 ghost use Rattle.std.specs.Prelude.{◌≡◌, ◌+◌, ◌-◌, ◌%◌, ◌<◌, ◌≤◌, ◌++◌, OnOk, IfOk, flat_map, map, nat_lt, option_map, string_bytes};
 ghost use Rattle.std.specs.List.{range_with_len};
 ghost use Rattle.surveys.specs.Draws.{draw};
-ghost use Rattle.surveys.specs.Plotting.{bound_of, chosen, count_of, do_count, drawn_for, generals_of, given_in, lies_by, lies_in, oral_lies, plot_of, said_by, signed_lies, traitor_of};
+ghost use Rattle.surveys.specs.Plotting.{bound_of, chosen, commander_of, count_of, do_count, drawn_for, generals_of, given_in, lies_by, lies_in, oral_lies, plot_of, said_by, signed_lies, traitor_of};
 
 use crate::adversary::Adversary;
 use crate::draw::{draw, within};
@@ -34,6 +34,14 @@ fn bound_of(family: &Family, seed: u64) -> u8
 {
     let greatest = (generals_of(family, seed) - 2).min(4);
     within(family.bound(), draw(seed, 1)).min(greatest)
+}
+
+/// Returns the commander of a campaign with `generals` generals: that of the family, or the last general if there is no
+/// such general.
+fn commander_of(family: &Family, generals: u8) -> u8
+    ensures { result ≡ commander_of family.now generals }
+{
+    family.commander().min(generals.saturating_sub(1))
 }
 
 /// Returns how many traitors the seed's campaign has.
@@ -75,15 +83,21 @@ fn push_oral(
     Ok(())
 }
 
-/// Appends what a general signs or passes on, if anything.
-fn push_signed(lies: &mut Vec<Lie>, counts: bool, general: u8, drawn: u64) -> Result<(), AllocError>
-    ensures { OnOk result (lies.new.items ≡ lies.old.items ++ signed_lies counts general drawn) }
+/// Appends what a general signs or passes on, if anything. Only the commander signs orders.
+fn push_signed(
+    lies: &mut Vec<Lie>,
+    counts: bool,
+    commander: u8,
+    general: u8,
+    drawn: u64,
+) -> Result<(), AllocError>
+    ensures { OnOk result (lies.new.items ≡ lies.old.items ++ signed_lies counts commander general drawn) }
 {
     if drawn % 4 == 0 {
         return Ok(());
     }
     let receivers = (drawn / 8 % 8192) as u16;
-    if general == 0 {
+    if general == commander {
         lies.push(Lie::Sign(said_by(counts, drawn), receivers))?;
     } else {
         lies.push(Lie::Pass(said_by(counts, drawn), receivers))?;
@@ -116,13 +130,25 @@ fn oral_of(
 }
 
 /// Returns what a general signs and passes on in a signed campaign.
-fn signed_of(alloc: Global, counts: bool, seed: u64, general: u8) -> Result<Vec<Lie>, AllocError>
+fn signed_of(
+    alloc: Global,
+    counts: bool,
+    commander: u8,
+    seed: u64,
+    general: u8,
+) -> Result<Vec<Lie>, AllocError>
     ensures { IfOk result (λ lies. lies.items
-        ≡ flat_map (λ r. signed_lies counts general (drawn_for seed general r)) (range_with_len 0 4)) }
+        ≡ flat_map (λ r. signed_lies counts commander general (drawn_for seed general r)) (range_with_len 0 4)) }
 {
     let mut lies = Vec::new(alloc);
     for place in 0..4 {
-        push_signed(&mut lies, counts, general, drawn_for(seed, general, place))?;
+        push_signed(
+            &mut lies,
+            counts,
+            commander,
+            general,
+            drawn_for(seed, general, place),
+        )?;
     }
     Ok(lies)
 }
@@ -132,15 +158,16 @@ fn lies_in(
     alloc: Global,
     manner: Manner,
     counts: bool,
+    commander: u8,
     seed: u64,
     generals: u8,
     general: u8,
 ) -> Result<Vec<Lie>, AllocError>
-    ensures { IfOk result (λ lies. lies.items ≡ lies_in manner counts seed generals general) }
+    ensures { IfOk result (λ lies. lies.items ≡ lies_in manner counts commander seed generals general) }
 {
     match manner {
         Manner::Oral(_) => oral_of(alloc, counts, seed, generals, general),
-        Manner::Signed => signed_of(alloc, counts, seed, general),
+        Manner::Signed => signed_of(alloc, counts, commander, seed, general),
     }
 }
 
@@ -152,12 +179,14 @@ fn lies_by(
     generals: u8,
     general: u8,
 ) -> Result<Vec<Lie>, AllocError>
-    ensures { IfOk result (λ lies. lies.items ≡ lies_by family.now.adversary family.now.manner seed generals general) }
+    ensures { IfOk result (λ lies. lies.items ≡ lies_by family.now.adversary family.now.manner
+        (commander_of family.now generals) seed generals general) }
 {
     let manner = family.manner();
+    let commander = commander_of(family, generals);
     match family.adversary() {
-        Adversary::Lies => lies_in(alloc, manner, false, seed, generals, general),
-        Adversary::Collude => lies_in(alloc, manner, true, seed, generals, general),
+        Adversary::Lies => lies_in(alloc, manner, false, commander, seed, generals, general),
+        Adversary::Collude => lies_in(alloc, manner, true, commander, seed, generals, general),
         Adversary::Silent | Adversary::Given(_) => Ok(Vec::new(alloc)),
     }
 }
@@ -244,6 +273,7 @@ pub fn plot_of(alloc: Global, family: &Family, seed: u64) -> Result<Plot, AllocE
     Ok(Plot {
         generals,
         bound: bound_of(family, seed),
+        commander: commander_of(family, generals),
         order: (draw(seed, 3) % 2) as u8,
         manner: family.manner(),
         patience: family.patience(),

@@ -1,15 +1,15 @@
-//! The request to play campaigns, made from the words that `clap` has parsed: generals, bound, traitors, seeds, manner
-//! and what is printed.
+//! The request to play campaigns, made from the words that `clap` has parsed: generals, bound, traitors, seeds,
+//! commander, manner and what is printed.
 ghost use Rattle.std.specs.Prelude.{◌≡◌, ◌≤◌, IfErr, IfOk, MatchResult, codes, option_map, string_bytes};
 ghost use Rattle.clap.specs.Words.{found_of, rows_of};
 ghost use Rattle.surveyor.specs.Asked.{IsSurvey};
 ghost use Rattle.surveyor.specs.Flags.{given, has};
-ghost use Rattle.surveyor.specs.Meant.{AreSeeds, IsPatience, IsSurveying, IsWithin, shape_by, shape_in, some_traitors};
+ghost use Rattle.surveyor.specs.Meant.{AreSeeds, IsCommander, IsPatience, IsSurveying, IsWithin, shape_by, shape_in, some_traitors};
 ghost use Rattle.surveyor.specs.Words.{manner_named, plain_manner};
-ghost use Rattle.surveyor.specs.Wrong.{AreNoSeeds, IsNoManner, IsNoPatience, IsOutside, IsRefused, IsSaid};
+ghost use Rattle.surveyor.specs.Wrong.{AreNoSeeds, IsNoCommander, IsNoManner, IsNoPatience, IsOutside, IsRefused, IsSaid};
 ghost use Rattle.surveyor.specs.declared.task.Survey.{Survey};
 
-use crate::numbers::{patience, seeds, span};
+use crate::numbers::{patience, seeds, small, span};
 use crate::task::{AskedError, ReportKind, Survey};
 use crate::word_values::{given, has, value};
 use clap::ArgMatches;
@@ -22,6 +22,8 @@ const GENERALS: &str = "--generals takes 2 to 13, such as 4 or 4..7";
 const BOUND: &str = "--bound takes 0 to 4, such as 1 or 1..2";
 
 const TRAITORS: &str = "--traitors takes 0 to 13, such as 1 or 1..3";
+
+const COMMANDER: &str = "--commander takes a number below the least of --generals";
 
 const SEEDS: &str =
     "--seeds takes at most 10000000 seeds below 18446744073709551615, such as 7 or 1..1000";
@@ -45,6 +47,22 @@ fn within(word: &str, least: u8, most: u8, why: &'static str) -> Result<CountRan
     match span(word) {
         Some(span) if least <= span.low && span.high <= most => Ok(span),
         _ => Err(AskedError::Value(why)),
+    }
+}
+
+/// Parses the commander of campaigns with at least `generals` generals.
+///
+/// # Errors
+///
+/// The word is not a number below `generals`.
+fn told_commander(word: &str, generals: u8) -> Result<u8, AskedError>
+    ensures told { IfOk result (IsCommander generals word.now) }
+    ensures refused { IfErr result (IsSaid (codes "--commander takes a number below the least of --generals")
+        (IsNoCommander generals word.now)) }
+{
+    match small(generals, word) {
+        Some(commander) => Ok(commander),
+        None => Err(AskedError::Value(COMMANDER)),
     }
 }
 
@@ -192,7 +210,7 @@ fn some_traitors(found: &ArgMatches) -> &'static str
 /// # Errors
 ///
 /// A value is wrong, options exclude each other, or memory runs out.
-#[tactic(auto, using(crate::proofs::MeantLemmas::no_generals, crate::proofs::MeantLemmas::no_traitors, crate::proofs::MeantLemmas::no_seeds, crate::proofs::MeantLemmas::no_manner, crate::proofs::MeantLemmas::no_patience, crate::proofs::MeantLemmas::no_shape))]
+#[tactic(auto, using(crate::proofs::MeantLemmas::no_generals, crate::proofs::MeantLemmas::no_traitors, crate::proofs::MeantLemmas::no_seeds, crate::proofs::MeantLemmas::no_commander, crate::proofs::MeantLemmas::no_manner, crate::proofs::MeantLemmas::no_patience, crate::proofs::MeantLemmas::no_shape))]
 pub(super) fn survey_of(alloc: Global, found: &ArgMatches) -> Result<Survey, AskedError>
     ensures survey { IfOk result IsSurvey }
     ensures told { IfOk result (IsSurveying (rows_of (found_of found.now))) }
@@ -204,6 +222,7 @@ pub(super) fn survey_of(alloc: Global, found: &ArgMatches) -> Result<Survey, Ask
     let some = some_traitors(found);
     let traitors = within(value(found, "traitors", some), 0, 13, TRAITORS)?;
     let (first, last) = told_seeds(value(found, "seeds", "1..1000"))?;
+    let commander = told_commander(value(found, "commander", "0"), generals.low)?;
     let manner = manner(found)?;
     let patience = patience_of(found)?;
     let shape = printed(found)?;
@@ -211,6 +230,7 @@ pub(super) fn survey_of(alloc: Global, found: &ArgMatches) -> Result<Survey, Ask
         generals,
         bound,
         traitors,
+        commander,
         manner,
         patience,
         adversary: String::from_str(alloc, value(found, "adversary", "lies"))?,

@@ -26,6 +26,7 @@ fn bars_sum(found: &ArgMatches) -> bool
             "generals",
             "bound",
             "traitors",
+            "commander",
             "rule",
             "patience",
             "signed",
