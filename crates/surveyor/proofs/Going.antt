@@ -10,7 +10,7 @@ use Rattle.surveys.specs.Family.{Family}
 use Rattle.surveys.specs.Judging.{IsFindingOf}
 use Rattle.surveys.specs.Lines.{line_text}
 use Rattle.surveyor.specs.declared.task.ReportKind.{ReportKind}
-use Rattle.surveyor.specs.declared.task.ReportKind.TheVariants.{Sums, Lines, Table, Picture, Least}
+use Rattle.surveyor.specs.declared.task.ReportKind.TheVariants.{Sums, Lines, Accounts, Table, Picture, Least}
 use Rattle.surveyor.specs.declared.task.Survey.{Survey}
 use Rattle.surveyor.specs.Kept.{File, Gains, campaign_files}
 use Rattle.surveyor.specs.Printed.{IsPlayed, IsPrinted, IsToldIn, added, broken_seeds, head_in, lines_in, summary_text}
@@ -38,6 +38,7 @@ texts_both (x ∷ xs) ys = ap (λ (l : List ℕ). line_text x ++ l) (texts_both 
 lines_both : (shape : ReportKind) (xs ys : List Finding) → lines_in shape (xs ++ ys) ≡ lines_in shape xs ++ lines_in shape ys
 lines_both Sums xs ys = refl
 lines_both Lines xs ys = texts_both xs ys
+lines_both Accounts xs ys = refl
 lines_both Table xs ys = refl
 lines_both Picture xs ys = refl
 lines_both Least xs ys = refl
@@ -45,6 +46,7 @@ lines_both Least xs ys = refl
 no_lines : (shape : ReportKind) → lines_in shape [] ≡ []
 no_lines Sums = refl
 no_lines Lines = refl
+no_lines Accounts = refl
 no_lines Table = refl
 no_lines Picture = refl
 no_lines Least = refl
@@ -52,6 +54,7 @@ no_lines Least = refl
 none_added : (shape : ReportKind) → added shape [] ≡ []
 none_added Sums = refl
 none_added Lines = refl
+none_added Accounts = refl
 none_added Table = refl
 none_added Picture = refl
 none_added Least = refl
@@ -59,6 +62,7 @@ none_added Least = refl
 added_both : (shape : ReportKind) (xs ys : List Finding) → added shape (xs ++ ys) ≡ added shape xs ++ added shape ys
 added_both Sums xs ys = refl
 added_both Lines xs ys = refl
+added_both Accounts xs ys = refl
 added_both Table xs ys = refl
 added_both Picture xs ys = refl
 added_both Least xs ys = refl
@@ -66,6 +70,7 @@ added_both Least xs ys = refl
 summed_added : (shape : ReportKind) (found : List Finding) → summary_text shape (added shape found) ≡ summary_text shape found
 summed_added Sums found = refl
 summed_added Lines found = refl
+summed_added Accounts found = refl
 summed_added Table found = refl
 summed_added Picture found = refl
 summed_added Least found = refl
@@ -111,15 +116,16 @@ goes s f start now later empty some full next to all more after w low high playe
       filed = campaigns_gained s.keep f w.found more empty some full w.filed files;
     }
 
-told_in : (shape : ReportKind) (s : Survey) (f : Family) (text : List ℕ) (files : List File) → shape ≢ Least → IsPlayed s f text files → IsToldIn shape s f text files
-told_in Sums s f text files ne h = h
-told_in Lines s f text files ne h = h
-told_in Table s f text files ne h = h
-told_in Picture s f text files ne h = h
-told_in Least s f text files ne h = absurd (ne refl)
+told_in : (shape : ReportKind) (s : Survey) (f : Family) (text : List ℕ) (files : List File) → shape ≢ Least → shape ≢ Accounts → IsPlayed s f text files → IsToldIn shape s f text files
+told_in Sums s f text files ne no h = h
+told_in Lines s f text files ne no h = h
+told_in Table s f text files ne no h = h
+told_in Picture s f text files ne no h = h
+told_in Accounts s f text files ne no h = absurd (no refl)
+told_in Least s f text files ne no h = absurd (ne refl)
 
-pub ends : (s : Survey) (f : Family) (start now last : Option (List ℕ)) (empty full : Option (List File)) (next : ℕ) (all : List Finding) → s.shape ≢ Least → IsUnderWay s f start now empty full next all → s.last + 1 ≤ next → Appends now last (summary_text s.shape all) → IsPrinted s f start last empty full
-ends s f start now last empty full next all ne w done summary =
+pub ends : (s : Survey) (f : Family) (start now last : Option (List ℕ)) (empty full : Option (List File)) (next : ℕ) (all : List Finding) → s.shape ≢ Least → s.shape ≢ Accounts → IsUnderWay s f start now empty full next all → s.last + 1 ≤ next → Appends now last (summary_text s.shape all) → IsPrinted s f start last empty full
+ends s f start now last empty full next all ne no w done summary =
     let until = w.until in
     let end : next ≡ s.last + 1 = omega arith in
     let front = head_in s.shape f ++ lines_in s.shape w.found in
@@ -129,7 +135,7 @@ ends s f start now last empty full next all ne w done summary =
     record {
       text = front ++ summary_text s.shape all;
       files = campaign_files s.keep f (broken_seeds w.found);
-      told = told_in s.shape s f (front ++ summary_text s.shape all) (campaign_files s.keep f (broken_seeds w.found)) ne (record {
+      told = told_in s.shape s f (front ++ summary_text s.shape all) (campaign_files s.keep f (broken_seeds w.found)) ne no (record {
         found = w.found;
         all = subst (λ (n : ℕ). AllZip (IsFindingOf f) (range_with_len s.first (n - s.first)) w.found) end w.so_far;
         whole = text;

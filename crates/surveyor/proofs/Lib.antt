@@ -1,6 +1,7 @@
 mod KeptLemmas
 mod Going
 mod LeastLemmas
+mod AccountLemmas
 mod SumLemmas
 mod CoverLemmas
 mod BrokenLemmas

@@ -13,7 +13,7 @@ use Rattle.surveyor.specs.declared.task.Asked.TheVariants.{Survey as Surveys, Ca
 use Rattle.surveyor.specs.declared.task.Merge.{Merge}
 use Rattle.surveyor.specs.declared.task.OneCampaign.{OneCampaign}
 use Rattle.surveyor.specs.declared.task.ReportKind.{ReportKind}
-use Rattle.surveyor.specs.declared.task.ReportKind.TheVariants.{Sums, Lines, Table, Picture, Least}
+use Rattle.surveyor.specs.declared.task.ReportKind.TheVariants.{Sums, Lines, Accounts, Table, Picture, Least}
 use Rattle.surveyor.specs.declared.task.Survey.{Survey}
 
 -- Returns the value of an option, or `without` if the option is not given.
@@ -29,10 +29,21 @@ shape_by false false true false = Some Picture
 shape_by false false false true = Some Least
 shape_by _ _ _ _ = None
 
+-- Returns what is printed without `--details`, from the rows of the words.
+abbrev pub plain_shape_in : List Row → Option ReportKind
+plain_shape_in rows = shape_by (has (codes "lines") rows) (has (codes "table") rows) (has (codes "svg") rows)
+    (has (codes "shrink") rows)
+
+-- Returns what is printed, given whether `--details` is given, and what is printed without it: only a line for each
+-- campaign can have details.
+abbrev pub detailed : Bool → Option ReportKind → Option ReportKind
+detailed false shape = shape
+detailed true (Some Lines) = Some Accounts
+detailed true _ = None
+
 -- Returns what is printed, from the rows of the words.
 abbrev pub shape_in : List Row → Option ReportKind
-shape_in rows = shape_by (has (codes "lines") rows) (has (codes "table") rows) (has (codes "svg") rows)
-    (has (codes "shrink") rows)
+shape_in rows = detailed (has (codes "details") rows) (plain_shape_in rows)
 
 -- States that this is the number of steps for which a traitor is waited for, if the option is given.
 abbrev pub IsPatience : Option Text → Option ℕ → Type 0
@@ -83,7 +94,8 @@ IsSeed word seed = (decimal_of word ≡ Some seed) × (seed < 2 ^ 64 - 1)
 -- played, or what is printed or kept.
 abbrev pub bars_campaign : List Row → Bool
 bars_campaign rows = list_any (λ name. has name rows)
-    (codes "seeds" ∷ codes "lines" ∷ codes "table" ∷ codes "svg" ∷ codes "shrink" ∷ codes "break" ∷ codes "keep" ∷ [])
+    (codes "seeds" ∷ codes "lines" ∷ codes "details" ∷ codes "table" ∷ codes "svg" ∷ codes "shrink" ∷ codes "break"
+    ∷ codes "keep" ∷ [])
 
 -- States that the words ask for this campaign: that of the seed which the value of `--campaign` is, in the family of the
 -- survey which the other words describe.
@@ -112,7 +124,7 @@ names_in rows = option_map (λ row. row.values) (row_of (codes "sum") rows)
 abbrev pub bars_sum : List Row → Bool
 bars_sum rows = list_any (λ name. has name rows)
     (codes "generals" ∷ codes "bound" ∷ codes "traitors" ∷ codes "commander" ∷ codes "rule" ∷ codes "patience"
-    ∷ codes "signed" ∷ codes "adversary" ∷ codes "lines" ∷ codes "shrink" ∷ codes "break" ∷ codes "campaign" ∷ codes "keep"
+    ∷ codes "signed" ∷ codes "adversary" ∷ codes "lines" ∷ codes "details" ∷ codes "shrink" ∷ codes "break" ∷ codes "campaign" ∷ codes "keep"
     ∷ [])
 
 -- States that these are the first and the last seed of `--seeds`, if it is given.

@@ -1,11 +1,13 @@
 -- Defines what is printed and kept of the campaigns of a survey (docs/FORMATS.md, "Surveys").
-use Rattle.std.specs.Prelude.{ℕ, ◌≡◌, ◌+◌, cond, List, [], ◌∷◌, ◌++◌, length, flat_map, decimal, codes, Option, None, Some}
+use Rattle.std.specs.Prelude.{ℕ, ◌≡◌, ◌+◌, cond, List, [], ◌∷◌, ◌++◌, length, map, flat_map, decimal, codes, Option, None, Some}
 use Rattle.std.specs.List.{AllZip}
 use Rattle.std.specs.Io.KnownBytes.{Appends}
 use Rattle.rayon.specs.Numbers.{nat_range}
 use Rattle.surveys.specs.declared.finding.Finding.{Finding}
 use Rattle.surveys.specs.Family.{Family}
 use Rattle.surveys.specs.Heads.{head_text}
+use Rattle.surveys.specs.Account.{Account}
+use Rattle.surveys.specs.Accounting.{IsAccountOf, account_text}
 use Rattle.surveys.specs.Judging.{IsFindingOf}
 use Rattle.surveys.specs.Lines.{line_text}
 use Rattle.surveys.specs.Plotting.{plot_of}
@@ -18,7 +20,7 @@ use Rattle.surveys.specs.Tables.{table_text}
 use Rattle.surveys.specs.declared.breach.Breach.{Breach}
 use Rattle.surveys.specs.Breaches.{IsLeastOf, IsShrunk, statements}
 use Rattle.surveyor.specs.declared.task.ReportKind.{ReportKind}
-use Rattle.surveyor.specs.declared.task.ReportKind.TheVariants.{Sums, Lines, Table, Picture, Least}
+use Rattle.surveyor.specs.declared.task.ReportKind.TheVariants.{Sums, Lines, Accounts, Table, Picture, Least}
 use Rattle.surveyor.specs.declared.task.OneCampaign.{OneCampaign}
 use Rattle.surveyor.specs.declared.task.Survey.{Survey}
 use Rattle.surveyor.specs.Kept.{File, Gains, breach_files, campaign_files}
@@ -30,6 +32,7 @@ summary_text Sums found = sums_text (sums_of found)
 summary_text Table found = table_text (groups_of found)
 summary_text Picture found = picture_text (groups_of found)
 summary_text Lines found = []
+summary_text Accounts found = []
 summary_text Least found = []
 
 -- Returns the lines of campaigns, if lines are asked for.
@@ -59,6 +62,14 @@ pub record IsPlayed (s : Survey) (f : Family) (text : List ℕ) (files : List Fi
   pub all : AllZip (IsFindingOf f) (nat_range s.first (s.last + 1)) found
   pub whole : text ≡ head_in s.shape f ++ (lines_in s.shape found ++ summary_text s.shape found)
   pub kept : files ≡ campaign_files s.keep f (broken_seeds found)
+
+-- States that the text has the head and a line for the account of the campaign of each of the survey's seeds, and that the
+-- files are those of the broken ones.
+pub record IsAccounted (s : Survey) (f : Family) (text : List ℕ) (files : List File) : Type 0 where
+  pub all : List Account
+  pub each : AllZip (IsAccountOf f) (nat_range s.first (s.last + 1)) all
+  pub whole : text ≡ head_text f ++ flat_map account_text all
+  pub kept : files ≡ campaign_files s.keep f (broken_seeds (map (λ (a : Account). a.finding) all))
 
 -- Returns the comment line before a reduced campaign: its seed, its number of traitors and its number of statements.
 abbrev pub least_head : ℕ → ℕ → ℕ → List ℕ
@@ -92,6 +103,7 @@ pub record IsLeastKept (s : Survey) (f : Family) (before after : Option (List Fi
 -- States that the text and the files are those that this form of a survey asks for.
 abbrev pub IsToldIn : ReportKind → Survey → Family → List ℕ → List File → Type 0
 IsToldIn Least s f text files = IsShrunken s f text files
+IsToldIn Accounts s f text files = IsAccounted s f text files
 IsToldIn _ s f text files = IsPlayed s f text files
 
 -- States that what the survey asks for was printed and kept, for the campaigns of a family.

@@ -72,6 +72,11 @@ const SHAPES: &[Flag<'static>] = &[
         help: "Prints a JSON object for each campaign, in place of the sums",
     },
     Flag {
+        name: "details",
+        value: None,
+        help: "With --lines: the objects also have the traitors, the order and the decisions",
+    },
+    Flag {
         name: "table",
         value: None,
         help: "Prints the sums for each number of generals, each bound and each number of traitors",

@@ -2,6 +2,7 @@
 //! counts their outcomes.
 #![tactic(auto)]
 
+mod accounts;
 mod breaches;
 mod ending;
 mod family;

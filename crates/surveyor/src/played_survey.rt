@@ -8,6 +8,7 @@ ghost use Rattle.surveyor.specs.Faults.{IsKeptIn, IsUnkeptIn, IsUnprinted};
 ghost use Rattle.surveyor.specs.Kept.{Gains, campaign_file, campaign_files};
 ghost use Rattle.surveyor.specs.Printed.{IsPrinted, IsSurveyed, added, broken_seeds, head_in, lines_in};
 
+use crate::accounts::accounted;
 use crate::family::family_of;
 use crate::fault::SurveyFailure;
 use crate::keeper::Keeper;
@@ -27,7 +28,7 @@ use surveys::{Family, Finding, campaign_text, head, is_sound, lines_text, survey
 /// # Errors
 ///
 /// The family's file or a campaign is rejected, the output or a kept file cannot be written, or memory runs out.
-#[tactic(auto, using(crate::proofs::FaultLemmas::untaken, crate::proofs::FaultLemmas::unopened, crate::proofs::FaultLemmas::unended_least, crate::proofs::FaultLemmas::unended_drawn))]
+#[tactic(auto, using(crate::proofs::FaultLemmas::untaken, crate::proofs::FaultLemmas::unopened, crate::proofs::FaultLemmas::unended_least, crate::proofs::FaultLemmas::unended_accounts, crate::proofs::FaultLemmas::unended_drawn))]
 pub fn surveyed<T: Threads + Sync, O: Output, K: Keeper>(
     rt: &HostRuntime,
     threads: &T,
@@ -46,6 +47,9 @@ pub fn surveyed<T: Threads + Sync, O: Output, K: Keeper>(
     }
     if asked.shape == ReportKind::Least {
         return shrunken(rt, threads, out, keeper, asked, &family);
+    }
+    if asked.shape == ReportKind::Accounts {
+        return accounted(rt, threads, out, keeper, asked, &family);
     }
     played(rt, threads, out, keeper, asked, &family)
 }
@@ -66,6 +70,7 @@ fn played<T: Threads + Sync, O: Output, K: Keeper>(
 ) -> Result<(), SurveyFailure>
     requires asked { IsSurvey asked.now }
     requires shape { asked.now.shape ≢ ReportKind.Least }
+    requires counted { asked.now.shape ≢ ReportKind.Accounts }
     ensures printed { OnOk result
         (IsPrinted asked.now family.now (O.contents out.old) (O.contents out.new) (K.files keeper.old)
         (K.files keeper.new)) }
@@ -102,7 +107,7 @@ fn played<T: Threads + Sync, O: Output, K: Keeper>(
 /// # Errors
 ///
 /// `AllocError` if memory runs out.
-fn broken_seeds(alloc: Global, found: &[Finding]) -> Result<Vec<u64>, AllocError>
+pub(crate) fn broken_seeds(alloc: Global, found: &[Finding]) -> Result<Vec<u64>, AllocError>
     ensures { IfOk result (λ seeds. seeds.items ≡ broken_seeds found.now) }
 {
     let mut seeds = Vec::new(alloc);
@@ -135,7 +140,7 @@ fn add(shape: ReportKind, all: &mut Vec<Finding>, found: &[Finding]) -> Result<(
 /// # Errors
 ///
 /// The output cannot be written, or memory runs out.
-fn put_head<O: Output>(
+pub(crate) fn put_head<O: Output>(
     rt: &HostRuntime,
     out: &mut O,
     shape: ReportKind,
@@ -176,7 +181,7 @@ fn put_lines<O: Output>(
 ///
 /// A file cannot be written, or memory runs out.
 #[tactic(auto, using(crate::proofs::FaultLemmas::kept_where, crate::proofs::KeptLemmas::none_gained))]
-fn keep_all<K: Keeper>(
+pub(crate) fn keep_all<K: Keeper>(
     rt: &HostRuntime,
     keeper: &mut K,
     asked: &Survey,

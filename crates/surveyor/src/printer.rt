@@ -40,7 +40,7 @@ pub fn unprinted(kind: ErrorKind) -> SurveyFailure
     }
 }
 
-/// Returns the summary of campaigns in this form. It is empty for `Lines` and `Least`, which print no summary.
+/// Returns the summary of campaigns in this form. It is empty for `Lines`, `Accounts` and `Least`, which print no summary.
 ///
 /// # Errors
 ///
@@ -52,11 +52,12 @@ fn summary(alloc: Global, shape: ReportKind, findings: &[Finding]) -> Result<Str
         ReportKind::Sums => sums_text(alloc, findings),
         ReportKind::Table => table(alloc, findings),
         ReportKind::Picture => picture(alloc, findings),
-        ReportKind::Lines | ReportKind::Least => Ok(String::new(alloc)),
+        ReportKind::Lines | ReportKind::Accounts | ReportKind::Least => Ok(String::new(alloc)),
     }
 }
 
-/// Prints the summary of campaigns in this form. Nothing is printed for `Lines` and `Least`.
+/// Prints the summary of campaigns in this form. Nothing is printed for `Lines`,
+/// `Accounts` and `Least`.
 ///
 /// # Errors
 ///

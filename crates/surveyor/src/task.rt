@@ -36,6 +36,8 @@ pub enum ReportKind {
     Sums,
     /// A line for each campaign.
     Lines,
+    /// A line for each campaign, which also has the traitors, the order and the decisions.
+    Accounts,
     /// A table of the sums for each number of generals, bound and number of traitors.
     Table,
     /// An SVG picture of the share of broken campaigns, for each number of generals, bound and number of traitors.

@@ -3,6 +3,7 @@ pub mod Rereading
 pub mod Ranges
 pub mod Choosing
 pub mod Gathered
+pub mod Accounts
 pub mod LineLemmas
 pub mod Keeping
 pub mod Words

@@ -5,6 +5,8 @@ use Rattle.std.specs.Prelude.{decimal}
 use Rattle.surveys.specs.declared.span.CountRange.{CountRange}
 use Rattle.surveys.specs.Family.{Family}
 use Rattle.surveys.specs.Heads.{adversary_word, commander_text, head_end, head_front, head_middle, head_text, manner_word, patience_word}
+use Rattle.surveys.specs.Account.{Account}
+use Rattle.surveys.specs.Accounting.{account_back, account_front, account_middle, account_text}
 use Rattle.surveys.specs.Lines.{back_text, front_text, line_text}
 
 -- a name, and what stands behind it
@@ -26,6 +28,10 @@ five_pieces s t u v w x a b c d k e f g h i = four_pieces s u v w x (a ++ b) c d
 -- a line's halves
 pub joined_halves : (old : List ℕ) (f : Finding) → (old ++ front_text f) ++ back_text f ≡ old ++ line_text f
 joined_halves old f = simp append_assoc
+
+-- an account's parts
+pub joined_account : (old : List ℕ) (a : Account) → ((old ++ account_front a) ++ account_middle a) ++ account_back a ≡ old ++ account_text a
+joined_account old a = simp append_assoc
 
 -- a head's parts
 flat : (p w f1 x1 f2 x2 k f3 x3 f4 x4 m1 y1 m2 y2 e1 z1 e2 z2 e3 : List ℕ)

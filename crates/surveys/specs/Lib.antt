@@ -4,6 +4,8 @@ pub mod Plot
 pub mod Plotting
 pub mod Wording
 pub mod Judging
+pub mod Account
+pub mod Accounting
 pub mod Sums
 pub mod Lines
 pub mod Heads

@@ -2,6 +2,9 @@
 //! to the least that is still broken, and tabulates and draws the counts. The definitions are in specs/.
 #![tactic(auto)]
 
+mod account;
+mod account_lines;
+mod accounting;
 mod adversary;
 mod breach;
 mod breach_rows;
@@ -14,6 +17,7 @@ mod copies;
 mod counts;
 mod coverage;
 mod draw;
+mod ending;
 mod family;
 mod finding;
 mod group;
@@ -32,6 +36,7 @@ mod parts;
 mod plot;
 mod reductions;
 mod scenario_text;
+mod seed_accounts;
 mod seed_findings;
 mod seeded_plots;
 mod span;
@@ -41,6 +46,9 @@ mod sums;
 mod sums_picture;
 mod sums_table;
 
+pub use account::Account;
+pub use account_lines::accounts_text;
+pub use accounting::{account_of, accounted};
 pub use adversary::Adversary;
 pub use breach::{Breach, Breaking};
 pub use breach_rows::breaking_text;
@@ -64,6 +72,7 @@ pub use part_reader::read_part;
 pub use parts::{PartError, Parts};
 pub use plot::{Plot, Traitor};
 pub use scenario_text::{campaign_text, plot_text};
+pub use seed_accounts::accounts;
 pub use seed_findings::survey;
 pub use seeded_plots::plot_of;
 pub use span::CountRange;

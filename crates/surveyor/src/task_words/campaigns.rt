@@ -25,7 +25,7 @@ fn bars_campaign(found: &ArgMatches) -> bool
     has_any(
         found,
         &[
-            "seeds", "lines", "table", "svg", "shrink", "break", "keep",
+            "seeds", "lines", "details", "table", "svg", "shrink", "break", "keep",
         ],
     )
 }

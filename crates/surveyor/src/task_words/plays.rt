@@ -1,12 +1,12 @@
 //! The request to play campaigns, made from the words that `clap` has parsed: generals, bound, traitors, seeds,
 //! commander, manner and what is printed.
-ghost use Rattle.std.specs.Prelude.{◌≡◌, ◌≤◌, IfErr, IfOk, MatchResult, codes, option_map, string_bytes};
+ghost use Rattle.std.specs.Prelude.{◌≡◌, ◌≤◌, ◌⊎◌, IfErr, IfOk, codes, option_map, string_bytes};
 ghost use Rattle.clap.specs.Words.{found_of, rows_of};
 ghost use Rattle.surveyor.specs.Asked.{IsSurvey};
 ghost use Rattle.surveyor.specs.Flags.{given, has};
-ghost use Rattle.surveyor.specs.Meant.{AreSeeds, IsCommander, IsPatience, IsSurveying, IsWithin, shape_by, shape_in, some_traitors};
+ghost use Rattle.surveyor.specs.Meant.{AreSeeds, IsCommander, IsPatience, IsSurveying, IsWithin, detailed, plain_shape_in, shape_by, shape_in, some_traitors};
 ghost use Rattle.surveyor.specs.Words.{manner_named, plain_manner};
-ghost use Rattle.surveyor.specs.Wrong.{AreNoSeeds, IsNoCommander, IsNoManner, IsNoPatience, IsOutside, IsRefused, IsSaid};
+ghost use Rattle.surveyor.specs.Wrong.{AreNoSeeds, IsNoCommander, IsNoManner, IsNoPatience, IsOutside, IsRefused, IsSaid, IsUndetailed};
 ghost use Rattle.surveyor.specs.declared.task.Survey.{Survey};
 
 use crate::numbers::{patience, seeds, small, span};
@@ -31,6 +31,8 @@ const SEEDS: &str =
 const PATIENCE: &str = "--patience takes 1 to 4096";
 
 const SIGNED: &str = "signed messages have no rule";
+
+const DETAILS: &str = "--details can be used only with --lines";
 
 const SHAPE: &str = "only one of --lines, --table, --svg, --shrink and --break can be used";
 
@@ -143,15 +145,35 @@ fn shape_by(lines: bool, table: bool, svg: bool, shrink: bool) -> Option<ReportK
     }
 }
 
+/// Returns what is printed, given what is printed without `--details`. Returns `None` if `--details` is given and that is
+/// not a line for each campaign.
+fn detailed(details: bool, shape: ReportKind) -> Option<ReportKind>
+    ensures { result ≡ detailed details (Some shape) }
+{
+    if !details {
+        return Some(shape);
+    }
+    match shape {
+        ReportKind::Lines => Some(ReportKind::Accounts),
+        ReportKind::Sums
+        | ReportKind::Accounts
+        | ReportKind::Table
+        | ReportKind::Picture
+        | ReportKind::Least => None,
+    }
+}
+
 /// Returns what is printed about campaigns, from the words of the command line.
 ///
 /// # Errors
 ///
-/// More than one form is asked for.
+/// More than one form is asked for, or details of another form than lines.
 pub(super) fn printed(found: &ArgMatches) -> Result<ReportKind, AskedError>
-    ensures { let shape = shape_in (rows_of (found_of found.now)) in
-        MatchResult result (λ s. shape ≡ Some s)
-        (IsSaid (codes "only one of --lines, --table, --svg, --shrink and --break can be used") (shape ≡ None)) }
+    ensures told { IfOk result (λ s. shape_in (rows_of (found_of found.now)) ≡ Some s) }
+    ensures refused { let rows = rows_of (found_of found.now) in IfErr result (λ e.
+        IsSaid (codes "only one of --lines, --table, --svg, --shrink and --break can be used")
+        (plain_shape_in rows ≡ None) e
+        ⊎ IsSaid (codes "--details can be used only with --lines") (IsUndetailed rows) e) }
 {
     let shape = shape_by(
         has(found, "lines"),
@@ -159,9 +181,12 @@ pub(super) fn printed(found: &ArgMatches) -> Result<ReportKind, AskedError>
         has(found, "svg"),
         has(found, "shrink"),
     );
-    match shape {
+    let Some(shape) = shape else {
+        return Err(AskedError::Value(SHAPE));
+    };
+    match detailed(has(found, "details"), shape) {
         Some(shape) => Ok(shape),
-        None => Err(AskedError::Value(SHAPE)),
+        None => Err(AskedError::Value(DETAILS)),
     }
 }
 

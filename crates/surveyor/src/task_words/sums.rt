@@ -32,6 +32,7 @@ fn bars_sum(found: &ArgMatches) -> bool
             "signed",
             "adversary",
             "lines",
+            "details",
             "shrink",
             "break",
             "campaign",

@@ -35,6 +35,6 @@ returns-clause-printed g c =
     let done : s.last + 1 ≤ c.loop-next.next = omega arith in
     on_ok_weaker c.put_summary.result
     (λ (told : Appends now last (summary_text s.shape c.as_slice-told.result.now)).
-    ends s c.args.family.now (g.O.Output.contents c.args.out.now) now last (g.K.Keeper.files c.args.keeper.now) (g.K.Keeper.files c.loop-next.keeper) c.loop-next.next c.loop-next.all.items c.requires.shape c.loop-next.invariant done
+    ends s c.args.family.now (g.O.Output.contents c.args.out.now) now last (g.K.Keeper.files c.args.keeper.now) (g.K.Keeper.files c.loop-next.keeper) c.loop-next.next c.loop-next.all.items c.requires.shape c.requires.counted c.loop-next.invariant done
     (subst (λ (l : List Finding). Appends now last (summary_text s.shape l)) c.as_slice-told.ensures.value told))
     c.put_summary.ensures.written
