@@ -13,7 +13,7 @@ use Rattle.surveyor.specs.declared.task.ReportKind.{ReportKind}
 use Rattle.surveyor.specs.declared.task.ReportKind.TheVariants.{Sums, Lines, Accounts, Table, Picture, Least}
 use Rattle.surveyor.specs.declared.task.Survey.{Survey}
 use Rattle.surveyor.specs.Kept.{File, Gains, campaign_files}
-use Rattle.surveyor.specs.Printed.{IsPlayed, IsPrinted, IsToldIn, added, broken_seeds, head_in, lines_in, summary_text}
+use Rattle.surveyor.specs.Printed.{IsPlayed, IsPrinted, IsToldIn, added, head_in, kept_seeds, lines_in, summary_text}
 use Rattle.surveyor.proofs.KeptLemmas.{campaigns_gained, no_campaigns, none_gained}
 
 -- numbers up to a middle, and from there on
@@ -83,7 +83,7 @@ pub record IsUnderWay (s : Survey) (f : Family) (start now : Option (List ℕ)) 
   pub so_far : AllZip (IsFindingOf f) (range_with_len s.first (next - s.first)) found
   pub kept : all ≡ added s.shape found
   pub written : Appends start now (head_in s.shape f ++ lines_in s.shape found)
-  pub filed : Gains empty full (campaign_files s.keep f (broken_seeds found))
+  pub filed : Gains empty full (campaign_files s.keep f (kept_seeds s.keeps_all found))
 
 pub begins : (s : Survey) (f : Family) (start now : Option (List ℕ)) (empty : Option (List File)) (next : ℕ) (all : List Finding) → next ≡ s.first → s.first ≤ s.last → all ≡ [] → Appends start now (head_in s.shape f) → IsUnderWay s f start now empty empty next all
 begins s f start now empty next all is some none head =
@@ -96,11 +96,11 @@ begins s f start now empty next all is some none head =
       so_far = subst (λ (n : ℕ). AllZip (IsFindingOf f) (range_with_len s.first n) []) (sym zero_long) tt;
       kept = none ∙ sym (none_added s.shape);
       written = subst (λ (l : List ℕ). Appends start now l) text head;
-      filed = subst (λ (l : List File). Gains empty empty l) (sym (no_campaigns s.keep f)) (none_gained empty);
+      filed = subst (λ (l : List File). Gains empty empty l) (sym (no_campaigns s.keep s.keeps_all f)) (none_gained empty);
     }
 
 pub goes : (s : Survey) (f : Family) (start now later : Option (List ℕ)) (empty some full : Option (List File)) (next to : ℕ) (all more after : List Finding) → IsUnderWay s f start now empty some next all → next ≤ to → to ≤ s.last + 1
-    → AllZip (IsFindingOf f) (range_with_len next (to - next)) more → Appends now later (lines_in s.shape more) → after ≡ all ++ added s.shape more → Gains some full (campaign_files s.keep f (broken_seeds more)) → IsUnderWay s f start later empty full to after
+    → AllZip (IsFindingOf f) (range_with_len next (to - next)) more → Appends now later (lines_in s.shape more) → after ≡ all ++ added s.shape more → Gains some full (campaign_files s.keep f (kept_seeds s.keeps_all more)) → IsUnderWay s f start later empty full to after
 goes s f start now later empty some full next to all more after w low high played lines is files =
     let from = w.from in
     let front = head_in s.shape f ++ lines_in s.shape w.found in
@@ -113,7 +113,7 @@ goes s f start now later empty some full next to all more after w low high playe
       so_far = zip_both (IsFindingOf f) s.first next to w.found more from low w.so_far played;
       kept = is ∙ (ap (λ (l : List Finding). l ++ added s.shape more) w.kept ∙ sym (added_both s.shape w.found more));
       written = subst (λ (l : List ℕ). Appends start later l) text (Appends-trans start now later front (lines_in s.shape more) w.written lines);
-      filed = campaigns_gained s.keep f w.found more empty some full w.filed files;
+      filed = campaigns_gained s.keep s.keeps_all f w.found more empty some full w.filed files;
     }
 
 told_in : (shape : ReportKind) (s : Survey) (f : Family) (text : List ℕ) (files : List File) → shape ≢ Least → shape ≢ Accounts → IsPlayed s f text files → IsToldIn shape s f text files
@@ -134,8 +134,8 @@ ends s f start now last empty full next all ne no w done summary =
     ap (λ (l : List ℕ). front ++ l) same ∙ append_assoc (head_in s.shape f) (lines_in s.shape w.found) (summary_text s.shape w.found) in
     record {
       text = front ++ summary_text s.shape all;
-      files = campaign_files s.keep f (broken_seeds w.found);
-      told = told_in s.shape s f (front ++ summary_text s.shape all) (campaign_files s.keep f (broken_seeds w.found)) ne no (record {
+      files = campaign_files s.keep f (kept_seeds s.keeps_all w.found);
+      told = told_in s.shape s f (front ++ summary_text s.shape all) (campaign_files s.keep f (kept_seeds s.keeps_all w.found)) ne no (record {
         found = w.found;
         all = subst (λ (n : ℕ). AllZip (IsFindingOf f) (range_with_len s.first (n - s.first)) w.found) end w.so_far;
         whole = text;

@@ -10,11 +10,11 @@ use Rattle.combine.specs.declared.campaign_rule.Rule.{Rule as CombineRule}
 use Rattle.surveys.specs.declared.manner.Manner.TheVariants.{Oral}
 use Rattle.surveys.specs.declared.span.CountRange.{CountRange}
 use Rattle.surveyor.specs.Flags.{given, has, survey_app}
-use Rattle.surveyor.specs.Meant.{AreSaid, AreSeeds, Asks, IsBreaking, IsCommander, IsMerging, IsPatience, IsShowing, IsSurveying, IsWithin, bars_campaign, bars_sum, break_shape, detailed, names_in, plain_shape_in, shape_in, some_traitors, value}
+use Rattle.surveyor.specs.Meant.{AreSaid, AreSeeds, Asks, IsBreaking, IsCommander, IsMerging, IsPatience, IsShowing, IsSurveying, IsWithin, bars_campaign, bars_keeping, bars_sum, break_shape, detailed, folder_in, names_in, plain_shape_in, shape_in, some_traitors, value}
 use Rattle.surveyor.specs.Numbers.{IsNoSpan, IsTold}
 use Rattle.surveyor.specs.Words.{manner_named}
 use Rattle.surveyor.specs.Wrong.{AreNoSeeds, AreTwice, AsksNothing, IsByClap, IsNoBreak, IsNoCommander, IsNoManner, IsNoPatience, IsNoRule, IsNoSeed, IsOutside, IsRefused, IsSaid, IsUndetailed, IsUnmet, IsWrong}
-use Rattle.surveyor.specs.Wrong.IsWrong.{generals, bound, traitors, seeds, commander, patience, signed, shape, details, broken, keep, single, campaign, sum, twice}
+use Rattle.surveyor.specs.Wrong.IsWrong.{generals, bound, traitors, seeds, commander, patience, signed, shape, details, broken, keep, every, single, campaign, sum, twice}
 use Rattle.surveyor.specs.declared.task.Asked.{Asked}
 use Rattle.surveyor.specs.declared.task.Asked.TheVariants.{Survey as Surveys, Campaign, Break, Merge as Merges}
 use Rattle.surveyor.specs.declared.task.AskedError.{AskedError}
@@ -146,6 +146,9 @@ no_form rows P e bars (inr h) = said_so rows details_text (IsUndetailed rows) P 
 pub no_shape : (rows : List Row) (e : AskedError) → IsSaid shape_text (plain_shape_in rows ≡ None) e ⊎ IsSaid details_text (IsUndetailed rows) e → IsRefused rows (NoSurvey rows) e
 no_shape rows e h = no_form rows (NoSurvey rows) e (λ none s told. (let is = sym none ∙ told.shape in cc)) h
 
+pub no_keeping : (rows : List Row) (e : AskedError) → IsSaid (codes "--keep-all cannot be used with --keep or --shrink") (bars_keeping rows ≡ true) e → IsRefused rows (NoSurvey rows) e
+no_keeping rows e h = said_so rows (codes "--keep-all cannot be used with --keep or --shrink") (bars_keeping rows ≡ true) (NoSurvey rows) e (λ why same bars. every same bars) (λ bars s told. (let both = sym bars ∙ told.every.single in cc)) h
+
 -- ---- nothing that breaks agreement
 
 abbrev pub NoBreak : List Row → Type 0
@@ -174,8 +177,8 @@ pub no_break_shape : (rows : List Row) (own : Survey) (e : AskedError) → has (
 no_break_shape rows own e has_it is (inl h) = said_so rows (codes "--break can be used with --table, but not with --lines, --svg or --shrink") (IsNoBreak own.shape) (NoBreak rows) e
     (λ why same bars. broken same has_it own.shape is.shape bars) (other_shape rows own is) h
 no_break_shape rows own e has_it is (inr h) = said_so rows (codes "--break cannot be used with --keep: redirect its output to a file") (is_some own.keep ≡ true) (NoBreak rows) e
-    (λ why same kept. keep same has_it (has_kept own.keep (given (codes "keep") rows) is.keep kept))
-    (λ kept s is_table told. is_kept own.keep s.keep (given (codes "keep") rows) is.keep told.survey.keep kept told.keep) h
+    (λ why same kept. keep same has_it (has_kept own.keep (folder_in rows) is.keep kept))
+    (λ kept s is_table told. is_kept own.keep s.keep (folder_in rows) is.keep told.survey.keep kept told.keep) h
 
 -- ---- no campaign of one seed
 

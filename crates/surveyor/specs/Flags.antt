@@ -45,7 +45,8 @@ rules = option (codes "generals") ∷ option (codes "bound") ∷ option (codes "
     ∷ option (codes "rule") ∷ option (codes "patience") ∷ switch (codes "signed") ∷ option (codes "adversary")
     ∷ switch (codes "lines") ∷ switch (codes "details") ∷ switch (codes "table") ∷ switch (codes "svg")
     ∷ switch (codes "shrink")
-    ∷ switch (codes "break") ∷ option (codes "campaign") ∷ option (codes "keep") ∷ files (codes "sum") ∷ []
+    ∷ switch (codes "break") ∷ option (codes "campaign") ∷ option (codes "keep") ∷ option (codes "keep-all")
+    ∷ files (codes "sum") ∷ []
 
 -- The command with all its options and switches.
 abbrev pub survey_app : App

@@ -1,5 +1,5 @@
 -- Defines what words ask for, in terms of the rows that `clap` has found, one for each name (docs/SURVEYS.md).
-use Rattle.std.specs.Prelude.{ℕ, ◌≡◌, ◌≤◌, ◌<◌, ◌-◌, ◌^◌, Bool, true, false, List, [], ◌∷◌, Option, None, Some, codes, count_by, if◌then◌else◌, map, option_map, string_bytes, unwrap_or}
+use Rattle.std.specs.Prelude.{ℕ, ◌≡◌, ◌≤◌, ◌<◌, ◌-◌, ◌^◌, ◌&&◌, ◌||◌, Bool, true, false, List, [], ◌∷◌, Option, None, Some, codes, count_by, if◌then◌else◌, map, option_map, string_bytes, unwrap_or}
 use Rattle.std.specs.List.{list_any}
 use Rattle.std.specs.Str.{bytes_eq}
 use Rattle.clap.specs.Words.{Row, Text}
@@ -73,6 +73,24 @@ IsCommander generals word c = (decimal_of word ≡ Some c) × (c < generals)
 abbrev pub some_traitors : List Row → Text
 some_traitors rows = if has (codes "break") rows then codes "1..13" else codes "1"
 
+-- Returns the first of two values, or the second if there is no first.
+abbrev pub first_of : Option Text → Option Text → Option Text
+first_of None second = second
+first_of (Some word) second = Some word
+
+-- Returns the folder to which campaigns are written, if one is named.
+abbrev pub folder_in : List Row → Option Text
+folder_in rows = first_of (given (codes "keep") rows) (given (codes "keep-all") rows)
+
+-- Returns whether `--keep-all` is given together with `--keep` or `--shrink`.
+abbrev pub bars_keeping : List Row → Bool
+bars_keeping rows = has (codes "keep-all") rows && (has (codes "keep") rows || has (codes "shrink") rows)
+
+-- States that the words say whether all campaigns are kept.
+pub record AreAllKept (rows : List Row) (all : Bool) : Type 0 where
+  pub said : all ≡ has (codes "keep-all") rows
+  pub single : bars_keeping rows ≡ false
+
 -- States that this is the survey that the words ask for. Each value is that of its option, or the default.
 pub record IsSurveying (rows : List Row) (s : Survey) : Type 0 where
   pub generals : IsWithin 2 13 (value (codes "generals") (codes "4") rows) s.generals
@@ -84,7 +102,8 @@ pub record IsSurveying (rows : List Row) (s : Survey) : Type 0 where
   pub adversary : string_bytes s.adversary ≡ value (codes "adversary") (codes "lies") rows
   pub seeds : AreSeeds (value (codes "seeds") (codes "1..1000") rows) (s.first, s.last)
   pub shape : shape_in rows ≡ Some s.shape
-  pub keep : option_map string_bytes s.keep ≡ given (codes "keep") rows
+  pub keep : option_map string_bytes s.keep ≡ folder_in rows
+  pub every : AreAllKept rows s.keeps_all
 
 -- States that the word is this seed.
 abbrev pub IsSeed : Text → ℕ → Type 0
@@ -95,7 +114,7 @@ IsSeed word seed = (decimal_of word ≡ Some seed) × (seed < 2 ^ 64 - 1)
 abbrev pub bars_campaign : List Row → Bool
 bars_campaign rows = list_any (λ name. has name rows)
     (codes "seeds" ∷ codes "lines" ∷ codes "details" ∷ codes "table" ∷ codes "svg" ∷ codes "shrink" ∷ codes "break"
-    ∷ codes "keep" ∷ [])
+    ∷ codes "keep" ∷ codes "keep-all" ∷ [])
 
 -- States that the words ask for this campaign: that of the seed which the value of `--campaign` is, in the family of the
 -- survey which the other words describe.
@@ -125,7 +144,7 @@ abbrev pub bars_sum : List Row → Bool
 bars_sum rows = list_any (λ name. has name rows)
     (codes "generals" ∷ codes "bound" ∷ codes "traitors" ∷ codes "commander" ∷ codes "rule" ∷ codes "patience"
     ∷ codes "signed" ∷ codes "adversary" ∷ codes "lines" ∷ codes "details" ∷ codes "shrink" ∷ codes "break" ∷ codes "campaign" ∷ codes "keep"
-    ∷ [])
+    ∷ codes "keep-all" ∷ [])
 
 -- States that these are the first and the last seed of `--seeds`, if it is given.
 abbrev pub AreSaid : Option Text → Option (ℕ × ℕ) → Type 0

@@ -1,5 +1,5 @@
 -- Defines what is printed and kept of the campaigns of a survey (docs/FORMATS.md, "Surveys").
-use Rattle.std.specs.Prelude.{ℕ, ◌≡◌, ◌+◌, cond, List, [], ◌∷◌, ◌++◌, length, map, flat_map, decimal, codes, Option, None, Some}
+use Rattle.std.specs.Prelude.{ℕ, ◌≡◌, ◌+◌, Bool, true, false, cond, List, [], ◌∷◌, ◌++◌, length, map, flat_map, decimal, codes, Option, None, Some}
 use Rattle.std.specs.List.{AllZip}
 use Rattle.std.specs.Io.KnownBytes.{Appends}
 use Rattle.rayon.specs.Numbers.{nat_range}
@@ -14,6 +14,7 @@ use Rattle.surveys.specs.Plotting.{plot_of}
 use Rattle.surveys.specs.Sums.{is_sound, sums_of}
 use Rattle.surveys.specs.Wording.{campaign_text, plot_text}
 use Rattle.surveys.specs.Counts.{sums_text}
+use Rattle.surveys.specs.Covering.{seeds_in}
 use Rattle.surveys.specs.Groups.{groups_of}
 use Rattle.surveys.specs.Pictures.{picture_text}
 use Rattle.surveys.specs.Tables.{table_text}
@@ -50,26 +51,31 @@ abbrev pub head_in : ReportKind → Family → List ℕ
 head_in Lines f = head_text f
 head_in _ f = []
 
--- Returns the seeds of the broken campaigns, which are kept: those in which agreement is broken or a loyal commander is
--- disobeyed.
+-- Returns the seeds of the broken campaigns: those in which agreement is broken or a loyal commander is disobeyed.
 abbrev pub broken_seeds : List Finding → List ℕ
 broken_seeds [] = []
 broken_seeds (f ∷ found) = cond (is_sound f.verdict) (broken_seeds found) (f.seed ∷ broken_seeds found)
 
--- States that the text describes the campaigns of the survey's seeds, and that the files are those of the broken ones.
+-- Returns the seeds of the campaigns that are kept: of all, or of the broken ones.
+abbrev pub kept_seeds : Bool → List Finding → List ℕ
+kept_seeds true found = seeds_in found
+kept_seeds false found = broken_seeds found
+
+-- States that the text describes the campaigns of the survey's seeds, and that the files are those of the broken ones or,
+-- if all are kept, of all.
 pub record IsPlayed (s : Survey) (f : Family) (text : List ℕ) (files : List File) : Type 0 where
   pub found : List Finding
   pub all : AllZip (IsFindingOf f) (nat_range s.first (s.last + 1)) found
   pub whole : text ≡ head_in s.shape f ++ (lines_in s.shape found ++ summary_text s.shape found)
-  pub kept : files ≡ campaign_files s.keep f (broken_seeds found)
+  pub kept : files ≡ campaign_files s.keep f (kept_seeds s.keeps_all found)
 
 -- States that the text has the head and a line for the account of the campaign of each of the survey's seeds, and that the
--- files are those of the broken ones.
+-- files are those of the broken ones or, if all are kept, of all.
 pub record IsAccounted (s : Survey) (f : Family) (text : List ℕ) (files : List File) : Type 0 where
   pub all : List Account
   pub each : AllZip (IsAccountOf f) (nat_range s.first (s.last + 1)) all
   pub whole : text ≡ head_text f ++ flat_map account_text all
-  pub kept : files ≡ campaign_files s.keep f (broken_seeds (map (λ (a : Account). a.finding) all))
+  pub kept : files ≡ campaign_files s.keep f (kept_seeds s.keeps_all (map (λ (a : Account). a.finding) all))
 
 -- Returns the comment line before a reduced campaign: its seed, its number of traitors and its number of statements.
 abbrev pub least_head : ℕ → ℕ → ℕ → List ℕ

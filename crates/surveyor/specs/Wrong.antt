@@ -7,7 +7,7 @@ use Rattle.clap.specs.declared.error.kind.ErrorKind.TheVariants.{OutOfMemory}
 use Rattle.combine.specs.Names.{rule_named}
 use Rattle.surveys.specs.declared.span.CountRange.{CountRange}
 use Rattle.surveyor.specs.Flags.{given, has, survey_app}
-use Rattle.surveyor.specs.Meant.{AreSeeds, Asks, IsCommander, IsPatience, IsSeed, IsWithin, bars_campaign, bars_sum, break_shape, detailed, plain_shape_in, names_in, shape_in, some_traitors, value}
+use Rattle.surveyor.specs.Meant.{AreSeeds, Asks, IsCommander, IsPatience, IsSeed, IsWithin, bars_campaign, bars_keeping, bars_sum, break_shape, detailed, folder_in, plain_shape_in, names_in, shape_in, some_traitors, value}
 use Rattle.surveyor.specs.declared.task.Asked.{Asked}
 use Rattle.surveyor.specs.declared.task.AskedError.{AskedError}
 use Rattle.surveyor.specs.declared.task.AskedError.TheVariants.{Words, Value, Rule, Memory}
@@ -68,7 +68,8 @@ pub data IsWrong (rows : List Row) (why : Text) : Type 0 where
   broken : why ≡ codes "--break can be used with --table, but not with --lines, --svg or --shrink" →
       has (codes "break") rows ≡ true → (shape : ReportKind) → shape_in rows ≡ Some shape → IsNoBreak shape → IsWrong rows why
   keep : why ≡ codes "--break cannot be used with --keep: redirect its output to a file" →
-      has (codes "break") rows ≡ true → has (codes "keep") rows ≡ true → IsWrong rows why
+      has (codes "break") rows ≡ true → is_some (folder_in rows) ≡ true → IsWrong rows why
+  every : why ≡ codes "--keep-all cannot be used with --keep or --shrink" → bars_keeping rows ≡ true → IsWrong rows why
   single : why ≡ codes "--campaign prints one campaign: it can be used only with options of the family" →
       has (codes "campaign") rows ≡ true → bars_campaign rows ≡ true → IsWrong rows why
   campaign : why ≡ codes "--campaign takes a seed below 18446744073709551615" →

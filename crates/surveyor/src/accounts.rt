@@ -14,16 +14,17 @@ ghost use Rattle.surveyor.specs.Printed.{IsPrinted};
 use crate::fault::SurveyFailure;
 use crate::keeper::Keeper;
 use crate::pieces::{at_once, refused};
-use crate::played_survey::{broken_seeds, keep_all, put_head};
+use crate::played_survey::{keep_all, kept_seeds, put_head};
 use crate::printer::print;
 use crate::progress::SurveyProgress;
 use crate::task::{ReportKind, Survey};
 use std::alloc::{AllocError, Global};
 use std::thread::Threads;
 use streams::Output;
-use surveys::{Account, Family, Finding, accounts, accounts_text};
+use surveys::{Account, Family, Finding, accounts, accounts_text, failed_in};
 
-/// Plays the campaigns of a family, prints the head and the lines of their accounts, and keeps those that are broken.
+/// Plays the campaigns of a family, prints the head and the lines of their accounts, and keeps those that are broken or
+/// all.
 ///
 /// # Errors
 ///
@@ -59,9 +60,9 @@ pub fn accounted<T: Threads + Sync, O: Output, K: Keeper>(
         };
         put_accounts(rt, out, found.as_slice())?;
         let findings = findings_of(alloc, found.as_slice())?;
-        let seeds = broken_seeds(alloc, findings.as_slice())?;
+        let seeds = kept_seeds(alloc, asked.keeps_all, findings.as_slice())?;
         keep_all(rt, keeper, asked, family, seeds.as_slice())?;
-        broken = broken.saturating_add(seeds.len() as u64);
+        broken = broken.saturating_add(failed_in(findings.as_slice()));
         next = until;
         progress.tell(next.saturating_sub(1), broken)?;
     }

@@ -107,6 +107,11 @@ const SHAPES: &[Flag<'static>] = &[
         value: Some("DIR"),
         help: "Writes each broken campaign to DIR/SEED.toml",
     },
+    Flag {
+        name: "keep-all",
+        value: Some("DIR"),
+        help: "Writes each campaign to DIR/SEED.toml, broken or not",
+    },
 ];
 
 /// The option `--sum`, which takes one or more files.

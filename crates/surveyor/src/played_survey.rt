@@ -1,4 +1,4 @@
-//! Plays the campaigns of a survey, prints their lines or their summary, and keeps the broken ones.
+//! Plays the campaigns of a survey, prints their lines or their summary, and keeps the broken ones or all.
 ghost use Rattle.std.specs.Prelude.{◌≡◌, ◌≢◌, ◌++◌, IfErr, IfOk, OnOk, Some, is_some, map, true};
 ghost use Rattle.std.specs.Io.KnownBytes.{Appends};
 ghost use Rattle.surveyor.specs.Asked.{IsSurvey};
@@ -6,7 +6,7 @@ ghost use Rattle.surveys.specs.Judging.{IsRefusedIn};
 ghost use Rattle.surveyor.specs.Ends.{IsStopped, IsUnsurveyed};
 ghost use Rattle.surveyor.specs.Faults.{IsKeptIn, IsUnkeptIn, IsUnprinted};
 ghost use Rattle.surveyor.specs.Kept.{Gains, campaign_file, campaign_files};
-ghost use Rattle.surveyor.specs.Printed.{IsPrinted, IsSurveyed, added, broken_seeds, head_in, lines_in};
+ghost use Rattle.surveyor.specs.Printed.{IsPrinted, IsSurveyed, added, broken_seeds, head_in, kept_seeds, lines_in};
 
 use crate::accounts::accounted;
 use crate::family::family_of;
@@ -21,7 +21,9 @@ use crate::task::{ReportKind, Survey};
 use std::alloc::{AllocError, Global};
 use std::thread::Threads;
 use streams::Output;
-use surveys::{Family, Finding, campaign_text, head, is_sound, lines_text, survey};
+use surveys::{
+    Family, Finding, campaign_text, failed_in, head, is_sound, lines_text, seeds_in, survey,
+};
 
 /// Plays the campaigns of a survey, and prints what is asked for.
 ///
@@ -54,7 +56,7 @@ pub fn surveyed<T: Threads + Sync, O: Output, K: Keeper>(
     played(rt, threads, out, keeper, asked, &family)
 }
 
-/// Plays the campaigns of a family, keeps those that are broken, and prints their lines or their summary.
+/// Plays the campaigns of a family, keeps those that are broken or all, and prints their lines or their summary.
 ///
 /// # Errors
 ///
@@ -91,10 +93,10 @@ fn played<T: Threads + Sync, O: Output, K: Keeper>(
             Err(error) => return Err(refused(next, until, error)),
         };
         put_lines(rt, out, asked.shape, found.as_slice())?;
-        let seeds = broken_seeds(alloc, found.as_slice())?;
+        let seeds = kept_seeds(alloc, asked.keeps_all, found.as_slice())?;
         keep_all(rt, keeper, asked, family, seeds.as_slice())?;
-        broken = broken.saturating_add(seeds.len() as u64);
         add(asked.shape, &mut all, found.as_slice())?;
+        broken = broken.saturating_add(failed_in(found.as_slice()));
         next = until;
         progress.tell(next.saturating_sub(1), broken)?;
     }
@@ -102,12 +104,31 @@ fn played<T: Threads + Sync, O: Output, K: Keeper>(
     put_summary(alloc, out, asked.shape, told)
 }
 
+/// Returns the seeds of the campaigns that are kept: of all, or of the broken ones.
+///
+/// # Errors
+///
+/// `AllocError` if memory runs out.
+pub(crate) fn kept_seeds(
+    alloc: Global,
+    keeps_all: bool,
+    found: &[Finding],
+) -> Result<Vec<u64>, AllocError>
+    ensures { IfOk result (λ seeds. seeds.items ≡ kept_seeds keeps_all found.now) }
+{
+    if keeps_all {
+        seeds_in(alloc, found)
+    } else {
+        broken_seeds(alloc, found)
+    }
+}
+
 /// Returns the seeds of the broken campaigns: those in which agreement is broken or a loyal commander is disobeyed.
 ///
 /// # Errors
 ///
 /// `AllocError` if memory runs out.
-pub(crate) fn broken_seeds(alloc: Global, found: &[Finding]) -> Result<Vec<u64>, AllocError>
+fn broken_seeds(alloc: Global, found: &[Finding]) -> Result<Vec<u64>, AllocError>
     ensures { IfOk result (λ seeds. seeds.items ≡ broken_seeds found.now) }
 {
     let mut seeds = Vec::new(alloc);

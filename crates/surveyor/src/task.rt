@@ -77,8 +77,10 @@ pub struct Survey {
     pub first: u64,
     pub last: u64,
     pub shape: ReportKind,
-    /// The folder to which broken campaigns are written, if `--keep` is given.
+    /// The folder to which campaigns are written, if `--keep` or `--keep-all` is given.
     pub keep: Option<String>,
+    /// Whether all campaigns are written to it, and not only the broken ones.
+    pub keeps_all: bool,
 }
 
 /// Why the words ask for nothing.

@@ -25,7 +25,15 @@ fn bars_campaign(found: &ArgMatches) -> bool
     has_any(
         found,
         &[
-            "seeds", "lines", "details", "table", "svg", "shrink", "break", "keep",
+            "seeds",
+            "lines",
+            "details",
+            "table",
+            "svg",
+            "shrink",
+            "break",
+            "keep",
+            "keep-all",
         ],
     )
 }

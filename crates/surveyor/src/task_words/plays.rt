@@ -1,10 +1,10 @@
 //! The request to play campaigns, made from the words that `clap` has parsed: generals, bound, traitors, seeds,
 //! commander, manner and what is printed.
-ghost use Rattle.std.specs.Prelude.{◌≡◌, ◌≤◌, ◌⊎◌, IfErr, IfOk, codes, option_map, string_bytes};
+ghost use Rattle.std.specs.Prelude.{true, ◌≡◌, ◌≤◌, ◌⊎◌, IfErr, IfOk, codes, option_map, string_bytes};
 ghost use Rattle.clap.specs.Words.{found_of, rows_of};
 ghost use Rattle.surveyor.specs.Asked.{IsSurvey};
 ghost use Rattle.surveyor.specs.Flags.{given, has};
-ghost use Rattle.surveyor.specs.Meant.{AreSeeds, IsCommander, IsPatience, IsSurveying, IsWithin, detailed, plain_shape_in, shape_by, shape_in, some_traitors};
+ghost use Rattle.surveyor.specs.Meant.{AreAllKept, AreSeeds, IsCommander, IsPatience, IsSurveying, IsWithin, bars_keeping, detailed, first_of, folder_in, plain_shape_in, shape_by, shape_in, some_traitors};
 ghost use Rattle.surveyor.specs.Words.{manner_named, plain_manner};
 ghost use Rattle.surveyor.specs.Wrong.{AreNoSeeds, IsNoCommander, IsNoManner, IsNoPatience, IsOutside, IsRefused, IsSaid, IsUndetailed};
 ghost use Rattle.surveyor.specs.declared.task.Survey.{Survey};
@@ -33,6 +33,8 @@ const PATIENCE: &str = "--patience takes 1 to 4096";
 const SIGNED: &str = "signed messages have no rule";
 
 const DETAILS: &str = "--details can be used only with --lines";
+
+const KEEP: &str = "--keep-all cannot be used with --keep or --shrink";
 
 const SHAPE: &str = "only one of --lines, --table, --svg, --shrink and --break can be used";
 
@@ -209,18 +211,59 @@ fn patience_of(found: &ArgMatches) -> Result<Option<u32>, AskedError>
     }
 }
 
-/// Returns a copy of the value of an option, or `None` if the option is not given.
+/// Returns a copy of a text, if there is one.
 ///
 /// # Errors
 ///
 /// `AllocError` if memory runs out.
-fn owned(alloc: Global, found: &ArgMatches, name: &str) -> Result<Option<String>, AllocError>
-    ensures { IfOk result (λ own. option_map string_bytes own ≡ given name.now (rows_of (found_of found.now))) }
+fn owned(alloc: Global, text: Option<&str>) -> Result<Option<String>, AllocError>
+    ensures { IfOk result (λ copy. option_map string_bytes copy ≡ option_map (λ t. t.now) text.entry) }
 {
-    match given(found, name) {
+    match text {
         None => Ok(None),
-        Some(word) => Ok(Some(String::from_str(alloc, word)?)),
+        Some(text) => Ok(Some(String::from_str(alloc, text)?)),
     }
+}
+
+/// Returns the first of two texts, or the second if there is no first.
+fn first_of<'a>(first: Option<&'a str>, second: Option<&'a str>) -> Option<&'a str>
+    ensures { option_map (λ t. t.now) result
+        ≡ first_of (option_map (λ t. t.now) first.entry) (option_map (λ t. t.now) second.entry) }
+{
+    match first {
+        Some(first) => Some(first),
+        None => second,
+    }
+}
+
+/// Returns the folder to which campaigns are written, if one is named.
+fn folder<'a>(found: &ArgMatches<'a>) -> Option<&'a str>
+    ensures { option_map (λ t. t.now) result ≡ folder_in (rows_of (found_of found.now)) }
+{
+    first_of(given(found, "keep"), given(found, "keep-all"))
+}
+
+/// Returns whether `--keep-all` is given together with `--keep` or `--shrink`.
+fn bars_keeping(found: &ArgMatches) -> bool
+    ensures { result ≡ bars_keeping (rows_of (found_of found.now)) }
+{
+    has(found, "keep-all") && (has(found, "keep") || has(found, "shrink"))
+}
+
+/// Returns whether all campaigns are kept.
+///
+/// # Errors
+///
+/// `--keep-all` is given together with `--keep` or `--shrink`.
+fn keeps_all(found: &ArgMatches) -> Result<bool, AskedError>
+    ensures told { IfOk result (AreAllKept (rows_of (found_of found.now))) }
+    ensures refused { IfErr result (IsSaid (codes "--keep-all cannot be used with --keep or --shrink")
+        (bars_keeping (rows_of (found_of found.now)) ≡ true)) }
+{
+    if bars_keeping(found) {
+        return Err(AskedError::Value(KEEP));
+    }
+    Ok(has(found, "keep-all"))
 }
 
 /// Returns the default of `--traitors`: `1..13` with `--break`, and otherwise `1`.
@@ -235,7 +278,7 @@ fn some_traitors(found: &ArgMatches) -> &'static str
 /// # Errors
 ///
 /// A value is wrong, options exclude each other, or memory runs out.
-#[tactic(auto, using(crate::proofs::MeantLemmas::no_generals, crate::proofs::MeantLemmas::no_traitors, crate::proofs::MeantLemmas::no_seeds, crate::proofs::MeantLemmas::no_commander, crate::proofs::MeantLemmas::no_manner, crate::proofs::MeantLemmas::no_patience, crate::proofs::MeantLemmas::no_shape))]
+#[tactic(auto, using(crate::proofs::MeantLemmas::no_generals, crate::proofs::MeantLemmas::no_traitors, crate::proofs::MeantLemmas::no_seeds, crate::proofs::MeantLemmas::no_commander, crate::proofs::MeantLemmas::no_manner, crate::proofs::MeantLemmas::no_patience, crate::proofs::MeantLemmas::no_shape, crate::proofs::MeantLemmas::no_keeping))]
 pub(super) fn survey_of(alloc: Global, found: &ArgMatches) -> Result<Survey, AskedError>
     ensures survey { IfOk result IsSurvey }
     ensures told { IfOk result (IsSurveying (rows_of (found_of found.now))) }
@@ -251,6 +294,7 @@ pub(super) fn survey_of(alloc: Global, found: &ArgMatches) -> Result<Survey, Ask
     let manner = manner(found)?;
     let patience = patience_of(found)?;
     let shape = printed(found)?;
+    let keeps_all = keeps_all(found)?;
     Ok(Survey {
         generals,
         bound,
@@ -262,6 +306,7 @@ pub(super) fn survey_of(alloc: Global, found: &ArgMatches) -> Result<Survey, Ask
         first,
         last,
         shape,
-        keep: owned(alloc, found, "keep")?,
+        keep: owned(alloc, folder(found))?,
+        keeps_all,
     })
 }

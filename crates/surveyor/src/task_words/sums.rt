@@ -37,6 +37,7 @@ fn bars_sum(found: &ArgMatches) -> bool
             "break",
             "campaign",
             "keep",
+            "keep-all",
         ],
     )
 }

@@ -5,7 +5,7 @@ use Rattle.surveys.specs.Account.{Account}
 use Rattle.surveys.specs.Accounting.{account_text}
 use Rattle.surveys.specs.declared.finding.Finding.{Finding}
 use Rattle.surveyor.specs.Kept.{Gains, campaign_files}
-use Rattle.surveyor.specs.Printed.{broken_seeds}
+use Rattle.surveyor.specs.Printed.{kept_seeds}
 use Rattle.surveyor.proofs.AccountLemmas.{accounts_end, accounts_go, findings}
 use Rattle.surveyor.proofs.accounts.accounted.Goals as goal
 
@@ -25,7 +25,7 @@ loop-next-preserved g c =
     c.loop-next.invariant low high c.in-Ok.ensures.accounts
     (subst (λ (l : List Account). Appends now later (flat_map account_text l)) c.as_slice.ensures.value c.in_ok-put_accounts.ensures.written)
     (subst (λ (l : List ℕ). Gains (g.K.Keeper.files c.loop-next.keeper) (g.K.Keeper.files c.keep_all.new.keeper) (campaign_files s.keep c.args.family.now l))
-    (c.as_slice-in-loop-next-3.ensures.value ∙ (c.in_ok-seeds.ensures ∙ ap broken_seeds (c.as_slice-in-loop-next-2.ensures.value ∙ (c.in_ok-findings.ensures ∙ ap findings c.as_slice-in-loop-next.ensures.value)))) c.in_ok-keep_all.ensures.kept)
+    (c.as_slice-in-loop-next-3.ensures.value ∙ (c.in_ok-seeds.ensures ∙ ap (kept_seeds s.keeps_all) (c.as_slice-in-loop-next-2.ensures.value ∙ (c.in_ok-findings.ensures ∙ ap findings c.as_slice-in-loop-next.ensures.value)))) c.in_ok-keep_all.ensures.kept)
 
 pub returns-clause-printed : goal.returns-clause-printed
 returns-clause-printed g c =
