@@ -9,7 +9,7 @@ use Rattle.surveys.specs.Judging.{IsRefusedIn}
 use Rattle.surveys.specs.Plotting.{plot_of}
 use Rattle.surveys.specs.Breaches as Lessened
 use Rattle.surveyor.specs.declared.task.ReportKind.{ReportKind}
-use Rattle.surveyor.specs.declared.task.ReportKind.TheVariants.{Sums, Lines, Accounts, Table, Picture, Least}
+use Rattle.surveyor.specs.declared.task.ReportKind.TheVariants.{Sums, Lines, Accounts, Table, Csv, Picture, Least}
 use Rattle.surveyor.specs.declared.task.Survey.{Survey}
 use Rattle.surveyor.specs.declared.fault.SurveyFailure.{SurveyFailure}
 use Rattle.surveyor.specs.declared.fault.SurveyFailure.TheVariants.{Unread, NotText, Unwritten, Refused, Campaign, Words, Memory}
@@ -137,6 +137,7 @@ drawn Sums s f fault not h = h
 drawn Lines s f fault not h = h
 drawn Accounts s f fault not h = h
 drawn Table s f fault not h = h
+drawn Csv s f fault not h = h
 drawn Picture s f fault not h = h
 drawn Least s f fault not h = absurd (not refl)
 

@@ -10,7 +10,7 @@ use Rattle.surveys.specs.Family.{Family}
 use Rattle.surveys.specs.Judging.{IsFindingOf}
 use Rattle.surveys.specs.Lines.{line_text}
 use Rattle.surveyor.specs.declared.task.ReportKind.{ReportKind}
-use Rattle.surveyor.specs.declared.task.ReportKind.TheVariants.{Sums, Lines, Accounts, Table, Picture, Least}
+use Rattle.surveyor.specs.declared.task.ReportKind.TheVariants.{Sums, Lines, Accounts, Table, Csv, Picture, Least}
 use Rattle.surveyor.specs.declared.task.Survey.{Survey}
 use Rattle.surveyor.specs.Kept.{File, Gains, campaign_files}
 use Rattle.surveyor.specs.Printed.{IsPlayed, IsPrinted, IsToldIn, added, head_in, kept_seeds, lines_in, summary_text}
@@ -40,6 +40,7 @@ lines_both Sums xs ys = refl
 lines_both Lines xs ys = texts_both xs ys
 lines_both Accounts xs ys = refl
 lines_both Table xs ys = refl
+lines_both Csv xs ys = refl
 lines_both Picture xs ys = refl
 lines_both Least xs ys = refl
 
@@ -48,6 +49,7 @@ no_lines Sums = refl
 no_lines Lines = refl
 no_lines Accounts = refl
 no_lines Table = refl
+no_lines Csv = refl
 no_lines Picture = refl
 no_lines Least = refl
 
@@ -56,6 +58,7 @@ none_added Sums = refl
 none_added Lines = refl
 none_added Accounts = refl
 none_added Table = refl
+none_added Csv = refl
 none_added Picture = refl
 none_added Least = refl
 
@@ -64,6 +67,7 @@ added_both Sums xs ys = refl
 added_both Lines xs ys = refl
 added_both Accounts xs ys = refl
 added_both Table xs ys = refl
+added_both Csv xs ys = refl
 added_both Picture xs ys = refl
 added_both Least xs ys = refl
 
@@ -72,6 +76,7 @@ summed_added Sums found = refl
 summed_added Lines found = refl
 summed_added Accounts found = refl
 summed_added Table found = refl
+summed_added Csv found = refl
 summed_added Picture found = refl
 summed_added Least found = refl
 
@@ -120,6 +125,7 @@ told_in : (shape : ReportKind) (s : Survey) (f : Family) (text : List ℕ) (file
 told_in Sums s f text files ne no h = h
 told_in Lines s f text files ne no h = h
 told_in Table s f text files ne no h = h
+told_in Csv s f text files ne no h = h
 told_in Picture s f text files ne no h = h
 told_in Accounts s f text files ne no h = absurd (no refl)
 told_in Least s f text files ne no h = absurd (ne refl)

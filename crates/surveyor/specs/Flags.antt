@@ -43,7 +43,7 @@ abbrev pub rules : List Rule
 rules = option (codes "generals") ∷ option (codes "bound") ∷ option (codes "traitors")
     ∷ option (codes "commander") ∷ option (codes "seeds")
     ∷ option (codes "rule") ∷ option (codes "patience") ∷ switch (codes "signed") ∷ option (codes "adversary")
-    ∷ switch (codes "lines") ∷ switch (codes "details") ∷ switch (codes "table") ∷ switch (codes "svg")
+    ∷ switch (codes "lines") ∷ switch (codes "details") ∷ switch (codes "table") ∷ switch (codes "csv") ∷ switch (codes "svg")
     ∷ switch (codes "shrink")
     ∷ switch (codes "break") ∷ option (codes "campaign") ∷ option (codes "keep") ∷ option (codes "keep-all")
     ∷ files (codes "sum") ∷ []

@@ -13,7 +13,7 @@ use Rattle.surveyor.specs.declared.task.Asked.TheVariants.{Survey as Surveys, Ca
 use Rattle.surveyor.specs.declared.task.Merge.{Merge}
 use Rattle.surveyor.specs.declared.task.OneCampaign.{OneCampaign}
 use Rattle.surveyor.specs.declared.task.ReportKind.{ReportKind}
-use Rattle.surveyor.specs.declared.task.ReportKind.TheVariants.{Sums, Lines, Accounts, Table, Picture, Least}
+use Rattle.surveyor.specs.declared.task.ReportKind.TheVariants.{Sums, Lines, Accounts, Table, Csv, Picture, Least}
 use Rattle.surveyor.specs.declared.task.Survey.{Survey}
 
 -- Returns the value of an option, or `without` if the option is not given.
@@ -41,9 +41,20 @@ detailed false shape = shape
 detailed true (Some Lines) = Some Accounts
 detailed true _ = None
 
+-- Returns what is printed without `--csv`, from the rows of the words.
+abbrev pub detailed_shape_in : List Row → Option ReportKind
+detailed_shape_in rows = detailed (has (codes "details") rows) (plain_shape_in rows)
+
+-- Returns what is printed, given whether `--csv` is given, and what is printed without it: only the table can be CSV.
+abbrev pub in_csv : Bool → Option ReportKind → Option ReportKind
+in_csv false shape = shape
+in_csv true (Some Sums) = Some Csv
+in_csv true (Some Table) = Some Csv
+in_csv true _ = None
+
 -- Returns what is printed, from the rows of the words.
 abbrev pub shape_in : List Row → Option ReportKind
-shape_in rows = detailed (has (codes "details") rows) (plain_shape_in rows)
+shape_in rows = in_csv (has (codes "csv") rows) (detailed_shape_in rows)
 
 -- States that this is the number of steps for which a traitor is waited for, if the option is given.
 abbrev pub IsPatience : Option Text → Option ℕ → Type 0
@@ -113,7 +124,7 @@ IsSeed word seed = (decimal_of word ≡ Some seed) × (seed < 2 ^ 64 - 1)
 -- played, or what is printed or kept.
 abbrev pub bars_campaign : List Row → Bool
 bars_campaign rows = list_any (λ name. has name rows)
-    (codes "seeds" ∷ codes "lines" ∷ codes "details" ∷ codes "table" ∷ codes "svg" ∷ codes "shrink" ∷ codes "break"
+    (codes "seeds" ∷ codes "lines" ∷ codes "details" ∷ codes "table" ∷ codes "csv" ∷ codes "svg" ∷ codes "shrink" ∷ codes "break"
     ∷ codes "keep" ∷ codes "keep-all" ∷ [])
 
 -- States that the words ask for this campaign: that of the seed which the value of `--campaign` is, in the family of the
@@ -138,8 +149,8 @@ pub record IsBreaking (rows : List Row) (s : Survey) (is_table : Bool) : Type 0 
 abbrev pub names_in : List Row → Option (List Text)
 names_in rows = option_map (λ row. row.values) (row_of (codes "sum") rows)
 
--- Returns whether an option or switch is given that cannot be combined with `--sum`: any except `--seeds`, `--table`
--- and `--svg`.
+-- Returns whether an option or switch is given that cannot be combined with `--sum`: any except `--seeds`, `--table`,
+-- `--csv` and `--svg`.
 abbrev pub bars_sum : List Row → Bool
 bars_sum rows = list_any (λ name. has name rows)
     (codes "generals" ∷ codes "bound" ∷ codes "traitors" ∷ codes "commander" ∷ codes "rule" ∷ codes "patience"

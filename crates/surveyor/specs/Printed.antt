@@ -15,13 +15,14 @@ use Rattle.surveys.specs.Sums.{is_sound, sums_of}
 use Rattle.surveys.specs.Wording.{campaign_text, plot_text}
 use Rattle.surveys.specs.Counts.{sums_text}
 use Rattle.surveys.specs.Covering.{seeds_in}
+use Rattle.surveys.specs.Csv.{csv_text}
 use Rattle.surveys.specs.Groups.{groups_of}
 use Rattle.surveys.specs.Pictures.{picture_text}
 use Rattle.surveys.specs.Tables.{table_text}
 use Rattle.surveys.specs.declared.breach.Breach.{Breach}
 use Rattle.surveys.specs.Breaches.{IsLeastOf, IsShrunk, statements}
 use Rattle.surveyor.specs.declared.task.ReportKind.{ReportKind}
-use Rattle.surveyor.specs.declared.task.ReportKind.TheVariants.{Sums, Lines, Accounts, Table, Picture, Least}
+use Rattle.surveyor.specs.declared.task.ReportKind.TheVariants.{Sums, Lines, Accounts, Table, Csv, Picture, Least}
 use Rattle.surveyor.specs.declared.task.OneCampaign.{OneCampaign}
 use Rattle.surveyor.specs.declared.task.Survey.{Survey}
 use Rattle.surveyor.specs.Kept.{File, Gains, breach_files, campaign_files}
@@ -31,6 +32,7 @@ use Rattle.surveyor.specs.Words.{IsFamilyOf}
 abbrev pub summary_text : ReportKind → List Finding → List ℕ
 summary_text Sums found = sums_text (sums_of found)
 summary_text Table found = table_text (groups_of found)
+summary_text Csv found = csv_text (groups_of found)
 summary_text Picture found = picture_text (groups_of found)
 summary_text Lines found = []
 summary_text Accounts found = []

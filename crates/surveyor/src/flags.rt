@@ -82,6 +82,11 @@ const SHAPES: &[Flag<'static>] = &[
         help: "Prints the sums for each number of generals, each bound and each number of traitors",
     },
     Flag {
+        name: "csv",
+        value: None,
+        help: "Prints the table as CSV, with a 95% interval for the share of broken campaigns",
+    },
+    Flag {
         name: "svg",
         value: None,
         help: "Prints a picture in SVG: the share of broken campaigns by number of traitors",

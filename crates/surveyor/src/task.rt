@@ -40,6 +40,8 @@ pub enum ReportKind {
     Accounts,
     /// A table of the sums for each number of generals, bound and number of traitors.
     Table,
+    /// The table as CSV, with an interval for the share of broken campaigns.
+    Csv,
     /// An SVG picture of the share of broken campaigns, for each number of generals, bound and number of traitors.
     Picture,
     /// The least broken campaign, from which no traitor and no statement can be removed.

@@ -23,3 +23,4 @@ pub mod Rising
 pub mod Exactness
 pub mod Apart
 pub mod Pieces
+pub mod Intervals

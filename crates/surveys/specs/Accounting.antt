@@ -47,7 +47,7 @@ numbers_text (n ∷ ns) = decimal n ++ flat_map next_text ns
 
 -- Writes a list of numbers.
 abbrev pub list_text : List ℕ → List ℕ
-list_text ns = codes "[" ++ (numbers_text ns ++ codes "]")
+list_text ns = codes "[" ++ numbers_text ns ++ codes "]"
 
 -- Writes the line of an account.
 abbrev pub account_text : Account → List ℕ

@@ -17,5 +17,7 @@ pub mod Counts
 pub mod Covering
 pub mod Groups
 pub mod Tables
+pub mod Wilson
+pub mod Csv
 pub mod Pictures
 pub mod Breakings

@@ -43,8 +43,10 @@ mod span;
 mod stretch;
 mod summation;
 mod sums;
+mod sums_csv;
 mod sums_picture;
 mod sums_table;
+mod wilson;
 
 pub use account::Account;
 pub use account_lines::accounts_text;
@@ -79,5 +81,7 @@ pub use span::CountRange;
 pub use stretch::Stretch;
 pub use summation::{has, is_sound, sums_of, tally_of};
 pub use sums::{CampaignOutcome, Sums, Tally};
+pub use sums_csv::csv_table;
 pub use sums_picture::picture;
 pub use sums_table::table;
+pub use wilson::interval;

@@ -26,6 +26,7 @@ fn is_table(shape: ReportKind) -> Option<bool>
         ReportKind::Table => Some(true),
         ReportKind::Lines
         | ReportKind::Accounts
+        | ReportKind::Csv
         | ReportKind::Picture
         | ReportKind::Least => None,
     }

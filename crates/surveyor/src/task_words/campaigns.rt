@@ -29,6 +29,7 @@ fn bars_campaign(found: &ArgMatches) -> bool
             "lines",
             "details",
             "table",
+            "csv",
             "svg",
             "shrink",
             "break",

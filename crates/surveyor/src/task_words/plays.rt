@@ -4,9 +4,9 @@ ghost use Rattle.std.specs.Prelude.{true, ◌≡◌, ◌≤◌, ◌⊎◌, IfErr
 ghost use Rattle.clap.specs.Words.{found_of, rows_of};
 ghost use Rattle.surveyor.specs.Asked.{IsSurvey};
 ghost use Rattle.surveyor.specs.Flags.{given, has};
-ghost use Rattle.surveyor.specs.Meant.{AreAllKept, AreSeeds, IsCommander, IsPatience, IsSurveying, IsWithin, bars_keeping, detailed, first_of, folder_in, plain_shape_in, shape_by, shape_in, some_traitors};
+ghost use Rattle.surveyor.specs.Meant.{AreAllKept, AreSeeds, IsCommander, IsPatience, IsSurveying, IsWithin, bars_keeping, detailed, first_of, folder_in, in_csv, plain_shape_in, shape_by, shape_in, some_traitors};
 ghost use Rattle.surveyor.specs.Words.{manner_named, plain_manner};
-ghost use Rattle.surveyor.specs.Wrong.{AreNoSeeds, IsNoCommander, IsNoManner, IsNoPatience, IsOutside, IsRefused, IsSaid, IsUndetailed};
+ghost use Rattle.surveyor.specs.Wrong.{AreNoSeeds, IsNoCommander, IsNoManner, IsNoPatience, IsNoTable, IsOutside, IsRefused, IsSaid, IsUndetailed};
 ghost use Rattle.surveyor.specs.declared.task.Survey.{Survey};
 
 use crate::numbers::{patience, seeds, small, span};
@@ -31,6 +31,8 @@ const SEEDS: &str =
 const PATIENCE: &str = "--patience takes 1 to 4096";
 
 const SIGNED: &str = "signed messages have no rule";
+
+const CSV: &str = "--csv can be used only by itself or with --table";
 
 const DETAILS: &str = "--details can be used only with --lines";
 
@@ -160,6 +162,25 @@ fn detailed(details: bool, shape: ReportKind) -> Option<ReportKind>
         ReportKind::Sums
         | ReportKind::Accounts
         | ReportKind::Table
+        | ReportKind::Csv
+        | ReportKind::Picture
+        | ReportKind::Least => None,
+    }
+}
+
+/// Returns what is printed, given what is printed without `--csv`. Returns `None` if `--csv` is given and that is neither
+/// the sums nor the table.
+fn in_csv(csv: bool, shape: ReportKind) -> Option<ReportKind>
+    ensures { result ≡ in_csv csv (Some shape) }
+{
+    if !csv {
+        return Some(shape);
+    }
+    match shape {
+        ReportKind::Sums | ReportKind::Table => Some(ReportKind::Csv),
+        ReportKind::Lines
+        | ReportKind::Accounts
+        | ReportKind::Csv
         | ReportKind::Picture
         | ReportKind::Least => None,
     }
@@ -169,13 +190,14 @@ fn detailed(details: bool, shape: ReportKind) -> Option<ReportKind>
 ///
 /// # Errors
 ///
-/// More than one form is asked for, or details of another form than lines.
+/// More than one form is asked for, details of another form than lines, or CSV of another form than a table.
 pub(super) fn printed(found: &ArgMatches) -> Result<ReportKind, AskedError>
     ensures told { IfOk result (λ s. shape_in (rows_of (found_of found.now)) ≡ Some s) }
     ensures refused { let rows = rows_of (found_of found.now) in IfErr result (λ e.
         IsSaid (codes "only one of --lines, --table, --svg, --shrink and --break can be used")
         (plain_shape_in rows ≡ None) e
-        ⊎ IsSaid (codes "--details can be used only with --lines") (IsUndetailed rows) e) }
+        ⊎ IsSaid (codes "--details can be used only with --lines") (IsUndetailed rows) e
+        ⊎ IsSaid (codes "--csv can be used only by itself or with --table") (IsNoTable rows) e) }
 {
     let shape = shape_by(
         has(found, "lines"),
@@ -186,9 +208,12 @@ pub(super) fn printed(found: &ArgMatches) -> Result<ReportKind, AskedError>
     let Some(shape) = shape else {
         return Err(AskedError::Value(SHAPE));
     };
-    match detailed(has(found, "details"), shape) {
+    let Some(shape) = detailed(has(found, "details"), shape) else {
+        return Err(AskedError::Value(DETAILS));
+    };
+    match in_csv(has(found, "csv"), shape) {
         Some(shape) => Ok(shape),
-        None => Err(AskedError::Value(DETAILS)),
+        None => Err(AskedError::Value(CSV)),
     }
 }
 

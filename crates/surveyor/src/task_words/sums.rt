@@ -12,7 +12,7 @@ use crate::word_values::{given, has_any};
 use clap::ArgMatches;
 use std::alloc::{AllocError, Global};
 
-const MERGE: &str = "--sum plays nothing: it can be used only with --seeds, --table and --svg";
+const MERGE: &str = "--sum plays nothing: it can be used only with --seeds, --table, --csv and --svg";
 
 const ONCE: &str = "standard input can be read only once";
 
@@ -93,7 +93,7 @@ fn summable(found: &ArgMatches, names: &[&str]) -> Result<(), AskedError>
     ensures told { IfOk result (λ _. (bars_sum (rows_of (found_of found.now)) ≡ false)
         × (AreTwice (map (λ name. name.now) names.now) → ⊥)) }
     ensures refused { IfErr result (λ e.
-        IsSaid (codes "--sum plays nothing: it can be used only with --seeds, --table and --svg")
+        IsSaid (codes "--sum plays nothing: it can be used only with --seeds, --table, --csv and --svg")
         (bars_sum (rows_of (found_of found.now)) ≡ true) e
         ⊎ IsSaid (codes "standard input can be read only once") (AreTwice (map (λ name. name.now) names.now)) e) }
 {
