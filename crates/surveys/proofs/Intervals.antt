@@ -1,7 +1,5 @@
 -- Wilson's interval.
-use Rattle.std.proofs.Common.{ℕ, zero, suc, ◌+◌, ◌-◌, ◌*◌, ◌≤◌, ◌<◌, ◌≡◌, Bool, true, false, cond, refl, sym, ap, ◌∙◌, arith, add-one, ◌⊎◌, inl, inr, ⊎_elim, subst, ◌&&◌}
-use Rattle.std.specs.Prelude.{nat_le}
-use Rattle.std.proofs.lemmas.Bool.Decides.{nat_tests}
+use Rattle.std.proofs.Common.{ℕ, zero, suc, ◌+◌, ◌-◌, ◌≤◌, ◌<◌, ◌≡◌, Bool, true, false, cond, refl, sym, ap, ◌∙◌, arith, add-one, ◌⊎◌, inl, inr, ⊎_elim, subst}
 use Rattle.surveys.specs.Wilson.{IsLower, greatest, is_below, lower}
 
 pub none_greatest : (p : ℕ → Bool) → 0 ≡ greatest p 0
@@ -49,14 +47,8 @@ greatest_is p zero h =
 greatest_is p (suc limit) h =
     subst (λ (q : ℕ). IsGreatest p (suc (suc limit)) q) (sym (greatest_suc p (suc limit))) (one_more p (suc limit) (greatest p (suc limit)) (p (suc limit)) refl (greatest_is p limit h))
 
-zero_le : (a x : ℕ) → a ≡ 0 → nat_le a x ≡ true
-zero_le a x h = grind (arith, nat_tests)
-
-both_so : (a b : Bool) → a ≡ true → b ≡ true → (a && b) ≡ true
-both_so a b h k = rw (h, k) refl
-
 none_below : (n k : ℕ) → is_below n k 0 ≡ true
-none_below n k = both_so _ _ (zero_le (n * 0) (k * 10000) (omega arith)) (zero_le (2401 * n * (0 * (10000 - 0))) _ (omega arith))
+none_below n k = refl
 
 -- the lower end, which the shares up to a limit give
 pub lower_same : (n k end q : ℕ) → end ≡ 10001 → q ≡ greatest (is_below n k) end → q ≡ lower n k

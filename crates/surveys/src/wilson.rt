@@ -10,9 +10,12 @@ fn is_below(campaigns: u64, failed: u64, share: u16) -> bool
     requires share { share ≤ 10000 }
     ensures { result ≡ is_below campaigns failed share }
 {
+    if share == 0 {
+        return true;
+    }
     let mean = u128::from(failed) * 10_000;
     let here = u128::from(campaigns) * u128::from(share);
-    if mean < here {
+    if mean <= here {
         return false;
     }
     let distance = (25 * (mean - here)) as u64;
