@@ -13,8 +13,8 @@ use Rattle.surveyor.specs.Flags.{given, has, survey_app}
 use Rattle.surveyor.specs.Meant.{AreSaid, AreSeeds, Asks, IsBreaking, IsCommander, IsMerging, IsPatience, IsShowing, IsSurveying, IsWithin, bars_campaign, bars_keeping, bars_sum, break_shape, detailed, detailed_shape_in, folder_in, in_csv, names_in, plain_shape_in, shape_in, some_traitors, value}
 use Rattle.surveyor.specs.Numbers.{IsNoSpan, IsTold}
 use Rattle.surveyor.specs.Words.{manner_named}
-use Rattle.surveyor.specs.Wrong.{AreNoSeeds, AreTwice, AsksNothing, IsByClap, IsNoBreak, IsNoCommander, IsNoManner, IsNoPatience, IsNoRule, IsNoSeed, IsNoTable, IsOutside, IsRefused, IsSaid, IsUndetailed, IsUnmet, IsWrong}
-use Rattle.surveyor.specs.Wrong.IsWrong.{generals, bound, traitors, seeds, commander, patience, signed, shape, details, csv, broken, keep, every, single, campaign, sum, twice}
+use Rattle.surveyor.specs.Wrong.{AreNoOrders, AreNoSeeds, AreTwice, AsksNothing, IsByClap, IsNoBreak, IsNoCommander, IsNoManner, IsNoPatience, IsNoRule, IsNoSeed, IsNoTable, IsOutside, IsRefused, IsSaid, IsUndetailed, IsUnmet, IsWrong}
+use Rattle.surveyor.specs.Wrong.IsWrong.{generals, bound, traitors, seeds, commander, orders, patience, signed, shape, details, csv, broken, keep, every, single, campaign, sum, twice}
 use Rattle.surveyor.specs.declared.task.Asked.{Asked}
 use Rattle.surveyor.specs.declared.task.Asked.TheVariants.{Survey as Surveys, Campaign, Break, Merge as Merges}
 use Rattle.surveyor.specs.declared.task.AskedError.{AskedError}
@@ -95,6 +95,11 @@ no_commander rows many word own e all is inside h =
     (λ none s told.
         (let lows = told_once (value (codes "generals") (codes "4") rows) s.generals.low s.generals.high own.low own.high told.generals.told within.told in
         here none s.commander (subst (λ (n : ℕ). IsCommander n (value (codes "commander") (codes "0") rows) s.commander) lows.0 told.commander))) h
+
+pub no_orders : (rows : List Row) (word : Text) (e : AskedError) → word ≡ value (codes "orders") (codes "0..1") rows → IsSaid (codes "--orders takes 0..1 to 0..255") (AreNoOrders word) e → IsRefused rows (NoSurvey rows) e
+no_orders rows word e is h =
+    let own : AreNoOrders word → AreNoOrders (value (codes "orders") (codes "0..1") rows) = subst AreNoOrders is in
+    said_so rows (codes "--orders takes 0..1 to 0..255") (AreNoOrders word) (NoSurvey rows) e (λ why same none. orders same (own none)) (λ none s told. own none s.orders told.orders) h
 
 no_rule : (o : Option Text) → IsSomeAnd o (λ word. rule_named word ≡ None) → manner_named o false ≡ None
 no_rule None h = absurd h

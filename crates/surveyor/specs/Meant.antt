@@ -80,6 +80,10 @@ pub record AreSeeds (word : Text) (seeds : ℕ × ℕ) : Type 0 where
 abbrev pub IsCommander : ℕ → Text → ℕ → Type 0
 IsCommander generals word c = (decimal_of word ≡ Some c) × (c < generals)
 
+-- States that the word denotes the orders from 0 to `most`, at least two.
+abbrev pub AreOrders : Text → ℕ → Type 0
+AreOrders word most = IsTold word 0 most × (1 ≤ most) × (most < 256)
+
 -- Returns the default of `--traitors`.
 abbrev pub some_traitors : List Row → Text
 some_traitors rows = if has (codes "break") rows then codes "1..13" else codes "1"
@@ -108,6 +112,7 @@ pub record IsSurveying (rows : List Row) (s : Survey) : Type 0 where
   pub bound : IsWithin 0 4 (value (codes "bound") (codes "1") rows) s.bound
   pub traitors : IsWithin 0 13 (value (codes "traitors") (some_traitors rows) rows) s.traitors
   pub commander : IsCommander s.generals.low (value (codes "commander") (codes "0") rows) s.commander
+  pub orders : AreOrders (value (codes "orders") (codes "0..1") rows) s.orders
   pub manner : manner_named (given (codes "rule") rows) (has (codes "signed") rows) ≡ Some s.manner
   pub patience : IsPatience (given (codes "patience") rows) s.patience
   pub adversary : string_bytes s.adversary ≡ value (codes "adversary") (codes "lies") rows
@@ -153,7 +158,7 @@ names_in rows = option_map (λ row. row.values) (row_of (codes "sum") rows)
 -- `--csv` and `--svg`.
 abbrev pub bars_sum : List Row → Bool
 bars_sum rows = list_any (λ name. has name rows)
-    (codes "generals" ∷ codes "bound" ∷ codes "traitors" ∷ codes "commander" ∷ codes "rule" ∷ codes "patience"
+    (codes "generals" ∷ codes "bound" ∷ codes "traitors" ∷ codes "commander" ∷ codes "orders" ∷ codes "rule" ∷ codes "patience"
     ∷ codes "signed" ∷ codes "adversary" ∷ codes "lines" ∷ codes "details" ∷ codes "shrink" ∷ codes "break" ∷ codes "campaign" ∷ codes "keep"
     ∷ codes "keep-all" ∷ [])
 

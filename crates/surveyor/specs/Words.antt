@@ -47,6 +47,7 @@ pub record IsFamilyOf (s : Survey) (f : Family) : Type 0 where
   pub bound : f.bound ≡ s.bound
   pub traitors : f.traitors ≡ s.traitors
   pub commander : f.commander ≡ s.commander
+  pub orders : f.orders ≡ s.orders
   pub manner : f.manner ≡ s.manner
   pub patience : f.patience ≡ s.patience
   pub adversary : IsNamed (string_bytes s.adversary) f.adversary

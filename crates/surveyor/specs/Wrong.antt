@@ -7,7 +7,7 @@ use Rattle.clap.specs.declared.error.kind.ErrorKind.TheVariants.{OutOfMemory}
 use Rattle.combine.specs.Names.{rule_named}
 use Rattle.surveys.specs.declared.span.CountRange.{CountRange}
 use Rattle.surveyor.specs.Flags.{given, has, survey_app}
-use Rattle.surveyor.specs.Meant.{AreSeeds, Asks, IsCommander, IsPatience, IsSeed, IsWithin, bars_campaign, bars_keeping, bars_sum, break_shape, detailed, detailed_shape_in, folder_in, in_csv, plain_shape_in, names_in, shape_in, some_traitors, value}
+use Rattle.surveyor.specs.Meant.{AreOrders, AreSeeds, Asks, IsCommander, IsPatience, IsSeed, IsWithin, bars_campaign, bars_keeping, bars_sum, break_shape, detailed, detailed_shape_in, folder_in, in_csv, plain_shape_in, names_in, shape_in, some_traitors, value}
 use Rattle.surveyor.specs.declared.task.Asked.{Asked}
 use Rattle.surveyor.specs.declared.task.AskedError.{AskedError}
 use Rattle.surveyor.specs.declared.task.AskedError.TheVariants.{Words, Value, Rule, Memory}
@@ -28,6 +28,10 @@ IsNoSeed word = (seed : ℕ) → IsSeed word seed → ⊥
 -- States that the word is not one of `generals` generals.
 abbrev pub IsNoCommander : ℕ → Text → Type 0
 IsNoCommander generals word = (c : ℕ) → IsCommander generals word c → ⊥
+
+-- States that the word denotes no orders.
+abbrev pub AreNoOrders : Text → Type 0
+AreNoOrders word = (most : ℕ) → AreOrders word most → ⊥
 
 -- States that the word is not a number of steps for which a traitor is waited for.
 abbrev pub IsNoPatience : Option Text → Type 0
@@ -62,6 +66,8 @@ pub data IsWrong (rows : List Row) (why : Text) : Type 0 where
   commander : why ≡ codes "--commander takes a number below the least of --generals" →
       (span : CountRange) → IsWithin 2 13 (value (codes "generals") (codes "4") rows) span →
       IsNoCommander span.low (value (codes "commander") (codes "0") rows) → IsWrong rows why
+  orders : why ≡ codes "--orders takes 0..1 to 0..255" →
+      AreNoOrders (value (codes "orders") (codes "0..1") rows) → IsWrong rows why
   patience : why ≡ codes "--patience takes 1 to 4096" →
       IsNoPatience (given (codes "patience") rows) → IsWrong rows why
   signed : why ≡ codes "signed messages have no rule" →

@@ -32,6 +32,7 @@ pub fn family_of(rt: &HostRuntime, survey: &Survey) -> Result<Family, SurveyFail
         survey.bound,
         survey.traitors,
         survey.commander,
+        survey.orders,
         survey.manner,
         survey.patience,
         adversary,

@@ -39,6 +39,11 @@ const FAMILY: &[Flag<'static>] = &[
         help: "Who commands, a number below the least number of generals [default: 0]",
     },
     Flag {
+        name: "orders",
+        value: Some("0..V"),
+        help: "The orders, at most 0..255 [default: 0..1]",
+    },
+    Flag {
         name: "seeds",
         value: Some("N..M"),
         help: "The seeds, one for each campaign, at most 10000000 [default: 1..1000]",

@@ -1,5 +1,5 @@
 //! Parses the numbers and spans that options take, such as `4` and `4..7`.
-ghost use Rattle.std.specs.Prelude.{ℕ, ◌≡◌, ◌≤◌, ◌<◌, ◌-◌, ◌^◌, IfNone, IfSome, Some};
+ghost use Rattle.std.specs.Prelude.{ℕ, ◌≡◌, ◌≤◌, ◌<◌, ◌-◌, ◌^◌, ◌==◌, cond, IfNone, IfSome, None, Some};
 ghost use Rattle.surveyor.specs.Numbers.{AreTold, IsNoSpan, IsTold};
 ghost use Rattle.text.specs.Number.{decimal_of};
 
@@ -91,6 +91,27 @@ pub fn seeds(word: &str) -> Option<(u64, u64)>
     } else {
         None
     }
+}
+
+/// Parses orders `0..V`, where V is 1 to 255, and returns V. Returns `None` for any other word.
+pub fn orders(word: &str) -> Option<u8>
+    ensures told { IfSome result (λ most. IsTold word.now 0 most) }
+    ensures some { IfSome result (λ most. 1 ≤ most) }
+    ensures refused { IfNone result ((most : ℕ) → IsTold word.now 0 most → 1 ≤ most → most < 256 → ⊥) }
+{
+    let (least, most) = ends(256, word)?;
+    from_zero(least, most)
+}
+
+/// Returns the second number, if the first is 0 and the second is not.
+fn from_zero(least: u64, most: u64) -> Option<u8>
+    requires { most < 256 }
+    ensures { result ≡ cond (least == 0) (cond (most == 0) None (Some most)) None }
+{
+    if least != 0 {
+        return None;
+    }
+    if most == 0 { None } else { Some(most as u8) }
 }
 
 /// Parses a seed, a number below 2^64 - 1. Returns `None` for any other word.

@@ -72,6 +72,8 @@ pub struct Survey {
     pub traitors: CountRange,
     /// The commander of all campaigns.
     pub commander: u8,
+    /// The greatest order.
+    pub orders: u8,
     pub manner: Manner,
     pub patience: Option<u32>,
     /// What the traitors do: `lies`, `silent`, `collude`, or the name of a file of assembly.

@@ -1,5 +1,5 @@
 -- Families with the same head have the same campaigns.
-use Rattle.std.proofs.Common.{ℕ, ◌≡◌, ◌<◌, ◌^◌, true, false, List, [], ◌∷◌, ◌++◌, ◌%◌, drop, refl, sym, ap, ◌∙◌, arith, append_assoc, codes, Option, None, Some}
+use Rattle.std.proofs.Common.{ℕ, ◌+◌, ◌≡◌, ◌<◌, ◌^◌, true, false, List, [], ◌∷◌, ◌++◌, ◌%◌, drop, refl, sym, ap, ◌∙◌, arith, append_assoc, codes, Option, None, Some}
 use Rattle.std.specs.Prelude.{Bool, cond, decimal, bytes_eq, IfSome, not, string_bytes, map, take, ◌==◌}
 use Rattle.std.proofs.lemmas.Bool.Decides.{nat_tests}
 use Rattle.std.proofs.lemmas.List.{append_cancel_right}
@@ -23,7 +23,7 @@ use Rattle.surveys.specs.declared.span.CountRange.{CountRange}
 use Rattle.surveys.specs.Draws.{draw}
 use Rattle.surveys.specs.Family.{Family}
 use Rattle.surveys.specs.Lines.{member}
-use Rattle.surveys.specs.Heads.{HeadsTellFamilies, IsHead, IsTold, adversary_word, commander_text, head_text, manner_word, patience_word}
+use Rattle.surveys.specs.Heads.{HeadsTellFamilies, IsHead, IsTold, adversary_word, commander_text, head_text, manner_word, orders_text, patience_word}
 use Rattle.surveys.specs.Plotting.{bound_of, chosen, commander_of, count_of, do_count, generals_of, given_in, lies_by, plot_of}
 use Rattle.surveys.specs.Wording.{campaign_text, plot_text}
 use Rattle.surveys.proofs.Cuts.{decimal_lacks_brace, decimal_lacks_comma, same_rest, same_word}
@@ -39,8 +39,11 @@ from_high f = member (codes ",\"traitors_high\"") (decimal f.traitors.high) (fro
 abbrev from_patience : Family → List ℕ
 from_patience f = member (codes ",\"patience\"") (patience_word f.patience) (from_high f)
 
+abbrev from_orders : Family → List ℕ
+from_orders f = orders_text f.orders ++ from_patience f
+
 abbrev from_manner : Family → List ℕ
-from_manner f = member (codes ",\"manner\"") (manner_word f.manner) (from_patience f)
+from_manner f = member (codes ",\"manner\"") (manner_word f.manner) (from_orders f)
 
 abbrev from_line : Family → List ℕ
 from_line f = member (codes ",\"line\"") (codes "\"family\"") (from_manner f)
@@ -110,43 +113,43 @@ same_patience (Some n) (Some m) h k e = ap Some (same_number n m h k e)
 pub record DoSame (a b : Adversary) : Type 0 where
   pub given : given_in a ≡ given_in b
   pub counts : do_count a ≡ do_count b
-  pub lies : (m : Manner) (c seed n g : ℕ) → lies_by a m c seed n g ≡ lies_by b m c seed n g
+  pub lies : (m : Manner) (v c seed n g : ℕ) → lies_by a m v c seed n g ≡ lies_by b m v c seed n g
 
 same_deeds : (a b : Adversary) → adversary_word a ≡ adversary_word b → DoSame a b
-same_deeds Lies Lies e = record { given = refl; counts = refl; lies = λ m c seed n g. refl }
+same_deeds Lies Lies e = record { given = refl; counts = refl; lies = λ m v c seed n g. refl }
 same_deeds Lies Silent e = unlike (codes "\"lies\"") (codes "\"silent\"") (codes "\"lies\"") refl refl e
 same_deeds Lies Collude e = unlike (codes "\"lies\"") (codes "\"collude\"") (codes "\"lies\"") refl refl e
 same_deeds Lies (Given k) e = unlike (codes "\"lies\"") (codes "\"0x" ++ (string_bytes k ++ codes "\"")) (codes "\"lies\"") refl refl e
 same_deeds Silent Lies e = unlike (codes "\"silent\"") (codes "\"lies\"") (codes "\"silent\"") refl refl e
-same_deeds Silent Silent e = record { given = refl; counts = refl; lies = λ m c seed n g. refl }
+same_deeds Silent Silent e = record { given = refl; counts = refl; lies = λ m v c seed n g. refl }
 same_deeds Silent Collude e = unlike (codes "\"silent\"") (codes "\"collude\"") (codes "\"silent\"") refl refl e
 same_deeds Silent (Given k) e = unlike (codes "\"silent\"") (codes "\"0x" ++ (string_bytes k ++ codes "\"")) (codes "\"silent\"") refl refl e
 same_deeds Collude Lies e = unlike (codes "\"collude\"") (codes "\"lies\"") (codes "\"collude\"") refl refl e
 same_deeds Collude Silent e = unlike (codes "\"collude\"") (codes "\"silent\"") (codes "\"collude\"") refl refl e
-same_deeds Collude Collude e = record { given = refl; counts = refl; lies = λ m c seed n g. refl }
+same_deeds Collude Collude e = record { given = refl; counts = refl; lies = λ m v c seed n g. refl }
 same_deeds Collude (Given k) e = unlike (codes "\"collude\"") (codes "\"0x" ++ (string_bytes k ++ codes "\"")) (codes "\"collude\"") refl refl e
 same_deeds (Given h) Lies e = unlike (codes "\"lies\"") (codes "\"0x" ++ (string_bytes h ++ codes "\"")) (codes "\"lies\"") refl refl (sym e)
 same_deeds (Given h) Silent e = unlike (codes "\"silent\"") (codes "\"0x" ++ (string_bytes h ++ codes "\"")) (codes "\"silent\"") refl refl (sym e)
 same_deeds (Given h) Collude e = unlike (codes "\"collude\"") (codes "\"0x" ++ (string_bytes h ++ codes "\"")) (codes "\"collude\"") refl refl (sym e)
 same_deeds (Given h) (Given k) e =
     let more : string_bytes h ++ 34 ∷ [] ≡ string_bytes k ++ 34 ∷ [] = ap (drop 3) e in
-    record { given = ap Some (append_cancel_right (string_bytes h) (string_bytes k) (34 ∷ []) more); counts = refl; lies = λ m c seed n g. refl }
+    record { given = ap Some (append_cancel_right (string_bytes h) (string_bytes k) (34 ∷ []) more); counts = refl; lies = λ m v c seed n g. refl }
 
 -- seeds give the same of both
-same_plot : (f g : Family) (seed : ℕ) → f.generals ≡ g.generals → f.bound ≡ g.bound → f.traitors ≡ g.traitors → f.commander ≡ g.commander → f.manner ≡ g.manner → f.patience ≡ g.patience → DoSame f.adversary g.adversary → plot_of f seed ≡ plot_of g seed
+same_plot : (f g : Family) (seed : ℕ) → f.generals ≡ g.generals → f.bound ≡ g.bound → f.traitors ≡ g.traitors → f.commander ≡ g.commander → f.orders ≡ g.orders → f.manner ≡ g.manner → f.patience ≡ g.patience → DoSame f.adversary g.adversary → plot_of f seed ≡ plot_of g seed
 unfolding plot_of
-same_plot f g seed generals bound traitors commander manner patience same =
+same_plot f g seed generals bound traitors commander orders manner patience same =
     let h : Family = record g { adversary = f.adversary } in
-    let one : f ≡ h = (λ i. record { generals = generals i; bound = bound i; traitors = traitors i; commander = commander i; manner = manner i; patience = patience i; adversary = f.adversary }) in
+    let one : f ≡ h = (λ i. record { generals = generals i; bound = bound i; traitors = traitors i; commander = commander i; orders = orders i; manner = manner i; patience = patience i; adversary = f.adversary }) in
     let two : plot_of h seed ≡ plot_of g seed = (λ i. record {
       generals = generals_of g seed;
       bound = bound_of g seed;
       commander = commander_of g (generals_of g seed);
-      order = draw seed 3 % 2;
+      order = draw seed 3 % (g.orders + 1);
       manner = g.manner;
       patience = g.patience;
       given = same.given i;
-      traitors = map (λ x. record { general = x; counts = same.counts i; lies = same.lies g.manner (commander_of g (generals_of g seed)) seed (generals_of g seed) x i }) (chosen seed 0 (generals_of g seed) (count_of g seed));
+      traitors = map (λ x. record { general = x; counts = same.counts i; lies = same.lies g.manner g.orders (commander_of g (generals_of g seed)) seed (generals_of g seed) x i }) (chosen seed 0 (generals_of g seed) (count_of g seed));
     }) in
     ap (λ (x : Family). plot_of x seed) one ∙ two
 
@@ -180,6 +183,27 @@ same_commander false false a b xs ys ha hb la lb e = (
   same_rest comma (codes ",\"commander\"") (decimal a) (decimal b) 44 _ _ refl (small_lacks a la) (small_lacks b lb) refl e,
 )
 
+-- the greatest order, and what stands behind it
+one_is : (a : ℕ) → a == 1 ≡ true → a ≡ 1
+one_is a h = grind (arith, nat_tests)
+
+goes_on : (b : Bool) (v : ℕ) (behind : List ℕ) → (more : List ℕ) × (cond b [] (codes ",\"orders\":" ++ decimal v) ++ 44 ∷ behind ≡ 44 ∷ more)
+goes_on true v behind = (behind, refl)
+goes_on false v behind = (drop 1 (codes ",\"orders\":" ++ (decimal v ++ 44 ∷ behind)), refl)
+
+unlike_orders : {A : Type 0} (xs ys : List ℕ) → 44 ∷ 34 ∷ 112 ∷ xs ≡ 44 ∷ 34 ∷ 111 ∷ ys → A
+unlike_orders xs ys e = absurd (let z : true ≡ false = ap (λ l. bytes_eq (take 3 l) (44 ∷ 34 ∷ 112 ∷ [])) e in cc)
+
+same_orders : (p q : Bool) (a b : ℕ) (xs ys : List ℕ) → a == 1 ≡ p → b == 1 ≡ q → a < 256 → b < 256
+    → cond p [] (codes ",\"orders\":" ++ decimal a) ++ 44 ∷ 34 ∷ 112 ∷ xs ≡ cond q [] (codes ",\"orders\":" ++ decimal b) ++ 44 ∷ 34 ∷ 112 ∷ ys → (a ≡ b) × (44 ∷ 34 ∷ 112 ∷ xs ≡ 44 ∷ 34 ∷ 112 ∷ ys)
+same_orders true true a b xs ys ha hb la lb e = (one_is a ha ∙ sym (one_is b hb), e)
+same_orders true false a b xs ys ha hb la lb e = unlike_orders _ _ e
+same_orders false true a b xs ys ha hb la lb e = unlike_orders _ _ (sym e)
+same_orders false false a b xs ys ha hb la lb e = (
+  same_number a b (small a la) (small b lb) (same_word comma (codes ",\"orders\"") (decimal a) (decimal b) 44 _ _ refl (small_lacks a la) (small_lacks b lb) refl e),
+  same_rest comma (codes ",\"orders\"") (decimal a) (decimal b) 44 _ _ refl (small_lacks a la) (small_lacks b lb) refl e,
+)
+
 pub same_families : (f g : Family) (seed : ℕ) → IsTold f → IsTold g → head_text f ≡ head_text g → campaign_text f seed ≡ campaign_text g seed
 same_families f g seed hf hg e =
     let adversary : adversary_word f.adversary ≡ adversary_word g.adversary = same_word comma (codes "{\"adversary\"") (adversary_word f.adversary) (adversary_word g.adversary) 44 _ _ refl hf.adversary hg.adversary refl e in
@@ -200,14 +224,20 @@ same_families f g seed hf hg e =
     let generals_low = same_number f.generals.low g.generals.low (small f.generals.low hf.generals.0) (small g.generals.low hg.generals.0) (same_word comma (codes ",\"generals_low\"") (decimal f.generals.low) (decimal g.generals.low) 44 _ _ refl (small_lacks f.generals.low hf.generals.0) (small_lacks g.generals.low hg.generals.0) refl e4) in
     let e5 : from_line f ≡ from_line g = same_rest comma (codes ",\"generals_low\"") (decimal f.generals.low) (decimal g.generals.low) 44 _ _ refl (small_lacks f.generals.low hf.generals.0) (small_lacks g.generals.low hg.generals.0) refl e4 in
     let e6 : from_manner f ≡ from_manner g = same_rest comma (codes ",\"line\"") (codes "\"family\"") (codes "\"family\"") 44 _ _ refl refl refl refl e5 in
-    let manner = same_manner f.manner g.manner (same_word comma (codes ",\"manner\"") (manner_word f.manner) (manner_word g.manner) 44 _ _ refl (manner_lacks f.manner) (manner_lacks g.manner) refl e6) in
-    let e7 : from_patience f ≡ from_patience g = same_rest comma (codes ",\"manner\"") (manner_word f.manner) (manner_word g.manner) 44 _ _ refl (manner_lacks f.manner) (manner_lacks g.manner) refl e6 in
+    let our_orders = goes_on (f.orders == 1) f.orders (drop 1 (from_patience f)) in
+    let their_orders = goes_on (g.orders == 1) g.orders (drop 1 (from_patience g)) in
+    let ruled : member (codes ",\"manner\"") (manner_word f.manner) (44 ∷ our_orders.0) ≡ member (codes ",\"manner\"") (manner_word g.manner) (44 ∷ their_orders.0) =
+    sym (ap (λ (l : List ℕ). member (codes ",\"manner\"") (manner_word f.manner) l) our_orders.1) ∙ (e6 ∙ ap (λ (l : List ℕ). member (codes ",\"manner\"") (manner_word g.manner) l) their_orders.1) in
+    let manner = same_manner f.manner g.manner (same_word comma (codes ",\"manner\"") (manner_word f.manner) (manner_word g.manner) 44 _ _ refl (manner_lacks f.manner) (manner_lacks g.manner) refl ruled) in
+    let ordered : from_orders f ≡ from_orders g = our_orders.1 ∙ (same_rest comma (codes ",\"manner\"") (manner_word f.manner) (manner_word g.manner) 44 _ _ refl (manner_lacks f.manner) (manner_lacks g.manner) refl ruled ∙ sym their_orders.1) in
+    let orders = same_orders (f.orders == 1) (g.orders == 1) f.orders g.orders (drop 3 (from_patience f)) (drop 3 (from_patience g)) refl refl hf.orders hg.orders ordered in
+    let e7 : from_patience f ≡ from_patience g = orders.1 in
     let patience = same_patience f.patience g.patience hf.patience hg.patience (same_word comma (codes ",\"patience\"") (patience_word f.patience) (patience_word g.patience) 44 _ _ refl (patience_lacks f.patience hf.patience) (patience_lacks g.patience hg.patience) refl e7) in
     let e8 : from_high f ≡ from_high g = same_rest comma (codes ",\"patience\"") (patience_word f.patience) (patience_word g.patience) 44 _ _ refl (patience_lacks f.patience hf.patience) (patience_lacks g.patience hg.patience) refl e7 in
     let high = same_number f.traitors.high g.traitors.high (small f.traitors.high hf.traitors.1) (small g.traitors.high hg.traitors.1) (same_word comma (codes ",\"traitors_high\"") (decimal f.traitors.high) (decimal g.traitors.high) 44 _ _ refl (small_lacks f.traitors.high hf.traitors.1) (small_lacks g.traitors.high hg.traitors.1) refl e8) in
     let e9 : from_low f ≡ from_low g = same_rest comma (codes ",\"traitors_high\"") (decimal f.traitors.high) (decimal g.traitors.high) 44 _ _ refl (small_lacks f.traitors.high hf.traitors.1) (small_lacks g.traitors.high hg.traitors.1) refl e8 in
     let low = same_number f.traitors.low g.traitors.low (small f.traitors.low hf.traitors.0) (small g.traitors.low hg.traitors.0) (same_word (Byte 125) (codes ",\"traitors_low\"") (decimal f.traitors.low) (decimal g.traitors.low) 125 _ _ refl (decimal_lacks_brace f.traitors.low (small f.traitors.low hf.traitors.0)) (decimal_lacks_brace g.traitors.low (small g.traitors.low hg.traitors.0)) refl e9) in
-    ap plot_text (same_plot f g seed (span_of f.generals g.generals generals_low generals_high) (span_of f.bound g.bound bound_low bound_high) (span_of f.traitors g.traitors low high) commanders.0 manner patience (same_deeds f.adversary g.adversary adversary))
+    ap plot_text (same_plot f g seed (span_of f.generals g.generals generals_low generals_high) (span_of f.bound g.bound bound_low bound_high) (span_of f.traitors g.traitors low high) commanders.0 orders.0 manner patience (same_deeds f.adversary g.adversary adversary))
 
 -- ---- a head is a whole line
 
@@ -225,7 +255,8 @@ is_a_head f =
     let low : Ends (from_low f) = member_ends (codes ",\"traitors_low\"") (decimal f.traitors.low) (codes "}\n") (125 ∷ [], refl) in
     let high : Ends (from_high f) = member_ends (codes ",\"traitors_high\"") (decimal f.traitors.high) (from_low f) low in
     let patience : Ends (from_patience f) = member_ends (codes ",\"patience\"") (patience_word f.patience) (from_high f) high in
-    let manner : Ends (from_manner f) = member_ends (codes ",\"manner\"") (manner_word f.manner) (from_patience f) patience in
+    let orders : Ends (from_orders f) = ends_behind (orders_text f.orders) (from_patience f) patience in
+    let manner : Ends (from_manner f) = member_ends (codes ",\"manner\"") (manner_word f.manner) (from_orders f) orders in
     let line : Ends (from_line f) = member_ends (codes ",\"line\"") (codes "\"family\"") (from_manner f) manner in
     let fewest : Ends (from_fewest f) = member_ends (codes ",\"generals_low\"") (decimal f.generals.low) (from_line f) line in
     let most : Ends (from_most f) = member_ends (codes ",\"generals_high\"") (decimal f.generals.high) (from_fewest f) fewest in

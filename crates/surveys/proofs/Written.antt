@@ -8,7 +8,7 @@ use Rattle.surveys.specs.declared.finding.Finding.{Finding}
 use Rattle.surveys.specs.declared.manner.Manner.{Manner}
 use Rattle.surveys.specs.declared.manner.Manner.TheVariants.{Oral, Signed}
 use Rattle.surveys.specs.Family.{Family}
-use Rattle.surveys.specs.Heads.{IsTold, adversary_word, commander_text, head_text, manner_word, patience_word}
+use Rattle.surveys.specs.Heads.{IsTold, adversary_word, commander_text, head_text, manner_word, orders_text, patience_word}
 use Rattle.surveys.specs.Laws.{WrittenAreParts}
 use Rattle.surveys.specs.Lines.{line_text}
 use Rattle.surveys.specs.Parts.{IsHeadLine, IsLine, IsUnfed, found_in, row_text}
@@ -29,6 +29,10 @@ commander_line : (b : Bool) (c : ℕ) (behind : List ℕ) → c < 256 → IsLine
 commander_line true c behind lt h = h
 commander_line false c behind lt h = member_line (codes ",\"commander\"") (decimal c) behind refl (small_unfed c lt) h
 
+orders_line : (b : Bool) (v : ℕ) (behind : List ℕ) → v < 256 → IsLine behind → IsLine (cond b [] (codes ",\"orders\":" ++ decimal v) ++ behind)
+orders_line true v behind lt h = h
+orders_line false v behind lt h = member_line (codes ",\"orders\"") (decimal v) behind refl (small_unfed v lt) h
+
 head_line : (f : Family) → IsTold f → IsUnfed (adversary_word f.adversary) → IsHeadLine (head_text f)
 head_line f h free =
     let end : IsLine (codes "}\n") = record { front = 125 ∷ []; free = refl; whole = refl } in
@@ -43,9 +47,10 @@ head_line f h free =
           (member_line (codes ",\"generals_low\"") (decimal f.generals.low) _ refl (small_unfed f.generals.low h.generals.0)
           (member_line (codes ",\"line\"") (codes "\"family\"") _ refl refl
           (member_line (codes ",\"manner\"") (manner_word f.manner) _ refl (manner_unfed f.manner)
+          (orders_line (f.orders == 1) f.orders _ h.orders
           (member_line (codes ",\"patience\"") (patience_word f.patience) _ refl (patience_unfed f.patience h.patience)
           (member_line (codes ",\"traitors_high\"") (decimal f.traitors.high) _ refl (small_unfed f.traitors.high h.traitors.1)
-          (member_line (codes ",\"traitors_low\"") (decimal f.traitors.low) _ refl (small_unfed f.traitors.low h.traitors.0) end))))))))));
+          (member_line (codes ",\"traitors_low\"") (decimal f.traitors.low) _ refl (small_unfed f.traitors.low h.traitors.0) end)))))))))));
     }
 
 rows_text : (head : List ℕ) (found : List Finding) → flat_map line_text found ≡ flat_map (row_text head) (map Some found)

@@ -4,13 +4,14 @@ use Rattle.surveys.specs.declared.adversary.Adversary.{Adversary}
 use Rattle.surveys.specs.declared.span.CountRange.{CountRange}
 use Rattle.surveys.specs.declared.manner.Manner.{Manner}
 
--- A family: the ranges of the number of generals, the bound and the number of traitors, the commander, how orders are
--- sent, how many steps a traitor may take, and what traitors do.
+-- A family: the ranges of the number of generals, the bound and the number of traitors, the commander, the greatest
+-- order, how orders are sent, how many steps a traitor may take, and what traitors do.
 pub record Family : Type 0 where
   pub generals : CountRange
   pub bound : CountRange
   pub traitors : CountRange
   pub commander : ℕ
+  pub orders : ℕ
   pub manner : Manner
   pub patience : Option ℕ
   pub adversary : Adversary

@@ -33,6 +33,10 @@ patience_word (Some steps) = decimal steps
 abbrev pub commander_text : ℕ → List ℕ
 commander_text c = cond (c == 0) [] (codes ",\"commander\":" ++ decimal c)
 
+-- Writes the member of a head with the greatest order, unless this is 1.
+abbrev pub orders_text : ℕ → List ℕ
+orders_text v = cond (v == 1) [] (codes ",\"orders\":" ++ decimal v)
+
 -- Writes the head of a family.
 abbrev pub head_text : Family → List ℕ
 head_text f =
@@ -42,10 +46,10 @@ head_text f =
     (member (codes ",\"generals_high\"") (decimal f.generals.high)
     (member (codes ",\"generals_low\"") (decimal f.generals.low)
     (member (codes ",\"line\"") (codes "\"family\"")
-    (member (codes ",\"manner\"") (manner_word f.manner)
+    (member (codes ",\"manner\"") (manner_word f.manner) (orders_text f.orders ++
     (member (codes ",\"patience\"") (patience_word f.patience)
     (member (codes ",\"traitors_high\"") (decimal f.traitors.high)
-    (member (codes ",\"traitors_low\"") (decimal f.traitors.low) (codes "}\n")))))))))))
+    (member (codes ",\"traitors_low\"") (decimal f.traitors.low) (codes "}\n"))))))))))))
 
 -- Writes the members of a head that describe the bound, the commander and the generals.
 abbrev pub head_front : CountRange → ℕ → CountRange → List ℕ
@@ -54,10 +58,10 @@ head_front bound c generals =
     ++ (commander_text c ++ (codes ",\"generals_high\":"
     ++ (decimal generals.high ++ (codes ",\"generals_low\":" ++ decimal generals.low)))))))
 
--- Writes the members of a head that describe how orders are sent and the patience.
-abbrev pub head_middle : List ℕ → List ℕ → List ℕ
-head_middle manner patience =
-    codes ",\"line\":\"family\",\"manner\":" ++ (manner ++ (codes ",\"patience\":" ++ patience))
+-- Writes the members of a head that describe how orders are sent, the greatest order and the patience.
+abbrev pub head_middle : List ℕ → ℕ → List ℕ → List ℕ
+head_middle manner v patience =
+    codes ",\"line\":\"family\",\"manner\":" ++ (manner ++ (orders_text v ++ (codes ",\"patience\":" ++ patience)))
 
 -- Writes the members of a head that describe the traitors, and ends the line.
 abbrev pub head_end : CountRange → List ℕ
@@ -74,13 +78,14 @@ pub record IsHead (line : List ℕ) : Type 0 where
   pub front : List ℕ
   pub whole : line ≡ front ++ 10 ∷ []
 
--- States that the numbers of the ranges and the commander are below 256, that the patience is below 2 ^ 64, and that the bytecode
+-- States that the numbers of the ranges, the commander and the greatest order are below 256, that the patience is below 2 ^ 64, and that the bytecode
 -- contains no comma.
 pub record IsTold (f : Family) : Type 0 where
   pub bound : (f.bound.low < 256) × (f.bound.high < 256)
   pub generals : (f.generals.low < 256) × (f.generals.high < 256)
   pub traitors : (f.traitors.low < 256) × (f.traitors.high < 256)
   pub commander : f.commander < 256
+  pub orders : f.orders < 256
   pub patience : IfSome f.patience (λ steps. steps < 2 ^ 64)
   pub adversary : list_all (λ c. not (c == 44)) (adversary_word f.adversary) ≡ true
 

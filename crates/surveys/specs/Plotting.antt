@@ -44,39 +44,40 @@ chosen seed g (suc more) needed =
     cond (nat_lt (draw seed (4 + g) % suc more) needed) (g ∷ chosen seed (g + 1) more (needed - 1))
     (chosen seed (g + 1) more needed)
 
--- Returns the order or index that a number draws: 0 or 1, or the parity of the count if the traitor counts.
-abbrev pub said_by : Bool → ℕ → LieValue
-said_by true drawn = Parity
-said_by false drawn = Number (drawn / 4 % 2)
+-- Returns the order or index that a number draws: one from 0 to `v`, or the parity of the count if the traitor counts.
+abbrev pub said_by : Bool → ℕ → ℕ → LieValue
+said_by true v drawn = Parity
+said_by false v drawn = Number (drawn / 4 % (v + 1))
 
--- Returns what general `g` says to a receiver: nothing in one of four cases, the truth in one, and an order in two.
-abbrev pub oral_lies : Bool → ℕ → ℕ → ℕ → List Lie
-oral_lies counts g receiver drawn =
+-- Returns what general `g` says to a receiver: nothing in one of four cases, the truth in one, and an order, of those from
+-- 0 to `v`, in two.
+abbrev pub oral_lies : Bool → ℕ → ℕ → ℕ → ℕ → List Lie
+oral_lies counts v g receiver drawn =
     cond (receiver == g) []
     (cond (drawn % 4 == 0) []
     (cond (drawn % 4 == 1) (Honest receiver ∷ [])
-    (Sway receiver (said_by counts drawn) ∷ [])))
+    (Sway receiver (said_by counts v drawn) ∷ [])))
 
 -- Returns what general `g` signs or passes on, and to whom, or nothing in one of four cases. Only `c`, the commander,
--- signs orders.
-abbrev pub signed_lies : Bool → ℕ → ℕ → ℕ → List Lie
-signed_lies counts c g drawn =
+-- signs orders, which are from 0 to `v`.
+abbrev pub signed_lies : Bool → ℕ → ℕ → ℕ → ℕ → List Lie
+signed_lies counts v c g drawn =
     cond (drawn % 4 == 0) []
-    (cond (g == c) (Sign (said_by counts drawn) (drawn / 8 % 8192) ∷ [])
-    (Pass (said_by counts drawn) (drawn / 8 % 8192) ∷ []))
+    (cond (g == c) (Sign (said_by counts v drawn) (drawn / 8 % 8192) ∷ [])
+    (Pass (said_by counts 1 drawn) (drawn / 8 % 8192) ∷ []))
 
--- Returns all statements of general `g` if `c` commands. In an oral campaign there is at most one for each receiver, and in a signed
+-- Returns all statements of general `g` if `c` commands and orders are from 0 to `v`. In an oral campaign there is at most one for each receiver, and in a signed
 -- one there are at most four.
-abbrev pub lies_in : Manner → Bool → ℕ → ℕ → ℕ → ℕ → List Lie
-lies_in (Oral rule) counts c seed n g = flat_map (λ r. oral_lies counts g r (drawn_for seed g r)) (range_with_len 0 n)
-lies_in Signed counts c seed n g = flat_map (λ r. signed_lies counts c g (drawn_for seed g r)) (range_with_len 0 4)
+abbrev pub lies_in : Manner → Bool → ℕ → ℕ → ℕ → ℕ → ℕ → List Lie
+lies_in (Oral rule) counts v c seed n g = flat_map (λ r. oral_lies counts v g r (drawn_for seed g r)) (range_with_len 0 n)
+lies_in Signed counts v c seed n g = flat_map (λ r. signed_lies counts v c g (drawn_for seed g r)) (range_with_len 0 4)
 
--- Returns the statements of general `g` as a traitor of this kind, if `c` commands.
-abbrev pub lies_by : Adversary → Manner → ℕ → ℕ → ℕ → ℕ → List Lie
-lies_by Lies manner c seed n g = lies_in manner false c seed n g
-lies_by Collude manner c seed n g = lies_in manner true c seed n g
-lies_by Silent manner c seed n g = []
-lies_by (Given hex) manner c seed n g = []
+-- Returns the statements of general `g` as a traitor of this kind, if `c` commands and orders are from 0 to `v`.
+abbrev pub lies_by : Adversary → Manner → ℕ → ℕ → ℕ → ℕ → ℕ → List Lie
+lies_by Lies manner v c seed n g = lies_in manner false v c seed n g
+lies_by Collude manner v c seed n g = lies_in manner true v c seed n g
+lies_by Silent manner v c seed n g = []
+lies_by (Given hex) manner v c seed n g = []
 
 -- Checks whether traitors of this kind count on the board.
 abbrev pub do_count : Adversary → Bool
@@ -93,7 +94,7 @@ abbrev pub traitor_of : Family → ℕ → ℕ → ℕ → Traitor
 traitor_of f seed n g = record {
   general = g;
   counts = do_count f.adversary;
-  lies = lies_by f.adversary f.manner (commander_of f n) seed n g;
+  lies = lies_by f.adversary f.manner f.orders (commander_of f n) seed n g;
 }
 
 -- Returns the campaign that a seed draws from a family.
@@ -104,7 +105,7 @@ plot_of f seed =
       generals = n;
       bound = bound_of f seed;
       commander = commander_of f n;
-      order = draw seed 3 % 2;
+      order = draw seed 3 % (f.orders + 1);
       manner = f.manner;
       patience = f.patience;
       given = given_in f.adversary;

@@ -6,14 +6,15 @@ use crate::manner::Manner;
 use crate::span::CountRange;
 use std::marker::Model;
 
-/// A family of campaigns: the ranges of generals, bounds and traitors, who commands, how orders are sent, and what
-/// traitors do.
+/// A family of campaigns: the ranges of generals, bounds and traitors, who commands, the greatest order, how orders
+/// are sent, and what traitors do.
 #[derive(Drop)]
 pub struct Family {
     generals: CountRange,
     bound: CountRange,
     traitors: CountRange,
     commander: u8,
+    orders: u8,
     manner: Manner,
     patience: Option<u32>,
     adversary: Adversary,
@@ -29,6 +30,7 @@ impl Model for Family {
       bound = f.bound;
       traitors = f.traitors;
       commander = f.commander;
+      orders = f.orders;
       manner = f.manner;
       patience = f.patience;
       adversary = f.adversary;
@@ -39,6 +41,7 @@ impl Model for Family {
       bound = f.bound;
       traitors = f.traitors;
       commander = f.commander;
+      orders = f.orders;
       manner = f.manner;
       patience = f.patience;
       adversary = f.adversary;
@@ -51,13 +54,14 @@ impl Family {
     /// Returns a family of campaigns. A seed draws the number of generals, the bound and the number of traitors from
     /// these ranges. The number of generals is 2 to 13. A bound above 4 or above the number of generals less 2 is cut
     /// to that, and a number of traitors above the number of generals is cut to that. In a campaign without a general
-    /// `commander` the last general commands. If `patience` is given, 1 to 4,096, a traitor may take that many steps.
+    /// `commander` the last general commands. Orders are from 0 to `orders`. If `patience` is given, 1 to 4,096, a traitor may take that many steps.
     /// Otherwise he runs to his end.
     pub fn new(
         generals: CountRange,
         bound: CountRange,
         traitors: CountRange,
         commander: u8,
+        orders: u8,
         manner: Manner,
         patience: Option<u32>,
         adversary: Adversary,
@@ -67,6 +71,7 @@ impl Family {
           bound = bound;
           traitors = traitors;
           commander = commander;
+          orders = orders;
           manner = manner;
           patience = patience;
           adversary = adversary;
@@ -76,6 +81,7 @@ impl Family {
           bound = bound;
           traitors = traitors;
           commander = commander;
+          orders = orders;
           manner = manner;
           patience = patience;
           adversary = adversary;
@@ -86,6 +92,7 @@ impl Family {
             bound,
             traitors,
             commander,
+            orders,
             manner,
             patience,
             adversary,
@@ -121,6 +128,13 @@ impl Family {
         ensures { result ≡ self.now.commander }
     {
         self.commander
+    }
+
+    /// Returns the greatest order.
+    pub fn orders(&self) -> u8
+        ensures { result ≡ self.now.orders }
+    {
+        self.orders
     }
 
     /// Returns how orders are sent.

@@ -1,6 +1,6 @@
 //! Writes the head of a survey, which describes the family of its campaigns as a JSON object.
 ghost use Rattle.std.specs.Prelude.{◌≡◌, ◌++◌, IfOk, OnOk, codes, string_bytes};
-ghost use Rattle.surveys.specs.Heads.{adversary_word, commander_text, head_end, head_front, head_middle, head_text, is_head, manner_word, patience_word};
+ghost use Rattle.surveys.specs.Heads.{adversary_word, commander_text, head_end, head_front, head_middle, head_text, is_head, manner_word, orders_text, patience_word};
 
 use crate::adversary::Adversary;
 use crate::family::Family;
@@ -83,11 +83,27 @@ fn put_front(
     Ok(())
 }
 
-/// Writes how orders are sent, and how many steps a traitor may take.
-fn put_middle(out: &mut String, manner: &str, patience: &str) -> Result<(), AllocError>
-    ensures { OnOk result (string_bytes out.new ≡ string_bytes out.old ++ head_middle manner.now patience.now) }
+/// Writes the greatest order, unless it is 1.
+fn put_orders(out: &mut String, orders: u8) -> Result<(), AllocError>
+    ensures { OnOk result (string_bytes out.new ≡ string_bytes out.old ++ orders_text orders) }
+{
+    if orders == 1 {
+        return Ok(());
+    }
+    put_numbered(out, ",\"orders\":", u64::from(orders))
+}
+
+/// Writes how orders are sent, the greatest order, and how many steps a traitor may take.
+fn put_middle(
+    out: &mut String,
+    manner: &str,
+    orders: u8,
+    patience: &str,
+) -> Result<(), AllocError>
+    ensures { OnOk result (string_bytes out.new ≡ string_bytes out.old ++ head_middle manner.now orders patience.now) }
 {
     put_word(out, ",\"line\":\"family\",\"manner\":", manner)?;
+    put_orders(out, orders)?;
     put_word(out, ",\"patience\":", patience)?;
     Ok(())
 }
@@ -121,7 +137,12 @@ pub fn head(alloc: Global, family: &Family) -> Result<String, AllocError>
         family.commander(),
         family.generals(),
     )?;
-    put_middle(&mut out, manner.as_str(), patience.as_str())?;
+    put_middle(
+        &mut out,
+        manner.as_str(),
+        family.orders(),
+        patience.as_str(),
+    )?;
     put_end(&mut out, family.traitors())?;
     Ok(out)
 }

@@ -37,6 +37,7 @@ pub(crate) fn narrowed(
         only(bound),
         only(traitors),
         family.commander(),
+        family.orders(),
         family.manner(),
         family.patience(),
         adversary_copied(alloc, family.adversary())?,

@@ -51,26 +51,27 @@ fn count_of(family: &Family, seed: u64) -> u8
     within(family.traitors(), draw(seed, 2)).min(generals_of(family, seed))
 }
 
-/// Returns the order or index that a number draws: 0 or 1, or the parity of the count if the traitor counts.
-fn said_by(counts: bool, drawn: u64) -> LieValue
-    ensures { result ≡ said_by counts drawn }
+/// Returns the order or index that a number draws: one from 0 to `most`, or the parity of the count if the traitor counts.
+fn said_by(counts: bool, most: u8, drawn: u64) -> LieValue
+    ensures { result ≡ said_by counts most drawn }
 {
     if counts {
         LieValue::Parity
     } else {
-        LieValue::Number((drawn / 4 % 2) as u8)
+        LieValue::Number((drawn / 4 % (u64::from(most) + 1)) as u8)
     }
 }
 
-/// Appends what a general says to a receiver, if anything.
+/// Appends what a general says to a receiver, if anything. Orders are from 0 to `orders`.
 fn push_oral(
     lies: &mut Vec<Lie>,
     counts: bool,
+    orders: u8,
     general: u8,
     receiver: u8,
     drawn: u64,
 ) -> Result<(), AllocError>
-    ensures { OnOk result (lies.new.items ≡ lies.old.items ++ oral_lies counts general receiver drawn) }
+    ensures { OnOk result (lies.new.items ≡ lies.old.items ++ oral_lies counts orders general receiver drawn) }
 {
     if receiver == general || drawn % 4 == 0 {
         return Ok(());
@@ -78,29 +79,30 @@ fn push_oral(
     if drawn % 4 == 1 {
         lies.push(Lie::Honest(receiver))?;
     } else {
-        lies.push(Lie::Sway(receiver, said_by(counts, drawn)))?;
+        lies.push(Lie::Sway(receiver, said_by(counts, orders, drawn)))?;
     }
     Ok(())
 }
 
-/// Appends what a general signs or passes on, if anything. Only the commander signs orders.
+/// Appends what a general signs or passes on, if anything. Only the commander signs orders, which are from 0 to `orders`.
 fn push_signed(
     lies: &mut Vec<Lie>,
     counts: bool,
+    orders: u8,
     commander: u8,
     general: u8,
     drawn: u64,
 ) -> Result<(), AllocError>
-    ensures { OnOk result (lies.new.items ≡ lies.old.items ++ signed_lies counts commander general drawn) }
+    ensures { OnOk result (lies.new.items ≡ lies.old.items ++ signed_lies counts orders commander general drawn) }
 {
     if drawn % 4 == 0 {
         return Ok(());
     }
     let receivers = (drawn / 8 % 8192) as u16;
     if general == commander {
-        lies.push(Lie::Sign(said_by(counts, drawn), receivers))?;
+        lies.push(Lie::Sign(said_by(counts, orders, drawn), receivers))?;
     } else {
-        lies.push(Lie::Pass(said_by(counts, drawn), receivers))?;
+        lies.push(Lie::Pass(said_by(counts, 1, drawn), receivers))?;
     }
     Ok(())
 }
@@ -109,18 +111,20 @@ fn push_signed(
 fn oral_of(
     alloc: Global,
     counts: bool,
+    orders: u8,
     seed: u64,
     generals: u8,
     general: u8,
 ) -> Result<Vec<Lie>, AllocError>
     ensures { IfOk result (λ lies. lies.items
-        ≡ flat_map (λ r. oral_lies counts general r (drawn_for seed general r)) (range_with_len 0 generals)) }
+        ≡ flat_map (λ r. oral_lies counts orders general r (drawn_for seed general r)) (range_with_len 0 generals)) }
 {
     let mut lies = Vec::new(alloc);
     for receiver in 0..generals {
         push_oral(
             &mut lies,
             counts,
+            orders,
             general,
             receiver,
             drawn_for(seed, general, receiver),
@@ -133,18 +137,20 @@ fn oral_of(
 fn signed_of(
     alloc: Global,
     counts: bool,
+    orders: u8,
     commander: u8,
     seed: u64,
     general: u8,
 ) -> Result<Vec<Lie>, AllocError>
     ensures { IfOk result (λ lies. lies.items
-        ≡ flat_map (λ r. signed_lies counts commander general (drawn_for seed general r)) (range_with_len 0 4)) }
+        ≡ flat_map (λ r. signed_lies counts orders commander general (drawn_for seed general r)) (range_with_len 0 4)) }
 {
     let mut lies = Vec::new(alloc);
     for place in 0..4 {
         push_signed(
             &mut lies,
             counts,
+            orders,
             commander,
             general,
             drawn_for(seed, general, place),
@@ -158,16 +164,17 @@ fn lies_in(
     alloc: Global,
     manner: Manner,
     counts: bool,
+    orders: u8,
     commander: u8,
     seed: u64,
     generals: u8,
     general: u8,
 ) -> Result<Vec<Lie>, AllocError>
-    ensures { IfOk result (λ lies. lies.items ≡ lies_in manner counts commander seed generals general) }
+    ensures { IfOk result (λ lies. lies.items ≡ lies_in manner counts orders commander seed generals general) }
 {
     match manner {
-        Manner::Oral(_) => oral_of(alloc, counts, seed, generals, general),
-        Manner::Signed => signed_of(alloc, counts, commander, seed, general),
+        Manner::Oral(_) => oral_of(alloc, counts, orders, seed, generals, general),
+        Manner::Signed => signed_of(alloc, counts, orders, commander, seed, general),
     }
 }
 
@@ -179,14 +186,15 @@ fn lies_by(
     generals: u8,
     general: u8,
 ) -> Result<Vec<Lie>, AllocError>
-    ensures { IfOk result (λ lies. lies.items ≡ lies_by family.now.adversary family.now.manner
+    ensures { IfOk result (λ lies. lies.items ≡ lies_by family.now.adversary family.now.manner family.now.orders
         (commander_of family.now generals) seed generals general) }
 {
     let manner = family.manner();
+    let orders = family.orders();
     let commander = commander_of(family, generals);
     match family.adversary() {
-        Adversary::Lies => lies_in(alloc, manner, false, commander, seed, generals, general),
-        Adversary::Collude => lies_in(alloc, manner, true, commander, seed, generals, general),
+        Adversary::Lies => lies_in(alloc, manner, false, orders, commander, seed, generals, general),
+        Adversary::Collude => lies_in(alloc, manner, true, orders, commander, seed, generals, general),
         Adversary::Silent | Adversary::Given(_) => Ok(Vec::new(alloc)),
     }
 }
@@ -274,7 +282,7 @@ pub fn plot_of(alloc: Global, family: &Family, seed: u64) -> Result<Plot, AllocE
         generals,
         bound: bound_of(family, seed),
         commander: commander_of(family, generals),
-        order: (draw(seed, 3) % 2) as u8,
+        order: (draw(seed, 3) % (u64::from(family.orders()) + 1)) as u8,
         manner: family.manner(),
         patience: family.patience(),
         given: given_in(alloc, family.adversary())?,

@@ -1,15 +1,15 @@
 //! The request to play campaigns, made from the words that `clap` has parsed: generals, bound, traitors, seeds,
-//! commander, manner and what is printed.
+//! commander, orders, manner and what is printed.
 ghost use Rattle.std.specs.Prelude.{true, ◌≡◌, ◌≤◌, ◌⊎◌, IfErr, IfOk, codes, option_map, string_bytes};
 ghost use Rattle.clap.specs.Words.{found_of, rows_of};
 ghost use Rattle.surveyor.specs.Asked.{IsSurvey};
 ghost use Rattle.surveyor.specs.Flags.{given, has};
-ghost use Rattle.surveyor.specs.Meant.{AreAllKept, AreSeeds, IsCommander, IsPatience, IsSurveying, IsWithin, bars_keeping, detailed, first_of, folder_in, in_csv, plain_shape_in, shape_by, shape_in, some_traitors};
+ghost use Rattle.surveyor.specs.Meant.{AreAllKept, AreOrders, AreSeeds, IsCommander, IsPatience, IsSurveying, IsWithin, bars_keeping, detailed, first_of, folder_in, in_csv, plain_shape_in, shape_by, shape_in, some_traitors};
 ghost use Rattle.surveyor.specs.Words.{manner_named, plain_manner};
-ghost use Rattle.surveyor.specs.Wrong.{AreNoSeeds, IsNoCommander, IsNoManner, IsNoPatience, IsNoTable, IsOutside, IsRefused, IsSaid, IsUndetailed};
+ghost use Rattle.surveyor.specs.Wrong.{AreNoOrders, AreNoSeeds, IsNoCommander, IsNoManner, IsNoPatience, IsNoTable, IsOutside, IsRefused, IsSaid, IsUndetailed};
 ghost use Rattle.surveyor.specs.declared.task.Survey.{Survey};
 
-use crate::numbers::{patience, seeds, small, span};
+use crate::numbers::{orders, patience, seeds, small, span};
 use crate::task::{AskedError, ReportKind, Survey};
 use crate::word_values::{given, has, value};
 use clap::ArgMatches;
@@ -24,6 +24,8 @@ const BOUND: &str = "--bound takes 0 to 4, such as 1 or 1..2";
 const TRAITORS: &str = "--traitors takes 0 to 13, such as 1 or 1..3";
 
 const COMMANDER: &str = "--commander takes a number below the least of --generals";
+
+const ORDERS: &str = "--orders takes 0..1 to 0..255";
 
 const SEEDS: &str =
     "--seeds takes at most 10000000 seeds below 18446744073709551615, such as 7 or 1..1000";
@@ -69,6 +71,21 @@ fn told_commander(word: &str, generals: u8) -> Result<u8, AskedError>
     match small(generals, word) {
         Some(commander) => Ok(commander),
         None => Err(AskedError::Value(COMMANDER)),
+    }
+}
+
+/// Parses the orders from 0 on, and returns the greatest.
+///
+/// # Errors
+///
+/// The word is not 0..V, where V is 1 to 255.
+fn told_orders(word: &str) -> Result<u8, AskedError>
+    ensures told { IfOk result (AreOrders word.now) }
+    ensures refused { IfErr result (IsSaid (codes "--orders takes 0..1 to 0..255") (AreNoOrders word.now)) }
+{
+    match orders(word) {
+        Some(most) => Ok(most),
+        None => Err(AskedError::Value(ORDERS)),
     }
 }
 
@@ -303,7 +320,7 @@ fn some_traitors(found: &ArgMatches) -> &'static str
 /// # Errors
 ///
 /// A value is wrong, options exclude each other, or memory runs out.
-#[tactic(auto, using(crate::proofs::MeantLemmas::no_generals, crate::proofs::MeantLemmas::no_traitors, crate::proofs::MeantLemmas::no_seeds, crate::proofs::MeantLemmas::no_commander, crate::proofs::MeantLemmas::no_manner, crate::proofs::MeantLemmas::no_patience, crate::proofs::MeantLemmas::no_shape, crate::proofs::MeantLemmas::no_keeping))]
+#[tactic(auto, using(crate::proofs::MeantLemmas::no_generals, crate::proofs::MeantLemmas::no_traitors, crate::proofs::MeantLemmas::no_seeds, crate::proofs::MeantLemmas::no_commander, crate::proofs::MeantLemmas::no_orders, crate::proofs::MeantLemmas::no_manner, crate::proofs::MeantLemmas::no_patience, crate::proofs::MeantLemmas::no_shape, crate::proofs::MeantLemmas::no_keeping))]
 pub(super) fn survey_of(alloc: Global, found: &ArgMatches) -> Result<Survey, AskedError>
     ensures survey { IfOk result IsSurvey }
     ensures told { IfOk result (IsSurveying (rows_of (found_of found.now))) }
@@ -316,6 +333,7 @@ pub(super) fn survey_of(alloc: Global, found: &ArgMatches) -> Result<Survey, Ask
     let traitors = within(value(found, "traitors", some), 0, 13, TRAITORS)?;
     let (first, last) = told_seeds(value(found, "seeds", "1..1000"))?;
     let commander = told_commander(value(found, "commander", "0"), generals.low)?;
+    let orders = told_orders(value(found, "orders", "0..1"))?;
     let manner = manner(found)?;
     let patience = patience_of(found)?;
     let shape = printed(found)?;
@@ -325,6 +343,7 @@ pub(super) fn survey_of(alloc: Global, found: &ArgMatches) -> Result<Survey, Ask
         bound,
         traitors,
         commander,
+        orders,
         manner,
         patience,
         adversary: String::from_str(alloc, value(found, "adversary", "lies"))?,

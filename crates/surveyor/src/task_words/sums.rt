@@ -27,6 +27,7 @@ fn bars_sum(found: &ArgMatches) -> bool
             "bound",
             "traitors",
             "commander",
+            "orders",
             "rule",
             "patience",
             "signed",

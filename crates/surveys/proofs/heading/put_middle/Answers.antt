@@ -1,6 +1,7 @@
 use Rattle.std.proofs.Common.{◌++◌, codes}
 use Rattle.std.specs.String.{string_bytes}
-use Rattle.surveys.proofs.LineLemmas.{named, two_pieces}
+use Rattle.surveys.specs.Heads.{orders_text}
+use Rattle.surveys.proofs.LineLemmas.{named, three_pieces}
 use Rattle.surveys.proofs.heading.put_middle.Goals as goal
 
 pub returns : goal.returns
@@ -9,7 +10,9 @@ returns c =
     let p = c.args.patience.now in
     let o = string_bytes c.args.out.now in
     let s = string_bytes c.put_word.new.out in
+    let r = string_bytes c.put_orders.new.out in
     let t = string_bytes c.put_word-2.new.out in
-    two_pieces o s t (codes ",\"line\":\"family\",\"manner\":" ++ m) (codes ",\"patience\":" ++ p)
+    three_pieces o s r t (codes ",\"line\":\"family\",\"manner\":" ++ m) (orders_text c.args.orders) (codes ",\"patience\":" ++ p)
     (named o s (codes ",\"line\":\"family\",\"manner\":") m c.in_ok-put_word.ensures)
-    (named s t (codes ",\"patience\":") p c.in_ok-put_word-2.ensures)
+    c.in_ok-put_orders.ensures
+    (named r t (codes ",\"patience\":") p c.in_ok-put_word-2.ensures)
