@@ -132,8 +132,8 @@ bars_campaign rows = list_any (λ name. has name rows)
     (codes "seeds" ∷ codes "lines" ∷ codes "details" ∷ codes "table" ∷ codes "csv" ∷ codes "svg" ∷ codes "shrink" ∷ codes "break"
     ∷ codes "keep" ∷ codes "keep-all" ∷ [])
 
--- States that the words ask for this campaign: that of the seed which the value of `--campaign` is, in the family of the
--- survey which the other words describe.
+-- States that the words ask for this campaign: that of the seed which the value of `--campaign` is, in the family of
+-- the survey which the other words describe.
 pub record IsShowing (word : Text) (rows : List Row) (c : OneCampaign) : Type 0 where
   pub survey : IsSurveying rows c.survey
   pub seed : IsSeed word c.seed

@@ -63,16 +63,16 @@ abbrev pub kept_seeds : Bool → List Finding → List ℕ
 kept_seeds true found = seeds_in found
 kept_seeds false found = broken_seeds found
 
--- States that the text describes the campaigns of the survey's seeds, and that the files are those of the broken ones or,
--- if all are kept, of all.
+-- States that the text describes the campaigns of the survey's seeds, and that the files are those of the broken ones
+-- or, if all are kept, of all.
 pub record IsPlayed (s : Survey) (f : Family) (text : List ℕ) (files : List File) : Type 0 where
   pub found : List Finding
   pub all : AllZip (IsFindingOf f) (nat_range s.first (s.last + 1)) found
   pub whole : text ≡ head_in s.shape f ++ (lines_in s.shape found ++ summary_text s.shape found)
   pub kept : files ≡ campaign_files s.keep f (kept_seeds s.keeps_all found)
 
--- States that the text has the head and a line for the account of the campaign of each of the survey's seeds, and that the
--- files are those of the broken ones or, if all are kept, of all.
+-- States that the text has the head and a line for the account of the campaign of each of the survey's seeds, and that
+-- the files are those of the broken ones or, if all are kept, of all.
 pub record IsAccounted (s : Survey) (f : Family) (text : List ℕ) (files : List File) : Type 0 where
   pub all : List Account
   pub each : AllZip (IsAccountOf f) (nat_range s.first (s.last + 1)) all
@@ -129,8 +129,8 @@ pub record IsSurveyed (s : Survey) (old new : Option (List ℕ)) (before after :
   pub asked : IsFamilyOf s family
   pub printed : IsPrinted s family old new before after
 
--- States that the campaign of the seed is printed, for the family that the survey asks for. It is the text of which that
--- family's survey finds the result for this seed (`IsFindingOf`).
+-- States that the campaign of the seed is printed, for the family that the survey asks for. It is the text of which
+-- that family's survey finds the result for this seed (`IsFindingOf`).
 pub record IsCampaignPrinted (c : OneCampaign) (old new : Option (List ℕ)) : Type 0 where
   pub family : Family
   pub asked : IsFamilyOf c.survey family

@@ -1,5 +1,5 @@
-//! `--lines --details`: plays the campaigns of a survey and prints a line for each, with its traitors, its order and the
-//! decisions.
+//! `--lines --details`: plays the campaigns of a survey and prints a line for each, with its traitors, its order and
+//! the decisions.
 ghost use Rattle.std.specs.Prelude.{◌≡◌, List, ℕ, IfErr, IfOk, OnOk, flat_map, map};
 ghost use Rattle.std.specs.Io.KnownBytes.{Appends};
 ghost use Rattle.surveys.specs.Account.{Account as Told};

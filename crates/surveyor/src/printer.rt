@@ -40,7 +40,8 @@ pub fn unprinted(kind: ErrorKind) -> SurveyFailure
     }
 }
 
-/// Returns the summary of campaigns in this form. It is empty for `Lines`, `Accounts` and `Least`, which print no summary.
+/// Returns the summary of campaigns in this form. It is empty for `Lines`, `Accounts` and `Least`, which print no
+/// summary.
 ///
 /// # Errors
 ///

@@ -1,5 +1,5 @@
-//! Turns the words that `clap` has parsed into the request: to play campaigns, to print one with `--campaign`, to search
-//! with `--break`, or to sum with `--sum`.
+//! Turns the words that `clap` has parsed into the request: to play campaigns, to print one with `--campaign`, to
+//! search with `--break`, or to sum with `--sum`.
 ghost use Rattle.std.specs.Prelude.{IfErr, IfOk};
 ghost use Rattle.clap.specs.Words.{found_of, rows_of};
 ghost use Rattle.surveyor.specs.Asked.{IsAsked};

@@ -1,5 +1,5 @@
--- The account of a surveyed campaign, and its line: a JSON object (RFC 8259) with its members in ascending order of their
--- names.
+-- The account of a surveyed campaign, and its line: a JSON object (RFC 8259) with its members in ascending order of
+-- their names.
 use Rattle.std.specs.Prelude.{ℕ, ◌≡◌, List, [], ◌∷◌, ◌++◌, filter, flat_map, decimal, codes}
 use Rattle.std.specs.List.{range_with_len}
 use Rattle.round.specs.Scenario.{is_traitor}
@@ -21,8 +21,8 @@ abbrev pub decisions_in : Campaign → List ℕ
 decisions_in (Oral s) = (chronicle_of (run (opening s) (listed s []))).decisions
 decisions_in (Signed s) = (signed_chronicle_of (played s (listed s []))).decisions
 
--- States that this is the account of the campaign that the text describes, with this seed: its result, and the order, the
--- traitors and the decisions of that campaign.
+-- States that this is the account of the campaign that the text describes, with this seed: its result, and the order,
+-- the traitors and the decisions of that campaign.
 pub record IsAccount (text : List ℕ) (by : ℕ) (a : Account) : Type 0 where
   pub found : IsFound text by a.finding
   pub order : a.order ≡ (scenario_in found.campaign).order

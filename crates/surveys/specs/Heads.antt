@@ -78,8 +78,8 @@ pub record IsHead (line : List ℕ) : Type 0 where
   pub front : List ℕ
   pub whole : line ≡ front ++ 10 ∷ []
 
--- States that the numbers of the ranges, the commander and the greatest order are below 256, that the patience is below 2 ^ 64, and that the bytecode
--- contains no comma.
+-- States that the numbers of the ranges, the commander and the greatest order are below 256, that the patience is below
+-- 2 ^ 64, and that the bytecode contains no comma.
 pub record IsTold (f : Family) : Type 0 where
   pub bound : (f.bound.low < 256) × (f.bound.high < 256)
   pub generals : (f.generals.low < 256) × (f.generals.high < 256)

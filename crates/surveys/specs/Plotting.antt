@@ -49,8 +49,8 @@ abbrev pub said_by : Bool → ℕ → ℕ → LieValue
 said_by true v drawn = Parity
 said_by false v drawn = Number (drawn / 4 % (v + 1))
 
--- Returns what general `g` says to a receiver: nothing in one of four cases, the truth in one, and an order, of those from
--- 0 to `v`, in two.
+-- Returns what general `g` says to a receiver: nothing in one of four cases, the truth in one, and an order, of those
+-- from 0 to `v`, in two.
 abbrev pub oral_lies : Bool → ℕ → ℕ → ℕ → ℕ → List Lie
 oral_lies counts v g receiver drawn =
     cond (receiver == g) []
@@ -66,8 +66,8 @@ signed_lies counts v c g drawn =
     (cond (g == c) (Sign (said_by counts v drawn) (drawn / 8 % 8192) ∷ [])
     (Pass (said_by counts 1 drawn) (drawn / 8 % 8192) ∷ []))
 
--- Returns all statements of general `g` if `c` commands and orders are from 0 to `v`. In an oral campaign there is at most one for each receiver, and in a signed
--- one there are at most four.
+-- Returns all statements of general `g` if `c` commands and orders are from 0 to `v`. In an oral campaign there is at
+-- most one for each receiver, and in a signed one there are at most four.
 abbrev pub lies_in : Manner → Bool → ℕ → ℕ → ℕ → ℕ → ℕ → List Lie
 lies_in (Oral rule) counts v c seed n g = flat_map (λ r. oral_lies counts v g r (drawn_for seed g r)) (range_with_len 0 n)
 lies_in Signed counts v c seed n g = flat_map (λ r. signed_lies counts v c g (drawn_for seed g r)) (range_with_len 0 4)

@@ -1,6 +1,6 @@
 -- Wilson's interval for a share, at 95 per cent (Wilson 1927), in ten-thousandths. If k of n campaigns fail, it has the
--- shares p with (k/n - p)^2 <= z^2 p (1 - p) / n, where z is 1.96. So 625 (10000 k - n q)^2 <= 2401 n q (10000 - q) for a
--- share of q ten-thousandths.
+-- shares p with (k/n - p)^2 <= z^2 p (1 - p) / n, where z is 1.96. So 625 (10000 k - n q)^2 <= 2401 n q (10000 - q) for
+-- a share of q ten-thousandths.
 use Rattle.std.specs.Prelude.{ℕ, zero, suc, ◌≡◌, ◌≤◌, ◌-◌, ◌+◌, ◌*◌, ◌^◌, nat_le, nat_lt, ◌==◌, ◌&&◌, ◌||◌, Bool, true, cond, Option, None, Some}
 
 -- Returns the greatest number below a limit that passes a test, or 0 if none does.
@@ -8,8 +8,8 @@ unfoldable pub greatest : (ℕ → Bool) → ℕ → ℕ
 greatest p zero = 0
 greatest p (suc n) = cond (p n) n (greatest p n)
 
--- Checks whether a share of `q` ten-thousandths is at most the lower end of the interval: it is 0, or it is less than k/n
--- and not inside the interval, though it may be its end.
+-- Checks whether a share of `q` ten-thousandths is at most the lower end of the interval: it is 0, or it is less than
+-- k/n and not inside the interval, though it may be its end.
 abbrev pub is_below : ℕ → ℕ → ℕ → Bool
 is_below n k q =
     let d = 25 * (k * 10000 - n * q) in
@@ -19,7 +19,8 @@ is_below n k q =
 unfoldable pub lower : ℕ → ℕ → ℕ
 lower n k = greatest (is_below n k) 10001
 
--- Returns the upper end of the interval, rounded up to ten-thousandths: what the lower end for the other campaigns leaves.
+-- Returns the upper end of the interval, rounded up to ten-thousandths: what the lower end for the other campaigns
+-- leaves.
 abbrev pub upper : ℕ → ℕ → ℕ
 upper n k = 10000 - lower n (n - k)
 

@@ -54,8 +54,8 @@ impl Family {
     /// Returns a family of campaigns. A seed draws the number of generals, the bound and the number of traitors from
     /// these ranges. The number of generals is 2 to 13. A bound above 4 or above the number of generals less 2 is cut
     /// to that, and a number of traitors above the number of generals is cut to that. In a campaign without a general
-    /// `commander` the last general commands. Orders are from 0 to `orders`. If `patience` is given, 1 to 4,096, a traitor may take that many steps.
-    /// Otherwise he runs to his end.
+    /// `commander` the last general commands. Orders are from 0 to `orders`. If `patience` is given, 1 to 4,096, a
+    /// traitor may take that many steps. Otherwise he runs to his end.
     pub fn new(
         generals: CountRange,
         bound: CountRange,

@@ -51,7 +51,8 @@ fn count_of(family: &Family, seed: u64) -> u8
     within(family.traitors(), draw(seed, 2)).min(generals_of(family, seed))
 }
 
-/// Returns the order or index that a number draws: one from 0 to `most`, or the parity of the count if the traitor counts.
+/// Returns the order or index that a number draws: one from 0 to `most`, or the parity of the count if the traitor
+/// counts.
 fn said_by(counts: bool, most: u8, drawn: u64) -> LieValue
     ensures { result ≡ said_by counts most drawn }
 {
@@ -84,7 +85,8 @@ fn push_oral(
     Ok(())
 }
 
-/// Appends what a general signs or passes on, if anything. Only the commander signs orders, which are from 0 to `orders`.
+/// Appends what a general signs or passes on, if anything. Only the commander signs orders, which are from 0 to
+/// `orders`.
 fn push_signed(
     lies: &mut Vec<Lie>,
     counts: bool,

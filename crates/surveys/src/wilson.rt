@@ -54,8 +54,8 @@ fn upper(campaigns: u64, failed: u64) -> u16
 }
 
 /// Returns Wilson's interval at 95 per cent for the share of failed campaigns, if `failed` of `campaigns` campaigns
-/// failed. Its ends are in ten-thousandths; the lower one is rounded down, the upper one up. Returns `None` if there are
-/// 2^46 campaigns or more, or fewer than failed.
+/// failed. Its ends are in ten-thousandths; the lower one is rounded down, the upper one up. Returns `None` if there
+/// are 2^46 campaigns or more, or fewer than failed.
 pub fn interval(campaigns: u64, failed: u64) -> Option<(u16, u16)>
     ensures { result ≡ interval campaigns failed }
 {

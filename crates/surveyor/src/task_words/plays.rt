@@ -166,8 +166,8 @@ fn shape_by(lines: bool, table: bool, svg: bool, shrink: bool) -> Option<ReportK
     }
 }
 
-/// Returns what is printed, given what is printed without `--details`. Returns `None` if `--details` is given and that is
-/// not a line for each campaign.
+/// Returns what is printed, given what is printed without `--details`. Returns `None` if `--details` is given and that
+/// is not a line for each campaign.
 fn detailed(details: bool, shape: ReportKind) -> Option<ReportKind>
     ensures { result ≡ detailed details (Some shape) }
 {
@@ -185,8 +185,8 @@ fn detailed(details: bool, shape: ReportKind) -> Option<ReportKind>
     }
 }
 
-/// Returns what is printed, given what is printed without `--csv`. Returns `None` if `--csv` is given and that is neither
-/// the sums nor the table.
+/// Returns what is printed, given what is printed without `--csv`. Returns `None` if `--csv` is given and that is
+/// neither the sums nor the table.
 fn in_csv(csv: bool, shape: ReportKind) -> Option<ReportKind>
     ensures { result ≡ in_csv csv (Some shape) }
 {
