@@ -10,11 +10,11 @@ use Rattle.combine.specs.declared.campaign_rule.Rule.{Rule as CombineRule}
 use Rattle.surveys.specs.declared.manner.Manner.TheVariants.{Oral}
 use Rattle.surveys.specs.declared.span.CountRange.{CountRange}
 use Rattle.surveyor.specs.Flags.{given, has, survey_app}
-use Rattle.surveyor.specs.Meant.{AreSaid, AreSeeds, Asks, IsBreaking, IsCommander, IsMerging, IsPatience, IsShowing, IsSurveying, IsWithin, bars_campaign, bars_keeping, bars_sum, break_shape, detailed, detailed_shape_in, folder_in, in_csv, names_in, plain_shape_in, shape_in, some_traitors, value}
+use Rattle.surveyor.specs.Meant.{AreSaid, AreSeeds, Asks, IsBreaking, IsCommander, IsMerging, IsPatience, IsShowing, IsSurveying, IsWithin, bars_campaign, bars_keeping, bars_sum, break_shape, complaint_in, folder_in, names_in, shape_in, some_traitors, value}
 use Rattle.surveyor.specs.Numbers.{IsNoSpan, IsTold}
 use Rattle.surveyor.specs.Words.{manner_named}
-use Rattle.surveyor.specs.Wrong.{AreNoOrders, AreNoSeeds, AreTwice, AsksNothing, IsByClap, IsNoBreak, IsNoCommander, IsNoManner, IsNoPatience, IsNoRule, IsNoSeed, IsNoTable, IsOutside, IsRefused, IsSaid, IsUndetailed, IsUnmet, IsWrong}
-use Rattle.surveyor.specs.Wrong.IsWrong.{generals, bound, traitors, seeds, commander, orders, patience, signed, shape, details, csv, broken, keep, every, single, campaign, sum, twice}
+use Rattle.surveyor.specs.Wrong.{AreNoOrders, AreNoSeeds, AreTwice, AsksNothing, IsByClap, IsNoBreak, IsNoCommander, IsNoManner, IsNoPatience, IsNoRule, IsNoSeed, IsOutside, IsRefused, IsSaid, IsUnmet, IsWrong}
+use Rattle.surveyor.specs.Wrong.IsWrong.{generals, bound, traitors, seeds, commander, orders, patience, signed, shape, broken, keep, every, single, campaign, sum, twice}
 use Rattle.surveyor.specs.declared.task.Asked.{Asked}
 use Rattle.surveyor.specs.declared.task.Asked.TheVariants.{Survey as Surveys, Campaign, Break, Merge as Merges}
 use Rattle.surveyor.specs.declared.task.AskedError.{AskedError}
@@ -128,47 +128,8 @@ no_manner rows Memory h = absurd h
 pub no_patience : (rows : List Row) (e : AskedError) → IsSaid (codes "--patience takes 1 to 4096") (IsNoPatience (given (codes "patience") rows)) e → IsRefused rows (NoSurvey rows) e
 no_patience rows e h = said_so rows (codes "--patience takes 1 to 4096") (IsNoPatience (given (codes "patience") rows)) (NoSurvey rows) e (λ why same bars. patience same bars) (λ bars s told. bars s.patience told.patience) h
 
-abbrev shape_text : Text
-shape_text = codes "only one of --lines, --table, --svg, --shrink and --break can be used"
-
-abbrev details_text : Text
-details_text = codes "--details can be used only with --lines"
-
-abbrev csv_text : Text
-csv_text = codes "--csv can be used only by itself or with --table"
-
-none_in_csv : (b : Bool) (o : Option ReportKind) → o ≡ None → in_csv b o ≡ None
-none_in_csv false o is = is
-none_in_csv true None is = refl
-none_in_csv true (Some shape) is = absurd cc
-
-not_in_csv : (b : Bool) (o : Option ReportKind) → IsSomeAnd o (λ shape. in_csv b (Some shape) ≡ None) → in_csv b o ≡ None
-not_in_csv b None h = absurd h
-not_in_csv b (Some shape) h = h
-
-none_detailed : (b : Bool) (o : Option ReportKind) → o ≡ None → detailed b o ≡ None
-none_detailed false o is = is
-none_detailed true None is = refl
-none_detailed true (Some shape) is = absurd cc
-
-not_detailed : (b : Bool) (o : Option ReportKind) → IsSomeAnd o (λ shape. detailed b (Some shape) ≡ None) → detailed b o ≡ None
-not_detailed b None h = absurd h
-not_detailed b (Some shape) h = h
-
--- words that no form is printed for ask for nothing that has a form
-abbrev pub IsNoForm : List Row → AskedError → Type 0
-IsNoForm rows e = IsSaid shape_text (plain_shape_in rows ≡ None) e ⊎ IsSaid details_text (IsUndetailed rows) e ⊎ IsSaid csv_text (IsNoTable rows) e
-
-undetailed : (rows : List Row) → detailed_shape_in rows ≡ None → shape_in rows ≡ None
-undetailed rows none = none_in_csv (has (codes "csv") rows) (detailed_shape_in rows) none
-
-no_form : (rows : List Row) (P : Type 0) (e : AskedError) → (shape_in rows ≡ None → P) → IsNoForm rows e → IsRefused rows P e
-no_form rows P e bars (inl h) = said_so rows shape_text (plain_shape_in rows ≡ None) P e (λ why same none. shape same none) (λ none. bars (undetailed rows (none_detailed (has (codes "details") rows) (plain_shape_in rows) none))) h
-no_form rows P e bars (inr (inl h)) = said_so rows details_text (IsUndetailed rows) P e (λ why same no. details same no) (λ no. bars (undetailed rows (not_detailed (has (codes "details") rows) (plain_shape_in rows) no))) h
-no_form rows P e bars (inr (inr h)) = said_so rows csv_text (IsNoTable rows) P e (λ why same no. csv same no) (λ no. bars (not_in_csv (has (codes "csv") rows) (detailed_shape_in rows) no)) h
-
-pub no_shape : (rows : List Row) (e : AskedError) → IsNoForm rows e → IsRefused rows (NoSurvey rows) e
-no_shape rows e h = no_form rows (NoSurvey rows) e (λ none s told. (let is = sym none ∙ told.shape in cc)) h
+pub no_shape : (rows : List Row) (e : AskedError) → IsSaid (complaint_in rows) (shape_in rows ≡ None) e → IsRefused rows (NoSurvey rows) e
+no_shape rows e h = said_so rows (complaint_in rows) (shape_in rows ≡ None) (NoSurvey rows) e (λ why same none. shape same none) (λ none s told. (let is = sym none ∙ told.shape in cc)) h
 
 pub no_keeping : (rows : List Row) (e : AskedError) → IsSaid (codes "--keep-all cannot be used with --keep or --shrink") (bars_keeping rows ≡ true) e → IsRefused rows (NoSurvey rows) e
 no_keeping rows e h = said_so rows (codes "--keep-all cannot be used with --keep or --shrink") (bars_keeping rows ≡ true) (NoSurvey rows) e (λ why same bars. every same bars) (λ bars s told. (let both = sym bars ∙ told.every.single in cc)) h
@@ -227,8 +188,8 @@ NoMerge names rows = (m : Merge) → IsMerging names rows m → ⊥
 pub once_named : (names : List Text) → (AreTwice names → ⊥) → count_by (λ name. bytes_eq name (codes "-")) names ≤ 1
 once_named names h = omega arith
 
-pub no_merge_shape : (names : List Text) (rows : List Row) (e : AskedError) → IsNoForm rows e → IsRefused rows (NoMerge names rows) e
-no_merge_shape names rows e h = no_form rows (NoMerge names rows) e (λ none m told. (let is = sym none ∙ told.shape in cc)) h
+pub no_merge_shape : (names : List Text) (rows : List Row) (e : AskedError) → IsSaid (complaint_in rows) (shape_in rows ≡ None) e → IsRefused rows (NoMerge names rows) e
+no_merge_shape names rows e h = said_so rows (complaint_in rows) (shape_in rows ≡ None) (NoMerge names rows) e (λ why same none. shape same none) (λ none m told. (let is = sym none ∙ told.shape in cc)) h
 
 no_said : (o : Option Text) (s : Option (ℕ × ℕ)) → IsSomeAnd o AreNoSeeds → AreSaid o s → ⊥
 no_said None s h told = absurd h

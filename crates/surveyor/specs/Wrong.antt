@@ -7,7 +7,7 @@ use Rattle.clap.specs.declared.error.kind.ErrorKind.TheVariants.{OutOfMemory}
 use Rattle.combine.specs.Names.{rule_named}
 use Rattle.surveys.specs.declared.span.CountRange.{CountRange}
 use Rattle.surveyor.specs.Flags.{given, has, survey_app}
-use Rattle.surveyor.specs.Meant.{AreOrders, AreSeeds, Asks, IsCommander, IsPatience, IsSeed, IsWithin, bars_campaign, bars_keeping, bars_sum, break_shape, detailed, detailed_shape_in, folder_in, in_csv, plain_shape_in, names_in, shape_in, some_traitors, value}
+use Rattle.surveyor.specs.Meant.{AreOrders, AreSeeds, Asks, IsCommander, IsPatience, IsSeed, IsWithin, bars_campaign, bars_keeping, bars_sum, break_shape, complaint_in, folder_in, names_in, shape_in, some_traitors, value}
 use Rattle.surveyor.specs.declared.task.Asked.{Asked}
 use Rattle.surveyor.specs.declared.task.AskedError.{AskedError}
 use Rattle.surveyor.specs.declared.task.AskedError.TheVariants.{Words, Value, Rule, Memory}
@@ -37,14 +37,6 @@ AreNoOrders word = (most : ℕ) → AreOrders word most → ⊥
 abbrev pub IsNoPatience : Option Text → Type 0
 IsNoPatience word = (steps : Option ℕ) → IsPatience word steps → ⊥
 
--- States that one form is asked for, and that `--details` is given although this form has no details.
-abbrev pub IsUndetailed : List Row → Type 0
-IsUndetailed rows = IsSomeAnd (plain_shape_in rows) (λ shape. detailed (has (codes "details") rows) (Some shape) ≡ None)
-
--- States that one form is asked for, and that `--csv` is given although this form is no table.
-abbrev pub IsNoTable : List Row → Type 0
-IsNoTable rows = IsSomeAnd (detailed_shape_in rows) (λ shape. in_csv (has (codes "csv") rows) (Some shape) ≡ None)
-
 -- States that `--break` cannot print in this form.
 abbrev pub IsNoBreak : ReportKind → Type 0
 IsNoBreak shape = (is_table : Bool) → shape ≢ break_shape is_table
@@ -72,10 +64,7 @@ pub data IsWrong (rows : List Row) (why : Text) : Type 0 where
       IsNoPatience (given (codes "patience") rows) → IsWrong rows why
   signed : why ≡ codes "signed messages have no rule" →
       has (codes "signed") rows ≡ true → has (codes "rule") rows ≡ true → IsWrong rows why
-  shape : why ≡ codes "only one of --lines, --table, --svg, --shrink and --break can be used" →
-      plain_shape_in rows ≡ None → IsWrong rows why
-  details : why ≡ codes "--details can be used only with --lines" → IsUndetailed rows → IsWrong rows why
-  csv : why ≡ codes "--csv can be used only by itself or with --table" → IsNoTable rows → IsWrong rows why
+  shape : why ≡ complaint_in rows → shape_in rows ≡ None → IsWrong rows why
   broken : why ≡ codes "--break can be used with --table, but not with --lines, --svg or --shrink" →
       has (codes "break") rows ≡ true → (shape : ReportKind) → shape_in rows ≡ Some shape → IsNoBreak shape → IsWrong rows why
   keep : why ≡ codes "--break cannot be used with --keep: redirect its output to a file" →

@@ -1,12 +1,12 @@
 //! The request to play campaigns, made from the words that `clap` has parsed: generals, bound, traitors, seeds,
 //! commander, orders, manner and what is printed.
-ghost use Rattle.std.specs.Prelude.{true, ◌≡◌, ◌≤◌, ◌⊎◌, IfErr, IfOk, codes, option_map, string_bytes};
+ghost use Rattle.std.specs.Prelude.{true, ◌≡◌, ◌≤◌, IfErr, IfOk, MatchResult, codes, option_map, string_bytes};
 ghost use Rattle.clap.specs.Words.{found_of, rows_of};
 ghost use Rattle.surveyor.specs.Asked.{IsSurvey};
 ghost use Rattle.surveyor.specs.Flags.{given, has};
-ghost use Rattle.surveyor.specs.Meant.{AreAllKept, AreOrders, AreSeeds, IsCommander, IsPatience, IsSurveying, IsWithin, bars_keeping, detailed, first_of, folder_in, in_csv, plain_shape_in, shape_by, shape_in, some_traitors};
+ghost use Rattle.surveyor.specs.Meant.{AreAllKept, AreOrders, AreSeeds, IsCommander, IsPatience, IsSurveying, IsWithin, bars_keeping, complaint_in, detailed, first_of, folder_in, form_complaint, in_csv, shape_by, shape_in, some_traitors};
 ghost use Rattle.surveyor.specs.Words.{manner_named, plain_manner};
-ghost use Rattle.surveyor.specs.Wrong.{AreNoOrders, AreNoSeeds, IsNoCommander, IsNoManner, IsNoPatience, IsNoTable, IsOutside, IsRefused, IsSaid, IsUndetailed};
+ghost use Rattle.surveyor.specs.Wrong.{AreNoOrders, AreNoSeeds, IsNoCommander, IsNoManner, IsNoPatience, IsOutside, IsRefused, IsSaid};
 ghost use Rattle.surveyor.specs.declared.task.Survey.{Survey};
 
 use crate::numbers::{orders, patience, seeds, small, span};
@@ -168,13 +168,13 @@ fn shape_by(lines: bool, table: bool, svg: bool, shrink: bool) -> Option<ReportK
 
 /// Returns what is printed, given what is printed without `--details`. Returns `None` if `--details` is given and that
 /// is not a line for each campaign.
-fn detailed(details: bool, shape: ReportKind) -> Option<ReportKind>
-    ensures { result ≡ detailed details (Some shape) }
+fn detailed(details: bool, shape: Option<ReportKind>) -> Option<ReportKind>
+    ensures { result ≡ detailed details shape }
 {
     if !details {
-        return Some(shape);
+        return shape;
     }
-    match shape {
+    match shape? {
         ReportKind::Lines => Some(ReportKind::Accounts),
         ReportKind::Sums
         | ReportKind::Accounts
@@ -187,13 +187,13 @@ fn detailed(details: bool, shape: ReportKind) -> Option<ReportKind>
 
 /// Returns what is printed, given what is printed without `--csv`. Returns `None` if `--csv` is given and that is
 /// neither the sums nor the table.
-fn in_csv(csv: bool, shape: ReportKind) -> Option<ReportKind>
-    ensures { result ≡ in_csv csv (Some shape) }
+fn in_csv(csv: bool, shape: Option<ReportKind>) -> Option<ReportKind>
+    ensures { result ≡ in_csv csv shape }
 {
     if !csv {
-        return Some(shape);
+        return shape;
     }
-    match shape {
+    match shape? {
         ReportKind::Sums | ReportKind::Table => Some(ReportKind::Csv),
         ReportKind::Lines
         | ReportKind::Accounts
@@ -203,34 +203,39 @@ fn in_csv(csv: bool, shape: ReportKind) -> Option<ReportKind>
     }
 }
 
+/// Returns the message for words that ask for no form, given the form without `--details` and `--csv`, and that without
+/// `--csv`.
+fn form_complaint(plain: Option<ReportKind>, detailed: Option<ReportKind>) -> &'static str
+    ensures { result.now ≡ form_complaint plain detailed }
+{
+    if plain.is_none() {
+        return SHAPE;
+    }
+    if detailed.is_none() {
+        return DETAILS;
+    }
+    CSV
+}
+
 /// Returns what is printed about campaigns, from the words of the command line.
 ///
 /// # Errors
 ///
 /// More than one form is asked for, details of another form than lines, or CSV of another form than a table.
 pub(super) fn printed(found: &ArgMatches) -> Result<ReportKind, AskedError>
-    ensures told { IfOk result (λ s. shape_in (rows_of (found_of found.now)) ≡ Some s) }
-    ensures refused { let rows = rows_of (found_of found.now) in IfErr result (λ e.
-        IsSaid (codes "only one of --lines, --table, --svg, --shrink and --break can be used")
-        (plain_shape_in rows ≡ None) e
-        ⊎ IsSaid (codes "--details can be used only with --lines") (IsUndetailed rows) e
-        ⊎ IsSaid (codes "--csv can be used only by itself or with --table") (IsNoTable rows) e) }
+    ensures { let rows = rows_of (found_of found.now) in
+        MatchResult result (λ s. shape_in rows ≡ Some s) (IsSaid (complaint_in rows) (shape_in rows ≡ None)) }
 {
-    let shape = shape_by(
+    let plain = shape_by(
         has(found, "lines"),
         has(found, "table"),
         has(found, "svg"),
         has(found, "shrink"),
     );
-    let Some(shape) = shape else {
-        return Err(AskedError::Value(SHAPE));
-    };
-    let Some(shape) = detailed(has(found, "details"), shape) else {
-        return Err(AskedError::Value(DETAILS));
-    };
-    match in_csv(has(found, "csv"), shape) {
+    let detailed = detailed(has(found, "details"), plain);
+    match in_csv(has(found, "csv"), detailed) {
         Some(shape) => Ok(shape),
-        None => Err(AskedError::Value(CSV)),
+        None => Err(AskedError::Value(form_complaint(plain, detailed))),
     }
 }
 
