@@ -59,9 +59,9 @@ shape_in rows = in_csv (has (codes "csv") rows) (detailed_shape_in rows)
 -- Returns the message for words that ask for no form, given the form without `--details` and `--csv`, and that without
 -- `--csv`.
 abbrev pub form_complaint : Option ReportKind → Option ReportKind → Text
-form_complaint None detailed = codes "only one of --lines, --table, --svg, --shrink and --break can be used"
+form_complaint None other = codes "only one of --lines, --table, --svg, --shrink and --break can be used"
 form_complaint (Some plain) None = codes "--details can be used only with --lines"
-form_complaint (Some plain) (Some detailed) = codes "--csv can be used only by itself or with --table"
+form_complaint (Some plain) (Some other) = codes "--csv can be used only by itself or with --table"
 
 -- Returns the message for words that ask for no form, from their rows.
 abbrev pub complaint_in : List Row → Text

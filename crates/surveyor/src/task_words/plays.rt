@@ -208,13 +208,11 @@ fn in_csv(csv: bool, shape: Option<ReportKind>) -> Option<ReportKind>
 fn form_complaint(plain: Option<ReportKind>, detailed: Option<ReportKind>) -> &'static str
     ensures { result.now ≡ form_complaint plain detailed }
 {
-    if plain.is_none() {
-        return SHAPE;
+    match (plain, detailed) {
+        (None, _) => SHAPE,
+        (Some(_), None) => DETAILS,
+        (Some(_), Some(_)) => CSV,
     }
-    if detailed.is_none() {
-        return DETAILS;
-    }
-    CSV
 }
 
 /// Returns what is printed about campaigns, from the words of the command line.
