@@ -1,6 +1,6 @@
 //! `--lines --details`: plays the campaigns of a survey and prints a line for each, with its traitors, its order and
 //! the decisions.
-ghost use Rattle.std.specs.Prelude.{◌≡◌, List, ℕ, IfErr, IfOk, OnOk, flat_map, map};
+ghost use Rattle.std.specs.Prelude.{◌≡◌, IfErr, IfOk, OnOk, flat_map, map};
 ghost use Rattle.std.specs.Io.KnownBytes.{Appends};
 ghost use Rattle.surveys.specs.Account.{Account as Told};
 ghost use Rattle.surveys.specs.Accounting.{account_text};
@@ -8,7 +8,6 @@ ghost use Rattle.surveys.specs.Judging.{IsRefusedIn};
 ghost use Rattle.surveyor.specs.Asked.{IsSurvey};
 ghost use Rattle.surveyor.specs.Ends.{IsStopped};
 ghost use Rattle.surveyor.specs.Faults.{IsUnprinted};
-ghost use Rattle.surveyor.specs.Kept.{Gains};
 ghost use Rattle.surveyor.specs.Printed.{IsPrinted};
 
 use crate::fault::SurveyFailure;

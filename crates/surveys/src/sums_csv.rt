@@ -34,7 +34,7 @@ fn put_cells(out: &mut String, cells: &[NumberCell]) -> Result<(), AllocError>
 }
 
 /// Appends a share of ten-thousandths as a decimal fraction with four places.
-fn put_share(out: &mut String, share: u16) -> Result<(), AllocError>
+fn put_share(out: &mut String, share: u64) -> Result<(), AllocError>
     ensures { OnOk result (string_bytes out.new ≡ string_bytes out.old ++ share_text share) }
 {
     let whole = share / 10_000;
@@ -46,7 +46,7 @@ fn put_share(out: &mut String, share: u16) -> Result<(), AllocError>
 }
 
 /// Appends the ends of an interval, or two empty cells if there is none.
-fn put_interval(out: &mut String, ends: Option<(u16, u16)>) -> Result<(), AllocError>
+fn put_interval(out: &mut String, ends: Option<(u64, u64)>) -> Result<(), AllocError>
     ensures { OnOk result (string_bytes out.new ≡ string_bytes out.old ++ interval_text ends) }
 {
     let Some((low, high)) = ends else {

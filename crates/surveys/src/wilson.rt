@@ -4,7 +4,7 @@ ghost use Rattle.surveys.specs.Wilson.{IsLower, interval, is_below, lower, upper
 
 /// Checks whether a share of `share` ten-thousandths is at most the lower end of the interval, if `failed` of
 /// `campaigns` campaigns failed.
-fn is_below(campaigns: u64, failed: u64, share: u16) -> bool
+fn is_below(campaigns: u64, failed: u64, share: u64) -> bool
     requires few { campaigns < 2 ^ 46 }
     requires part { failed ≤ campaigns }
     requires share { share ≤ 10000 }
@@ -19,12 +19,12 @@ fn is_below(campaigns: u64, failed: u64, share: u16) -> bool
         return false;
     }
     let distance = (25 * (mean - here)) as u64;
-    let spread = u64::from(share) * u64::from(10_000 - share);
+    let spread = share * (10_000 - share);
     u128::from(2401 * campaigns) * u128::from(spread) <= u128::from(distance) * u128::from(distance)
 }
 
 /// Returns the lower end of the interval, rounded down to ten-thousandths.
-fn lower(campaigns: u64, failed: u64) -> u16
+fn lower(campaigns: u64, failed: u64) -> u64
     requires few { campaigns < 2 ^ 46 }
     requires part { failed ≤ campaigns }
     ensures same { result ≡ lower campaigns failed }
@@ -38,14 +38,14 @@ fn lower(campaigns: u64, failed: u64) -> u16
 }
 
 /// Returns the second share if it passes, and otherwise the first.
-fn later(first: u16, passes: bool, second: u16) -> u16
+fn later(first: u64, passes: bool, second: u64) -> u64
     ensures { result ≡ cond passes second first }
 {
     if passes { second } else { first }
 }
 
 /// Returns the upper end of the interval, rounded up to ten-thousandths.
-fn upper(campaigns: u64, failed: u64) -> u16
+fn upper(campaigns: u64, failed: u64) -> u64
     requires few { campaigns < 2 ^ 46 }
     requires part { failed ≤ campaigns }
     ensures { result ≡ upper campaigns failed }
@@ -56,7 +56,7 @@ fn upper(campaigns: u64, failed: u64) -> u16
 /// Returns Wilson's interval at 95 per cent for the share of failed campaigns, if `failed` of `campaigns` campaigns
 /// failed. Its ends are in ten-thousandths; the lower one is rounded down, the upper one up. Returns `None` if there
 /// are 2^46 campaigns or more, or fewer than failed.
-pub fn interval(campaigns: u64, failed: u64) -> Option<(u16, u16)>
+pub fn interval(campaigns: u64, failed: u64) -> Option<(u64, u64)>
     ensures { result ≡ interval campaigns failed }
 {
     if failed <= campaigns && campaigns < 70_368_744_177_664 {
