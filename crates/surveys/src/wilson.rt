@@ -28,6 +28,7 @@ fn lower(campaigns: u64, failed: u64) -> u64
     requires few { campaigns < 2 ^ 46 }
     requires part { failed ≤ campaigns }
     ensures same { result ≡ lower campaigns failed }
+    ensures most { result ≤ 10000 }
     ensures lower { IsLower campaigns failed result }
 {
     let mut found = 0;

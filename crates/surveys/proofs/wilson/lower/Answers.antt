@@ -19,3 +19,9 @@ pub returns-clause-lower : goal.returns-clause-lower
 returns-clause-lower c =
     let h = c.loop-share-test.false in
     lower_is c.args.campaigns c.args.failed c.loop-share.share c.loop-share.found (omega arith) c.loop-share.invariant
+
+pub returns-clause-most : goal.returns-clause-most
+returns-clause-most c =
+    let h = c.loop-share-test.false in
+    let ends = lower_is c.args.campaigns c.args.failed c.loop-share.share c.loop-share.found (omega arith) c.loop-share.invariant in
+    ends.most
