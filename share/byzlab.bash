@@ -39,7 +39,7 @@ _byzlab() {
     *:page:-*) offered="--schedule --chronicle -o -h --help" ;;
     *:schedule:-*) offered="--accesses -h --help" ;;
     *:explore:-*) offered="--most --keep -h --help" ;;
-    *:survey:-*) offered="--generals --bound --traitors --commander --orders --seeds --rule --patience --signed --adversary --lines --details --table --csv --svg --shrink --break --campaign --keep --keep-all --sum -h --help" ;;
+    *:survey:-*) offered="--generals --bound --traitors --commander --orders --grid --seeds --rule --patience --signed --adversary --lines --details --table --csv --svg --shrink --break --campaign --keep --keep-all --sum -h --help" ;;
     *:muster:-*) offered="--explain --json --of -h --help" ;;
     *:audit:-*) offered="--explain --json --verdicts --of -h --help" ;;
     *) offered= ;;

@@ -41,7 +41,7 @@ with_rules app more = record app { top = record app.top { rules = app.top.rules 
 -- The rules of all options and switches of `./byzlab survey`.
 abbrev pub rules : List Rule
 rules = option (codes "generals") ∷ option (codes "bound") ∷ option (codes "traitors")
-    ∷ option (codes "commander") ∷ option (codes "orders") ∷ option (codes "seeds")
+    ∷ option (codes "commander") ∷ option (codes "orders") ∷ switch (codes "grid") ∷ option (codes "seeds")
     ∷ option (codes "rule") ∷ option (codes "patience") ∷ switch (codes "signed") ∷ option (codes "adversary")
     ∷ switch (codes "lines") ∷ switch (codes "details") ∷ switch (codes "table") ∷ switch (codes "csv") ∷ switch (codes "svg")
     ∷ switch (codes "shrink")

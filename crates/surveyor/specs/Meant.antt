@@ -124,6 +124,7 @@ pub record IsSurveying (rows : List Row) (s : Survey) : Type 0 where
   pub traitors : IsWithin 0 13 (value (codes "traitors") (some_traitors rows) rows) s.traitors
   pub commander : IsCommander s.generals.low (value (codes "commander") (codes "0") rows) s.commander
   pub orders : AreOrders (value (codes "orders") (codes "0..1") rows) s.orders
+  pub grid : s.grid ≡ has (codes "grid") rows
   pub manner : manner_named (given (codes "rule") rows) (has (codes "signed") rows) ≡ Some s.manner
   pub patience : IsPatience (given (codes "patience") rows) s.patience
   pub adversary : string_bytes s.adversary ≡ value (codes "adversary") (codes "lies") rows
@@ -169,7 +170,7 @@ names_in rows = option_map (λ row. row.values) (row_of (codes "sum") rows)
 -- `--csv` and `--svg`.
 abbrev pub bars_sum : List Row → Bool
 bars_sum rows = list_any (λ name. has name rows)
-    (codes "generals" ∷ codes "bound" ∷ codes "traitors" ∷ codes "commander" ∷ codes "orders" ∷ codes "rule" ∷ codes "patience"
+    (codes "generals" ∷ codes "bound" ∷ codes "traitors" ∷ codes "commander" ∷ codes "orders" ∷ codes "grid" ∷ codes "rule" ∷ codes "patience"
     ∷ codes "signed" ∷ codes "adversary" ∷ codes "lines" ∷ codes "details" ∷ codes "shrink" ∷ codes "break" ∷ codes "campaign" ∷ codes "keep"
     ∷ codes "keep-all" ∷ [])
 

@@ -33,6 +33,7 @@ pub fn family_of(rt: &HostRuntime, survey: &Survey) -> Result<Family, SurveyFail
         survey.traitors,
         survey.commander,
         survey.orders,
+        survey.grid,
         survey.manner,
         survey.patience,
         adversary,

@@ -44,6 +44,11 @@ const FAMILY: &[Flag<'static>] = &[
         help: "The orders, at most 0..255 [default: 0..1]",
     },
     Flag {
+        name: "grid",
+        value: None,
+        help: "Seeds go through the numbers of generals, bounds and traitors in turn, and do not draw them",
+    },
+    Flag {
         name: "seeds",
         value: Some("N..M"),
         help: "The seeds, one for each campaign, at most 10000000 [default: 1..1000]",

@@ -74,6 +74,8 @@ pub struct Survey {
     pub commander: u8,
     /// The greatest order.
     pub orders: u8,
+    /// Whether seeds go through the ranges in turn.
+    pub grid: bool,
     pub manner: Manner,
     pub patience: Option<u32>,
     /// What the traitors do: `lies`, `silent`, `collude`, or the name of a file of assembly.

@@ -23,7 +23,7 @@ use Rattle.surveys.specs.declared.span.CountRange.{CountRange}
 use Rattle.surveys.specs.Draws.{draw}
 use Rattle.surveys.specs.Family.{Family}
 use Rattle.surveys.specs.Lines.{member}
-use Rattle.surveys.specs.Heads.{HeadsTellFamilies, IsHead, IsTold, adversary_word, commander_text, head_text, manner_word, orders_text, patience_word}
+use Rattle.surveys.specs.Heads.{HeadsTellFamilies, IsHead, IsTold, adversary_word, commander_text, head_text, line_word, manner_word, orders_text, patience_word}
 use Rattle.surveys.specs.Plotting.{bound_of, chosen, commander_of, count_of, do_count, generals_of, given_in, lies_by, plot_of}
 use Rattle.surveys.specs.Wording.{campaign_text, plot_text}
 use Rattle.surveys.proofs.Cuts.{decimal_lacks_brace, decimal_lacks_comma, same_rest, same_word}
@@ -46,7 +46,7 @@ abbrev from_manner : Family → List ℕ
 from_manner f = member (codes ",\"manner\"") (manner_word f.manner) (from_orders f)
 
 abbrev from_line : Family → List ℕ
-from_line f = member (codes ",\"line\"") (codes "\"family\"") (from_manner f)
+from_line f = member (codes ",\"line\"") (line_word f.grid) (from_manner f)
 
 abbrev from_fewest : Family → List ℕ
 from_fewest f = member (codes ",\"generals_low\"") (decimal f.generals.low) (from_line f)
@@ -68,6 +68,10 @@ from_bound f = member (codes ",\"bound_high\"") (decimal f.bound.high) (from_lea
 manner_lacks : (m : Manner) → Lacks comma (manner_word m)
 manner_lacks (Oral rule) = all-append (λ c. not (is_stop comma c)) (codes "\"") (rule_name rule ++ codes "\"") refl (all-append (λ c. not (is_stop comma c)) (rule_name rule) (codes "\"") (name_lacks_comma rule) refl)
 manner_lacks Signed = refl
+
+line_lacks : (b : Bool) → Lacks comma (line_word b)
+line_lacks true = refl
+line_lacks false = refl
 
 patience_lacks : (p : Option ℕ) → IfSome p (λ steps. steps < 2 ^ 64) → Lacks comma (patience_word p)
 patience_lacks None h = refl
@@ -91,6 +95,12 @@ unquoted xs ys e = append_cancel_right xs ys (codes "\"") (ap (drop 1) e)
 -- no rule has this word
 no_rule : {A : Type 0} (rule : Rule) → rule_name rule ≡ codes "signed" → A
 no_rule rule e = let so : Some rule ≡ rule_named (codes "signed") = sym (name_read rule) ∙ ap rule_named e in absurd (let z : Some rule ≡ None = so in cc)
+
+same_grid : (a b : Bool) → line_word a ≡ line_word b → a ≡ b
+same_grid true true e = refl
+same_grid true false e = unlike (codes "\"grid\"") (codes "\"family\"") (codes "\"grid\"") refl refl e
+same_grid false true e = unlike (codes "\"family\"") (codes "\"grid\"") (codes "\"family\"") refl refl e
+same_grid false false e = refl
 
 same_manner : (m k : Manner) → manner_word m ≡ manner_word k → m ≡ k
 same_manner (Oral rule) (Oral other) e =
@@ -136,11 +146,11 @@ same_deeds (Given h) (Given k) e =
     record { given = ap Some (append_cancel_right (string_bytes h) (string_bytes k) (34 ∷ []) more); counts = refl; lies = λ m v c seed n g. refl }
 
 -- seeds give the same of both
-same_plot : (f g : Family) (seed : ℕ) → f.generals ≡ g.generals → f.bound ≡ g.bound → f.traitors ≡ g.traitors → f.commander ≡ g.commander → f.orders ≡ g.orders → f.manner ≡ g.manner → f.patience ≡ g.patience → DoSame f.adversary g.adversary → plot_of f seed ≡ plot_of g seed
+same_plot : (f g : Family) (seed : ℕ) → f.generals ≡ g.generals → f.bound ≡ g.bound → f.traitors ≡ g.traitors → f.commander ≡ g.commander → f.orders ≡ g.orders → f.grid ≡ g.grid → f.manner ≡ g.manner → f.patience ≡ g.patience → DoSame f.adversary g.adversary → plot_of f seed ≡ plot_of g seed
 unfolding plot_of
-same_plot f g seed generals bound traitors commander orders manner patience same =
+same_plot f g seed generals bound traitors commander orders grid manner patience same =
     let h : Family = record g { adversary = f.adversary } in
-    let one : f ≡ h = (λ i. record { generals = generals i; bound = bound i; traitors = traitors i; commander = commander i; orders = orders i; manner = manner i; patience = patience i; adversary = f.adversary }) in
+    let one : f ≡ h = (λ i. record { generals = generals i; bound = bound i; traitors = traitors i; commander = commander i; orders = orders i; grid = grid i; manner = manner i; patience = patience i; adversary = f.adversary }) in
     let two : plot_of h seed ≡ plot_of g seed = (λ i. record {
       generals = generals_of g seed;
       bound = bound_of g seed;
@@ -223,7 +233,8 @@ same_families f g seed hf hg e =
     let e4 : from_fewest f ≡ from_fewest g = same_rest comma (codes ",\"generals_high\"") (decimal f.generals.high) (decimal g.generals.high) 44 _ _ refl (small_lacks f.generals.high hf.generals.1) (small_lacks g.generals.high hg.generals.1) refl e3 in
     let generals_low = same_number f.generals.low g.generals.low (small f.generals.low hf.generals.0) (small g.generals.low hg.generals.0) (same_word comma (codes ",\"generals_low\"") (decimal f.generals.low) (decimal g.generals.low) 44 _ _ refl (small_lacks f.generals.low hf.generals.0) (small_lacks g.generals.low hg.generals.0) refl e4) in
     let e5 : from_line f ≡ from_line g = same_rest comma (codes ",\"generals_low\"") (decimal f.generals.low) (decimal g.generals.low) 44 _ _ refl (small_lacks f.generals.low hf.generals.0) (small_lacks g.generals.low hg.generals.0) refl e4 in
-    let e6 : from_manner f ≡ from_manner g = same_rest comma (codes ",\"line\"") (codes "\"family\"") (codes "\"family\"") 44 _ _ refl refl refl refl e5 in
+    let grid = same_grid f.grid g.grid (same_word comma (codes ",\"line\"") (line_word f.grid) (line_word g.grid) 44 _ _ refl (line_lacks f.grid) (line_lacks g.grid) refl e5) in
+    let e6 : from_manner f ≡ from_manner g = same_rest comma (codes ",\"line\"") (line_word f.grid) (line_word g.grid) 44 _ _ refl (line_lacks f.grid) (line_lacks g.grid) refl e5 in
     let our_orders = goes_on (f.orders == 1) f.orders (drop 1 (from_patience f)) in
     let their_orders = goes_on (g.orders == 1) g.orders (drop 1 (from_patience g)) in
     let ruled : member (codes ",\"manner\"") (manner_word f.manner) (44 ∷ our_orders.0) ≡ member (codes ",\"manner\"") (manner_word g.manner) (44 ∷ their_orders.0) =
@@ -237,7 +248,7 @@ same_families f g seed hf hg e =
     let high = same_number f.traitors.high g.traitors.high (small f.traitors.high hf.traitors.1) (small g.traitors.high hg.traitors.1) (same_word comma (codes ",\"traitors_high\"") (decimal f.traitors.high) (decimal g.traitors.high) 44 _ _ refl (small_lacks f.traitors.high hf.traitors.1) (small_lacks g.traitors.high hg.traitors.1) refl e8) in
     let e9 : from_low f ≡ from_low g = same_rest comma (codes ",\"traitors_high\"") (decimal f.traitors.high) (decimal g.traitors.high) 44 _ _ refl (small_lacks f.traitors.high hf.traitors.1) (small_lacks g.traitors.high hg.traitors.1) refl e8 in
     let low = same_number f.traitors.low g.traitors.low (small f.traitors.low hf.traitors.0) (small g.traitors.low hg.traitors.0) (same_word (Byte 125) (codes ",\"traitors_low\"") (decimal f.traitors.low) (decimal g.traitors.low) 125 _ _ refl (decimal_lacks_brace f.traitors.low (small f.traitors.low hf.traitors.0)) (decimal_lacks_brace g.traitors.low (small g.traitors.low hg.traitors.0)) refl e9) in
-    ap plot_text (same_plot f g seed (span_of f.generals g.generals generals_low generals_high) (span_of f.bound g.bound bound_low bound_high) (span_of f.traitors g.traitors low high) commanders.0 orders.0 manner patience (same_deeds f.adversary g.adversary adversary))
+    ap plot_text (same_plot f g seed (span_of f.generals g.generals generals_low generals_high) (span_of f.bound g.bound bound_low bound_high) (span_of f.traitors g.traitors low high) commanders.0 orders.0 grid manner patience (same_deeds f.adversary g.adversary adversary))
 
 -- ---- a head is a whole line
 
@@ -257,7 +268,7 @@ is_a_head f =
     let patience : Ends (from_patience f) = member_ends (codes ",\"patience\"") (patience_word f.patience) (from_high f) high in
     let orders : Ends (from_orders f) = ends_behind (orders_text f.orders) (from_patience f) patience in
     let manner : Ends (from_manner f) = member_ends (codes ",\"manner\"") (manner_word f.manner) (from_orders f) orders in
-    let line : Ends (from_line f) = member_ends (codes ",\"line\"") (codes "\"family\"") (from_manner f) manner in
+    let line : Ends (from_line f) = member_ends (codes ",\"line\"") (line_word f.grid) (from_manner f) manner in
     let fewest : Ends (from_fewest f) = member_ends (codes ",\"generals_low\"") (decimal f.generals.low) (from_line f) line in
     let most : Ends (from_most f) = member_ends (codes ",\"generals_high\"") (decimal f.generals.high) (from_fewest f) fewest in
     let commander : Ends (from_commander f) = ends_behind (commander_text f.commander) (from_most f) most in

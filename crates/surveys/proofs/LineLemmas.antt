@@ -1,10 +1,10 @@
 -- Texts that are put together piece by piece.
 use Rattle.std.proofs.Common.{ℕ, ◌≡◌, List, [], ◌++◌, ap, ◌∙◌, append_assoc, codes}
 use Rattle.surveys.specs.declared.finding.Finding.{Finding}
-use Rattle.std.specs.Prelude.{decimal}
+use Rattle.std.specs.Prelude.{Bool, decimal}
 use Rattle.surveys.specs.declared.span.CountRange.{CountRange}
 use Rattle.surveys.specs.Family.{Family}
-use Rattle.surveys.specs.Heads.{adversary_word, commander_text, head_end, head_front, head_middle, head_text, manner_word, orders_text, patience_word}
+use Rattle.surveys.specs.Heads.{adversary_word, commander_text, head_end, head_front, head_middle, head_text, line_word, manner_word, orders_text, patience_word}
 use Rattle.surveys.specs.Account.{Account}
 use Rattle.surveys.specs.Accounting.{account_back, account_front, account_middle, account_text}
 use Rattle.surveys.specs.Lines.{back_text, front_text, line_text}
@@ -34,22 +34,22 @@ pub joined_account : (old : List ℕ) (a : Account) → ((old ++ account_front a
 joined_account old a = simp append_assoc
 
 -- a head's parts
-flat : (p w f1 x1 f2 x2 k f3 x3 f4 x4 m1 y1 r m2 y2 e1 z1 e2 z2 e3 : List ℕ)
-    → (((p ++ w) ++ (f1 ++ (x1 ++ (f2 ++ (x2 ++ (k ++ (f3 ++ (x3 ++ (f4 ++ x4))))))))) ++ (m1 ++ (y1 ++ (r ++ (m2 ++ y2))))) ++ (e1 ++ (z1 ++ (e2 ++ (z2 ++ e3))))
-    ≡ p ++ (w ++ (f1 ++ (x1 ++ (f2 ++ (x2 ++ (k ++ (f3 ++ (x3 ++ (f4 ++ (x4 ++ (m1 ++ (y1 ++ (r ++ (m2 ++ (y2 ++ (e1 ++ (z1 ++ (e2 ++ (z2 ++ e3)))))))))))))))))))
-flat p w f1 x1 f2 x2 k f3 x3 f4 x4 m1 y1 r m2 y2 e1 z1 e2 z2 e3 = simp append_assoc
+flat : (p w f1 x1 f2 x2 k f3 x3 f4 x4 m0 y0 m1 y1 r m2 y2 e1 z1 e2 z2 e3 : List ℕ)
+    → (((p ++ w) ++ (f1 ++ (x1 ++ (f2 ++ (x2 ++ (k ++ (f3 ++ (x3 ++ (f4 ++ x4))))))))) ++ (m0 ++ (y0 ++ (m1 ++ (y1 ++ (r ++ (m2 ++ y2))))))) ++ (e1 ++ (z1 ++ (e2 ++ (z2 ++ e3))))
+    ≡ p ++ (w ++ (f1 ++ (x1 ++ (f2 ++ (x2 ++ (k ++ (f3 ++ (x3 ++ (f4 ++ (x4 ++ (m0 ++ (y0 ++ (m1 ++ (y1 ++ (r ++ (m2 ++ (y2 ++ (e1 ++ (z1 ++ (e2 ++ (z2 ++ e3)))))))))))))))))))))
+flat p w f1 x1 f2 x2 k f3 x3 f4 x4 m0 y0 m1 y1 r m2 y2 e1 z1 e2 z2 e3 = simp append_assoc
 
-joined_head : (f : Family) → (((codes "{\"adversary\":" ++ adversary_word f.adversary) ++ head_front f.bound f.commander f.generals) ++ head_middle (manner_word f.manner) f.orders (patience_word f.patience)) ++ head_end f.traitors ≡ head_text f
+joined_head : (f : Family) → (((codes "{\"adversary\":" ++ adversary_word f.adversary) ++ head_front f.bound f.commander f.generals) ++ head_middle f.grid (manner_word f.manner) f.orders (patience_word f.patience)) ++ head_end f.traitors ≡ head_text f
 joined_head f =
     flat (codes "{\"adversary\":") (adversary_word f.adversary) (codes ",\"bound_high\":") (decimal f.bound.high) (codes ",\"bound_low\":") (decimal f.bound.low) (commander_text f.commander) (codes ",\"generals_high\":") (decimal f.generals.high)
-    (codes ",\"generals_low\":") (decimal f.generals.low) (codes ",\"line\":\"family\",\"manner\":") (manner_word f.manner) (orders_text f.orders) (codes ",\"patience\":") (patience_word f.patience)
+    (codes ",\"generals_low\":") (decimal f.generals.low) (codes ",\"line\":") (line_word f.grid) (codes ",\"manner\":") (manner_word f.manner) (orders_text f.orders) (codes ",\"patience\":") (patience_word f.patience)
     (codes ",\"traitors_high\":") (decimal f.traitors.high) (codes ",\"traitors_low\":") (decimal f.traitors.low) (codes "}\n")
 
-pub whole_head : (f : Family) (o a b c d adversary manner patience : List ℕ) (bound generals traitors : CountRange) (commander orders : ℕ) → o ≡ [] → adversary ≡ adversary_word f.adversary → manner ≡ manner_word f.manner → patience ≡ patience_word f.patience
-    → bound ≡ f.bound → generals ≡ f.generals → traitors ≡ f.traitors → commander ≡ f.commander → orders ≡ f.orders → a ≡ (o ++ codes "{\"adversary\":") ++ adversary → b ≡ a ++ head_front bound commander generals → c ≡ b ++ head_middle manner orders patience → d ≡ c ++ head_end traitors → d ≡ head_text f
-whole_head f o a b c d adversary manner patience bound generals traitors commander orders none ad ma pa bo ge tr co os e1 e2 e3 e4 =
+pub whole_head : (f : Family) (o a b c d adversary manner patience : List ℕ) (bound generals traitors : CountRange) (commander orders : ℕ) (grid : Bool) → o ≡ [] → adversary ≡ adversary_word f.adversary → manner ≡ manner_word f.manner → patience ≡ patience_word f.patience
+    → bound ≡ f.bound → generals ≡ f.generals → traitors ≡ f.traitors → commander ≡ f.commander → orders ≡ f.orders → grid ≡ f.grid → a ≡ (o ++ codes "{\"adversary\":") ++ adversary → b ≡ a ++ head_front bound commander generals → c ≡ b ++ head_middle grid manner orders patience → d ≡ c ++ head_end traitors → d ≡ head_text f
+whole_head f o a b c d adversary manner patience bound generals traitors commander orders grid none ad ma pa bo ge tr co os gr e1 e2 e3 e4 =
     let one : a ≡ codes "{\"adversary\":" ++ adversary = e1 ∙ ap (λ (l : List ℕ). (l ++ codes "{\"adversary\":") ++ adversary) none in
     let two = e2 ∙ ap (λ (l : List ℕ). l ++ head_front bound commander generals) one in
-    let three = e3 ∙ ap (λ (l : List ℕ). l ++ head_middle manner orders patience) two in
+    let three = e3 ∙ ap (λ (l : List ℕ). l ++ head_middle grid manner orders patience) two in
     let four = e4 ∙ ap (λ (l : List ℕ). l ++ head_end traitors) three in
-    four ∙ ((λ i. (((codes "{\"adversary\":" ++ ad i) ++ head_front (bo i) (co i) (ge i)) ++ head_middle (ma i) (os i) (pa i)) ++ head_end (tr i)) ∙ joined_head f)
+    four ∙ ((λ i. (((codes "{\"adversary\":" ++ ad i) ++ head_front (bo i) (co i) (ge i)) ++ head_middle (gr i) (ma i) (os i) (pa i)) ++ head_end (tr i)) ∙ joined_head f)

@@ -7,7 +7,7 @@ use Rattle.surveys.specs.Family.{Family}
 use Rattle.surveys.specs.Plotting.{bound_of, chosen, commander_of, count_of, generals_of, plot_of}
 use Rattle.surveys.specs.Breaches.{IsSameAs, narrowed, only}
 
-pub same_plots : (f : Family) (n m t : ℕ) (a : Adversary) → IsSameAs f.adversary a → plot_of (record { generals = only n; bound = only m; traitors = only t; commander = f.commander; orders = f.orders; manner = f.manner; patience = f.patience; adversary = a }) ≡ plot_of (narrowed f n m t)
+pub same_plots : (f : Family) (n m t : ℕ) (a : Adversary) → IsSameAs f.adversary a → plot_of (record { generals = only n; bound = only m; traitors = only t; commander = f.commander; orders = f.orders; grid = f.grid; manner = f.manner; patience = f.patience; adversary = a }) ≡ plot_of (narrowed f n m t)
 unfolding plot_of
 same_plots f n m t a h = λ i seed. record {
   generals = generals_of (narrowed f n m t) seed;

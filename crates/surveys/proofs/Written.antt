@@ -8,7 +8,7 @@ use Rattle.surveys.specs.declared.finding.Finding.{Finding}
 use Rattle.surveys.specs.declared.manner.Manner.{Manner}
 use Rattle.surveys.specs.declared.manner.Manner.TheVariants.{Oral, Signed}
 use Rattle.surveys.specs.Family.{Family}
-use Rattle.surveys.specs.Heads.{IsTold, adversary_word, commander_text, head_text, manner_word, orders_text, patience_word}
+use Rattle.surveys.specs.Heads.{IsTold, adversary_word, commander_text, head_text, line_word, manner_word, orders_text, patience_word}
 use Rattle.surveys.specs.Laws.{WrittenAreParts}
 use Rattle.surveys.specs.Lines.{line_text}
 use Rattle.surveys.specs.Parts.{IsHeadLine, IsLine, IsUnfed, found_in, row_text}
@@ -17,6 +17,10 @@ use Rattle.surveys.proofs.Walks.{decimal_unfed, member_line}
 manner_unfed : (m : Manner) → IsUnfed (manner_word m)
 manner_unfed (Oral rule) = all-append (λ c. not (c == 10)) (codes "\"") (rule_name rule ++ codes "\"") refl (all-append (λ c. not (c == 10)) (rule_name rule) (codes "\"") (name_lacks_feed rule) refl)
 manner_unfed Signed = refl
+
+line_unfed : (b : Bool) → IsUnfed (line_word b)
+line_unfed true = refl
+line_unfed false = refl
 
 patience_unfed : (p : Option ℕ) → IfSome p (λ steps. steps < 2 ^ 64) → IsUnfed (patience_word p)
 patience_unfed None h = refl
@@ -45,7 +49,7 @@ head_line f h free =
           (commander_line (f.commander == 0) f.commander _ h.commander
           (member_line (codes ",\"generals_high\"") (decimal f.generals.high) _ refl (small_unfed f.generals.high h.generals.1)
           (member_line (codes ",\"generals_low\"") (decimal f.generals.low) _ refl (small_unfed f.generals.low h.generals.0)
-          (member_line (codes ",\"line\"") (codes "\"family\"") _ refl refl
+          (member_line (codes ",\"line\"") (line_word f.grid) _ refl (line_unfed f.grid)
           (member_line (codes ",\"manner\"") (manner_word f.manner) _ refl (manner_unfed f.manner)
           (orders_line (f.orders == 1) f.orders _ h.orders
           (member_line (codes ",\"patience\"") (patience_word f.patience) _ refl (patience_unfed f.patience h.patience)

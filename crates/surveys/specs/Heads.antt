@@ -1,6 +1,6 @@
 -- The head of a survey: a JSON object (RFC 8259) that describes the family of its campaigns, with its members in
 -- ascending order of their names.
-use Rattle.std.specs.Prelude.{ℕ, ◌≡◌, ◌<◌, ◌^◌, ◌==◌, cond, not, true, Bool, IfSome, List, [], ◌∷◌, ◌++◌, take, decimal, bytes_eq, codes, Option, None, Some, string_bytes}
+use Rattle.std.specs.Prelude.{ℕ, ◌≡◌, ◌<◌, ◌^◌, ◌==◌, cond, not, true, false, Bool, IfSome, List, [], ◌∷◌, ◌++◌, take, decimal, bytes_eq, codes, Option, None, Some, string_bytes}
 use Rattle.std.specs.List.{list_all}
 use Rattle.combine.specs.Rule.{rule_name}
 use Rattle.surveys.specs.declared.adversary.Adversary.{Adversary}
@@ -24,6 +24,11 @@ abbrev pub manner_word : Manner → List ℕ
 manner_word (Oral rule) = codes "\"" ++ (rule_name rule ++ codes "\"")
 manner_word Signed = codes "\"signed\""
 
+-- Writes whether the numbers of campaigns are drawn, or the seeds go through the ranges in turn.
+abbrev pub line_word : Bool → List ℕ
+line_word false = codes "\"family\""
+line_word true = codes "\"grid\""
+
 -- Writes how many steps a traitor may take, or `null` if they are unlimited.
 abbrev pub patience_word : Option ℕ → List ℕ
 patience_word None = codes "null"
@@ -45,7 +50,7 @@ head_text f =
     (member (codes ",\"bound_low\"") (decimal f.bound.low) (commander_text f.commander ++
     (member (codes ",\"generals_high\"") (decimal f.generals.high)
     (member (codes ",\"generals_low\"") (decimal f.generals.low)
-    (member (codes ",\"line\"") (codes "\"family\"")
+    (member (codes ",\"line\"") (line_word f.grid)
     (member (codes ",\"manner\"") (manner_word f.manner) (orders_text f.orders ++
     (member (codes ",\"patience\"") (patience_word f.patience)
     (member (codes ",\"traitors_high\"") (decimal f.traitors.high)
@@ -58,10 +63,11 @@ head_front bound c generals =
     ++ (commander_text c ++ (codes ",\"generals_high\":"
     ++ (decimal generals.high ++ (codes ",\"generals_low\":" ++ decimal generals.low)))))))
 
--- Writes the members of a head that describe how orders are sent, the greatest order and the patience.
-abbrev pub head_middle : List ℕ → ℕ → List ℕ → List ℕ
-head_middle manner v patience =
-    codes ",\"line\":\"family\",\"manner\":" ++ (manner ++ (orders_text v ++ (codes ",\"patience\":" ++ patience)))
+-- Writes the members of a head that say how numbers are found and orders sent, the greatest order and the patience.
+abbrev pub head_middle : Bool → List ℕ → ℕ → List ℕ → List ℕ
+head_middle grid manner v patience =
+    codes ",\"line\":" ++ (line_word grid ++ (codes ",\"manner\":" ++ (manner ++ (orders_text v
+    ++ (codes ",\"patience\":" ++ patience)))))
 
 -- Writes the members of a head that describe the traitors, and ends the line.
 abbrev pub head_end : CountRange → List ℕ

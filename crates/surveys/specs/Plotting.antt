@@ -8,6 +8,7 @@ use Rattle.surveys.specs.declared.lie.Lie.TheVariants.{Honest, Sway, Sign, Pass}
 use Rattle.surveys.specs.declared.lie.LieValue.{LieValue}
 use Rattle.surveys.specs.declared.lie.LieValue.TheVariants.{Number, Parity}
 use Rattle.surveys.specs.declared.manner.Manner.{Manner}
+use Rattle.surveys.specs.declared.span.CountRange.{CountRange}
 use Rattle.surveys.specs.declared.manner.Manner.TheVariants.{Oral, Signed}
 use Rattle.surveys.specs.Draws.{draw, within}
 use Rattle.surveys.specs.Family.{Family}
@@ -19,13 +20,18 @@ use Rattle.surveys.specs.Plot.{Plot, Traitor}
 abbrev pub drawn_for : ℕ → ℕ → ℕ → ℕ
 drawn_for seed g place = draw seed (32 + 32 * g + place)
 
--- Returns how many generals the seed's campaign has.
+-- Returns how many numbers a range has.
+abbrev pub count_in : CountRange → ℕ
+count_in span = span.high + 1 - span.low
+
+-- Returns how many generals the seed's campaign has. The number is drawn, or the seeds go through the range in turn.
 abbrev pub generals_of : Family → ℕ → ℕ
-generals_of f seed = within f.generals (draw seed 0)
+generals_of f seed = within f.generals (cond f.grid seed (draw seed 0))
 
 -- Returns the bound of the seed's campaign, which is at most 4 and at most the number of generals less 2.
 abbrev pub bound_of : Family → ℕ → ℕ
-bound_of f seed = min (within f.bound (draw seed 1)) (min 4 (generals_of f seed - 2))
+bound_of f seed = min (within f.bound (cond f.grid (seed / count_in f.generals) (draw seed 1)))
+    (min 4 (generals_of f seed - 2))
 
 -- Returns the commander of a campaign with `n` generals: that of the family, or the last general if there is no such
 -- general.
@@ -34,7 +40,8 @@ commander_of f n = min f.commander (n - 1)
 
 -- Returns how many traitors the seed's campaign has.
 abbrev pub count_of : Family → ℕ → ℕ
-count_of f seed = min (within f.traitors (draw seed 2)) (generals_of f seed)
+count_of f seed =
+    min (within f.traitors (cond f.grid (seed / count_in f.generals / count_in f.bound) (draw seed 2))) (generals_of f seed)
 
 -- Returns `needed` generals, ascending, from a number of generals that begin with `g`. Each choice is as likely as
 -- another (Knuth, volume 2, section 3.4.2, algorithm S).

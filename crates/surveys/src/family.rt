@@ -15,6 +15,7 @@ pub struct Family {
     traitors: CountRange,
     commander: u8,
     orders: u8,
+    grid: bool,
     manner: Manner,
     patience: Option<u32>,
     adversary: Adversary,
@@ -31,6 +32,7 @@ impl Model for Family {
       traitors = f.traitors;
       commander = f.commander;
       orders = f.orders;
+      grid = f.grid;
       manner = f.manner;
       patience = f.patience;
       adversary = f.adversary;
@@ -42,6 +44,7 @@ impl Model for Family {
       traitors = f.traitors;
       commander = f.commander;
       orders = f.orders;
+      grid = f.grid;
       manner = f.manner;
       patience = f.patience;
       adversary = f.adversary;
@@ -52,16 +55,18 @@ impl Family {
     ghost use Rattle.surveys.specs.Family.{Family as Seen, IsFamily};
 
     /// Returns a family of campaigns. A seed draws the number of generals, the bound and the number of traitors from
-    /// these ranges. The number of generals is 2 to 13. A bound above 4 or above the number of generals less 2 is cut
-    /// to that, and a number of traitors above the number of generals is cut to that. In a campaign without a general
-    /// `commander` the last general commands. Orders are from 0 to `orders`. If `patience` is given, 1 to 4,096, a
-    /// traitor may take that many steps. Otherwise he runs to his end.
+    /// these ranges. If `grid` is true, the seeds go through the ranges in turn, through the first one fastest. The
+    /// number of generals is 2 to 13. A bound above 4 or above the number of generals less 2 is cut to that, and a
+    /// number of traitors above the number of generals is cut to that. In a campaign without a general `commander` the
+    /// last general commands. Orders are from 0 to `orders`. If `patience` is given, 1 to 4,096, a traitor may take that
+    /// many steps. Otherwise he runs to his end.
     pub fn new(
         generals: CountRange,
         bound: CountRange,
         traitors: CountRange,
         commander: u8,
         orders: u8,
+        grid: bool,
         manner: Manner,
         patience: Option<u32>,
         adversary: Adversary,
@@ -72,6 +77,7 @@ impl Family {
           traitors = traitors;
           commander = commander;
           orders = orders;
+          grid = grid;
           manner = manner;
           patience = patience;
           adversary = adversary;
@@ -82,6 +88,7 @@ impl Family {
           traitors = traitors;
           commander = commander;
           orders = orders;
+          grid = grid;
           manner = manner;
           patience = patience;
           adversary = adversary;
@@ -93,6 +100,7 @@ impl Family {
             traitors,
             commander,
             orders,
+            grid,
             manner,
             patience,
             adversary,
@@ -135,6 +143,13 @@ impl Family {
         ensures { result ≡ self.now.orders }
     {
         self.orders
+    }
+
+    /// Returns whether seeds go through the ranges in turn.
+    pub fn grid(&self) -> bool
+        ensures { result ≡ self.now.grid }
+    {
+        self.grid
     }
 
     /// Returns how orders are sent.

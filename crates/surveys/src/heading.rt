@@ -1,6 +1,6 @@
 //! Writes the head of a survey, which describes the family of its campaigns as a JSON object.
 ghost use Rattle.std.specs.Prelude.{◌≡◌, ◌++◌, IfOk, OnOk, codes, string_bytes};
-ghost use Rattle.surveys.specs.Heads.{adversary_word, commander_text, head_end, head_front, head_middle, head_text, is_head, manner_word, orders_text, patience_word};
+ghost use Rattle.surveys.specs.Heads.{adversary_word, commander_text, head_end, head_front, head_middle, head_text, is_head, line_word, manner_word, orders_text, patience_word};
 
 use crate::adversary::Adversary;
 use crate::family::Family;
@@ -93,16 +93,25 @@ fn put_orders(out: &mut String, orders: u8) -> Result<(), AllocError>
     put_numbered(out, ",\"orders\":", u64::from(orders))
 }
 
-/// Writes how orders are sent, the greatest order, and how many steps a traitor may take.
+/// Returns the JSON word for how the numbers of campaigns are found.
+fn line_word(grid: bool) -> &'static str
+    ensures { result.now ≡ line_word grid }
+{
+    if grid { "\"grid\"" } else { "\"family\"" }
+}
+
+/// Writes how numbers are found and orders sent, the greatest order, and how many steps a traitor may take.
 fn put_middle(
     out: &mut String,
+    grid: bool,
     manner: &str,
     orders: u8,
     patience: &str,
 ) -> Result<(), AllocError>
-    ensures { OnOk result (string_bytes out.new ≡ string_bytes out.old ++ head_middle manner.now orders patience.now) }
+    ensures { OnOk result (string_bytes out.new ≡ string_bytes out.old ++ head_middle grid manner.now orders patience.now) }
 {
-    put_word(out, ",\"line\":\"family\",\"manner\":", manner)?;
+    put_word(out, ",\"line\":", line_word(grid))?;
+    put_word(out, ",\"manner\":", manner)?;
     put_orders(out, orders)?;
     put_word(out, ",\"patience\":", patience)?;
     Ok(())
@@ -139,6 +148,7 @@ pub fn head(alloc: Global, family: &Family) -> Result<String, AllocError>
     )?;
     put_middle(
         &mut out,
+        family.grid(),
         manner.as_str(),
         family.orders(),
         patience.as_str(),

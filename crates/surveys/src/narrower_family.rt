@@ -38,6 +38,7 @@ pub(crate) fn narrowed(
         only(traitors),
         family.commander(),
         family.orders(),
+        family.grid(),
         family.manner(),
         family.patience(),
         adversary_copied(alloc, family.adversary())?,

@@ -1,11 +1,11 @@
 //! Draws the campaign of a seed from a family: its numbers, its traitors and their statements.
-ghost use Rattle.std.specs.Prelude.{◌≡◌, ◌+◌, ◌-◌, ◌%◌, ◌<◌, ◌≤◌, ◌++◌, OnOk, IfOk, flat_map, map, nat_lt, option_map, string_bytes};
+ghost use Rattle.std.specs.Prelude.{◌≡◌, ◌+◌, ◌-◌, ◌%◌, ◌<◌, ◌≤◌, ◌++◌, OnOk, IfOk, cond, flat_map, map, nat_lt, option_map, string_bytes};
 ghost use Rattle.std.specs.List.{range_with_len};
 ghost use Rattle.surveys.specs.Draws.{draw};
 ghost use Rattle.surveys.specs.Plotting.{bound_of, chosen, commander_of, count_of, do_count, drawn_for, generals_of, given_in, lies_by, lies_in, oral_lies, plot_of, said_by, signed_lies, traitor_of};
 
 use crate::adversary::Adversary;
-use crate::draw::{draw, within};
+use crate::draw::{count_in, draw, within};
 use crate::family::Family;
 use crate::lie::{Lie, LieValue};
 use crate::manner::Manner;
@@ -19,13 +19,25 @@ fn drawn_for(seed: u64, general: u8, place: u8) -> u64
     draw(seed, 32 + 32 * u16::from(general) + u16::from(place))
 }
 
+/// Returns the number that selects from a range: `turn` if the seeds go through the ranges in turn, and otherwise the
+/// seed's random number at an index.
+fn selecting(family: &Family, turn: u64, seed: u64, place: u16) -> u64
+    ensures { result ≡ cond family.now.grid turn (draw seed place) }
+{
+    if family.grid() {
+        turn
+    } else {
+        draw(seed, place)
+    }
+}
+
 /// Returns how many generals the seed's campaign has.
 fn generals_of(family: &Family, seed: u64) -> u8
     ensures number { result ≡ generals_of family.now seed }
     ensures least { 2 ≤ result }
     ensures greatest { result ≤ 13 }
 {
-    within(family.generals(), draw(seed, 0))
+    within(family.generals(), selecting(family, seed, seed, 0))
 }
 
 /// Returns the bound of the seed's campaign.
@@ -33,7 +45,8 @@ fn bound_of(family: &Family, seed: u64) -> u8
     ensures { result ≡ bound_of family.now seed }
 {
     let greatest = (generals_of(family, seed) - 2).min(4);
-    within(family.bound(), draw(seed, 1)).min(greatest)
+    let turn = seed / count_in(family.generals());
+    within(family.bound(), selecting(family, turn, seed, 1)).min(greatest)
 }
 
 /// Returns the commander of a campaign with `generals` generals: that of the family, or the last general if there is no
@@ -48,7 +61,8 @@ fn commander_of(family: &Family, generals: u8) -> u8
 fn count_of(family: &Family, seed: u64) -> u8
     ensures { result ≡ count_of family.now seed }
 {
-    within(family.traitors(), draw(seed, 2)).min(generals_of(family, seed))
+    let turn = seed / count_in(family.generals()) / count_in(family.bound());
+    within(family.traitors(), selecting(family, turn, seed, 2)).min(generals_of(family, seed))
 }
 
 /// Returns the order or index that a number draws: one from 0 to `most`, or the parity of the count if the traitor

@@ -347,6 +347,7 @@ pub(super) fn survey_of(alloc: Global, found: &ArgMatches) -> Result<Survey, Ask
         traitors,
         commander,
         orders,
+        grid: has(found, "grid"),
         manner,
         patience,
         adversary: String::from_str(alloc, value(found, "adversary", "lies"))?,

@@ -28,6 +28,7 @@ fn bars_sum(found: &ArgMatches) -> bool
             "traitors",
             "commander",
             "orders",
+            "grid",
             "rule",
             "patience",
             "signed",
