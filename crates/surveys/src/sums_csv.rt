@@ -1,6 +1,6 @@
 //! Writes the sums of a survey as CSV.
 ghost use Rattle.std.specs.Prelude.{◌≡◌, ◌++◌, IfOk, OnOk, flat_map, string_bytes};
-ghost use Rattle.surveys.specs.Csv.{csv_cell, csv_header, csv_row, csv_text, interval_text, share_text};
+ghost use Rattle.surveys.specs.Csv.{csv_cell, csv_header, csv_number, csv_row, csv_text, interval_text, share_text};
 ghost use Rattle.surveys.specs.Groups.{groups_of};
 ghost use Rattle.surveys.specs.Tables.{cells_of};
 
@@ -13,13 +13,21 @@ use crate::sums_table::cells_of;
 use crate::wilson::interval;
 use std::alloc::{AllocError, Global};
 
+/// Appends a number in decimal, or nothing if there is none.
+fn put_if_any(out: &mut String, number: Option<u64>) -> Result<(), AllocError>
+    ensures { OnOk result (string_bytes out.new ≡ string_bytes out.old ++ csv_number number) }
+{
+    match number {
+        None => Ok(()),
+        Some(number) => put_number(out, number),
+    }
+}
+
 /// Appends a cell, without its width, and a comma.
 fn put_cell(out: &mut String, cell: NumberCell) -> Result<(), AllocError>
     ensures { OnOk result (string_bytes out.new ≡ string_bytes out.old ++ csv_cell cell) }
 {
-    if let Some(number) = cell.number {
-        put_number(out, number)?;
-    }
+    put_if_any(out, cell.number)?;
     out.push_str(",")
 }
 
