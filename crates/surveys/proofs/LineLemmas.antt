@@ -6,8 +6,8 @@ use Rattle.surveys.specs.declared.span.CountRange.{CountRange}
 use Rattle.surveys.specs.Family.{Family}
 use Rattle.surveys.specs.Heads.{adversary_word, commander_text, head_end, head_front, head_middle, head_text, line_word, manner_word, orders_text, patience_word}
 use Rattle.surveys.specs.Account.{Account}
-use Rattle.surveys.specs.Accounting.{account_back, account_front, account_middle, account_text}
-use Rattle.surveys.specs.Lines.{back_text, front_text, line_text}
+use Rattle.surveys.specs.Accounting.{account_back, account_front, account_middle, account_text, list_text}
+use Rattle.surveys.specs.Lines.{answer_text, back_text, flag_text, front_text, line_text}
 
 -- a name, and what stands behind it
 pub named : (s t n a : List ℕ) → t ≡ (s ++ n) ++ a → t ≡ s ++ (n ++ a)
@@ -30,8 +30,15 @@ pub joined_halves : (old : List ℕ) (f : Finding) → (old ++ front_text f) ++ 
 joined_halves old f = simp append_assoc
 
 -- an account's parts
+flat_account : (o a1 x1 a2 x2 a3 x3 b1 y1 b2 y2 b3 y3 c1 z1 c2 z2 c3 z3 c4 : List ℕ)
+    → ((o ++ (a1 ++ (x1 ++ (a2 ++ (x2 ++ (a3 ++ x3)))))) ++ (b1 ++ (y1 ++ (b2 ++ (y2 ++ (b3 ++ y3)))))) ++ (c1 ++ (z1 ++ (c2 ++ (z2 ++ (c3 ++ (z3 ++ c4))))))
+    ≡ o ++ (a1 ++ (x1 ++ (a2 ++ (x2 ++ (a3 ++ (x3 ++ (b1 ++ (y1 ++ (b2 ++ (y2 ++ (b3 ++ (y3 ++ (c1 ++ (z1 ++ (c2 ++ (z2 ++ (c3 ++ (z3 ++ c4))))))))))))))))))
+flat_account o a1 x1 a2 x2 a3 x3 b1 y1 b2 y2 b3 y3 c1 z1 c2 z2 c3 z3 c4 = simp append_assoc
+
 pub joined_account : (old : List ℕ) (a : Account) → ((old ++ account_front a) ++ account_middle a) ++ account_back a ≡ old ++ account_text a
-joined_account old a = simp append_assoc
+joined_account old a =
+    flat_account old (codes "{\"alike\":") (flag_text a.finding.verdict.alike) (codes ",\"bound\":") (decimal a.finding.bound) (codes ",\"decisions\":") (list_text a.decisions) (codes ",\"generals\":") (decimal a.finding.generals) (codes ",\"kept\":")
+    (flag_text a.finding.verdict.bound) (codes ",\"line\":\"account\",\"obeyed\":") (answer_text a.finding.verdict.obeyed) (codes ",\"order\":") (decimal a.order) (codes ",\"seed\":") (decimal a.finding.seed) (codes ",\"traitors\":") (list_text a.traitors) (codes "}\n")
 
 -- a head's parts
 flat : (p w f1 x1 f2 x2 k f3 x3 f4 x4 m0 y0 m1 y1 r m2 y2 e1 z1 e2 z2 e3 : List ℕ)
