@@ -93,8 +93,8 @@ no_commander rows many word own e all is inside h =
     said_so rows (codes "--commander takes a number below the least of --generals") (IsNoCommander own.low word) (NoSurvey rows) e
     (λ why same none. commander same own within (here none))
     (λ none s told.
-        (let lows = told_once (value (codes "generals") (codes "4") rows) s.generals.low s.generals.high own.low own.high told.generals.told within.told in
-        here none s.commander (subst (λ (n : ℕ). IsCommander n (value (codes "commander") (codes "0") rows) s.commander) lows.0 told.commander))) h
+    (let lows = told_once (value (codes "generals") (codes "4") rows) s.generals.low s.generals.high own.low own.high told.generals.told within.told in
+    here none s.commander (subst (λ (n : ℕ). IsCommander n (value (codes "commander") (codes "0") rows) s.commander) lows.0 told.commander))) h
 
 pub no_orders : (rows : List Row) (word : Text) (e : AskedError) → word ≡ value (codes "orders") (codes "0..1") rows → IsSaid (codes "--orders takes 0..1 to 0..255") (AreNoOrders word) e → IsRefused rows (NoSurvey rows) e
 no_orders rows word e is h =

@@ -65,11 +65,7 @@ fn ending_in(alloc: Global, campaign: Campaign) -> Result<CampaignEnding, AllocE
 }
 
 /// Appends a general if he is a traitor.
-fn push_traitor(
-    traitors: &mut Vec<u32>,
-    is_traitor: bool,
-    general: u8,
-) -> Result<(), AllocError>
+fn push_traitor(traitors: &mut Vec<u32>, is_traitor: bool, general: u8) -> Result<(), AllocError>
     ensures { OnOk result (traitors.new.items ≡ traitors.old.items ++ cond is_traitor (general ∷ []) []) }
 {
     if is_traitor {

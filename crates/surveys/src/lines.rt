@@ -32,7 +32,11 @@ pub(crate) fn put_flag(out: &mut String, name: &str, flag: bool) -> Result<(), A
 }
 
 /// Writes an answer after its name.
-pub(crate) fn put_answer(out: &mut String, name: &str, answer: Option<bool>) -> Result<(), AllocError>
+pub(crate) fn put_answer(
+    out: &mut String,
+    name: &str,
+    answer: Option<bool>,
+) -> Result<(), AllocError>
     ensures { OnOk result (string_bytes out.new ≡ string_bytes out.old ++ name.now ++ answer_text answer) }
 {
     out.push_str(name)?;

@@ -209,8 +209,12 @@ fn lies_by(
     let orders = family.orders();
     let commander = commander_of(family, generals);
     match family.adversary() {
-        Adversary::Lies => lies_in(alloc, manner, false, orders, commander, seed, generals, general),
-        Adversary::Collude => lies_in(alloc, manner, true, orders, commander, seed, generals, general),
+        Adversary::Lies => lies_in(
+            alloc, manner, false, orders, commander, seed, generals, general,
+        ),
+        Adversary::Collude => lies_in(
+            alloc, manner, true, orders, commander, seed, generals, general,
+        ),
         Adversary::Silent | Adversary::Given(_) => Ok(Vec::new(alloc)),
     }
 }

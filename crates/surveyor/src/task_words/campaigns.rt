@@ -14,7 +14,8 @@ use crate::word_values::has_any;
 use clap::ArgMatches;
 use std::alloc::Global;
 
-const FAMILY: &str = "--campaign prints one campaign: it can be used only with options of the family";
+const FAMILY: &str =
+    "--campaign prints one campaign: it can be used only with options of the family";
 
 const SEED: &str = "--campaign takes a seed below 18446744073709551615";
 
@@ -25,15 +26,7 @@ fn bars_campaign(found: &ArgMatches) -> bool
     has_any(
         found,
         &[
-            "seeds",
-            "lines",
-            "details",
-            "table",
-            "csv",
-            "svg",
-            "shrink",
-            "break",
-            "keep",
+            "seeds", "lines", "details", "table", "csv", "svg", "shrink", "break", "keep",
             "keep-all",
         ],
     )

@@ -12,7 +12,8 @@ use crate::word_values::{given, has_any};
 use clap::ArgMatches;
 use std::alloc::{AllocError, Global};
 
-const MERGE: &str = "--sum plays nothing: it can be used only with --seeds, --table, --csv and --svg";
+const MERGE: &str =
+    "--sum plays nothing: it can be used only with --seeds, --table, --csv and --svg";
 
 const ONCE: &str = "standard input can be read only once";
 
