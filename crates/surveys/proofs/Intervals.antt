@@ -1,5 +1,7 @@
 -- Wilson's interval.
-use Rattle.std.proofs.Common.{ℕ, zero, suc, ◌+◌, ◌-◌, ◌≤◌, ◌<◌, ◌≡◌, Bool, true, false, cond, refl, sym, ap, ◌∙◌, arith, add-one, ◌⊎◌, inl, inr, ⊎_elim, subst}
+use Rattle.std.proofs.Common.{ℕ, zero, suc, ◌+◌, ◌-◌, ◌*◌, ◌≤◌, ◌<◌, ◌≡◌, ◌≢◌, Bool, true, false, cond, refl, sym, ap, ◌∙◌, arith, add-one, ◌⊎◌, inl, inr, ⊎_elim, subst}
+use Rattle.std.specs.Prelude.{◌==◌, nat_le, nat_lt}
+use Rattle.std.proofs.lemmas.Bool.Decides.{nat_tests}
 use Rattle.surveys.specs.Wilson.{IsLower, greatest, is_below, lower}
 
 pub none_greatest : (p : ℕ → Bool) → 0 ≡ greatest p 0
@@ -49,6 +51,22 @@ greatest_is p (suc limit) h =
 
 none_below : (n k : ℕ) → is_below n k 0 ≡ true
 none_below n k = refl
+
+-- whether a share is below, case by case
+no_zero : (q : ℕ) → q ≢ 0 → q == 0 ≡ false
+no_zero q some = grind (arith, nat_tests)
+
+no_less : (a b : ℕ) → b ≤ a → nat_lt a b ≡ false
+no_less a b le = grind (arith, nat_tests)
+
+is_less : (a b : ℕ) → a < b → nat_lt a b ≡ true
+is_less a b less = grind (arith, nat_tests)
+
+pub not_below : (n k q : ℕ) → q ≢ 0 → k * 10000 ≤ n * q → is_below n k q ≡ false
+not_below n k q some le = rw (no_zero q some, no_less (n * q) (k * 10000) le) refl
+
+pub as_below : (n k q : ℕ) → q ≢ 0 → n * q < k * 10000 → is_below n k q ≡ nat_le (2401 * n * (q * (10000 - q))) (25 * (k * 10000 - n * q) * (25 * (k * 10000 - n * q)))
+as_below n k q some less = rw (no_zero q some, is_less (n * q) (k * 10000) less) refl
 
 -- the lower end, which the shares up to a limit give
 pub lower_same : (n k end q : ℕ) → end ≡ 10001 → q ≡ greatest (is_below n k) end → q ≡ lower n k

@@ -4,6 +4,7 @@ ghost use Rattle.surveys.specs.Wilson.{IsLower, interval, is_below, lower, upper
 
 /// Checks whether a share of `share` ten-thousandths is at most the lower end of the interval, if `failed` of
 /// `campaigns` campaigns failed.
+#[tactic(auto, using(crate::proofs::Intervals::not_below, crate::proofs::Intervals::as_below))]
 fn is_below(campaigns: u64, failed: u64, share: u64) -> bool
     requires few { campaigns < 2 ^ 46 }
     requires part { failed ≤ campaigns }
@@ -60,8 +61,11 @@ fn upper(campaigns: u64, failed: u64) -> u64
 pub fn interval(campaigns: u64, failed: u64) -> Option<(u64, u64)>
     ensures { result ≡ interval campaigns failed }
 {
-    if failed <= campaigns && campaigns < 70_368_744_177_664 {
-        return Some((lower(campaigns, failed), upper(campaigns, failed)));
+    if campaigns < failed {
+        return None;
     }
-    None
+    if campaigns >= 70_368_744_177_664 {
+        return None;
+    }
+    Some((lower(campaigns, failed), upper(campaigns, failed)))
 }
