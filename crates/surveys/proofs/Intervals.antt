@@ -53,6 +53,9 @@ none_below : (n k : ℕ) → is_below n k 0 ≡ true
 none_below n k = refl
 
 -- whether a share is below, case by case
+pub at_zero : (n k q : ℕ) → q ≡ 0 → is_below n k q ≡ true
+at_zero n k q none = ap (is_below n k) none ∙ none_below n k
+
 no_zero : (q : ℕ) → q ≢ 0 → q == 0 ≡ false
 no_zero q some = grind (arith, nat_tests)
 

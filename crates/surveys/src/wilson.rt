@@ -4,7 +4,7 @@ ghost use Rattle.surveys.specs.Wilson.{IsLower, interval, is_below, lower, upper
 
 /// Checks whether a share of `share` ten-thousandths is at most the lower end of the interval, if `failed` of
 /// `campaigns` campaigns failed.
-#[tactic(auto, using(crate::proofs::Intervals::not_below, crate::proofs::Intervals::as_below))]
+#[tactic(auto, using(crate::proofs::Intervals::at_zero, crate::proofs::Intervals::not_below, crate::proofs::Intervals::as_below))]
 fn is_below(campaigns: u64, failed: u64, share: u64) -> bool
     requires few { campaigns < 2 ^ 46 }
     requires part { failed ≤ campaigns }
