@@ -1,9 +1,10 @@
 -- The accounts of a survey, piece by piece.
-use Rattle.std.proofs.Common.{ℕ, ◌+◌, ◌-◌, ◌≤◌, ◌≡◌, List, [], ◌∷◌, ◌++◌, map, refl, sym, ap, subst, ◌∙◌, arith, append_assoc, append-nil, Option}
+use Rattle.std.proofs.Common.{ℕ, ◌+◌, ◌-◌, ◌<◌, ◌≤◌, ◌≡◌, List, [], ◌∷◌, ◌++◌, length, map, take, get_or, refl, sym, ap, subst, ◌∙◌, arith, append_assoc, append-nil, Option}
 use Rattle.std.specs.Prelude.{flat_map}
 use Rattle.std.specs.List.{AllZip, range_with_len}
 use Rattle.std.specs.Io.KnownBytes.{Appends}
 use Rattle.std.proofs.KnownBytes.{Appends-trans}
+use Rattle.std.proofs.lemmas.List.{map_more}
 use Rattle.surveys.specs.Account.{Account}
 use Rattle.surveys.specs.Accounting.{IsAccountOf, account_text}
 use Rattle.surveys.specs.declared.finding.Finding.{Finding}
@@ -23,6 +24,10 @@ findings all = map (λ (a : Account). a.finding) all
 findings_both : (xs ys : List Account) → findings (xs ++ ys) ≡ findings xs ++ findings ys
 findings_both [] ys = refl
 findings_both (x ∷ xs) ys = ap (λ (l : List Finding). x.finding ∷ l) (findings_both xs ys)
+
+pub finding_more : (xs : List Account) (i : ℕ) (x : Account) (now new : List Finding) → i < length xs → x ≡ get_or xs i x → now ≡ findings (take i xs) → new ≡ now ++ x.finding ∷ [] → new ≡ findings (take (i + 1) xs)
+finding_more xs i x now new less at so is =
+    is ∙ (ap (λ (l : List Finding). l ++ x.finding ∷ []) so ∙ (ap (λ (y : Account). findings (take i xs) ++ y.finding ∷ []) at ∙ sym (map_more (λ (a : Account). a.finding) xs i x less)))
 
 texts_both : (xs ys : List Account) → flat_map account_text (xs ++ ys) ≡ flat_map account_text xs ++ flat_map account_text ys
 texts_both [] ys = refl

@@ -122,16 +122,16 @@ goes s f start now later empty some full next to all more after w low high playe
     }
 
 told_in : (shape : ReportKind) (s : Survey) (f : Family) (text : List ℕ) (files : List File) → shape ≢ Least → shape ≢ Accounts → IsPlayed s f text files → IsToldIn shape s f text files
-told_in Sums s f text files ne no h = h
-told_in Lines s f text files ne no h = h
-told_in Table s f text files ne no h = h
-told_in Csv s f text files ne no h = h
-told_in Picture s f text files ne no h = h
-told_in Accounts s f text files ne no h = absurd (no refl)
-told_in Least s f text files ne no h = absurd (ne refl)
+told_in Sums s f text files ne nor h = h
+told_in Lines s f text files ne nor h = h
+told_in Table s f text files ne nor h = h
+told_in Csv s f text files ne nor h = h
+told_in Picture s f text files ne nor h = h
+told_in Accounts s f text files ne nor h = absurd (nor refl)
+told_in Least s f text files ne nor h = absurd (ne refl)
 
 pub ends : (s : Survey) (f : Family) (start now last : Option (List ℕ)) (empty full : Option (List File)) (next : ℕ) (all : List Finding) → s.shape ≢ Least → s.shape ≢ Accounts → IsUnderWay s f start now empty full next all → s.last + 1 ≤ next → Appends now last (summary_text s.shape all) → IsPrinted s f start last empty full
-ends s f start now last empty full next all ne no w done summary =
+ends s f start now last empty full next all ne nor w done summary =
     let until = w.until in
     let end : next ≡ s.last + 1 = omega arith in
     let front = head_in s.shape f ++ lines_in s.shape w.found in
@@ -141,7 +141,7 @@ ends s f start now last empty full next all ne no w done summary =
     record {
       text = front ++ summary_text s.shape all;
       files = campaign_files s.keep f (kept_seeds s.keeps_all w.found);
-      told = told_in s.shape s f (front ++ summary_text s.shape all) (campaign_files s.keep f (kept_seeds s.keeps_all w.found)) ne no (record {
+      told = told_in s.shape s f (front ++ summary_text s.shape all) (campaign_files s.keep f (kept_seeds s.keeps_all w.found)) ne nor (record {
         found = w.found;
         all = subst (λ (n : ℕ). AllZip (IsFindingOf f) (range_with_len s.first (n - s.first)) w.found) end w.so_far;
         whole = text;

@@ -26,25 +26,25 @@ last_or_before : (n k : ℕ) → n < suc k → (n ≡ k) ⊎ (n < k)
 last_or_before n k h = grind arith
 
 no_more : {A : Type 0} (b : Bool) → b ≡ true → b ≡ false → A
-no_more b yes no = absurd (let z : true ≡ false = sym yes ∙ no in cc)
+no_more b holds fails = absurd (let z : true ≡ false = sym holds ∙ fails in cc)
 
 one_more : (p : ℕ → Bool) (k q : ℕ) (b : Bool) → p k ≡ b → IsGreatest p k q → IsGreatest p (suc k) (cond b k q)
 one_more p k q true is h = record {
   passes = is;
   within = omega arith;
-  most = λ n less yes. omega (arith, less);
+  most = λ n less holds. omega (arith, less);
 }
 one_more p k q false is h =
     let within = h.within in
     record {
       passes = h.passes;
       within = omega (arith, within);
-      most = λ n less yes. ⊎_elim (λ (same : n ≡ k). no_more (p n) yes (ap p same ∙ is)) (λ (low : n < k). h.most n low yes) (last_or_before n k less);
+      most = λ n less holds. ⊎_elim (λ (same : n ≡ k). no_more (p n) holds (ap p same ∙ is)) (λ (low : n < k). h.most n low holds) (last_or_before n k less);
     }
 
 greatest_is : (p : ℕ → Bool) (limit : ℕ) → p 0 ≡ true → IsGreatest p (suc limit) (greatest p (suc limit))
 greatest_is p zero h =
-    let first : IsGreatest p 1 0 = record { passes = h; within = omega arith; most = λ n less yes. omega (arith, less) } in
+    let first : IsGreatest p 1 0 = record { passes = h; within = omega arith; most = λ n less holds. omega (arith, less) } in
     subst (λ (q : ℕ). IsGreatest p 1 q) (sym (greatest_suc p 0 ∙ ap (λ (b : Bool). cond b 0 (greatest p 0)) h)) first
 greatest_is p (suc limit) h =
     subst (λ (q : ℕ). IsGreatest p (suc (suc limit)) q) (sym (greatest_suc p (suc limit))) (one_more p (suc limit) (greatest p (suc limit)) (p (suc limit)) refl (greatest_is p limit h))
@@ -86,5 +86,5 @@ lower_is n k end q e h =
     record {
       below = here.passes;
       most = omega (arith, within);
-      limit = λ p less yes. here.most p (omega (arith, less)) yes;
+      limit = λ p less holds. here.most p (omega (arith, less)) holds;
     }

@@ -3,7 +3,7 @@ pub mod Rereading
 pub mod Ranges
 pub mod Choosing
 pub mod Gathered
-pub mod Accounts
+pub mod AccountFacts
 pub mod LineLemmas
 pub mod Keeping
 pub mod Words
@@ -24,3 +24,5 @@ pub mod Exactness
 pub mod Apart
 pub mod Pieces
 pub mod Intervals
+pub mod CommanderMember
+pub mod AccountTexts

@@ -91,7 +91,6 @@ fn listed_traitors(alloc: Global, scenario: &Scenario) -> Result<Vec<u32>, Alloc
 /// # Errors
 ///
 /// Returns the first fault of the text, or `Memory` if it runs out of memory.
-#[tactic(auto, using(crate::proofs::Accounts::is_account))]
 pub fn account_of(alloc: Global, text: &str, seed: u64) -> Result<Account, ScenarioError>
     ensures account { IfOk result (IsAccount text.now seed) }
     ensures refused { IfErr result (λ e. e ≢ Memory → IsRefused text.now e) }
