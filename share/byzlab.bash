@@ -40,7 +40,7 @@ _byzlab() {
     *:page:-*) offered="--schedule --chronicle -o --no-files -h --help" ;;
     *:schedule:-*) offered="--accesses --no-files -h --help" ;;
     *:explore:-*) offered="--most --keep --no-files -h --help" ;;
-    *:survey:-*) offered="--generals --bound --traitors --seeds --rule --patience --signed --adversary --lines --table --svg --shrink --break --keep --sum -h --help" ;;
+    *:survey:-*) offered="--generals --bound --traitors --commander --orders --grid --seeds --rule --patience --signed --adversary --lines --details --table --csv --svg --shrink --break --campaign --keep --keep-all --sum -h --help" ;;
     *:muster:-*) offered="--explain --json --of --no-files -h --help" ;;
     *:audit:-*) offered="--explain --json --verdicts --of --no-files -h --help" ;;
     *) offered= ;;

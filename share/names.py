@@ -22,9 +22,9 @@ import threading
 import unicodedata
 
 # The options that a file's name may follow in one word.
-JOINED = (b"--schedule=", b"--chronicle=", b"--context=", b"--adversary=", b"--sum=", b"--schedule-out=", b"--keep=", b"-o")
+JOINED = (b"--schedule=", b"--chronicle=", b"--context=", b"--adversary=", b"--sum=", b"--schedule-out=", b"--keep=", b"--keep-all=", b"-o")
 # The options whose file or folder is written.
-WRITTEN = (b"-o", b"--keep", b"--schedule-out")
+WRITTEN = (b"-o", b"--keep", b"--keep-all", b"--schedule-out")
 # The value of a key that is a string: the four forms of TOML.
 VALUE = re.compile(rb"=[ \t]*(\"{3}.*?\"{3}|'{3}.*?'{3}|\"(?:[^\"\\\n]|\\.)*\"|'[^'\n]*')", re.S)
 # A larger file is not searched for names. In bytes.

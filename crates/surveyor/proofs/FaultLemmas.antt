@@ -9,7 +9,7 @@ use Rattle.surveys.specs.Judging.{IsRefusedIn}
 use Rattle.surveys.specs.Plotting.{plot_of}
 use Rattle.surveys.specs.Breaches as Lessened
 use Rattle.surveyor.specs.declared.task.ReportKind.{ReportKind}
-use Rattle.surveyor.specs.declared.task.ReportKind.TheVariants.{Sums, Lines, Table, Picture, Least}
+use Rattle.surveyor.specs.declared.task.ReportKind.TheVariants.{Sums, Lines, Accounts, Table, Csv, Picture, Least}
 use Rattle.surveyor.specs.declared.task.Survey.{Survey}
 use Rattle.surveyor.specs.declared.fault.SurveyFailure.{SurveyFailure}
 use Rattle.surveyor.specs.declared.fault.SurveyFailure.TheVariants.{Unread, NotText, Unwritten, Refused, Campaign, Words, Memory}
@@ -68,6 +68,20 @@ unended s R f (Refused line) family h = absurd h
 unended s R f (Campaign first last e) family h = (f, family, h)
 unended s R f Words family h = absurd h
 
+-- or the campaign is not printed
+pub unended_printing : (s : Survey) (R : Family → ℕ → ℕ → ScenarioError → Type 0) (fault : SurveyFailure) → IsUnprinted fault → IsUnended s R fault
+unended_printing s R (Unwritten None) h = tt
+unended_printing s R (Unwritten (Some name)) h = absurd h
+unended_printing s R Memory h = tt
+unended_printing s R (Unread name) h = absurd h
+unended_printing s R (NotText name) h = absurd h
+unended_printing s R (Refused line) h = absurd h
+unended_printing s R (Campaign first last e) h = absurd h
+unended_printing s R Words h = absurd h
+
+pub unended_by_memory : (s : Survey) (R : Family → ℕ → ℕ → ScenarioError → Type 0) (fault : SurveyFailure) → fault ≡ Memory → IsUnended s R fault
+unended_by_memory s R fault is = subst (IsUnended s R) (sym is) tt
+
 -- or without one
 pub untaken : (s : Survey) (R : Family → ℕ → ℕ → ScenarioError → Type 0) (fault : SurveyFailure) → IsFile (string_bytes s.adversary) → IsUntaken (string_bytes s.adversary) fault → IsUnended s R fault
 untaken s R (Unwritten None) file h = absurd h
@@ -121,12 +135,17 @@ unended_least s f fault is family h = unended s (IsDrawnRefused s.shape) f fault
 drawn : (shape : ReportKind) (s : Survey) (f : Family) (fault : SurveyFailure) → shape ≢ Least → IsStopped s (IsRefusedIn f) fault → IsStopped s (IsDrawnRefused shape f) fault
 drawn Sums s f fault not h = h
 drawn Lines s f fault not h = h
+drawn Accounts s f fault not h = h
 drawn Table s f fault not h = h
+drawn Csv s f fault not h = h
 drawn Picture s f fault not h = h
 drawn Least s f fault not h = absurd (not refl)
 
 pub unended_drawn : (s : Survey) (f : Family) (fault : SurveyFailure) → s.shape ≢ Least → IsFamilyOf s f → IsStopped s (IsRefusedIn f) fault → IsUnsurveyed s fault
 unended_drawn s f fault not family h = unended s (IsDrawnRefused s.shape) f fault family (drawn s.shape s f fault not h)
+
+pub unended_accounts : (s : Survey) (f : Family) (fault : SurveyFailure) → s.shape ≡ Accounts → IsFamilyOf s f → IsStopped s (IsRefusedIn f) fault → IsUnsurveyed s fault
+unended_accounts s f fault is family h = unended s (IsDrawnRefused s.shape) f fault family (subst (λ (shape : ReportKind). IsStopped s (IsDrawnRefused shape f) fault) (sym is) h)
 
 -- one of the files that are summed cannot be read
 pub unread_one : (m : Merge) (k : ℕ) (own : String Global) (fault : SurveyFailure) → k < length m.names.items → get_or m.names.items k own ≡ own → IsUnread (string_bytes own) fault → IsUntold m fault

@@ -9,7 +9,8 @@ use Rattle.surveys.specs.Sums.{is_sound}
 use Rattle.surveys.specs.Wording.{campaign_text}
 use Rattle.surveys.specs.declared.breach.Breach.{Breach}
 use Rattle.surveyor.specs.Kept.{File, Gains, breach_file, breach_files, campaign_file, campaign_files, kept_name}
-use Rattle.surveyor.specs.Printed.{broken_seeds}
+use Rattle.surveys.specs.Covering.{seeds_in}
+use Rattle.surveyor.specs.Printed.{broken_seeds, kept_seeds}
 
 pub none_gained : (a : Option (List File)) → Gains a a []
 none_gained None = tt
@@ -52,6 +53,14 @@ pub broken_both : (xs ys : List Finding) → broken_seeds (xs ++ ys) ≡ broken_
 broken_both [] ys = refl
 broken_both (x ∷ xs) ys = ap (λ (l : List ℕ). cond (is_sound x.verdict) l (x.seed ∷ l)) (broken_both xs ys) ∙ cond_both (is_sound x.verdict) x.seed (broken_seeds xs) (broken_seeds ys)
 
+seeds_both : (xs ys : List Finding) → seeds_in (xs ++ ys) ≡ seeds_in xs ++ seeds_in ys
+seeds_both [] ys = refl
+seeds_both (x ∷ xs) ys = ap (λ (l : List ℕ). x.seed ∷ l) (seeds_both xs ys)
+
+kept_both : (all : Bool) (xs ys : List Finding) → kept_seeds all (xs ++ ys) ≡ kept_seeds all xs ++ kept_seeds all ys
+kept_both true xs ys = seeds_both xs ys
+kept_both false xs ys = broken_both xs ys
+
 maps_both : (folder : List ℕ) (f : Family) (xs ys : List ℕ) → map (campaign_file folder f) (xs ++ ys) ≡ map (campaign_file folder f) xs ++ map (campaign_file folder f) ys
 maps_both folder f [] ys = refl
 maps_both folder f (x ∷ xs) ys = ap (λ (l : List File). campaign_file folder f x ∷ l) (maps_both folder f xs ys)
@@ -60,15 +69,16 @@ campaigns_both : (keep : Option (String Global)) (f : Family) (xs ys : List ℕ)
 campaigns_both None f xs ys = refl
 campaigns_both (Some folder) f xs ys = maps_both (string_bytes folder) f xs ys
 
-pub no_campaigns : (keep : Option (String Global)) (f : Family) → campaign_files keep f [] ≡ []
-no_campaigns None f = refl
-no_campaigns (Some folder) f = refl
+pub no_campaigns : (keep : Option (String Global)) (all : Bool) (f : Family) → campaign_files keep f (kept_seeds all []) ≡ []
+no_campaigns None all f = refl
+no_campaigns (Some folder) true f = refl
+no_campaigns (Some folder) false f = refl
 
-pub campaigns_gained : (keep : Option (String Global)) (f : Family) (xs ys : List Finding) (a b c : Option (List File)) → Gains a b (campaign_files keep f (broken_seeds xs)) → Gains b c (campaign_files keep f (broken_seeds ys)) → Gains a c (campaign_files keep f (broken_seeds (xs ++ ys)))
-campaigns_gained keep f xs ys a b c p q =
-    let whole : campaign_files keep f (broken_seeds xs) ++ campaign_files keep f (broken_seeds ys) ≡ campaign_files keep f (broken_seeds (xs ++ ys)) =
-    sym (campaigns_both keep f (broken_seeds xs) (broken_seeds ys)) ∙ ap (campaign_files keep f) (sym (broken_both xs ys)) in
-    subst (λ (l : List File). Gains a c l) whole (both_gained a b c (campaign_files keep f (broken_seeds xs)) (campaign_files keep f (broken_seeds ys)) p q)
+pub campaigns_gained : (keep : Option (String Global)) (all : Bool) (f : Family) (xs ys : List Finding) (a b c : Option (List File)) → Gains a b (campaign_files keep f (kept_seeds all xs)) → Gains b c (campaign_files keep f (kept_seeds all ys)) → Gains a c (campaign_files keep f (kept_seeds all (xs ++ ys)))
+campaigns_gained keep all f xs ys a b c p q =
+    let whole : campaign_files keep f (kept_seeds all xs) ++ campaign_files keep f (kept_seeds all ys) ≡ campaign_files keep f (kept_seeds all (xs ++ ys)) =
+    sym (campaigns_both keep f (kept_seeds all xs) (kept_seeds all ys)) ∙ ap (campaign_files keep f) (sym (kept_both all xs ys)) in
+    subst (λ (l : List File). Gains a c l) whole (both_gained a b c (campaign_files keep f (kept_seeds all xs)) (campaign_files keep f (kept_seeds all ys)) p q)
 
 files_both : (keep : Option (String Global)) (xs ys : List (Option Breach)) → breach_files keep (xs ++ ys) ≡ breach_files keep xs ++ breach_files keep ys
 files_both None xs ys = refl

@@ -1,6 +1,7 @@
 mod KeptLemmas
 mod Going
 mod LeastLemmas
+mod AccountLemmas
 mod SumLemmas
 mod CoverLemmas
 mod BrokenLemmas
@@ -8,3 +9,4 @@ mod NumberLemmas
 mod FaultLemmas
 mod FlagLemmas
 mod MeantLemmas
+mod PrintLemmas

@@ -10,16 +10,17 @@ use Rattle.combine.specs.declared.campaign_rule.Rule.{Rule as CombineRule}
 use Rattle.surveys.specs.declared.manner.Manner.TheVariants.{Oral}
 use Rattle.surveys.specs.declared.span.CountRange.{CountRange}
 use Rattle.surveyor.specs.Flags.{given, has, survey_app}
-use Rattle.surveyor.specs.Meant.{AreSaid, AreSeeds, Asks, IsBreaking, IsMerging, IsPatience, IsSurveying, IsWithin, bars_sum, break_shape, names_in, shape_in, some_traitors, value}
+use Rattle.surveyor.specs.Meant.{AreSaid, AreSeeds, Asks, IsBreaking, IsCommander, IsMerging, IsPatience, IsShowing, IsSurveying, IsWithin, bars_campaign, bars_keeping, bars_sum, break_shape, complaint_in, folder_in, names_in, shape_in, some_traitors, value}
 use Rattle.surveyor.specs.Numbers.{IsNoSpan, IsTold}
 use Rattle.surveyor.specs.Words.{manner_named}
-use Rattle.surveyor.specs.Wrong.{AreNoSeeds, AreTwice, AsksNothing, IsByClap, IsNoBreak, IsNoManner, IsNoPatience, IsNoRule, IsOutside, IsRefused, IsSaid, IsUnmet, IsWrong}
-use Rattle.surveyor.specs.Wrong.IsWrong.{generals, bound, traitors, seeds, patience, signed, shape, broken, keep, sum, twice}
+use Rattle.surveyor.specs.Wrong.{AreNoOrders, AreNoSeeds, AreTwice, AsksNothing, IsByClap, IsNoBreak, IsNoCommander, IsNoManner, IsNoPatience, IsNoRule, IsNoSeed, IsOutside, IsRefused, IsSaid, IsUnmet, IsWrong}
+use Rattle.surveyor.specs.Wrong.IsWrong.{generals, bound, traitors, seeds, commander, orders, patience, signed, shape, broken, keep, every, single, campaign, sum, twice}
 use Rattle.surveyor.specs.declared.task.Asked.{Asked}
-use Rattle.surveyor.specs.declared.task.Asked.TheVariants.{Survey as Surveys, Break, Merge as Merges}
+use Rattle.surveyor.specs.declared.task.Asked.TheVariants.{Survey as Surveys, Campaign, Break, Merge as Merges}
 use Rattle.surveyor.specs.declared.task.AskedError.{AskedError}
 use Rattle.surveyor.specs.declared.task.AskedError.TheVariants.{Words, Value, Rule, Memory}
 use Rattle.surveyor.specs.declared.task.Merge.{Merge}
+use Rattle.surveyor.specs.declared.task.OneCampaign.{OneCampaign}
 use Rattle.surveyor.specs.declared.task.ReportKind.{ReportKind}
 use Rattle.surveyor.specs.declared.task.Survey.{Survey}
 use Rattle.surveyor.proofs.FlagLemmas.{survey_free, survey_simple}
@@ -84,6 +85,22 @@ no_seeds rows word e is h =
     let own : AreNoSeeds word → AreNoSeeds (value (codes "seeds") (codes "1..1000") rows) = subst AreNoSeeds is in
     said_so rows seeds_text (AreNoSeeds word) (NoSurvey rows) e (λ why same bars. seeds same (own bars)) (λ bars s told. own bars (s.first, s.last) told.seeds) h
 
+pub no_commander : (rows : List Row) (many word : Text) (own : CountRange) (e : AskedError) → many ≡ value (codes "generals") (codes "4") rows → word ≡ value (codes "commander") (codes "0") rows → IsWithin 2 13 many own
+    → IsSaid (codes "--commander takes a number below the least of --generals") (IsNoCommander own.low word) e → IsRefused rows (NoSurvey rows) e
+no_commander rows many word own e all is inside h =
+    let within : IsWithin 2 13 (value (codes "generals") (codes "4") rows) own = subst (λ (t : Text). IsWithin 2 13 t own) all inside in
+    let here : IsNoCommander own.low word → IsNoCommander own.low (value (codes "commander") (codes "0") rows) = subst (IsNoCommander own.low) is in
+    said_so rows (codes "--commander takes a number below the least of --generals") (IsNoCommander own.low word) (NoSurvey rows) e
+    (λ why same none. commander same own within (here none))
+    (λ none s told.
+    (let lows = told_once (value (codes "generals") (codes "4") rows) s.generals.low s.generals.high own.low own.high told.generals.told within.told in
+    here none s.commander (subst (λ (n : ℕ). IsCommander n (value (codes "commander") (codes "0") rows) s.commander) lows.0 told.commander))) h
+
+pub no_orders : (rows : List Row) (word : Text) (e : AskedError) → word ≡ value (codes "orders") (codes "0..1") rows → IsSaid (codes "--orders takes 0..1 to 0..255") (AreNoOrders word) e → IsRefused rows (NoSurvey rows) e
+no_orders rows word e is h =
+    let own : AreNoOrders word → AreNoOrders (value (codes "orders") (codes "0..1") rows) = subst AreNoOrders is in
+    said_so rows (codes "--orders takes 0..1 to 0..255") (AreNoOrders word) (NoSurvey rows) e (λ why same none. orders same (own none)) (λ none s told. own none s.orders told.orders) h
+
 no_rule : (o : Option Text) → IsSomeAnd o (λ word. rule_named word ≡ None) → manner_named o false ≡ None
 no_rule None h = absurd h
 no_rule (Some word) h = ap (λ (r : Option CombineRule). option_map Oral r) h
@@ -111,11 +128,11 @@ no_manner rows Memory h = absurd h
 pub no_patience : (rows : List Row) (e : AskedError) → IsSaid (codes "--patience takes 1 to 4096") (IsNoPatience (given (codes "patience") rows)) e → IsRefused rows (NoSurvey rows) e
 no_patience rows e h = said_so rows (codes "--patience takes 1 to 4096") (IsNoPatience (given (codes "patience") rows)) (NoSurvey rows) e (λ why same bars. patience same bars) (λ bars s told. bars s.patience told.patience) h
 
-abbrev shape_text : Text
-shape_text = codes "only one of --lines, --table, --svg, --shrink and --break can be used"
+pub no_shape : (rows : List Row) (e : AskedError) → IsSaid (complaint_in rows) (shape_in rows ≡ None) e → IsRefused rows (NoSurvey rows) e
+no_shape rows e h = said_so rows (complaint_in rows) (shape_in rows ≡ None) (NoSurvey rows) e (λ why same none. shape same none) (λ none s told. (let is = sym none ∙ told.shape in cc)) h
 
-pub no_shape : (rows : List Row) (e : AskedError) → IsSaid shape_text (shape_in rows ≡ None) e → IsRefused rows (NoSurvey rows) e
-no_shape rows e h = said_so rows shape_text (shape_in rows ≡ None) (NoSurvey rows) e (λ why same none. shape same none) (λ none s told. (let is = sym none ∙ told.shape in cc)) h
+pub no_keeping : (rows : List Row) (e : AskedError) → IsSaid (codes "--keep-all cannot be used with --keep or --shrink") (bars_keeping rows ≡ true) e → IsRefused rows (NoSurvey rows) e
+no_keeping rows e h = said_so rows (codes "--keep-all cannot be used with --keep or --shrink") (bars_keeping rows ≡ true) (NoSurvey rows) e (λ why same bars. every same bars) (λ bars s told. (let both = sym bars ∙ told.every.single in cc)) h
 
 -- ---- nothing that breaks agreement
 
@@ -145,8 +162,23 @@ pub no_break_shape : (rows : List Row) (own : Survey) (e : AskedError) → has (
 no_break_shape rows own e has_it is (inl h) = said_so rows (codes "--break can be used with --table, but not with --lines, --svg or --shrink") (IsNoBreak own.shape) (NoBreak rows) e
     (λ why same bars. broken same has_it own.shape is.shape bars) (other_shape rows own is) h
 no_break_shape rows own e has_it is (inr h) = said_so rows (codes "--break cannot be used with --keep: redirect its output to a file") (is_some own.keep ≡ true) (NoBreak rows) e
-    (λ why same kept. keep same has_it (has_kept own.keep (given (codes "keep") rows) is.keep kept))
-    (λ kept s is_table told. is_kept own.keep s.keep (given (codes "keep") rows) is.keep told.survey.keep kept told.keep) h
+    (λ why same kept. keep same has_it (has_kept own.keep (folder_in rows) is.keep kept))
+    (λ kept s is_table told. is_kept own.keep s.keep (folder_in rows) is.keep told.survey.keep kept told.keep) h
+
+-- ---- no campaign of one seed
+
+abbrev pub NoCampaign : Text → List Row → Type 0
+NoCampaign word rows = (c : OneCampaign) → IsShowing word rows c → ⊥
+
+pub no_shown_survey : (word : Text) (rows : List Row) (e : AskedError) → IsRefused rows (NoSurvey rows) e → IsRefused rows (NoCampaign word rows) e
+no_shown_survey word rows e h = refused_so rows (NoSurvey rows) (NoCampaign word rows) e (λ bars c told. bars c.survey told.survey) h
+
+pub no_shown_seed : (word : Text) (rows : List Row) (e : AskedError) → given (codes "campaign") rows ≡ Some word
+    → IsSaid (codes "--campaign prints one campaign: it can be used only with options of the family") (bars_campaign rows ≡ true) e ⊎ IsSaid (codes "--campaign takes a seed below 18446744073709551615") (IsNoSeed word) e → IsRefused rows (NoCampaign word rows) e
+no_shown_seed word rows e is (inl h) = said_so rows (codes "--campaign prints one campaign: it can be used only with options of the family") (bars_campaign rows ≡ true) (NoCampaign word rows) e
+    (λ why same bars. single same (ap (λ (o : Option Text). is_some o) is) bars) (λ bars c told. (let both = sym bars ∙ told.single in cc)) h
+no_shown_seed word rows e is (inr h) = said_so rows (codes "--campaign takes a seed below 18446744073709551615") (IsNoSeed word) (NoCampaign word rows) e
+    (λ why same none. campaign same word is none) (λ none c told. none c.seed told.seed) h
 
 -- ---- no sums of files
 
@@ -156,8 +188,8 @@ NoMerge names rows = (m : Merge) → IsMerging names rows m → ⊥
 pub once_named : (names : List Text) → (AreTwice names → ⊥) → count_by (λ name. bytes_eq name (codes "-")) names ≤ 1
 once_named names h = omega arith
 
-pub no_merge_shape : (names : List Text) (rows : List Row) (e : AskedError) → IsSaid shape_text (shape_in rows ≡ None) e → IsRefused rows (NoMerge names rows) e
-no_merge_shape names rows e h = said_so rows shape_text (shape_in rows ≡ None) (NoMerge names rows) e (λ why same none. shape same none) (λ none m told. (let is = sym none ∙ told.shape in cc)) h
+pub no_merge_shape : (names : List Text) (rows : List Row) (e : AskedError) → IsSaid (complaint_in rows) (shape_in rows ≡ None) e → IsRefused rows (NoMerge names rows) e
+no_merge_shape names rows e h = said_so rows (complaint_in rows) (shape_in rows ≡ None) (NoMerge names rows) e (λ why same none. shape same none) (λ none m told. (let is = sym none ∙ told.shape in cc)) h
 
 no_said : (o : Option Text) (s : Option (ℕ × ℕ)) → IsSomeAnd o AreNoSeeds → AreSaid o s → ⊥
 no_said None s h told = absurd h
@@ -173,8 +205,8 @@ no_merge_seeds names rows e h = said_so rows seeds_text (IsSomeAnd (given (codes
     (λ why same bars. seeds same (said_value (given (codes "seeds") rows) bars)) (λ bars m told. no_said (given (codes "seeds") rows) m.seeds bars told.seeds) h
 
 pub no_merge_sum : (names : List Text) (rows : List Row) (e : AskedError) → names_in rows ≡ Some names
-    → IsSaid (codes "--sum plays nothing: it can be used only with --seeds, --table and --svg") (bars_sum rows ≡ true) e ⊎ IsSaid (codes "standard input can be read only once") (AreTwice names) e → IsRefused rows (NoMerge names rows) e
-no_merge_sum names rows e is (inl h) = said_so rows (codes "--sum plays nothing: it can be used only with --seeds, --table and --svg") (bars_sum rows ≡ true) (NoMerge names rows) e
+    → IsSaid (codes "--sum plays nothing: it can be used only with --seeds, --table, --csv and --svg") (bars_sum rows ≡ true) e ⊎ IsSaid (codes "standard input can be read only once") (AreTwice names) e → IsRefused rows (NoMerge names rows) e
+no_merge_sum names rows e is (inl h) = said_so rows (codes "--sum plays nothing: it can be used only with --seeds, --table, --csv and --svg") (bars_sum rows ≡ true) (NoMerge names rows) e
     (λ why same bars. sum same (ap (λ (o : Option (List Text)). is_some o) is) bars) (λ bars m told. (let both = sym bars ∙ told.alone in cc)) h
 no_merge_sum names rows e is (inr h) = said_so rows (codes "standard input can be read only once") (AreTwice names) (NoMerge names rows) e
     (λ why same more. twice same names is more) (λ more m told. (let once = told.once in omega arith)) h
@@ -186,26 +218,41 @@ no_merge_asked names rows e is h = refused_so rows (NoMerge names rows) (AsksNot
   where
     go : NoMerge names rows → AsksNothing rows
     go bars (Surveys s) told = (let both = sym is ∙ told.0 in cc)
+    go bars (Campaign c) told = (let both = sym is ∙ told.0 in cc)
     go bars (Break s is_table) told = (let both = sym is ∙ told.0 in cc)
     go bars (Merges m) told =
         let both : Some told.0 ≡ Some names = sym told.1 ∙ is in
         let same : told.0 ≡ names = cc in
         bars m (subst (λ (l : List Text). IsMerging l rows m) same told.2)
 
-pub no_break_asked : (rows : List Row) (e : AskedError) → names_in rows ≡ None → has (codes "break") rows ≡ true → IsRefused rows (NoBreak rows) e → IsRefused rows (AsksNothing rows) e
-no_break_asked rows e is breaks h = refused_so rows (NoBreak rows) (AsksNothing rows) e go h
+pub no_campaign_asked : (word : Text) (rows : List Row) (e : AskedError) → names_in rows ≡ None → given (codes "campaign") rows ≡ Some word → IsRefused rows (NoCampaign word rows) e → IsRefused rows (AsksNothing rows) e
+no_campaign_asked word rows e is one h = refused_so rows (NoCampaign word rows) (AsksNothing rows) e go h
   where
-    go : NoBreak rows → AsksNothing rows
-    go bars (Surveys s) told = (let both = sym breaks ∙ told.1 in cc)
-    go bars (Break s is_table) told = bars s is_table told.2
+    go : NoCampaign word rows → AsksNothing rows
+    go bars (Surveys s) told = (let both = sym one ∙ told.1 in cc)
+    go bars (Campaign c) told =
+        let both : Some told.1 ≡ Some word = sym told.2 ∙ one in
+        let same : told.1 ≡ word = cc in
+        bars c (subst (λ (w : Text). IsShowing w rows c) same told.3)
+    go bars (Break s is_table) told = (let both = sym one ∙ told.1 in cc)
     go bars (Merges m) told = (let both = sym is ∙ told.1 in cc)
 
-pub no_survey_asked : (rows : List Row) (e : AskedError) → names_in rows ≡ None → has (codes "break") rows ≡ false → IsRefused rows (NoSurvey rows) e → IsRefused rows (AsksNothing rows) e
-no_survey_asked rows e is plain h = refused_so rows (NoSurvey rows) (AsksNothing rows) e go h
+pub no_break_asked : (rows : List Row) (e : AskedError) → names_in rows ≡ None → given (codes "campaign") rows ≡ None → has (codes "break") rows ≡ true → IsRefused rows (NoBreak rows) e → IsRefused rows (AsksNothing rows) e
+no_break_asked rows e is many breaks h = refused_so rows (NoBreak rows) (AsksNothing rows) e go h
+  where
+    go : NoBreak rows → AsksNothing rows
+    go bars (Surveys s) told = (let both = sym breaks ∙ told.2 in cc)
+    go bars (Campaign c) told = (let both = sym many ∙ told.2 in cc)
+    go bars (Break s is_table) told = bars s is_table told.3
+    go bars (Merges m) told = (let both = sym is ∙ told.1 in cc)
+
+pub no_survey_asked : (rows : List Row) (e : AskedError) → names_in rows ≡ None → given (codes "campaign") rows ≡ None → has (codes "break") rows ≡ false → IsRefused rows (NoSurvey rows) e → IsRefused rows (AsksNothing rows) e
+no_survey_asked rows e is many plain h = refused_so rows (NoSurvey rows) (AsksNothing rows) e go h
   where
     go : NoSurvey rows → AsksNothing rows
-    go bars (Surveys s) told = bars s told.2
-    go bars (Break s is_table) told = (let both = sym plain ∙ told.1 in cc)
+    go bars (Surveys s) told = bars s told.3
+    go bars (Campaign c) told = (let both = sym many ∙ told.2 in cc)
+    go bars (Break s is_table) told = (let both = sym plain ∙ told.2 in cc)
     go bars (Merges m) told = (let both = sym is ∙ told.1 in cc)
 
 -- ---- what `clap` has found, and what it refuses

@@ -1,6 +1,7 @@
 -- A word tells two numbers in one way at most.
-use Rattle.std.proofs.Common.{ℕ, ◌+◌, ◌*◌, ◌≤◌, ◌<◌, ◌≡◌, ◌≢◌, inl, inr, List, [], ◌∷◌, ◌++◌, refl, sym, ap, ◌∙◌, Option, None, Some, codes, cond, true, false, Bool, nat_eq, append_assoc, subst}
-use Rattle.std.specs.Prelude.{IfNone}
+use Rattle.std.proofs.Common.{ℕ, ◌+◌, ◌*◌, ◌≤◌, ◌<◌, ◌≡◌, ◌≢◌, inl, inr, List, [], ◌∷◌, ◌++◌, refl, sym, ap, ◌∙◌, arith, Option, None, Some, codes, cond, true, false, Bool, nat_eq, append_assoc, subst}
+use Rattle.std.specs.Prelude.{IfNone, IfSome, ◌==◌}
+use Rattle.std.proofs.lemmas.Bool.Decides.{nat_tests}
 use Rattle.text.specs.Number.{capped, decimal_of, digit_in, digits_on}
 use Rattle.text.specs.Options.{◌>>=◌}
 use Rattle.surveyor.specs.Numbers.{AreTold, IsNoSpan, IsSpread, IsTold}
@@ -96,3 +97,42 @@ no_span_whole limit word (Some r) parts none = tt
 pub any_none : {X : Type 0} (r : Option X) (P : Type 0) → P → IfNone r P
 any_none None P h = h
 any_none (Some x) P h = tt
+
+-- a word that says no number below the limit
+pub none_below : (limit : ℕ) (word : List ℕ) (r : Option ℕ) → IfNone r ((n : ℕ) → decimal_of word ≡ Some n → limit ≤ n) → IfNone r ((n : ℕ) → decimal_of word ≡ Some n → n < limit → ⊥)
+none_below limit word None more = λ n is less. (let le = more n is in omega arith)
+none_below limit word (Some x) more = tt
+
+-- orders from 0 on
+pub record AreOrders (word : List ℕ) (r : Option ℕ) : Type 0 where
+  pub told : IfSome r (λ most. IsTold word 0 most)
+  pub some : IfSome r (λ most. 1 ≤ most)
+  pub none : IfNone r ((most : ℕ) → IsTold word 0 most → 1 ≤ most → most < 256 → ⊥)
+
+is_zero : (a : ℕ) → a == 0 ≡ true → a ≡ 0
+is_zero a h = grind (arith, nat_tests)
+
+not_zero : (a : ℕ) → a == 0 ≡ false → 1 ≤ a
+not_zero a h = grind (arith, nat_tests)
+
+no_orders : (word : List ℕ) (least most : ℕ) (r : Option ℕ) → r ≡ None → IsTold word least most → (least ≡ 0 → most ≡ 0) → AreOrders word r
+no_orders word least most r is told bars = subst (AreOrders word) (sym is) (record {
+  told = tt;
+  some = tt;
+  none = λ other own some less.
+      (let same = told_once word least most 0 other told own in
+      let last = bars same.0 in
+      let equal = same.1 in omega (arith, last, equal, some));
+})
+
+some_orders : (word : List ℕ) (b c : Bool) (least most : ℕ) (r : Option ℕ) → least == 0 ≡ b → most == 0 ≡ c → IsTold word least most → r ≡ cond b (cond c None (Some most)) None → AreOrders word r
+some_orders word true true least most r zero none told is = no_orders word least most r is told (λ e. is_zero most none)
+some_orders word true false least most r zero some told is = subst (AreOrders word) (sym is) (record {
+  told = subst (λ (a : ℕ). IsTold word a most) (is_zero least zero) told;
+  some = not_zero most some;
+  none = tt;
+})
+some_orders word false c least most r more any told is = no_orders word least most r is told (λ e. (let one = not_zero least more in absurd (omega (arith, one, e))))
+
+pub orders_are : (word : List ℕ) (least most : ℕ) (r : Option ℕ) → IsTold word least most → r ≡ cond (least == 0) (cond (most == 0) None (Some most)) None → AreOrders word r
+orders_are word least most r told is = some_orders word (least == 0) (most == 0) least most r refl refl told is

@@ -1,7 +1,7 @@
 -- Defines which requests of a survey are valid (own).
 use Rattle.std.specs.Prelude.{◌≤◌, ◌<◌, ◌-◌, ◌^◌, ⊤, IfSome}
 use Rattle.surveyor.specs.declared.task.Asked.{Asked}
-use Rattle.surveyor.specs.declared.task.Asked.TheVariants.{Survey as Surveys, Break, Merge}
+use Rattle.surveyor.specs.declared.task.Asked.TheVariants.{Survey as Surveys, Campaign, Break, Merge}
 use Rattle.surveyor.specs.declared.task.Survey.{Survey}
 
 -- States that a survey is valid: its spans are not empty, it has 2 to 13 generals, its patience is 1 to 4,096 steps,
@@ -19,5 +19,6 @@ pub record IsSurvey (s : Survey) : Type 0 where
 -- States that a request is valid. A request to sum files always is.
 abbrev pub IsAsked : Asked → Type 0
 IsAsked (Surveys s) = IsSurvey s
+IsAsked (Campaign c) = IsSurvey c.survey
 IsAsked (Break s is_table) = IsSurvey s
 IsAsked (Merge m) = ⊤

@@ -3,17 +3,17 @@ use Rattle.std.specs.Prelude.{ℕ, ◌≡◌, List, [], Option, Result, Ok, Err,
 use Rattle.std.specs.Fmt.{with_newline}
 use Rattle.clap.specs.Words.{Text, fault_of, matches_of}
 use Rattle.surveyor.specs.Broken.{IsBreakAnswered}
-use Rattle.surveyor.specs.Ends.{IsSearchRefused, IsUnended, IsUnsurveyed}
+use Rattle.surveyor.specs.Ends.{IsSearchRefused, IsUnended, IsUnsurveyed, NoneIsRefused}
 use Rattle.surveyor.specs.Faults.{IsUnsummed}
 use Rattle.surveyor.specs.Flags.{survey_app}
 use Rattle.surveyor.specs.Kept.{File}
 use Rattle.surveyor.specs.Meant.{Asks}
-use Rattle.surveyor.specs.Printed.{IsSurveyed}
+use Rattle.surveyor.specs.Printed.{IsCampaignPrinted, IsSurveyed}
 use Rattle.surveyor.specs.Statuses.{IsUnasked, IsUnhelped, complaint}
 use Rattle.surveyor.specs.Summed.{IsSummed}
 use Rattle.surveyor.specs.Wrong.{IsUnmet}
 use Rattle.surveyor.specs.declared.task.Asked.{Asked}
-use Rattle.surveyor.specs.declared.task.Asked.TheVariants.{Survey, Break, Merge}
+use Rattle.surveyor.specs.declared.task.Asked.TheVariants.{Survey, Campaign, Break, Merge}
 use Rattle.surveyor.specs.declared.task.AskedError.{AskedError}
 use Rattle.surveyor.specs.declared.fault.SurveyFailure.{SurveyFailure}
 
@@ -28,6 +28,8 @@ pub record IsAskedBy (words : List Text) (asked : Result Asked AskedError) : Typ
 abbrev pub IsDone : Result Asked AskedError → Option (List ℕ) → Option (List ℕ) → Option (List File)
     → Option (List File) → (Option (List ℕ) → Type 0) → ℕ → Type 0
 IsDone (Ok (Survey s)) old new before after Reports status = IsSurveyed s old new before after × (status ≡ 0)
+IsDone (Ok (Campaign c)) old new before after Reports status =
+    IsCampaignPrinted c old new × (after ≡ before) × (status ≡ 0)
 IsDone (Ok (Break s is_table)) old new before after Reports status =
     IsBreakAnswered s is_table old new × (after ≡ before) × (status ≡ 0)
 IsDone (Ok (Merge m)) old new before after Reports status = IsSummed m old new Reports status × (after ≡ before)
@@ -37,6 +39,7 @@ IsDone (Err error) old new before after Reports status =
 -- States that this failure can keep the request from being finished.
 abbrev pub IsUndone : Result Asked AskedError → SurveyFailure → Type 0
 IsUndone (Ok (Survey s)) fault = IsUnsurveyed s fault
+IsUndone (Ok (Campaign c)) fault = IsUnended c.survey NoneIsRefused fault
 IsUndone (Ok (Break s is_table)) fault = IsUnended s (IsSearchRefused s) fault
 IsUndone (Ok (Merge m)) fault = IsUnsummed m fault
 IsUndone (Err error) fault = IsUnhelped error fault

@@ -58,6 +58,10 @@ IsDrawnRefused _ f = IsRefusedIn f
 abbrev pub IsUnsurveyed : Survey → SurveyFailure → Type 0
 IsUnsurveyed s = IsUnended s (IsDrawnRefused s.shape)
 
+-- States that a campaign is rejected where none is played, which is never so.
+abbrev pub NoneIsRefused : Family → ℕ → ℕ → ScenarioError → Type 0
+NoneIsRefused f first end e = ⊥
+
 -- States that a campaign of the search of `--break` is rejected, for some number of generals and some bound.
 pub record IsSearchRefused (s : Survey) (f : Family) (first end : ℕ) (e : ScenarioError) : Type 0 where
   pub generals : ℕ

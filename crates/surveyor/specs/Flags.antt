@@ -40,10 +40,13 @@ with_rules app more = record app { top = record app.top { rules = app.top.rules 
 
 -- The rules of all options and switches of `./byzlab survey`.
 abbrev pub rules : List Rule
-rules = option (codes "generals") ∷ option (codes "bound") ∷ option (codes "traitors") ∷ option (codes "seeds")
+rules = option (codes "generals") ∷ option (codes "bound") ∷ option (codes "traitors")
+    ∷ option (codes "commander") ∷ option (codes "orders") ∷ switch (codes "grid") ∷ option (codes "seeds")
     ∷ option (codes "rule") ∷ option (codes "patience") ∷ switch (codes "signed") ∷ option (codes "adversary")
-    ∷ switch (codes "lines") ∷ switch (codes "table") ∷ switch (codes "svg") ∷ switch (codes "shrink")
-    ∷ switch (codes "break") ∷ option (codes "keep") ∷ files (codes "sum") ∷ []
+    ∷ switch (codes "lines") ∷ switch (codes "details") ∷ switch (codes "table") ∷ switch (codes "csv") ∷ switch (codes "svg")
+    ∷ switch (codes "shrink")
+    ∷ switch (codes "break") ∷ option (codes "campaign") ∷ option (codes "keep") ∷ option (codes "keep-all")
+    ∷ files (codes "sum") ∷ []
 
 -- The command with all its options and switches.
 abbrev pub survey_app : App

@@ -1,5 +1,5 @@
 -- Defines what words ask for, in terms of the rows that `clap` has found, one for each name (docs/SURVEYS.md).
-use Rattle.std.specs.Prelude.{ℕ, ◌≡◌, ◌≤◌, ◌<◌, ◌-◌, ◌^◌, Bool, true, false, List, [], ◌∷◌, Option, None, Some, codes, count_by, if◌then◌else◌, map, option_map, string_bytes, unwrap_or}
+use Rattle.std.specs.Prelude.{ℕ, ◌≡◌, ◌≤◌, ◌<◌, ◌-◌, ◌^◌, ◌&&◌, ◌||◌, Bool, true, false, List, [], ◌∷◌, Option, None, Some, codes, count_by, if◌then◌else◌, map, option_map, string_bytes, unwrap_or}
 use Rattle.std.specs.List.{list_any}
 use Rattle.std.specs.Str.{bytes_eq}
 use Rattle.clap.specs.Words.{Row, Text}
@@ -9,10 +9,11 @@ use Rattle.surveyor.specs.Flags.{given, has, row_of}
 use Rattle.surveyor.specs.Numbers.{IsTold}
 use Rattle.surveyor.specs.Words.{manner_named}
 use Rattle.surveyor.specs.declared.task.Asked.{Asked}
-use Rattle.surveyor.specs.declared.task.Asked.TheVariants.{Survey as Surveys, Break, Merge as Merges}
+use Rattle.surveyor.specs.declared.task.Asked.TheVariants.{Survey as Surveys, Campaign, Break, Merge as Merges}
 use Rattle.surveyor.specs.declared.task.Merge.{Merge}
+use Rattle.surveyor.specs.declared.task.OneCampaign.{OneCampaign}
 use Rattle.surveyor.specs.declared.task.ReportKind.{ReportKind}
-use Rattle.surveyor.specs.declared.task.ReportKind.TheVariants.{Sums, Lines, Table, Picture, Least}
+use Rattle.surveyor.specs.declared.task.ReportKind.TheVariants.{Sums, Lines, Accounts, Table, Csv, Picture, Least}
 use Rattle.surveyor.specs.declared.task.Survey.{Survey}
 
 -- Returns the value of an option, or `without` if the option is not given.
@@ -28,10 +29,43 @@ shape_by false false true false = Some Picture
 shape_by false false false true = Some Least
 shape_by _ _ _ _ = None
 
+-- Returns what is printed without `--details`, from the rows of the words.
+abbrev pub plain_shape_in : List Row → Option ReportKind
+plain_shape_in rows = shape_by (has (codes "lines") rows) (has (codes "table") rows) (has (codes "svg") rows)
+    (has (codes "shrink") rows)
+
+-- Returns what is printed, given whether `--details` is given, and what is printed without it: only a line for each
+-- campaign can have details.
+abbrev pub detailed : Bool → Option ReportKind → Option ReportKind
+detailed false shape = shape
+detailed true (Some Lines) = Some Accounts
+detailed true _ = None
+
+-- Returns what is printed without `--csv`, from the rows of the words.
+abbrev pub detailed_shape_in : List Row → Option ReportKind
+detailed_shape_in rows = detailed (has (codes "details") rows) (plain_shape_in rows)
+
+-- Returns what is printed, given whether `--csv` is given, and what is printed without it: only the table can be CSV.
+abbrev pub in_csv : Bool → Option ReportKind → Option ReportKind
+in_csv false shape = shape
+in_csv true (Some Sums) = Some Csv
+in_csv true (Some Table) = Some Csv
+in_csv true _ = None
+
 -- Returns what is printed, from the rows of the words.
 abbrev pub shape_in : List Row → Option ReportKind
-shape_in rows = shape_by (has (codes "lines") rows) (has (codes "table") rows) (has (codes "svg") rows)
-    (has (codes "shrink") rows)
+shape_in rows = in_csv (has (codes "csv") rows) (detailed_shape_in rows)
+
+-- Returns the message for words that ask for no form, given the form without `--details` and `--csv`, and that without
+-- `--csv`.
+abbrev pub form_complaint : Option ReportKind → Option ReportKind → Text
+form_complaint None other = codes "only one of --lines, --table, --svg, --shrink and --break can be used"
+form_complaint (Some plain) None = codes "--details can be used only with --lines"
+form_complaint (Some plain) (Some other) = codes "--csv can be used only by itself or with --table"
+
+-- Returns the message for words that ask for no form, from their rows.
+abbrev pub complaint_in : List Row → Text
+complaint_in rows = form_complaint (plain_shape_in rows) (detailed_shape_in rows)
 
 -- States that this is the number of steps for which a traitor is waited for, if the option is given.
 abbrev pub IsPatience : Option Text → Option ℕ → Type 0
@@ -53,21 +87,69 @@ pub record AreSeeds (word : Text) (seeds : ℕ × ℕ) : Type 0 where
   pub inside : seeds.1 < 2 ^ 64 - 1
   pub few : seeds.1 - seeds.0 < 10000000
 
+-- States that the word is this commander, one of `generals` generals.
+abbrev pub IsCommander : ℕ → Text → ℕ → Type 0
+IsCommander generals word c = (decimal_of word ≡ Some c) × (c < generals)
+
+-- States that the word denotes the orders from 0 to `most`, at least two.
+abbrev pub AreOrders : Text → ℕ → Type 0
+AreOrders word most = IsTold word 0 most × (1 ≤ most) × (most < 256)
+
 -- Returns the default of `--traitors`.
 abbrev pub some_traitors : List Row → Text
 some_traitors rows = if has (codes "break") rows then codes "1..13" else codes "1"
+
+-- Returns the first of two values, or the second if there is no first.
+abbrev pub first_of : Option Text → Option Text → Option Text
+first_of None second = second
+first_of (Some word) second = Some word
+
+-- Returns the folder to which campaigns are written, if one is named.
+abbrev pub folder_in : List Row → Option Text
+folder_in rows = first_of (given (codes "keep") rows) (given (codes "keep-all") rows)
+
+-- Returns whether `--keep-all` is given together with `--keep` or `--shrink`.
+abbrev pub bars_keeping : List Row → Bool
+bars_keeping rows = has (codes "keep-all") rows && (has (codes "keep") rows || has (codes "shrink") rows)
+
+-- States that the words say whether all campaigns are kept.
+pub record AreAllKept (rows : List Row) (all : Bool) : Type 0 where
+  pub said : all ≡ has (codes "keep-all") rows
+  pub single : bars_keeping rows ≡ false
 
 -- States that this is the survey that the words ask for. Each value is that of its option, or the default.
 pub record IsSurveying (rows : List Row) (s : Survey) : Type 0 where
   pub generals : IsWithin 2 13 (value (codes "generals") (codes "4") rows) s.generals
   pub bound : IsWithin 0 4 (value (codes "bound") (codes "1") rows) s.bound
   pub traitors : IsWithin 0 13 (value (codes "traitors") (some_traitors rows) rows) s.traitors
+  pub commander : IsCommander s.generals.low (value (codes "commander") (codes "0") rows) s.commander
+  pub orders : AreOrders (value (codes "orders") (codes "0..1") rows) s.orders
+  pub grid : s.grid ≡ has (codes "grid") rows
   pub manner : manner_named (given (codes "rule") rows) (has (codes "signed") rows) ≡ Some s.manner
   pub patience : IsPatience (given (codes "patience") rows) s.patience
   pub adversary : string_bytes s.adversary ≡ value (codes "adversary") (codes "lies") rows
   pub seeds : AreSeeds (value (codes "seeds") (codes "1..1000") rows) (s.first, s.last)
   pub shape : shape_in rows ≡ Some s.shape
-  pub keep : option_map string_bytes s.keep ≡ given (codes "keep") rows
+  pub keep : option_map string_bytes s.keep ≡ folder_in rows
+  pub every : AreAllKept rows s.keeps_all
+
+-- States that the word is this seed.
+abbrev pub IsSeed : Text → ℕ → Type 0
+IsSeed word seed = (decimal_of word ≡ Some seed) × (seed < 2 ^ 64 - 1)
+
+-- Returns whether an option or switch is given that cannot be combined with `--campaign`: any that says which seeds are
+-- played, or what is printed or kept.
+abbrev pub bars_campaign : List Row → Bool
+bars_campaign rows = list_any (λ name. has name rows)
+    (codes "seeds" ∷ codes "lines" ∷ codes "details" ∷ codes "table" ∷ codes "csv" ∷ codes "svg" ∷ codes "shrink" ∷ codes "break"
+    ∷ codes "keep" ∷ codes "keep-all" ∷ [])
+
+-- States that the words ask for this campaign: that of the seed which the value of `--campaign` is, in the family of
+-- the survey which the other words describe.
+pub record IsShowing (word : Text) (rows : List Row) (c : OneCampaign) : Type 0 where
+  pub survey : IsSurveying rows c.survey
+  pub seed : IsSeed word c.seed
+  pub single : bars_campaign rows ≡ false
 
 -- Returns the form in which `--break` prints: only a table, or campaigns.
 abbrev pub break_shape : Bool → ReportKind
@@ -84,12 +166,13 @@ pub record IsBreaking (rows : List Row) (s : Survey) (is_table : Bool) : Type 0 
 abbrev pub names_in : List Row → Option (List Text)
 names_in rows = option_map (λ row. row.values) (row_of (codes "sum") rows)
 
--- Returns whether an option or switch is given that cannot be combined with `--sum`: any except `--seeds`, `--table`
--- and `--svg`.
+-- Returns whether an option or switch is given that cannot be combined with `--sum`: any except `--seeds`, `--table`,
+-- `--csv` and `--svg`.
 abbrev pub bars_sum : List Row → Bool
 bars_sum rows = list_any (λ name. has name rows)
-    (codes "generals" ∷ codes "bound" ∷ codes "traitors" ∷ codes "rule" ∷ codes "patience" ∷ codes "signed"
-    ∷ codes "adversary" ∷ codes "lines" ∷ codes "shrink" ∷ codes "break" ∷ codes "keep" ∷ [])
+    (codes "generals" ∷ codes "bound" ∷ codes "traitors" ∷ codes "commander" ∷ codes "orders" ∷ codes "grid" ∷ codes "rule" ∷ codes "patience"
+    ∷ codes "signed" ∷ codes "adversary" ∷ codes "lines" ∷ codes "details" ∷ codes "shrink" ∷ codes "break" ∷ codes "campaign" ∷ codes "keep"
+    ∷ codes "keep-all" ∷ [])
 
 -- States that these are the first and the last seed of `--seeds`, if it is given.
 abbrev pub AreSaid : Option Text → Option (ℕ × ℕ) → Type 0
@@ -107,7 +190,12 @@ pub record IsMerging (names : List Text) (rows : List Row) (m : Merge) : Type 0 
 
 -- States that the words ask for this request.
 abbrev pub Asks : List Row → Asked → Type 0
-Asks rows (Surveys s) = (names_in rows ≡ None) × (has (codes "break") rows ≡ false) × IsSurveying rows s
+Asks rows (Surveys s) =
+    (names_in rows ≡ None) × (given (codes "campaign") rows ≡ None) × (has (codes "break") rows ≡ false)
+    × IsSurveying rows s
+Asks rows (Campaign c) =
+    (names_in rows ≡ None) × (word : Text) × (given (codes "campaign") rows ≡ Some word) × IsShowing word rows c
 Asks rows (Break s is_table) =
-    (names_in rows ≡ None) × (has (codes "break") rows ≡ true) × IsBreaking rows s is_table
+    (names_in rows ≡ None) × (given (codes "campaign") rows ≡ None) × (has (codes "break") rows ≡ true)
+    × IsBreaking rows s is_table
 Asks rows (Merges m) = (names : List Text) × (names_in rows ≡ Some names) × IsMerging names rows m

@@ -46,6 +46,9 @@ pub record IsFamilyOf (s : Survey) (f : Family) : Type 0 where
   pub generals : f.generals ≡ s.generals
   pub bound : f.bound ≡ s.bound
   pub traitors : f.traitors ≡ s.traitors
+  pub commander : f.commander ≡ s.commander
+  pub orders : f.orders ≡ s.orders
+  pub grid : f.grid ≡ s.grid
   pub manner : f.manner ≡ s.manner
   pub patience : f.patience ≡ s.patience
   pub adversary : IsNamed (string_bytes s.adversary) f.adversary

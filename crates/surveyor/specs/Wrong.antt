@@ -7,7 +7,7 @@ use Rattle.clap.specs.declared.error.kind.ErrorKind.TheVariants.{OutOfMemory}
 use Rattle.combine.specs.Names.{rule_named}
 use Rattle.surveys.specs.declared.span.CountRange.{CountRange}
 use Rattle.surveyor.specs.Flags.{given, has, survey_app}
-use Rattle.surveyor.specs.Meant.{AreSeeds, Asks, IsPatience, IsWithin, bars_sum, break_shape, names_in, shape_in, some_traitors, value}
+use Rattle.surveyor.specs.Meant.{AreOrders, AreSeeds, Asks, IsCommander, IsPatience, IsSeed, IsWithin, bars_campaign, bars_keeping, bars_sum, break_shape, complaint_in, folder_in, names_in, shape_in, some_traitors, value}
 use Rattle.surveyor.specs.declared.task.Asked.{Asked}
 use Rattle.surveyor.specs.declared.task.AskedError.{AskedError}
 use Rattle.surveyor.specs.declared.task.AskedError.TheVariants.{Words, Value, Rule, Memory}
@@ -20,6 +20,18 @@ IsOutside least most word = (span : CountRange) → IsWithin least most word spa
 -- States that the word is not a span of seeds.
 abbrev pub AreNoSeeds : Text → Type 0
 AreNoSeeds word = (seeds : ℕ × ℕ) → AreSeeds word seeds → ⊥
+
+-- States that the word is not a seed.
+abbrev pub IsNoSeed : Text → Type 0
+IsNoSeed word = (seed : ℕ) → IsSeed word seed → ⊥
+
+-- States that the word is not one of `generals` generals.
+abbrev pub IsNoCommander : ℕ → Text → Type 0
+IsNoCommander generals word = (c : ℕ) → IsCommander generals word c → ⊥
+
+-- States that the word denotes no orders.
+abbrev pub AreNoOrders : Text → Type 0
+AreNoOrders word = (most : ℕ) → AreOrders word most → ⊥
 
 -- States that the word is not a number of steps for which a traitor is waited for.
 abbrev pub IsNoPatience : Option Text → Type 0
@@ -43,17 +55,26 @@ pub data IsWrong (rows : List Row) (why : Text) : Type 0 where
       IsOutside 0 13 (value (codes "traitors") (some_traitors rows) rows) → IsWrong rows why
   seeds : why ≡ codes "--seeds takes at most 10000000 seeds below 18446744073709551615, such as 7 or 1..1000" →
       AreNoSeeds (value (codes "seeds") (codes "1..1000") rows) → IsWrong rows why
+  commander : why ≡ codes "--commander takes a number below the least of --generals" →
+      (span : CountRange) → IsWithin 2 13 (value (codes "generals") (codes "4") rows) span →
+      IsNoCommander span.low (value (codes "commander") (codes "0") rows) → IsWrong rows why
+  orders : why ≡ codes "--orders takes 0..1 to 0..255" →
+      AreNoOrders (value (codes "orders") (codes "0..1") rows) → IsWrong rows why
   patience : why ≡ codes "--patience takes 1 to 4096" →
       IsNoPatience (given (codes "patience") rows) → IsWrong rows why
   signed : why ≡ codes "signed messages have no rule" →
       has (codes "signed") rows ≡ true → has (codes "rule") rows ≡ true → IsWrong rows why
-  shape : why ≡ codes "only one of --lines, --table, --svg, --shrink and --break can be used" →
-      shape_in rows ≡ None → IsWrong rows why
+  shape : why ≡ complaint_in rows → shape_in rows ≡ None → IsWrong rows why
   broken : why ≡ codes "--break can be used with --table, but not with --lines, --svg or --shrink" →
       has (codes "break") rows ≡ true → (shape : ReportKind) → shape_in rows ≡ Some shape → IsNoBreak shape → IsWrong rows why
   keep : why ≡ codes "--break cannot be used with --keep: redirect its output to a file" →
-      has (codes "break") rows ≡ true → has (codes "keep") rows ≡ true → IsWrong rows why
-  sum : why ≡ codes "--sum plays nothing: it can be used only with --seeds, --table and --svg" →
+      has (codes "break") rows ≡ true → is_some (folder_in rows) ≡ true → IsWrong rows why
+  every : why ≡ codes "--keep-all cannot be used with --keep or --shrink" → bars_keeping rows ≡ true → IsWrong rows why
+  single : why ≡ codes "--campaign prints one campaign: it can be used only with options of the family" →
+      has (codes "campaign") rows ≡ true → bars_campaign rows ≡ true → IsWrong rows why
+  campaign : why ≡ codes "--campaign takes a seed below 18446744073709551615" →
+      (word : Text) → given (codes "campaign") rows ≡ Some word → IsNoSeed word → IsWrong rows why
+  sum : why ≡ codes "--sum plays nothing: it can be used only with --seeds, --table, --csv and --svg" →
       is_some (names_in rows) ≡ true → bars_sum rows ≡ true → IsWrong rows why
   twice : why ≡ codes "standard input can be read only once" →
       (names : List Text) → names_in rows ≡ Some names → AreTwice names → IsWrong rows why

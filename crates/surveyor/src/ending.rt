@@ -11,6 +11,7 @@ use crate::fault::SurveyFailure;
 use crate::file_sums::summed;
 use crate::keeper::Keeper;
 use crate::mistake::print_mistake;
+use crate::one_campaign::print_campaign;
 use crate::played_survey::surveyed;
 use crate::printer::unprinted;
 use crate::task::{Asked, AskedError};
@@ -94,6 +95,10 @@ fn done<T: Threads + Sync, O: Output, F: Output, K: Keeper>(
     match asked {
         Ok(Asked::Survey(survey)) => {
             surveyed(rt, threads, out, keeper, survey)?;
+            Ok(0)
+        }
+        Ok(Asked::Campaign(campaign)) => {
+            print_campaign(rt, out, campaign)?;
             Ok(0)
         }
         Ok(Asked::Break(survey, is_table)) => {

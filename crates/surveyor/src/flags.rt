@@ -34,6 +34,21 @@ const FAMILY: &[Flag<'static>] = &[
         help: "How many traitors there are [default: 1; with --break: 1..13]",
     },
     Flag {
+        name: "commander",
+        value: Some("C"),
+        help: "Who commands, a number below the least number of generals [default: 0]",
+    },
+    Flag {
+        name: "orders",
+        value: Some("0..V"),
+        help: "The orders, at most 0..255 [default: 0..1]",
+    },
+    Flag {
+        name: "grid",
+        value: None,
+        help: "Seeds go through the numbers of generals, bounds and traitors in turn, and do not draw them",
+    },
+    Flag {
         name: "seeds",
         value: Some("N..M"),
         help: "The seeds, one for each campaign, at most 10000000 [default: 1..1000]",
@@ -67,9 +82,19 @@ const SHAPES: &[Flag<'static>] = &[
         help: "Prints a JSON object for each campaign, in place of the sums",
     },
     Flag {
+        name: "details",
+        value: None,
+        help: "With --lines: the objects also have the traitors, the order and the decisions",
+    },
+    Flag {
         name: "table",
         value: None,
         help: "Prints the sums for each number of generals, each bound and each number of traitors",
+    },
+    Flag {
+        name: "csv",
+        value: None,
+        help: "Prints the table as CSV, with a 95% interval for the share of broken campaigns",
     },
     Flag {
         name: "svg",
@@ -88,9 +113,19 @@ const SHAPES: &[Flag<'static>] = &[
                traitors, statements and seed",
     },
     Flag {
+        name: "campaign",
+        value: Some("SEED"),
+        help: "Prints the campaign of this seed, broken or not, and plays nothing",
+    },
+    Flag {
         name: "keep",
         value: Some("DIR"),
         help: "Writes each broken campaign to DIR/SEED.toml",
+    },
+    Flag {
+        name: "keep-all",
+        value: Some("DIR"),
+        help: "Writes each campaign to DIR/SEED.toml, broken or not",
     },
 ];
 

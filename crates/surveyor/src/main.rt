@@ -2,6 +2,7 @@
 //! counts their outcomes.
 #![tactic(auto)]
 
+mod accounts;
 mod breaches;
 mod ending;
 mod family;
@@ -14,6 +15,7 @@ mod kept_campaigns;
 mod minimal_campaigns;
 mod mistake;
 mod numbers;
+mod one_campaign;
 mod pieces;
 mod played_survey;
 mod printer;

@@ -1,5 +1,5 @@
 //! Parses the numbers and spans that options take, such as `4` and `4..7`.
-ghost use Rattle.std.specs.Prelude.{ℕ, ◌≡◌, ◌≤◌, ◌<◌, ◌-◌, ◌^◌, IfNone, IfSome, Some};
+ghost use Rattle.std.specs.Prelude.{ℕ, ◌≡◌, ◌≤◌, ◌<◌, ◌-◌, ◌^◌, ◌==◌, cond, IfNone, IfSome, None, Some};
 ghost use Rattle.surveyor.specs.Numbers.{AreTold, IsNoSpan, IsTold};
 ghost use Rattle.text.specs.Number.{decimal_of};
 
@@ -52,6 +52,16 @@ fn ends(limit: u128, word: &str) -> Option<(u64, u64)>
     }
 }
 
+/// Parses a number below `limit`. Returns `None` for any other word.
+pub fn small(limit: u8, word: &str) -> Option<u8>
+    ensures inside { IfSome result (λ number. number < limit) }
+    ensures told { IfSome result (λ number. decimal_of word.now ≡ Some number) }
+    ensures refused { IfNone result ((number : ℕ) → decimal_of word.now ≡ Some number → number < limit → ⊥) }
+{
+    let number = below(u128::from(limit), word)?;
+    Some(number as u8)
+}
+
 /// Parses a span of numbers from 0 to 13. Returns `None` for any other word.
 pub fn span(word: &str) -> Option<CountRange>
     ensures ordered { IfSome result (λ s. s.low ≤ s.high) }
@@ -81,6 +91,36 @@ pub fn seeds(word: &str) -> Option<(u64, u64)>
     } else {
         None
     }
+}
+
+/// Parses orders `0..V`, where V is 1 to 255, and returns V. Returns `None` for any other word.
+pub fn orders(word: &str) -> Option<u8>
+    ensures told { IfSome result (λ most. IsTold word.now 0 most) }
+    ensures some { IfSome result (λ most. 1 ≤ most) }
+    ensures refused { IfNone result ((most : ℕ) → IsTold word.now 0 most → 1 ≤ most → most < 256 → ⊥) }
+{
+    let (least, most) = ends(256, word)?;
+    from_zero(least, most)
+}
+
+/// Returns the second number, if the first is 0 and the second is not.
+fn from_zero(least: u64, most: u64) -> Option<u8>
+    requires { most < 256 }
+    ensures { result ≡ cond (least == 0) (cond (most == 0) None (Some most)) None }
+{
+    if least != 0 {
+        return None;
+    }
+    if most == 0 { None } else { Some(most as u8) }
+}
+
+/// Parses a seed, a number below 2^64 - 1. Returns `None` for any other word.
+pub fn seed(word: &str) -> Option<u64>
+    ensures inside { IfSome result (λ seed. seed < 2 ^ 64 - 1) }
+    ensures told { IfSome result (λ seed. decimal_of word.now ≡ Some seed) }
+    ensures refused { IfNone result ((seed : ℕ) → decimal_of word.now ≡ Some seed → seed < 2 ^ 64 - 1 → ⊥) }
+{
+    below(18_446_744_073_709_551_615, word)
 }
 
 /// Parses how many steps a traitor is waited for, 1 to 4,096. Returns `None` for any other word.

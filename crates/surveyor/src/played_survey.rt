@@ -1,4 +1,4 @@
-//! Plays the campaigns of a survey, prints their lines or their summary, and keeps the broken ones.
+//! Plays the campaigns of a survey, prints their lines or their summary, and keeps the broken ones or all.
 ghost use Rattle.std.specs.Prelude.{◌≡◌, ◌≢◌, ◌++◌, IfErr, IfOk, OnOk, Some, is_some, map, true};
 ghost use Rattle.std.specs.Io.KnownBytes.{Appends};
 ghost use Rattle.surveyor.specs.Asked.{IsSurvey};
@@ -6,8 +6,9 @@ ghost use Rattle.surveys.specs.Judging.{IsRefusedIn};
 ghost use Rattle.surveyor.specs.Ends.{IsStopped, IsUnsurveyed};
 ghost use Rattle.surveyor.specs.Faults.{IsKeptIn, IsUnkeptIn, IsUnprinted};
 ghost use Rattle.surveyor.specs.Kept.{Gains, campaign_file, campaign_files};
-ghost use Rattle.surveyor.specs.Printed.{IsPrinted, IsSurveyed, added, broken_seeds, head_in, lines_in};
+ghost use Rattle.surveyor.specs.Printed.{IsPrinted, IsSurveyed, added, broken_seeds, head_in, kept_seeds, lines_in};
 
+use crate::accounts::accounted;
 use crate::family::family_of;
 use crate::fault::SurveyFailure;
 use crate::keeper::Keeper;
@@ -20,14 +21,16 @@ use crate::task::{ReportKind, Survey};
 use std::alloc::{AllocError, Global};
 use std::thread::Threads;
 use streams::Output;
-use surveys::{Family, Finding, campaign_text, head, is_sound, lines_text, survey};
+use surveys::{
+    Family, Finding, campaign_text, failed_in, head, is_sound, lines_text, seeds_in, survey,
+};
 
 /// Plays the campaigns of a survey, and prints what is asked for.
 ///
 /// # Errors
 ///
 /// The family's file or a campaign is rejected, the output or a kept file cannot be written, or memory runs out.
-#[tactic(auto, using(crate::proofs::FaultLemmas::untaken, crate::proofs::FaultLemmas::unopened, crate::proofs::FaultLemmas::unended_least, crate::proofs::FaultLemmas::unended_drawn))]
+#[tactic(auto, using(crate::proofs::FaultLemmas::untaken, crate::proofs::FaultLemmas::unopened, crate::proofs::FaultLemmas::unended_least, crate::proofs::FaultLemmas::unended_accounts, crate::proofs::FaultLemmas::unended_drawn))]
 pub fn surveyed<T: Threads + Sync, O: Output, K: Keeper>(
     rt: &HostRuntime,
     threads: &T,
@@ -47,10 +50,13 @@ pub fn surveyed<T: Threads + Sync, O: Output, K: Keeper>(
     if asked.shape == ReportKind::Least {
         return shrunken(rt, threads, out, keeper, asked, &family);
     }
+    if asked.shape == ReportKind::Accounts {
+        return accounted(rt, threads, out, keeper, asked, &family);
+    }
     played(rt, threads, out, keeper, asked, &family)
 }
 
-/// Plays the campaigns of a family, keeps those that are broken, and prints their lines or their summary.
+/// Plays the campaigns of a family, keeps those that are broken or all, and prints their lines or their summary.
 ///
 /// # Errors
 ///
@@ -66,6 +72,7 @@ fn played<T: Threads + Sync, O: Output, K: Keeper>(
 ) -> Result<(), SurveyFailure>
     requires asked { IsSurvey asked.now }
     requires shape { asked.now.shape ≢ ReportKind.Least }
+    requires counted { asked.now.shape ≢ ReportKind.Accounts }
     ensures printed { OnOk result
         (IsPrinted asked.now family.now (O.contents out.old) (O.contents out.new) (K.files keeper.old)
         (K.files keeper.new)) }
@@ -86,15 +93,34 @@ fn played<T: Threads + Sync, O: Output, K: Keeper>(
             Err(error) => return Err(refused(next, until, error)),
         };
         put_lines(rt, out, asked.shape, found.as_slice())?;
-        let seeds = broken_seeds(alloc, found.as_slice())?;
+        let seeds = kept_seeds(alloc, asked.keeps_all, found.as_slice())?;
         keep_all(rt, keeper, asked, family, seeds.as_slice())?;
-        broken = broken.saturating_add(seeds.len() as u64);
         add(asked.shape, &mut all, found.as_slice())?;
+        broken = broken.saturating_add(failed_in(found.as_slice()));
         next = until;
         progress.tell(next.saturating_sub(1), broken)?;
     }
     let told = all.as_slice();
     put_summary(alloc, out, asked.shape, told)
+}
+
+/// Returns the seeds of the campaigns that are kept: of all, or of the broken ones.
+///
+/// # Errors
+///
+/// `AllocError` if memory runs out.
+pub(crate) fn kept_seeds(
+    alloc: Global,
+    keeps_all: bool,
+    found: &[Finding],
+) -> Result<Vec<u64>, AllocError>
+    ensures { IfOk result (λ seeds. seeds.items ≡ kept_seeds keeps_all found.now) }
+{
+    if keeps_all {
+        seeds_in(alloc, found)
+    } else {
+        broken_seeds(alloc, found)
+    }
 }
 
 /// Returns the seeds of the broken campaigns: those in which agreement is broken or a loyal commander is disobeyed.
@@ -135,7 +161,7 @@ fn add(shape: ReportKind, all: &mut Vec<Finding>, found: &[Finding]) -> Result<(
 /// # Errors
 ///
 /// The output cannot be written, or memory runs out.
-fn put_head<O: Output>(
+pub(crate) fn put_head<O: Output>(
     rt: &HostRuntime,
     out: &mut O,
     shape: ReportKind,
@@ -176,7 +202,7 @@ fn put_lines<O: Output>(
 ///
 /// A file cannot be written, or memory runs out.
 #[tactic(auto, using(crate::proofs::FaultLemmas::kept_where, crate::proofs::KeptLemmas::none_gained))]
-fn keep_all<K: Keeper>(
+pub(crate) fn keep_all<K: Keeper>(
     rt: &HostRuntime,
     keeper: &mut K,
     asked: &Survey,

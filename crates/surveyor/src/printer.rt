@@ -1,4 +1,4 @@
-//! Prints texts, and the summary of a survey: sums, a table or a picture.
+//! Prints texts, and the summary of a survey: sums, a table, CSV or a picture.
 ghost use Rattle.std.specs.Prelude.{◌≡◌, IfErr, IfOk, OnErr, OnOk, string_bytes};
 ghost use Rattle.std.specs.Io.KnownBytes.{Appends};
 ghost use Rattle.streams.specs.Writing.{AppendsFront};
@@ -10,7 +10,7 @@ use crate::task::ReportKind;
 use std::alloc::{AllocError, Global};
 use std::io::ErrorKind;
 use streams::Output;
-use surveys::{Finding, picture, sums_text, table};
+use surveys::{Finding, csv_table, picture, sums_text, table};
 
 /// Prints a text.
 ///
@@ -40,7 +40,8 @@ pub fn unprinted(kind: ErrorKind) -> SurveyFailure
     }
 }
 
-/// Returns the summary of campaigns in this form. It is empty for `Lines` and `Least`, which print no summary.
+/// Returns the summary of campaigns in this form. It is empty for `Lines`, `Accounts` and `Least`, which print no
+/// summary.
 ///
 /// # Errors
 ///
@@ -51,12 +52,14 @@ fn summary(alloc: Global, shape: ReportKind, findings: &[Finding]) -> Result<Str
     match shape {
         ReportKind::Sums => sums_text(alloc, findings),
         ReportKind::Table => table(alloc, findings),
+        ReportKind::Csv => csv_table(alloc, findings),
         ReportKind::Picture => picture(alloc, findings),
-        ReportKind::Lines | ReportKind::Least => Ok(String::new(alloc)),
+        ReportKind::Lines | ReportKind::Accounts | ReportKind::Least => Ok(String::new(alloc)),
     }
 }
 
-/// Prints the summary of campaigns in this form. Nothing is printed for `Lines` and `Least`.
+/// Prints the summary of campaigns in this form. Nothing is printed for `Lines`,
+/// `Accounts` and `Least`.
 ///
 /// # Errors
 ///

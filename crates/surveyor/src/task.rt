@@ -1,4 +1,5 @@
-//! What the command line of a survey asks for: the request to play, to search or to sum, and why there is no request.
+//! What the command line of a survey asks for: the request to play, to search, to sum or to print one campaign, and why
+//! there is no request.
 ghost use Rattle.std.specs.Prelude.{◌≡◌, IfErr, IfOk, []};
 ghost use Rattle.clap.specs.Words.{fault_of, matches_of};
 ghost use Rattle.surveyor.specs.Asked.{IsAsked};
@@ -19,6 +20,8 @@ use surveys::{CountRange, Manner};
 pub enum Asked {
     /// Plays the campaigns that the seeds of a survey give.
     Survey(Survey),
+    /// Prints the campaign of one seed.
+    Campaign(OneCampaign),
     /// Searches what breaks agreement, for each number of generals and each bound. The flag says whether only a table
     /// is printed, without the campaigns.
     Break(Survey, bool),
@@ -33,12 +36,23 @@ pub enum ReportKind {
     Sums,
     /// A line for each campaign.
     Lines,
+    /// A line for each campaign, which also has the traitors, the order and the decisions.
+    Accounts,
     /// A table of the sums for each number of generals, bound and number of traitors.
     Table,
+    /// The table as CSV, with an interval for the share of broken campaigns.
+    Csv,
     /// An SVG picture of the share of broken campaigns, for each number of generals, bound and number of traitors.
     Picture,
     /// The least broken campaign, from which no traitor and no statement can be removed.
     Least,
+}
+
+/// A request to print one campaign: that which the seed gives in the family of the survey.
+#[derive(Drop)]
+pub struct OneCampaign {
+    pub survey: Survey,
+    pub seed: u64,
 }
 
 /// A request to sum the lines of files.
@@ -56,6 +70,12 @@ pub struct Survey {
     pub generals: CountRange,
     pub bound: CountRange,
     pub traitors: CountRange,
+    /// The commander of all campaigns.
+    pub commander: u8,
+    /// The greatest order.
+    pub orders: u8,
+    /// Whether seeds go through the ranges in turn.
+    pub grid: bool,
     pub manner: Manner,
     pub patience: Option<u32>,
     /// What the traitors do: `lies`, `silent`, `collude`, or the name of a file of assembly.
@@ -63,8 +83,10 @@ pub struct Survey {
     pub first: u64,
     pub last: u64,
     pub shape: ReportKind,
-    /// The folder to which broken campaigns are written, if `--keep` is given.
+    /// The folder to which campaigns are written, if `--keep` or `--keep-all` is given.
     pub keep: Option<String>,
+    /// Whether all campaigns are written to it, and not only the broken ones.
+    pub keeps_all: bool,
 }
 
 /// Why the words ask for nothing.

@@ -1,5 +1,5 @@
-//! Turns the words that `clap` has parsed into the request: to play campaigns, to search with `--break`, or to sum with
-//! `--sum`.
+//! Turns the words that `clap` has parsed into the request: to play campaigns, to print one with `--campaign`, to
+//! search with `--break`, or to sum with `--sum`.
 ghost use Rattle.std.specs.Prelude.{IfErr, IfOk};
 ghost use Rattle.clap.specs.Words.{found_of, rows_of};
 ghost use Rattle.surveyor.specs.Asked.{IsAsked};
@@ -7,15 +7,18 @@ ghost use Rattle.surveyor.specs.Flags.{has};
 ghost use Rattle.surveyor.specs.Meant.{Asks};
 ghost use Rattle.surveyor.specs.Wrong.{AsksNothing, IsRefused};
 ghost use Rattle.surveyor.specs.declared.task.Merge.{Merge};
+ghost use Rattle.surveyor.specs.declared.task.OneCampaign.{OneCampaign};
 ghost use Rattle.surveyor.specs.declared.task.Survey.{Survey};
 
 mod breaks;
+mod campaigns;
 mod plays;
 mod sums;
 
-use crate::task::{Asked, AskedError, Merge, Survey};
-use crate::word_values::{has, names};
+use crate::task::{Asked, AskedError, Merge, OneCampaign, Survey};
+use crate::word_values::{given, has, names};
 use breaks::break_of;
+use campaigns::campaign_of;
 use clap::ArgMatches;
 use plays::survey_of;
 use std::alloc::Global;
@@ -26,7 +29,7 @@ use sums::merge_of;
 /// # Errors
 ///
 /// The words ask for nothing, or memory runs out.
-#[tactic(auto, using(crate::proofs::MeantLemmas::no_merge_asked, crate::proofs::MeantLemmas::no_survey_asked))]
+#[tactic(auto, using(crate::proofs::MeantLemmas::no_merge_asked, crate::proofs::MeantLemmas::no_campaign_asked, crate::proofs::MeantLemmas::no_survey_asked))]
 pub fn meant(alloc: Global, found: &ArgMatches) -> Result<Asked, AskedError>
     ensures asked { IfOk result IsAsked }
     ensures told { IfOk result (Asks (rows_of (found_of found.now))) }
@@ -35,6 +38,9 @@ pub fn meant(alloc: Global, found: &ArgMatches) -> Result<Asked, AskedError>
 {
     if let Some(names) = names(found) {
         return Ok(Asked::Merge(merge_of(alloc, found, names)?));
+    }
+    if let Some(word) = given(found, "campaign") {
+        return Ok(Asked::Campaign(campaign_of(alloc, found, word)?));
     }
     if has(found, "break") {
         let (survey, is_table) = break_of(alloc, found)?;

@@ -1,5 +1,6 @@
 //! Looks up the values of options and switches among the words that `clap` has parsed.
 ghost use Rattle.std.specs.Prelude.{◌≡◌, if◌then◌else◌, None, map, option_map, unwrap_or};
+ghost use Rattle.std.specs.List.{list_any};
 ghost use Rattle.clap.specs.Words.{found_of, rows_of};
 ghost use Rattle.surveyor.specs.Flags.{given, has, is_given};
 ghost use Rattle.surveyor.specs.Meant.{names_in, value};
@@ -29,6 +30,13 @@ pub fn has(found: &ArgMatches, name: &str) -> bool
     ensures { result ≡ has name.now (rows_of (found_of found.now)) }
 {
     given(found, name).is_some()
+}
+
+/// Returns whether at least one of these options and switches is given.
+pub fn has_any(found: &ArgMatches, names: &[&str]) -> bool
+    ensures { result ≡ list_any (λ name. has name.now (rows_of (found_of found.now))) names.now }
+{
+    names.iter().any(|name| has(found, name))
 }
 
 /// Returns the value of an option, or `without` if the option is not given.

@@ -3,6 +3,7 @@ pub mod Rereading
 pub mod Ranges
 pub mod Choosing
 pub mod Gathered
+pub mod AccountFacts
 pub mod LineLemmas
 pub mod Keeping
 pub mod Words
@@ -22,3 +23,6 @@ pub mod Rising
 pub mod Exactness
 pub mod Apart
 pub mod Pieces
+pub mod Intervals
+pub mod CommanderMember
+pub mod AccountTexts

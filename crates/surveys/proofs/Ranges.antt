@@ -1,9 +1,10 @@
 -- Lists that are gathered number by number.
 use Rattle.std.proofs.Common.{ℕ, Bool, cond, ◌+◌, ◌≡◌, List, [], ◌∷◌, ◌++◌, sym, ap, ◌∙◌, arith}
-use Rattle.std.specs.Prelude.{count_by}
+use Rattle.std.specs.Prelude.{count_by, filter}
 use Rattle.std.specs.List.{flat_map, range_with_len}
 use Rattle.std.proofs.lemmas.List.Sums.{sum_by-append}
 use Rattle.std.proofs.lemmas.List.{flat_map_more}
+use Rattle.std.proofs.lemmas.List.Elements.{filter-append}
 use Rattle.book.proofs.Gathering.{range_more}
 
 -- what one number more adds
@@ -16,3 +17,7 @@ count_range p n =
     let whole = ap (count_by p) (range_more n) in
     let parts = sum_by-append (λ x. cond (p x) 1 0) (range_with_len 0 n) (n ∷ []) in
     whole ∙ (parts ∙ ap (λ x. count_by p (range_with_len 0 n) + x) (omega arith))
+
+-- one number more that passes, or does not
+pub filter_range : (p : ℕ → Bool) (n : ℕ) → filter p (range_with_len 0 n) ++ cond (p n) (n ∷ []) [] ≡ filter p (range_with_len 0 (n + 1))
+filter_range p n = sym (ap (filter p) (range_more n) ∙ filter-append p (range_with_len 0 n) (n ∷ []))

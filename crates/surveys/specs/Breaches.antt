@@ -71,7 +71,7 @@ narrowed f n m t = record f { generals = only n; bound = only m; traitors = only
 pub record IsSameAs (a b : Adversary) : Type 0 where
   pub given : given_in b ≡ given_in a
   pub counts : do_count b ≡ do_count a
-  pub lies : (m : Manner) (seed n g : ℕ) → lies_by b m seed n g ≡ lies_by a m seed n g
+  pub lies : (m : Manner) (v c seed n g : ℕ) → lies_by b m v c seed n g ≡ lies_by a m v c seed n g
 
 -- States that none of the campaigns of the seeds from `first` up to but not including `end` is broken.
 abbrev pub AreAllSound : (ℕ → Plot) → ℕ → ℕ → Type 0

@@ -1,15 +1,19 @@
 -- Families of campaigns, from which seeds draw (own).
-use Rattle.std.specs.Prelude.{ℕ, ◌≤◌, Option, IfSome}
+use Rattle.std.specs.Prelude.{ℕ, Bool, ◌≤◌, Option, IfSome}
 use Rattle.surveys.specs.declared.adversary.Adversary.{Adversary}
 use Rattle.surveys.specs.declared.span.CountRange.{CountRange}
 use Rattle.surveys.specs.declared.manner.Manner.{Manner}
 
--- A family: the ranges of the number of generals, the bound and the number of traitors, how orders are sent, how many
--- steps a traitor may take, and what traitors do.
+-- A family: the ranges of the number of generals, the bound and the number of traitors, the commander, the greatest
+-- order, whether seeds go through the ranges in turn, how orders are sent, how many steps a traitor may take, and what
+-- traitors do.
 pub record Family : Type 0 where
   pub generals : CountRange
   pub bound : CountRange
   pub traitors : CountRange
+  pub commander : ℕ
+  pub orders : ℕ
+  pub grid : Bool
   pub manner : Manner
   pub patience : Option ℕ
   pub adversary : Adversary

@@ -1,6 +1,6 @@
 -- The head of a survey: a JSON object (RFC 8259) that describes the family of its campaigns, with its members in
 -- ascending order of their names.
-use Rattle.std.specs.Prelude.{ℕ, ◌≡◌, ◌<◌, ◌^◌, ◌==◌, not, true, Bool, IfSome, List, [], ◌∷◌, ◌++◌, take, decimal, bytes_eq, codes, Option, None, Some, string_bytes}
+use Rattle.std.specs.Prelude.{ℕ, ◌≡◌, ◌<◌, ◌^◌, ◌==◌, cond, not, true, false, Bool, IfSome, List, [], ◌∷◌, ◌++◌, take, decimal, bytes_eq, codes, Option, None, Some, string_bytes}
 use Rattle.std.specs.List.{list_all}
 use Rattle.combine.specs.Rule.{rule_name}
 use Rattle.surveys.specs.declared.adversary.Adversary.{Adversary}
@@ -24,36 +24,50 @@ abbrev pub manner_word : Manner → List ℕ
 manner_word (Oral rule) = codes "\"" ++ (rule_name rule ++ codes "\"")
 manner_word Signed = codes "\"signed\""
 
+-- Writes whether the numbers of campaigns are drawn, or the seeds go through the ranges in turn.
+abbrev pub line_word : Bool → List ℕ
+line_word false = codes "\"family\""
+line_word true = codes "\"grid\""
+
 -- Writes how many steps a traitor may take, or `null` if they are unlimited.
 abbrev pub patience_word : Option ℕ → List ℕ
 patience_word None = codes "null"
 patience_word (Some steps) = decimal steps
+
+-- Writes the member of a head that names the commander, unless this is general 0.
+abbrev pub commander_text : ℕ → List ℕ
+commander_text c = cond (c == 0) [] (codes ",\"commander\":" ++ decimal c)
+
+-- Writes the member of a head with the greatest order, unless this is 1.
+abbrev pub orders_text : ℕ → List ℕ
+orders_text v = cond (v == 1) [] (codes ",\"orders\":" ++ decimal v)
 
 -- Writes the head of a family.
 abbrev pub head_text : Family → List ℕ
 head_text f =
     member (codes "{\"adversary\"") (adversary_word f.adversary)
     (member (codes ",\"bound_high\"") (decimal f.bound.high)
-    (member (codes ",\"bound_low\"") (decimal f.bound.low)
+    (member (codes ",\"bound_low\"") (decimal f.bound.low) (commander_text f.commander ++
     (member (codes ",\"generals_high\"") (decimal f.generals.high)
     (member (codes ",\"generals_low\"") (decimal f.generals.low)
-    (member (codes ",\"line\"") (codes "\"family\"")
-    (member (codes ",\"manner\"") (manner_word f.manner)
+    (member (codes ",\"line\"") (line_word f.grid)
+    (member (codes ",\"manner\"") (manner_word f.manner) (orders_text f.orders ++
     (member (codes ",\"patience\"") (patience_word f.patience)
     (member (codes ",\"traitors_high\"") (decimal f.traitors.high)
-    (member (codes ",\"traitors_low\"") (decimal f.traitors.low) (codes "}\n"))))))))))
+    (member (codes ",\"traitors_low\"") (decimal f.traitors.low) (codes "}\n"))))))))))))
 
--- Writes the members of a head that describe the bound and the generals.
-abbrev pub head_front : CountRange → CountRange → List ℕ
-head_front bound generals =
+-- Writes the members of a head that describe the bound, the commander and the generals.
+abbrev pub head_front : CountRange → ℕ → CountRange → List ℕ
+head_front bound c generals =
     codes ",\"bound_high\":" ++ (decimal bound.high ++ (codes ",\"bound_low\":" ++ (decimal bound.low
-    ++ (codes ",\"generals_high\":"
-    ++ (decimal generals.high ++ (codes ",\"generals_low\":" ++ decimal generals.low))))))
+    ++ (commander_text c ++ (codes ",\"generals_high\":"
+    ++ (decimal generals.high ++ (codes ",\"generals_low\":" ++ decimal generals.low)))))))
 
--- Writes the members of a head that describe how orders are sent and the patience.
-abbrev pub head_middle : List ℕ → List ℕ → List ℕ
-head_middle manner patience =
-    codes ",\"line\":\"family\",\"manner\":" ++ (manner ++ (codes ",\"patience\":" ++ patience))
+-- Writes the members of a head that say how numbers are found and orders sent, the greatest order and the patience.
+abbrev pub head_middle : Bool → List ℕ → ℕ → List ℕ → List ℕ
+head_middle grid manner v patience =
+    codes ",\"line\":" ++ (line_word grid ++ (codes ",\"manner\":" ++ (manner ++ (orders_text v
+    ++ (codes ",\"patience\":" ++ patience)))))
 
 -- Writes the members of a head that describe the traitors, and ends the line.
 abbrev pub head_end : CountRange → List ℕ
@@ -70,12 +84,14 @@ pub record IsHead (line : List ℕ) : Type 0 where
   pub front : List ℕ
   pub whole : line ≡ front ++ 10 ∷ []
 
--- States that the numbers of the ranges are below 256, that the patience is below 2 ^ 64, and that the bytecode
--- contains no comma.
+-- States that the numbers of the ranges, the commander and the greatest order are below 256, that the patience is below
+-- 2 ^ 64, and that the bytecode contains no comma.
 pub record IsTold (f : Family) : Type 0 where
   pub bound : (f.bound.low < 256) × (f.bound.high < 256)
   pub generals : (f.generals.low < 256) × (f.generals.high < 256)
   pub traitors : (f.traitors.low < 256) × (f.traitors.high < 256)
+  pub commander : f.commander < 256
+  pub orders : f.orders < 256
   pub patience : IfSome f.patience (λ steps. steps < 2 ^ 64)
   pub adversary : list_all (λ c. not (c == 44)) (adversary_word f.adversary) ≡ true
 

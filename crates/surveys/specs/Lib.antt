@@ -4,6 +4,8 @@ pub mod Plot
 pub mod Plotting
 pub mod Wording
 pub mod Judging
+pub mod Account
+pub mod Accounting
 pub mod Sums
 pub mod Lines
 pub mod Heads
@@ -15,5 +17,7 @@ pub mod Counts
 pub mod Covering
 pub mod Groups
 pub mod Tables
+pub mod Wilson
+pub mod Csv
 pub mod Pictures
 pub mod Breakings

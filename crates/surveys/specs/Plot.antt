@@ -9,11 +9,12 @@ pub record Traitor : Type 0 where
   pub counts : Bool
   pub lies : List Lie
 
--- A campaign that a seed draws. General 0 is its commander, and its traitors are in ascending order. If bytecode is
--- given, in hex, it replaces the statements of all traitors.
+-- A campaign that a seed draws. Its traitors are in ascending order. If bytecode is given, in hex, it replaces the
+-- statements of all traitors.
 pub record Plot : Type 0 where
   pub generals : ℕ
   pub bound : ℕ
+  pub commander : ℕ
   pub order : ℕ
   pub manner : Manner
   pub patience : Option ℕ

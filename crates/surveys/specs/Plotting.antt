@@ -8,6 +8,7 @@ use Rattle.surveys.specs.declared.lie.Lie.TheVariants.{Honest, Sway, Sign, Pass}
 use Rattle.surveys.specs.declared.lie.LieValue.{LieValue}
 use Rattle.surveys.specs.declared.lie.LieValue.TheVariants.{Number, Parity}
 use Rattle.surveys.specs.declared.manner.Manner.{Manner}
+use Rattle.surveys.specs.declared.span.CountRange.{CountRange}
 use Rattle.surveys.specs.declared.manner.Manner.TheVariants.{Oral, Signed}
 use Rattle.surveys.specs.Draws.{draw, within}
 use Rattle.surveys.specs.Family.{Family}
@@ -19,17 +20,28 @@ use Rattle.surveys.specs.Plot.{Plot, Traitor}
 abbrev pub drawn_for : ℕ → ℕ → ℕ → ℕ
 drawn_for seed g place = draw seed (32 + 32 * g + place)
 
--- Returns how many generals the seed's campaign has.
+-- Returns how many numbers a range has.
+abbrev pub count_in : CountRange → ℕ
+count_in span = span.high + 1 - span.low
+
+-- Returns how many generals the seed's campaign has. The number is drawn, or the seeds go through the range in turn.
 abbrev pub generals_of : Family → ℕ → ℕ
-generals_of f seed = within f.generals (draw seed 0)
+generals_of f seed = within f.generals (cond f.grid seed (draw seed 0))
 
 -- Returns the bound of the seed's campaign, which is at most 4 and at most the number of generals less 2.
 abbrev pub bound_of : Family → ℕ → ℕ
-bound_of f seed = min (within f.bound (draw seed 1)) (min 4 (generals_of f seed - 2))
+bound_of f seed = min (within f.bound (cond f.grid (seed / count_in f.generals) (draw seed 1)))
+    (min 4 (generals_of f seed - 2))
+
+-- Returns the commander of a campaign with `n` generals: that of the family, or the last general if there is no such
+-- general.
+abbrev pub commander_of : Family → ℕ → ℕ
+commander_of f n = min f.commander (n - 1)
 
 -- Returns how many traitors the seed's campaign has.
 abbrev pub count_of : Family → ℕ → ℕ
-count_of f seed = min (within f.traitors (draw seed 2)) (generals_of f seed)
+count_of f seed =
+    min (within f.traitors (cond f.grid (seed / count_in f.generals / count_in f.bound) (draw seed 2))) (generals_of f seed)
 
 -- Returns `needed` generals, ascending, from a number of generals that begin with `g`. Each choice is as likely as
 -- another (Knuth, volume 2, section 3.4.2, algorithm S).
@@ -39,39 +51,40 @@ chosen seed g (suc more) needed =
     cond (nat_lt (draw seed (4 + g) % suc more) needed) (g ∷ chosen seed (g + 1) more (needed - 1))
     (chosen seed (g + 1) more needed)
 
--- Returns the order or index that a number draws: 0 or 1, or the parity of the count if the traitor counts.
-abbrev pub said_by : Bool → ℕ → LieValue
-said_by true drawn = Parity
-said_by false drawn = Number (drawn / 4 % 2)
+-- Returns the order or index that a number draws: one from 0 to `v`, or the parity of the count if the traitor counts.
+abbrev pub said_by : Bool → ℕ → ℕ → LieValue
+said_by true v drawn = Parity
+said_by false v drawn = Number (drawn / 4 % (v + 1))
 
--- Returns what general `g` says to a receiver: nothing in one of four cases, the truth in one, and an order in two.
-abbrev pub oral_lies : Bool → ℕ → ℕ → ℕ → List Lie
-oral_lies counts g receiver drawn =
+-- Returns what general `g` says to a receiver: nothing in one of four cases, the truth in one, and an order, of those
+-- from 0 to `v`, in two.
+abbrev pub oral_lies : Bool → ℕ → ℕ → ℕ → ℕ → List Lie
+oral_lies counts v g receiver drawn =
     cond (receiver == g) []
     (cond (drawn % 4 == 0) []
     (cond (drawn % 4 == 1) (Honest receiver ∷ [])
-    (Sway receiver (said_by counts drawn) ∷ [])))
+    (Sway receiver (said_by counts v drawn) ∷ [])))
 
--- Returns what general `g` signs or passes on, and to whom, or nothing in one of four cases. Only the commander signs
--- orders.
-abbrev pub signed_lies : Bool → ℕ → ℕ → List Lie
-signed_lies counts g drawn =
+-- Returns what general `g` signs or passes on, and to whom, or nothing in one of four cases. Only `c`, the commander,
+-- signs orders, which are from 0 to `v`.
+abbrev pub signed_lies : Bool → ℕ → ℕ → ℕ → ℕ → List Lie
+signed_lies counts v c g drawn =
     cond (drawn % 4 == 0) []
-    (cond (g == 0) (Sign (said_by counts drawn) (drawn / 8 % 8192) ∷ [])
-    (Pass (said_by counts drawn) (drawn / 8 % 8192) ∷ []))
+    (cond (g == c) (Sign (said_by counts v drawn) (drawn / 8 % 8192) ∷ [])
+    (Pass (said_by counts 1 drawn) (drawn / 8 % 8192) ∷ []))
 
--- Returns all statements of general `g`. In an oral campaign there is at most one for each receiver, and in a signed
--- one there are at most four.
-abbrev pub lies_in : Manner → Bool → ℕ → ℕ → ℕ → List Lie
-lies_in (Oral rule) counts seed n g = flat_map (λ r. oral_lies counts g r (drawn_for seed g r)) (range_with_len 0 n)
-lies_in Signed counts seed n g = flat_map (λ r. signed_lies counts g (drawn_for seed g r)) (range_with_len 0 4)
+-- Returns all statements of general `g` if `c` commands and orders are from 0 to `v`. In an oral campaign there is at
+-- most one for each receiver, and in a signed one there are at most four.
+abbrev pub lies_in : Manner → Bool → ℕ → ℕ → ℕ → ℕ → ℕ → List Lie
+lies_in (Oral rule) counts v c seed n g = flat_map (λ r. oral_lies counts v g r (drawn_for seed g r)) (range_with_len 0 n)
+lies_in Signed counts v c seed n g = flat_map (λ r. signed_lies counts v c g (drawn_for seed g r)) (range_with_len 0 4)
 
--- Returns the statements of general `g` as a traitor of this kind.
-abbrev pub lies_by : Adversary → Manner → ℕ → ℕ → ℕ → List Lie
-lies_by Lies manner seed n g = lies_in manner false seed n g
-lies_by Collude manner seed n g = lies_in manner true seed n g
-lies_by Silent manner seed n g = []
-lies_by (Given hex) manner seed n g = []
+-- Returns the statements of general `g` as a traitor of this kind, if `c` commands and orders are from 0 to `v`.
+abbrev pub lies_by : Adversary → Manner → ℕ → ℕ → ℕ → ℕ → ℕ → List Lie
+lies_by Lies manner v c seed n g = lies_in manner false v c seed n g
+lies_by Collude manner v c seed n g = lies_in manner true v c seed n g
+lies_by Silent manner v c seed n g = []
+lies_by (Given hex) manner v c seed n g = []
 
 -- Checks whether traitors of this kind count on the board.
 abbrev pub do_count : Adversary → Bool
@@ -85,8 +98,11 @@ given_in _ = None
 
 -- Returns general `g` as a traitor of the family, with his statements.
 abbrev pub traitor_of : Family → ℕ → ℕ → ℕ → Traitor
-traitor_of f seed n g =
-    record { general = g; counts = do_count f.adversary; lies = lies_by f.adversary f.manner seed n g }
+traitor_of f seed n g = record {
+  general = g;
+  counts = do_count f.adversary;
+  lies = lies_by f.adversary f.manner f.orders (commander_of f n) seed n g;
+}
 
 -- Returns the campaign that a seed draws from a family.
 unfoldable pub plot_of : Family → ℕ → Plot
@@ -95,7 +111,8 @@ plot_of f seed =
     record {
       generals = n;
       bound = bound_of f seed;
-      order = draw seed 3 % 2;
+      commander = commander_of f n;
+      order = draw seed 3 % (f.orders + 1);
       manner = f.manner;
       patience = f.patience;
       given = given_in f.adversary;

@@ -67,7 +67,7 @@ patience_text (Some steps) = codes "patience = " ++ decimal steps ++ codes "\n"
 abbrev pub numbers_text : Plot → List ℕ
 numbers_text p =
     codes "generals = " ++ (decimal p.generals ++ (codes "\nbound = " ++ (decimal p.bound
-    ++ (codes "\ncommander = 0\norder = " ++ (decimal p.order ++ codes "\n")))))
+    ++ (codes "\ncommander = " ++ (decimal p.commander ++ (codes "\norder = " ++ (decimal p.order ++ codes "\n")))))))
 
 -- Writes a campaign as a scenario in TOML.
 unfoldable pub plot_text : Plot → List ℕ

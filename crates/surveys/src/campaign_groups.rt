@@ -55,7 +55,7 @@ fn of_traitors(
 }
 
 /// Returns in how many of the campaigns the loyal lieutenants do not decide alike or do not obey a loyal commander.
-fn failed_in(findings: &[Finding]) -> u64
+pub fn failed_in(findings: &[Finding]) -> u64
     ensures { result ≡ failed_in findings.now }
 {
     let mut count = 0;

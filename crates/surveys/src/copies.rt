@@ -45,6 +45,7 @@ pub(crate) fn copied(alloc: Global, plot: &Plot) -> Result<Plot, AllocError>
     Ok(Plot {
         generals: plot.generals,
         bound: plot.bound,
+        commander: plot.commander,
         order: plot.order,
         manner: plot.manner,
         patience: plot.patience,

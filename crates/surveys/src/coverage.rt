@@ -7,7 +7,11 @@ use crate::stretch::Stretch;
 use std::alloc::{AllocError, Global};
 
 /// Returns the seeds of these campaigns.
-fn seeds_in(alloc: Global, findings: &[Finding]) -> Result<Vec<u64>, AllocError>
+///
+/// # Errors
+///
+/// Fails with `AllocError` if it runs out of memory.
+pub fn seeds_in(alloc: Global, findings: &[Finding]) -> Result<Vec<u64>, AllocError>
     ensures { IfOk result (λ seeds. seeds.items ≡ seeds_in findings.now) }
 {
     let mut seeds = Vec::new(alloc);

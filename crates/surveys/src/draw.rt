@@ -1,6 +1,7 @@
 //! Draws pseudo-random numbers from a seed by SplitMix64.
 ghost use Rattle.std.specs.Prelude.{◌≡◌, ◌≤◌, ◌<◌, ◌^◌};
 ghost use Rattle.surveys.specs.Draws.{draw, folded, mixed, within};
+ghost use Rattle.surveys.specs.Plotting.{count_in};
 
 use crate::span::CountRange;
 
@@ -32,6 +33,15 @@ pub(crate) fn draw(seed: u64, place: u16) -> u64
     ensures { result ≡ draw seed place }
 {
     mixed(seed.wrapping_add((u64::from(place) + 1).wrapping_mul(STEP)))
+}
+
+/// Returns how many numbers a range has.
+pub(crate) fn count_in(span: CountRange) -> u64
+    requires { span.low ≤ span.high }
+    ensures number { result ≡ count_in span }
+    ensures some { 0 < result }
+{
+    u64::from(span.high) + 1 - u64::from(span.low)
 }
 
 /// Returns the number of `span` that the random number `drawn` selects: the least number of the span, plus `drawn`

@@ -6,12 +6,16 @@ use crate::manner::Manner;
 use crate::span::CountRange;
 use std::marker::Model;
 
-/// A family of campaigns: the ranges of generals, bounds and traitors, how orders are sent, and what traitors do.
+/// A family of campaigns: the ranges of generals, bounds and traitors, who commands, the greatest order, how orders
+/// are sent, and what traitors do.
 #[derive(Drop)]
 pub struct Family {
     generals: CountRange,
     bound: CountRange,
     traitors: CountRange,
+    commander: u8,
+    orders: u8,
+    grid: bool,
     manner: Manner,
     patience: Option<u32>,
     adversary: Adversary,
@@ -26,6 +30,9 @@ impl Model for Family {
       generals = f.generals;
       bound = f.bound;
       traitors = f.traitors;
+      commander = f.commander;
+      orders = f.orders;
+      grid = f.grid;
       manner = f.manner;
       patience = f.patience;
       adversary = f.adversary;
@@ -35,6 +42,9 @@ impl Model for Family {
       generals = f.generals;
       bound = f.bound;
       traitors = f.traitors;
+      commander = f.commander;
+      orders = f.orders;
+      grid = f.grid;
       manner = f.manner;
       patience = f.patience;
       adversary = f.adversary;
@@ -45,13 +55,18 @@ impl Family {
     ghost use Rattle.surveys.specs.Family.{Family as Seen, IsFamily};
 
     /// Returns a family of campaigns. A seed draws the number of generals, the bound and the number of traitors from
-    /// these ranges. The number of generals is 2 to 13. A bound above 4 or above the number of generals less 2 is cut
-    /// to that, and a number of traitors above the number of generals is cut to that. If `patience` is given, 1 to
-    /// 4,096, a traitor may take that many steps. Otherwise he runs to his end.
+    /// these ranges. If `grid` is true, the seeds go through the ranges in turn, through the first one fastest. The
+    /// number of generals is 2 to 13. A bound above 4 or above the number of generals less 2 is cut to that, and a
+    /// number of traitors above the number of generals is cut to that. In a campaign without a general `commander` the
+    /// last general commands. Orders are from 0 to `orders`. If `patience` is given, 1 to 4,096, a traitor may take that
+    /// many steps. Otherwise he runs to his end.
     pub fn new(
         generals: CountRange,
         bound: CountRange,
         traitors: CountRange,
+        commander: u8,
+        orders: u8,
+        grid: bool,
         manner: Manner,
         patience: Option<u32>,
         adversary: Adversary,
@@ -60,6 +75,9 @@ impl Family {
           generals = generals;
           bound = bound;
           traitors = traitors;
+          commander = commander;
+          orders = orders;
+          grid = grid;
           manner = manner;
           patience = patience;
           adversary = adversary;
@@ -68,6 +86,9 @@ impl Family {
           generals = generals;
           bound = bound;
           traitors = traitors;
+          commander = commander;
+          orders = orders;
+          grid = grid;
           manner = manner;
           patience = patience;
           adversary = adversary;
@@ -77,6 +98,9 @@ impl Family {
             generals,
             bound,
             traitors,
+            commander,
+            orders,
+            grid,
             manner,
             patience,
             adversary,
@@ -105,6 +129,27 @@ impl Family {
         ensures whole { IsFamily self.now }
     {
         self.traitors
+    }
+
+    /// Returns the commander of the campaigns that have a general of this number.
+    pub fn commander(&self) -> u8
+        ensures { result ≡ self.now.commander }
+    {
+        self.commander
+    }
+
+    /// Returns the greatest order.
+    pub fn orders(&self) -> u8
+        ensures { result ≡ self.now.orders }
+    {
+        self.orders
+    }
+
+    /// Returns whether seeds go through the ranges in turn.
+    pub fn grid(&self) -> bool
+        ensures { result ≡ self.now.grid }
+    {
+        self.grid
     }
 
     /// Returns how orders are sent.

@@ -1,6 +1,6 @@
 //! Writes the head of a survey, which describes the family of its campaigns as a JSON object.
 ghost use Rattle.std.specs.Prelude.{◌≡◌, ◌++◌, IfOk, OnOk, codes, string_bytes};
-ghost use Rattle.surveys.specs.Heads.{adversary_word, head_end, head_front, head_middle, head_text, is_head, manner_word, patience_word};
+ghost use Rattle.surveys.specs.Heads.{adversary_word, commander_text, head_end, head_front, head_middle, head_text, is_head, line_word, manner_word, orders_text, patience_word};
 
 use crate::adversary::Adversary;
 use crate::family::Family;
@@ -56,22 +56,63 @@ fn put_word(out: &mut String, name: &str, word: &str) -> Result<(), AllocError>
     out.push_str(word)
 }
 
-/// Writes the ranges of the bound and of the number of generals.
-fn put_front(out: &mut String, bound: CountRange, generals: CountRange) -> Result<(), AllocError>
-    ensures { OnOk result (string_bytes out.new ≡ string_bytes out.old ++ head_front bound generals) }
+/// Writes who commands, unless it is general 0.
+fn put_commander(out: &mut String, commander: u8) -> Result<(), AllocError>
+    ensures { OnOk result (string_bytes out.new ≡ string_bytes out.old ++ commander_text commander) }
+{
+    if commander == 0 {
+        return Ok(());
+    }
+    put_numbered(out, ",\"commander\":", u64::from(commander))
+}
+
+/// Writes the range of the bound, who commands, and the range of the number of generals.
+fn put_front(
+    out: &mut String,
+    bound: CountRange,
+    commander: u8,
+    generals: CountRange,
+) -> Result<(), AllocError>
+    ensures { OnOk result (string_bytes out.new ≡ string_bytes out.old ++ head_front bound commander generals) }
 {
     put_numbered(out, ",\"bound_high\":", u64::from(bound.high))?;
     put_numbered(out, ",\"bound_low\":", u64::from(bound.low))?;
+    put_commander(out, commander)?;
     put_numbered(out, ",\"generals_high\":", u64::from(generals.high))?;
     put_numbered(out, ",\"generals_low\":", u64::from(generals.low))?;
     Ok(())
 }
 
-/// Writes how orders are sent, and how many steps a traitor may take.
-fn put_middle(out: &mut String, manner: &str, patience: &str) -> Result<(), AllocError>
-    ensures { OnOk result (string_bytes out.new ≡ string_bytes out.old ++ head_middle manner.now patience.now) }
+/// Writes the greatest order, unless it is 1.
+fn put_orders(out: &mut String, orders: u8) -> Result<(), AllocError>
+    ensures { OnOk result (string_bytes out.new ≡ string_bytes out.old ++ orders_text orders) }
 {
-    put_word(out, ",\"line\":\"family\",\"manner\":", manner)?;
+    if orders == 1 {
+        return Ok(());
+    }
+    put_numbered(out, ",\"orders\":", u64::from(orders))
+}
+
+/// Returns the JSON word for how the numbers of campaigns are found.
+fn line_word(grid: bool) -> &'static str
+    ensures { result.now ≡ line_word grid }
+{
+    if grid { "\"grid\"" } else { "\"family\"" }
+}
+
+/// Writes how numbers are found and orders sent, the greatest order, and how many steps a traitor may take.
+fn put_middle(
+    out: &mut String,
+    grid: bool,
+    manner: &str,
+    orders: u8,
+    patience: &str,
+) -> Result<(), AllocError>
+    ensures { OnOk result (string_bytes out.new ≡ string_bytes out.old ++ head_middle grid manner.now orders patience.now) }
+{
+    put_word(out, ",\"line\":", line_word(grid))?;
+    put_word(out, ",\"manner\":", manner)?;
+    put_orders(out, orders)?;
     put_word(out, ",\"patience\":", patience)?;
     Ok(())
 }
@@ -99,8 +140,19 @@ pub fn head(alloc: Global, family: &Family) -> Result<String, AllocError>
     let patience = patience_word(alloc, family.patience())?;
     let mut out = String::new(alloc);
     put_word(&mut out, "{\"adversary\":", adversary.as_str())?;
-    put_front(&mut out, family.bound(), family.generals())?;
-    put_middle(&mut out, manner.as_str(), patience.as_str())?;
+    put_front(
+        &mut out,
+        family.bound(),
+        family.commander(),
+        family.generals(),
+    )?;
+    put_middle(
+        &mut out,
+        family.grid(),
+        manner.as_str(),
+        family.orders(),
+        patience.as_str(),
+    )?;
     put_end(&mut out, family.traitors())?;
     Ok(out)
 }

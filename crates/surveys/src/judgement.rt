@@ -16,7 +16,7 @@ use std::alloc::{AllocError, Global};
 use world::{Schedule, Verdict, play};
 
 /// Returns the schedule without entries.
-fn unscheduled(alloc: Global) -> Schedule
+pub(crate) fn unscheduled(alloc: Global) -> Schedule
     ensures { result ≡ [] }
 {
     Schedule {
@@ -67,7 +67,7 @@ pub fn verdict_on(alloc: Global, text: &str) -> Result<Verdict, ScenarioError>
 }
 
 /// Returns the scenario of a campaign.
-fn scenario_in(campaign: &Campaign) -> &Scenario
+pub(crate) fn scenario_in(campaign: &Campaign) -> &Scenario
     ensures { result.now ≡ scenario_in campaign.now }
 {
     match campaign {
@@ -78,7 +78,7 @@ fn scenario_in(campaign: &Campaign) -> &Scenario
 
 /// Returns how many traitors the scenario has.
 #[tactic(auto, using(crate::proofs::Ranges::count_range))]
-fn traitors_in(scenario: &Scenario) -> u64
+pub(crate) fn traitors_in(scenario: &Scenario) -> u64
     ensures { result ≡ traitors_in scenario.now }
 {
     let mut count = 0;

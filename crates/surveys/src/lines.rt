@@ -24,7 +24,7 @@ fn answer_text(answer: Option<bool>) -> &'static str
 }
 
 /// Writes a flag after its name.
-fn put_flag(out: &mut String, name: &str, flag: bool) -> Result<(), AllocError>
+pub(crate) fn put_flag(out: &mut String, name: &str, flag: bool) -> Result<(), AllocError>
     ensures { OnOk result (string_bytes out.new ≡ string_bytes out.old ++ name.now ++ flag_text flag) }
 {
     out.push_str(name)?;
@@ -32,7 +32,11 @@ fn put_flag(out: &mut String, name: &str, flag: bool) -> Result<(), AllocError>
 }
 
 /// Writes an answer after its name.
-fn put_answer(out: &mut String, name: &str, answer: Option<bool>) -> Result<(), AllocError>
+pub(crate) fn put_answer(
+    out: &mut String,
+    name: &str,
+    answer: Option<bool>,
+) -> Result<(), AllocError>
     ensures { OnOk result (string_bytes out.new ≡ string_bytes out.old ++ name.now ++ answer_text answer) }
 {
     out.push_str(name)?;

@@ -22,13 +22,15 @@ impl Model for Traitor {
     ghost view = { λ t. record { general = t.general; counts = t.counts; lies = t.lies.items } };
 }
 
-/// A campaign that a seed draws. General 0 is its commander.
+/// A campaign that a seed draws.
 #[derive(Drop)]
 pub struct Plot {
     /// How many generals it has.
     pub generals: u8,
     /// How many traitors it must tolerate.
     pub bound: u8,
+    /// The commander.
+    pub commander: u8,
     /// The commander's order.
     pub order: u8,
     /// How orders are sent.
@@ -50,6 +52,7 @@ impl Model for Plot {
     ghost view = { λ p. record {
       generals = p.generals;
       bound = p.bound;
+      commander = p.commander;
       order = p.order;
       manner = p.manner;
       patience = p.patience;

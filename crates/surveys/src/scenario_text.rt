@@ -189,7 +189,8 @@ fn put_numbers(out: &mut String, plot: &Plot) -> Result<(), AllocError>
 {
     put_numbered(out, "generals = ", u64::from(plot.generals))?;
     put_numbered(out, "\nbound = ", u64::from(plot.bound))?;
-    put_numbered(out, "\ncommander = 0\norder = ", u64::from(plot.order))?;
+    put_numbered(out, "\ncommander = ", u64::from(plot.commander))?;
+    put_numbered(out, "\norder = ", u64::from(plot.order))?;
     out.push_str("\n")?;
     Ok(())
 }

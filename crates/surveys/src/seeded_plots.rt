@@ -1,11 +1,11 @@
 //! Draws the campaign of a seed from a family: its numbers, its traitors and their statements.
-ghost use Rattle.std.specs.Prelude.{◌≡◌, ◌+◌, ◌-◌, ◌%◌, ◌<◌, ◌≤◌, ◌++◌, OnOk, IfOk, flat_map, map, nat_lt, option_map, string_bytes};
+ghost use Rattle.std.specs.Prelude.{◌≡◌, ◌+◌, ◌-◌, ◌%◌, ◌<◌, ◌≤◌, ◌++◌, OnOk, IfOk, cond, flat_map, map, nat_lt, option_map, string_bytes};
 ghost use Rattle.std.specs.List.{range_with_len};
 ghost use Rattle.surveys.specs.Draws.{draw};
-ghost use Rattle.surveys.specs.Plotting.{bound_of, chosen, count_of, do_count, drawn_for, generals_of, given_in, lies_by, lies_in, oral_lies, plot_of, said_by, signed_lies, traitor_of};
+ghost use Rattle.surveys.specs.Plotting.{bound_of, chosen, commander_of, count_of, do_count, drawn_for, generals_of, given_in, lies_by, lies_in, oral_lies, plot_of, said_by, signed_lies, traitor_of};
 
 use crate::adversary::Adversary;
-use crate::draw::{draw, within};
+use crate::draw::{count_in, draw, within};
 use crate::family::Family;
 use crate::lie::{Lie, LieValue};
 use crate::manner::Manner;
@@ -19,13 +19,25 @@ fn drawn_for(seed: u64, general: u8, place: u8) -> u64
     draw(seed, 32 + 32 * u16::from(general) + u16::from(place))
 }
 
+/// Returns the number that selects from a range: `turn` if the seeds go through the ranges in turn, and otherwise the
+/// seed's random number at an index.
+fn selecting(family: &Family, turn: u64, seed: u64, place: u16) -> u64
+    ensures { result ≡ cond family.now.grid turn (draw seed place) }
+{
+    if family.grid() {
+        turn
+    } else {
+        draw(seed, place)
+    }
+}
+
 /// Returns how many generals the seed's campaign has.
 fn generals_of(family: &Family, seed: u64) -> u8
     ensures number { result ≡ generals_of family.now seed }
     ensures least { 2 ≤ result }
     ensures greatest { result ≤ 13 }
 {
-    within(family.generals(), draw(seed, 0))
+    within(family.generals(), selecting(family, seed, seed, 0))
 }
 
 /// Returns the bound of the seed's campaign.
@@ -33,36 +45,48 @@ fn bound_of(family: &Family, seed: u64) -> u8
     ensures { result ≡ bound_of family.now seed }
 {
     let greatest = (generals_of(family, seed) - 2).min(4);
-    within(family.bound(), draw(seed, 1)).min(greatest)
+    let turn = seed / count_in(family.generals());
+    within(family.bound(), selecting(family, turn, seed, 1)).min(greatest)
+}
+
+/// Returns the commander of a campaign with `generals` generals: that of the family, or the last general if there is no
+/// such general.
+fn commander_of(family: &Family, generals: u8) -> u8
+    ensures { result ≡ commander_of family.now generals }
+{
+    family.commander().min(generals.saturating_sub(1))
 }
 
 /// Returns how many traitors the seed's campaign has.
 fn count_of(family: &Family, seed: u64) -> u8
     ensures { result ≡ count_of family.now seed }
 {
-    within(family.traitors(), draw(seed, 2)).min(generals_of(family, seed))
+    let turn = seed / count_in(family.generals()) / count_in(family.bound());
+    within(family.traitors(), selecting(family, turn, seed, 2)).min(generals_of(family, seed))
 }
 
-/// Returns the order or index that a number draws: 0 or 1, or the parity of the count if the traitor counts.
-fn said_by(counts: bool, drawn: u64) -> LieValue
-    ensures { result ≡ said_by counts drawn }
+/// Returns the order or index that a number draws: one from 0 to `most`, or the parity of the count if the traitor
+/// counts.
+fn said_by(counts: bool, most: u8, drawn: u64) -> LieValue
+    ensures { result ≡ said_by counts most drawn }
 {
     if counts {
         LieValue::Parity
     } else {
-        LieValue::Number((drawn / 4 % 2) as u8)
+        LieValue::Number((drawn / 4 % (u64::from(most) + 1)) as u8)
     }
 }
 
-/// Appends what a general says to a receiver, if anything.
+/// Appends what a general says to a receiver, if anything. Orders are from 0 to `orders`.
 fn push_oral(
     lies: &mut Vec<Lie>,
     counts: bool,
+    orders: u8,
     general: u8,
     receiver: u8,
     drawn: u64,
 ) -> Result<(), AllocError>
-    ensures { OnOk result (lies.new.items ≡ lies.old.items ++ oral_lies counts general receiver drawn) }
+    ensures { OnOk result (lies.new.items ≡ lies.old.items ++ oral_lies counts orders general receiver drawn) }
 {
     if receiver == general || drawn % 4 == 0 {
         return Ok(());
@@ -70,23 +94,31 @@ fn push_oral(
     if drawn % 4 == 1 {
         lies.push(Lie::Honest(receiver))?;
     } else {
-        lies.push(Lie::Sway(receiver, said_by(counts, drawn)))?;
+        lies.push(Lie::Sway(receiver, said_by(counts, orders, drawn)))?;
     }
     Ok(())
 }
 
-/// Appends what a general signs or passes on, if anything.
-fn push_signed(lies: &mut Vec<Lie>, counts: bool, general: u8, drawn: u64) -> Result<(), AllocError>
-    ensures { OnOk result (lies.new.items ≡ lies.old.items ++ signed_lies counts general drawn) }
+/// Appends what a general signs or passes on, if anything. Only the commander signs orders, which are from 0 to
+/// `orders`.
+fn push_signed(
+    lies: &mut Vec<Lie>,
+    counts: bool,
+    orders: u8,
+    commander: u8,
+    general: u8,
+    drawn: u64,
+) -> Result<(), AllocError>
+    ensures { OnOk result (lies.new.items ≡ lies.old.items ++ signed_lies counts orders commander general drawn) }
 {
     if drawn % 4 == 0 {
         return Ok(());
     }
     let receivers = (drawn / 8 % 8192) as u16;
-    if general == 0 {
-        lies.push(Lie::Sign(said_by(counts, drawn), receivers))?;
+    if general == commander {
+        lies.push(Lie::Sign(said_by(counts, orders, drawn), receivers))?;
     } else {
-        lies.push(Lie::Pass(said_by(counts, drawn), receivers))?;
+        lies.push(Lie::Pass(said_by(counts, 1, drawn), receivers))?;
     }
     Ok(())
 }
@@ -95,18 +127,20 @@ fn push_signed(lies: &mut Vec<Lie>, counts: bool, general: u8, drawn: u64) -> Re
 fn oral_of(
     alloc: Global,
     counts: bool,
+    orders: u8,
     seed: u64,
     generals: u8,
     general: u8,
 ) -> Result<Vec<Lie>, AllocError>
     ensures { IfOk result (λ lies. lies.items
-        ≡ flat_map (λ r. oral_lies counts general r (drawn_for seed general r)) (range_with_len 0 generals)) }
+        ≡ flat_map (λ r. oral_lies counts orders general r (drawn_for seed general r)) (range_with_len 0 generals)) }
 {
     let mut lies = Vec::new(alloc);
     for receiver in 0..generals {
         push_oral(
             &mut lies,
             counts,
+            orders,
             general,
             receiver,
             drawn_for(seed, general, receiver),
@@ -116,13 +150,27 @@ fn oral_of(
 }
 
 /// Returns what a general signs and passes on in a signed campaign.
-fn signed_of(alloc: Global, counts: bool, seed: u64, general: u8) -> Result<Vec<Lie>, AllocError>
+fn signed_of(
+    alloc: Global,
+    counts: bool,
+    orders: u8,
+    commander: u8,
+    seed: u64,
+    general: u8,
+) -> Result<Vec<Lie>, AllocError>
     ensures { IfOk result (λ lies. lies.items
-        ≡ flat_map (λ r. signed_lies counts general (drawn_for seed general r)) (range_with_len 0 4)) }
+        ≡ flat_map (λ r. signed_lies counts orders commander general (drawn_for seed general r)) (range_with_len 0 4)) }
 {
     let mut lies = Vec::new(alloc);
     for place in 0..4 {
-        push_signed(&mut lies, counts, general, drawn_for(seed, general, place))?;
+        push_signed(
+            &mut lies,
+            counts,
+            orders,
+            commander,
+            general,
+            drawn_for(seed, general, place),
+        )?;
     }
     Ok(lies)
 }
@@ -132,15 +180,17 @@ fn lies_in(
     alloc: Global,
     manner: Manner,
     counts: bool,
+    orders: u8,
+    commander: u8,
     seed: u64,
     generals: u8,
     general: u8,
 ) -> Result<Vec<Lie>, AllocError>
-    ensures { IfOk result (λ lies. lies.items ≡ lies_in manner counts seed generals general) }
+    ensures { IfOk result (λ lies. lies.items ≡ lies_in manner counts orders commander seed generals general) }
 {
     match manner {
-        Manner::Oral(_) => oral_of(alloc, counts, seed, generals, general),
-        Manner::Signed => signed_of(alloc, counts, seed, general),
+        Manner::Oral(_) => oral_of(alloc, counts, orders, seed, generals, general),
+        Manner::Signed => signed_of(alloc, counts, orders, commander, seed, general),
     }
 }
 
@@ -152,12 +202,19 @@ fn lies_by(
     generals: u8,
     general: u8,
 ) -> Result<Vec<Lie>, AllocError>
-    ensures { IfOk result (λ lies. lies.items ≡ lies_by family.now.adversary family.now.manner seed generals general) }
+    ensures { IfOk result (λ lies. lies.items ≡ lies_by family.now.adversary family.now.manner family.now.orders
+        (commander_of family.now generals) seed generals general) }
 {
     let manner = family.manner();
+    let orders = family.orders();
+    let commander = commander_of(family, generals);
     match family.adversary() {
-        Adversary::Lies => lies_in(alloc, manner, false, seed, generals, general),
-        Adversary::Collude => lies_in(alloc, manner, true, seed, generals, general),
+        Adversary::Lies => lies_in(
+            alloc, manner, false, orders, commander, seed, generals, general,
+        ),
+        Adversary::Collude => lies_in(
+            alloc, manner, true, orders, commander, seed, generals, general,
+        ),
         Adversary::Silent | Adversary::Given(_) => Ok(Vec::new(alloc)),
     }
 }
@@ -244,7 +301,8 @@ pub fn plot_of(alloc: Global, family: &Family, seed: u64) -> Result<Plot, AllocE
     Ok(Plot {
         generals,
         bound: bound_of(family, seed),
-        order: (draw(seed, 3) % 2) as u8,
+        commander: commander_of(family, generals),
+        order: (draw(seed, 3) % (u64::from(family.orders()) + 1)) as u8,
         manner: family.manner(),
         patience: family.patience(),
         given: given_in(alloc, family.adversary())?,

@@ -28,7 +28,7 @@ fn if_any(width: usize, number: Option<u64>) -> NumberCell
 }
 
 /// Returns the cells of a group's row.
-fn cells_of(group: &Group) -> [NumberCell; 11]
+pub(crate) fn cells_of(group: &Group) -> [NumberCell; 11]
     ensures { result ≡ cells_of group.now }
 {
     let sums = group.sums;

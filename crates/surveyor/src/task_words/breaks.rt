@@ -24,7 +24,11 @@ fn is_table(shape: ReportKind) -> Option<bool>
     match shape {
         ReportKind::Sums => Some(false),
         ReportKind::Table => Some(true),
-        ReportKind::Lines | ReportKind::Picture | ReportKind::Least => None,
+        ReportKind::Lines
+        | ReportKind::Accounts
+        | ReportKind::Csv
+        | ReportKind::Picture
+        | ReportKind::Least => None,
     }
 }
 

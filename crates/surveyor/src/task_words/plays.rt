@@ -1,15 +1,15 @@
-//! The request to play campaigns, made from the words that `clap` has parsed: generals, bound, traitors, seeds, manner
-//! and what is printed.
-ghost use Rattle.std.specs.Prelude.{◌≡◌, ◌≤◌, IfErr, IfOk, MatchResult, codes, option_map, string_bytes};
+//! The request to play campaigns, made from the words that `clap` has parsed: generals, bound, traitors, seeds,
+//! commander, orders, manner and what is printed.
+ghost use Rattle.std.specs.Prelude.{true, ◌≡◌, ◌≤◌, IfErr, IfOk, MatchResult, codes, option_map, string_bytes};
 ghost use Rattle.clap.specs.Words.{found_of, rows_of};
 ghost use Rattle.surveyor.specs.Asked.{IsSurvey};
 ghost use Rattle.surveyor.specs.Flags.{given, has};
-ghost use Rattle.surveyor.specs.Meant.{AreSeeds, IsPatience, IsSurveying, IsWithin, shape_by, shape_in, some_traitors};
+ghost use Rattle.surveyor.specs.Meant.{AreAllKept, AreOrders, AreSeeds, IsCommander, IsPatience, IsSurveying, IsWithin, bars_keeping, complaint_in, detailed, first_of, folder_in, form_complaint, in_csv, shape_by, shape_in, some_traitors};
 ghost use Rattle.surveyor.specs.Words.{manner_named, plain_manner};
-ghost use Rattle.surveyor.specs.Wrong.{AreNoSeeds, IsNoManner, IsNoPatience, IsOutside, IsRefused, IsSaid};
+ghost use Rattle.surveyor.specs.Wrong.{AreNoOrders, AreNoSeeds, IsNoCommander, IsNoManner, IsNoPatience, IsOutside, IsRefused, IsSaid};
 ghost use Rattle.surveyor.specs.declared.task.Survey.{Survey};
 
-use crate::numbers::{patience, seeds, span};
+use crate::numbers::{orders, patience, seeds, small, span};
 use crate::task::{AskedError, ReportKind, Survey};
 use crate::word_values::{given, has, value};
 use clap::ArgMatches;
@@ -23,12 +23,22 @@ const BOUND: &str = "--bound takes 0 to 4, such as 1 or 1..2";
 
 const TRAITORS: &str = "--traitors takes 0 to 13, such as 1 or 1..3";
 
+const COMMANDER: &str = "--commander takes a number below the least of --generals";
+
+const ORDERS: &str = "--orders takes 0..1 to 0..255";
+
 const SEEDS: &str =
     "--seeds takes at most 10000000 seeds below 18446744073709551615, such as 7 or 1..1000";
 
 const PATIENCE: &str = "--patience takes 1 to 4096";
 
 const SIGNED: &str = "signed messages have no rule";
+
+const CSV: &str = "--csv can be used only by itself or with --table";
+
+const DETAILS: &str = "--details can be used only with --lines";
+
+const KEEP: &str = "--keep-all cannot be used with --keep or --shrink";
 
 const SHAPE: &str = "only one of --lines, --table, --svg, --shrink and --break can be used";
 
@@ -45,6 +55,37 @@ fn within(word: &str, least: u8, most: u8, why: &'static str) -> Result<CountRan
     match span(word) {
         Some(span) if least <= span.low && span.high <= most => Ok(span),
         _ => Err(AskedError::Value(why)),
+    }
+}
+
+/// Parses the commander of campaigns with at least `generals` generals.
+///
+/// # Errors
+///
+/// The word is not a number below `generals`.
+fn told_commander(word: &str, generals: u8) -> Result<u8, AskedError>
+    ensures told { IfOk result (IsCommander generals word.now) }
+    ensures refused { IfErr result (IsSaid (codes "--commander takes a number below the least of --generals")
+        (IsNoCommander generals word.now)) }
+{
+    match small(generals, word) {
+        Some(commander) => Ok(commander),
+        None => Err(AskedError::Value(COMMANDER)),
+    }
+}
+
+/// Parses the orders from 0 on, and returns the greatest.
+///
+/// # Errors
+///
+/// The word is not 0..V, where V is 1 to 255.
+fn told_orders(word: &str) -> Result<u8, AskedError>
+    ensures told { IfOk result (AreOrders word.now) }
+    ensures refused { IfErr result (IsSaid (codes "--orders takes 0..1 to 0..255") (AreNoOrders word.now)) }
+{
+    match orders(word) {
+        Some(most) => Ok(most),
+        None => Err(AskedError::Value(ORDERS)),
     }
 }
 
@@ -125,25 +166,74 @@ fn shape_by(lines: bool, table: bool, svg: bool, shrink: bool) -> Option<ReportK
     }
 }
 
+/// Returns what is printed, given what is printed without `--details`. Returns `None` if `--details` is given and that
+/// is not a line for each campaign.
+fn detailed(details: bool, shape: Option<ReportKind>) -> Option<ReportKind>
+    ensures { result ≡ detailed details shape }
+{
+    if !details {
+        return shape;
+    }
+    match shape? {
+        ReportKind::Lines => Some(ReportKind::Accounts),
+        ReportKind::Sums
+        | ReportKind::Accounts
+        | ReportKind::Table
+        | ReportKind::Csv
+        | ReportKind::Picture
+        | ReportKind::Least => None,
+    }
+}
+
+/// Returns what is printed, given what is printed without `--csv`. Returns `None` if `--csv` is given and that is
+/// neither the sums nor the table.
+fn in_csv(csv: bool, shape: Option<ReportKind>) -> Option<ReportKind>
+    ensures { result ≡ in_csv csv shape }
+{
+    if !csv {
+        return shape;
+    }
+    match shape? {
+        ReportKind::Sums | ReportKind::Table => Some(ReportKind::Csv),
+        ReportKind::Lines
+        | ReportKind::Accounts
+        | ReportKind::Csv
+        | ReportKind::Picture
+        | ReportKind::Least => None,
+    }
+}
+
+/// Returns the message for words that ask for no form, given the form without `--details` and `--csv`, and that without
+/// `--csv`.
+fn form_complaint(plain: Option<ReportKind>, detailed: Option<ReportKind>) -> &'static str
+    ensures { result.now ≡ form_complaint plain detailed }
+{
+    match (plain, detailed) {
+        (None, _) => SHAPE,
+        (Some(_), None) => DETAILS,
+        (Some(_), Some(_)) => CSV,
+    }
+}
+
 /// Returns what is printed about campaigns, from the words of the command line.
 ///
 /// # Errors
 ///
-/// More than one form is asked for.
+/// More than one form is asked for, details of another form than lines, or CSV of another form than a table.
 pub(super) fn printed(found: &ArgMatches) -> Result<ReportKind, AskedError>
-    ensures { let shape = shape_in (rows_of (found_of found.now)) in
-        MatchResult result (λ s. shape ≡ Some s)
-        (IsSaid (codes "only one of --lines, --table, --svg, --shrink and --break can be used") (shape ≡ None)) }
+    ensures { let rows = rows_of (found_of found.now) in
+        MatchResult result (λ s. shape_in rows ≡ Some s) (IsSaid (complaint_in rows) (shape_in rows ≡ None)) }
 {
-    let shape = shape_by(
+    let plain = shape_by(
         has(found, "lines"),
         has(found, "table"),
         has(found, "svg"),
         has(found, "shrink"),
     );
-    match shape {
+    let detailed = detailed(has(found, "details"), plain);
+    match in_csv(has(found, "csv"), detailed) {
         Some(shape) => Ok(shape),
-        None => Err(AskedError::Value(SHAPE)),
+        None => Err(AskedError::Value(form_complaint(plain, detailed))),
     }
 }
 
@@ -166,18 +256,59 @@ fn patience_of(found: &ArgMatches) -> Result<Option<u32>, AskedError>
     }
 }
 
-/// Returns a copy of the value of an option, or `None` if the option is not given.
+/// Returns a copy of a text, if there is one.
 ///
 /// # Errors
 ///
 /// `AllocError` if memory runs out.
-fn owned(alloc: Global, found: &ArgMatches, name: &str) -> Result<Option<String>, AllocError>
-    ensures { IfOk result (λ own. option_map string_bytes own ≡ given name.now (rows_of (found_of found.now))) }
+fn owned(alloc: Global, text: Option<&str>) -> Result<Option<String>, AllocError>
+    ensures { IfOk result (λ copy. option_map string_bytes copy ≡ option_map (λ t. t.now) text.entry) }
 {
-    match given(found, name) {
+    match text {
         None => Ok(None),
-        Some(word) => Ok(Some(String::from_str(alloc, word)?)),
+        Some(text) => Ok(Some(String::from_str(alloc, text)?)),
     }
+}
+
+/// Returns the first of two texts, or the second if there is no first.
+fn first_of<'a>(first: Option<&'a str>, second: Option<&'a str>) -> Option<&'a str>
+    ensures { option_map (λ t. t.now) result
+        ≡ first_of (option_map (λ t. t.now) first.entry) (option_map (λ t. t.now) second.entry) }
+{
+    match first {
+        Some(first) => Some(first),
+        None => second,
+    }
+}
+
+/// Returns the folder to which campaigns are written, if one is named.
+fn folder<'a>(found: &ArgMatches<'a>) -> Option<&'a str>
+    ensures { option_map (λ t. t.now) result ≡ folder_in (rows_of (found_of found.now)) }
+{
+    first_of(given(found, "keep"), given(found, "keep-all"))
+}
+
+/// Returns whether `--keep-all` is given together with `--keep` or `--shrink`.
+fn bars_keeping(found: &ArgMatches) -> bool
+    ensures { result ≡ bars_keeping (rows_of (found_of found.now)) }
+{
+    has(found, "keep-all") && (has(found, "keep") || has(found, "shrink"))
+}
+
+/// Returns whether all campaigns are kept.
+///
+/// # Errors
+///
+/// `--keep-all` is given together with `--keep` or `--shrink`.
+fn keeps_all(found: &ArgMatches) -> Result<bool, AskedError>
+    ensures told { IfOk result (AreAllKept (rows_of (found_of found.now))) }
+    ensures refused { IfErr result (IsSaid (codes "--keep-all cannot be used with --keep or --shrink")
+        (bars_keeping (rows_of (found_of found.now)) ≡ true)) }
+{
+    if bars_keeping(found) {
+        return Err(AskedError::Value(KEEP));
+    }
+    Ok(has(found, "keep-all"))
 }
 
 /// Returns the default of `--traitors`: `1..13` with `--break`, and otherwise `1`.
@@ -192,7 +323,7 @@ fn some_traitors(found: &ArgMatches) -> &'static str
 /// # Errors
 ///
 /// A value is wrong, options exclude each other, or memory runs out.
-#[tactic(auto, using(crate::proofs::MeantLemmas::no_generals, crate::proofs::MeantLemmas::no_traitors, crate::proofs::MeantLemmas::no_seeds, crate::proofs::MeantLemmas::no_manner, crate::proofs::MeantLemmas::no_patience, crate::proofs::MeantLemmas::no_shape))]
+#[tactic(auto, using(crate::proofs::MeantLemmas::no_generals, crate::proofs::MeantLemmas::no_traitors, crate::proofs::MeantLemmas::no_seeds, crate::proofs::MeantLemmas::no_commander, crate::proofs::MeantLemmas::no_orders, crate::proofs::MeantLemmas::no_manner, crate::proofs::MeantLemmas::no_patience, crate::proofs::MeantLemmas::no_shape, crate::proofs::MeantLemmas::no_keeping))]
 pub(super) fn survey_of(alloc: Global, found: &ArgMatches) -> Result<Survey, AskedError>
     ensures survey { IfOk result IsSurvey }
     ensures told { IfOk result (IsSurveying (rows_of (found_of found.now))) }
@@ -204,19 +335,26 @@ pub(super) fn survey_of(alloc: Global, found: &ArgMatches) -> Result<Survey, Ask
     let some = some_traitors(found);
     let traitors = within(value(found, "traitors", some), 0, 13, TRAITORS)?;
     let (first, last) = told_seeds(value(found, "seeds", "1..1000"))?;
+    let commander = told_commander(value(found, "commander", "0"), generals.low)?;
+    let orders = told_orders(value(found, "orders", "0..1"))?;
     let manner = manner(found)?;
     let patience = patience_of(found)?;
     let shape = printed(found)?;
+    let keeps_all = keeps_all(found)?;
     Ok(Survey {
         generals,
         bound,
         traitors,
+        commander,
+        orders,
+        grid: has(found, "grid"),
         manner,
         patience,
         adversary: String::from_str(alloc, value(found, "adversary", "lies"))?,
         first,
         last,
         shape,
-        keep: owned(alloc, found, "keep")?,
+        keep: owned(alloc, folder(found))?,
+        keeps_all,
     })
 }

@@ -1,28 +1,21 @@
 //! The request of `--sum`, made from the words that `clap` has parsed.
 ghost use Rattle.std.specs.Prelude.{◌≡◌, ◌↔◌, ◌⊎◌, false, true, IfErr, IfOk, IsSomeAnd, IsTrue, codes, map, string_bytes};
-ghost use Rattle.std.specs.List.{list_any};
 ghost use Rattle.clap.specs.Words.{found_of, rows_of};
-ghost use Rattle.surveyor.specs.Flags.{given, has};
+ghost use Rattle.surveyor.specs.Flags.{given};
 ghost use Rattle.surveyor.specs.Meant.{AreSaid, IsMerging, bars_sum, names_in};
 ghost use Rattle.surveyor.specs.Wrong.{AreNoSeeds, AreTwice, IsRefused, IsSaid};
 ghost use Rattle.surveyor.specs.declared.task.Merge.{Merge};
 
 use super::plays::{printed, told_seeds};
 use crate::task::{AskedError, Merge};
-use crate::word_values::{given, has};
+use crate::word_values::{given, has_any};
 use clap::ArgMatches;
 use std::alloc::{AllocError, Global};
 
-const MERGE: &str = "--sum plays nothing: it can be used only with --seeds, --table and --svg";
+const MERGE: &str =
+    "--sum plays nothing: it can be used only with --seeds, --table, --csv and --svg";
 
 const ONCE: &str = "standard input can be read only once";
-
-/// Returns whether at least one of these options and switches is given.
-fn has_any(found: &ArgMatches, names: &[&str]) -> bool
-    ensures { result ≡ list_any (λ name. has name.now (rows_of (found_of found.now))) names.now }
-{
-    names.iter().any(|name| has(found, name))
-}
 
 /// Returns whether an option or switch is given that cannot be combined with `--sum`.
 fn bars_sum(found: &ArgMatches) -> bool
@@ -34,14 +27,20 @@ fn bars_sum(found: &ArgMatches) -> bool
             "generals",
             "bound",
             "traitors",
+            "commander",
+            "orders",
+            "grid",
             "rule",
             "patience",
             "signed",
             "adversary",
             "lines",
+            "details",
             "shrink",
             "break",
+            "campaign",
             "keep",
+            "keep-all",
         ],
     )
 }
@@ -97,7 +96,7 @@ fn summable(found: &ArgMatches, names: &[&str]) -> Result<(), AskedError>
     ensures told { IfOk result (λ _. (bars_sum (rows_of (found_of found.now)) ≡ false)
         × (AreTwice (map (λ name. name.now) names.now) → ⊥)) }
     ensures refused { IfErr result (λ e.
-        IsSaid (codes "--sum plays nothing: it can be used only with --seeds, --table and --svg")
+        IsSaid (codes "--sum plays nothing: it can be used only with --seeds, --table, --csv and --svg")
         (bars_sum (rows_of (found_of found.now)) ≡ true) e
         ⊎ IsSaid (codes "standard input can be read only once") (AreTwice (map (λ name. name.now) names.now)) e) }
 {

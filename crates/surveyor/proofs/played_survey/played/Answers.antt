@@ -3,7 +3,7 @@ use Rattle.std.proofs.lemmas.Result.{on_ok_weaker}
 use Rattle.std.specs.Io.KnownBytes.{Appends}
 use Rattle.surveys.specs.declared.finding.Finding.{Finding}
 use Rattle.surveyor.specs.Kept.{Gains, campaign_files}
-use Rattle.surveyor.specs.Printed.{added, broken_seeds, lines_in, summary_text}
+use Rattle.surveyor.specs.Printed.{added, kept_seeds, lines_in, summary_text}
 use Rattle.surveyor.proofs.Going.{ends, goes}
 use Rattle.surveyor.proofs.played_survey.played.Goals as goal
 
@@ -24,7 +24,7 @@ loop-next-preserved g c =
     (subst (λ (l : List Finding). Appends now later (lines_in s.shape l)) c.as_slice.ensures.value c.in_ok-put_lines.ensures.written)
     (c.in_ok-add.ensures.added ∙ ap (λ (l : List Finding). c.loop-next.all.items ++ added s.shape l) c.as_slice-in-loop-next-3.ensures.value)
     (subst (λ (l : List ℕ). Gains (g.K.Keeper.files c.loop-next.keeper) (g.K.Keeper.files c.keep_all.new.keeper) (campaign_files s.keep c.args.family.now l))
-    (c.as_slice-in-loop-next-2.ensures.value ∙ (c.in_ok-seeds.ensures ∙ ap broken_seeds c.as_slice-in-loop-next.ensures.value)) c.in_ok-keep_all.ensures.kept)
+    (c.as_slice-in-loop-next-2.ensures.value ∙ (c.in_ok-seeds.ensures ∙ ap (kept_seeds s.keeps_all) c.as_slice-in-loop-next.ensures.value)) c.in_ok-keep_all.ensures.kept)
 
 pub returns-clause-printed : goal.returns-clause-printed
 returns-clause-printed g c =
@@ -35,6 +35,6 @@ returns-clause-printed g c =
     let done : s.last + 1 ≤ c.loop-next.next = omega arith in
     on_ok_weaker c.put_summary.result
     (λ (told : Appends now last (summary_text s.shape c.as_slice-told.result.now)).
-    ends s c.args.family.now (g.O.Output.contents c.args.out.now) now last (g.K.Keeper.files c.args.keeper.now) (g.K.Keeper.files c.loop-next.keeper) c.loop-next.next c.loop-next.all.items c.requires.shape c.loop-next.invariant done
+    ends s c.args.family.now (g.O.Output.contents c.args.out.now) now last (g.K.Keeper.files c.args.keeper.now) (g.K.Keeper.files c.loop-next.keeper) c.loop-next.next c.loop-next.all.items c.requires.shape c.requires.counted c.loop-next.invariant done
     (subst (λ (l : List Finding). Appends now last (summary_text s.shape l)) c.as_slice-told.ensures.value told))
     c.put_summary.ensures.written

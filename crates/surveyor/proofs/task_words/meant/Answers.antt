@@ -8,4 +8,4 @@ pub returns-in_err-survey-clause-refused : goal.returns-in_err-survey-clause-ref
 returns-in_err-survey-clause-refused c =
     let rows = rows_of (found_of c.args.found.now) in
     handed_on (IsRefused rows (AsksNothing rows)) c.from_residual-in_err-survey.result c.in_err-survey.field-0.0 c.from_residual-in_err-survey.ensures.1
-    (no_break_asked rows c.in_err-survey.field-0.0 (sym c.in_default.ensures) (sym c.has.ensures ∙ c.if-has.true) c.in_err-survey.ensures.refused)
+    (no_break_asked rows c.in_err-survey.field-0.0 (sym c.in_default.ensures) (sym c.in_default-2.ensures) (sym c.has.ensures ∙ c.if-has.true) c.in_err-survey.ensures.refused)

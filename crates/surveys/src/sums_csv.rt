@@ -1,0 +1,119 @@
+//! Writes the sums of a survey as CSV.
+ghost use Rattle.std.specs.Prelude.{◌≡◌, ◌++◌, IfOk, OnOk, flat_map, string_bytes};
+ghost use Rattle.surveys.specs.Csv.{csv_cell, csv_header, csv_number, csv_row, csv_text, interval_text, share_text};
+ghost use Rattle.surveys.specs.Groups.{groups_of};
+ghost use Rattle.surveys.specs.Tables.{cells_of};
+
+use crate::campaign_groups::groups;
+use crate::cell::NumberCell;
+use crate::finding::Finding;
+use crate::group::Group;
+use crate::number_text::put_number;
+use crate::sums_table::cells_of;
+use crate::wilson::interval;
+use std::alloc::{AllocError, Global};
+
+/// Appends a number in decimal, or nothing if there is none.
+fn put_if_any(out: &mut String, number: Option<u64>) -> Result<(), AllocError>
+    ensures { OnOk result (string_bytes out.new ≡ string_bytes out.old ++ csv_number number) }
+{
+    match number {
+        None => Ok(()),
+        Some(number) => put_number(out, number),
+    }
+}
+
+/// Appends a cell, without its width, and a comma.
+fn put_cell(out: &mut String, cell: NumberCell) -> Result<(), AllocError>
+    ensures { OnOk result (string_bytes out.new ≡ string_bytes out.old ++ csv_cell cell) }
+{
+    put_if_any(out, cell.number)?;
+    out.push_str(",")
+}
+
+/// Appends cells, each with a comma.
+fn put_cells(out: &mut String, cells: &[NumberCell]) -> Result<(), AllocError>
+    ensures { OnOk result (string_bytes out.new ≡ string_bytes out.old ++ flat_map csv_cell cells.now) }
+{
+    for cell in cells {
+        put_cell(out, *cell)?;
+    }
+    Ok(())
+}
+
+/// Appends a share of ten-thousandths as a decimal fraction with four places.
+fn put_share(out: &mut String, share: u64) -> Result<(), AllocError>
+    ensures { OnOk result (string_bytes out.new ≡ string_bytes out.old ++ share_text share) }
+{
+    let whole = share / 10_000;
+    let first = share / 1000 % 10;
+    let second = share / 100 % 10;
+    let third = share / 10 % 10;
+    let fourth = share % 10;
+    write!(out, "{whole}.{first}{second}{third}{fourth}")
+}
+
+/// Appends the ends of an interval, or two empty cells if there is none.
+fn put_interval(out: &mut String, ends: Option<(u64, u64)>) -> Result<(), AllocError>
+    ensures { OnOk result (string_bytes out.new ≡ string_bytes out.old ++ interval_text ends) }
+{
+    let Some((low, high)) = ends else {
+        return out.push_str(",");
+    };
+    put_share(out, low)?;
+    out.push_str(",")?;
+    put_share(out, high)
+}
+
+/// Appends the cells of a group's row, each with a comma.
+fn put_group(out: &mut String, group: &Group) -> Result<(), AllocError>
+    ensures { OnOk result (string_bytes out.new ≡ string_bytes out.old ++ flat_map csv_cell (cells_of group.now)) }
+{
+    let cells = cells_of(group);
+    put_cells(out, &cells)
+}
+
+/// Appends the row of a group: the cells of the table, and the interval for the share of its failed campaigns.
+fn put_row(out: &mut String, group: &Group) -> Result<(), AllocError>
+    ensures { OnOk result (string_bytes out.new ≡ string_bytes out.old ++ csv_row group.now) }
+{
+    put_group(out, group)?;
+    put_interval(out, interval(group.sums.campaigns, group.failed))?;
+    out.push_str("\n")?;
+    Ok(())
+}
+
+/// Appends the rows of these groups.
+fn put_rows(out: &mut String, groups: &[Group]) -> Result<(), AllocError>
+    ensures { OnOk result (string_bytes out.new ≡ string_bytes out.old ++ flat_map csv_row groups.now) }
+{
+    for group in groups {
+        put_row(out, group)?;
+    }
+    Ok(())
+}
+
+/// Returns the first line, which names the columns.
+#[tactic(auto, unfolding(crate::specs::Csv::csv_header))]
+fn csv_header() -> &'static str
+    ensures { result.now ≡ csv_header }
+{
+    "generals,bound,traitors,campaigns,kept,kept_first,broken,broken_first,disobeyed,\
+     disobeyed_first,failed,failed_low,failed_high\n"
+}
+
+/// Returns the sums of the campaigns' results as CSV. It has a row for each combination of generals, bound and traitors
+/// that occurs, with the cells of the table and Wilson's interval for the share of the failed campaigns.
+///
+/// # Errors
+///
+/// Fails with `AllocError` if it runs out of memory.
+pub fn csv_table(alloc: Global, findings: &[Finding]) -> Result<String, AllocError>
+    ensures { IfOk result (λ text. string_bytes text ≡ csv_text (groups_of findings.now)) }
+{
+    let groups = groups(alloc, findings)?;
+    let mut out = String::new(alloc);
+    out.push_str(csv_header())?;
+    put_rows(&mut out, groups.as_slice())?;
+    Ok(out)
+}
