@@ -14,3 +14,6 @@ pub const MEMORY: u32 = 3;
 
 /// The contexts have the wrong length.
 pub const LENGTH: u32 = 4;
+
+/// No program is loaded.
+pub const UNLOADED: u32 = 5;
