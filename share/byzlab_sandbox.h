@@ -11,18 +11,22 @@
  * The caller must ensure the following, which nothing checks:
  *
  * - Each pointer points to memory of the given size, is aligned for its type, and is not null, even if the size is 0.
- * - The memory that a function writes (fault, outcome, outcomes, board, text, needed) does not overlap any other
- *   argument, and no other thread reads or writes it during the call. No other thread writes the memory that a
+ * - The memory that a function writes (fault, outcome, outcomes, board, text, needed, loaded) does not overlap any
+ *   other argument, and no other thread reads or writes it during the call. No other thread writes the memory that a
  *   function only reads (program, context, contexts) during the call.
+ * - A struct byzlab_program is all zeros before the first call, and only the functions below write it afterwards. It is
+ *   not copied.
  * - malloc, realloc and free come from one allocator. malloc and realloc align a block to each power of two up to 16
  *   that divides its size, for instance to 8 for 24 bytes. Those of glibc do.
  * - No function is called from a signal handler, or from the forked child of a process with threads.
  *
- * A call keeps no state and no memory for the next. Threads may call at the same time if malloc allows that.
+ * A call keeps no state and no memory for the next, except in a struct byzlab_program. Threads may call at the same
+ * time if malloc allows that.
  */
 #ifndef BYZLAB_SANDBOX_H
 #define BYZLAB_SANDBOX_H
 
+#include <stdbool.h>
 #include <stddef.h>
 #include <stdint.h>
 
@@ -36,7 +40,9 @@ enum byzlab_status {
     BYZLAB_MISSPELT = 1, /* the bytes do not spell a program; the fault has a number from 1 to 8 */
     BYZLAB_REFUSED = 2,  /* the program is not accepted; the fault has a number from 101 to 113 */
     BYZLAB_MEMORY = 3,   /* malloc or realloc returned NULL; the bytes spell a program */
-    BYZLAB_LENGTH = 4    /* the context is not 4,096 bytes long, or the contexts not 4,096 for each outcome */
+    BYZLAB_LENGTH = 4,   /* the context is not 4,096 bytes long, or the contexts not 4,096 for each outcome; in
+                          * byzlab_run_loaded, the context is longer */
+    BYZLAB_UNLOADED = 5  /* no program is loaded */
 };
 
 /* The numbers of the faults. Each comes with the unit in which the faulty instruction begins. Units have 8
@@ -84,6 +90,15 @@ struct byzlab_outcome {
     uint32_t steps;
 };
 
+/*
+ * A loaded program, or none: struct byzlab_program loaded = {0}. C code reads and writes neither field. While a program
+ * is loaded it holds about 9 KB and 28 bytes for each unit.
+ */
+struct byzlab_program {
+    bool full;
+    void *at;
+};
+
 /* Checks whether the program is accepted. Returns 0 to 3. */
 uint32_t byzlab_verify(const uint8_t *program, size_t length, struct byzlab_fault *fault);
 
@@ -101,6 +116,25 @@ uint32_t byzlab_run(const uint8_t *program, size_t length, const uint8_t *contex
  */
 uint32_t byzlab_run_many(const uint8_t *program, size_t length, const uint8_t *contexts, size_t contexts_length,
                          struct byzlab_fault *fault, struct byzlab_outcome *outcomes, size_t count);
+
+/*
+ * Verifies the program and, at status 0, loads it in place of one that is loaded there. Returns 0 to 3. The bytes are not
+ * needed any more.
+ */
+uint32_t byzlab_load(const uint8_t *program, size_t length, struct byzlab_program *loaded, struct byzlab_fault *fault);
+
+/*
+ * Runs the loaded program once, as byzlab_run does. Returns 0, 3, 4 or 5. The context has at most 4,096 bytes; the program
+ * finds zeros after them. Board and outcome are written only at status 0. The program stays loaded.
+ *
+ * A loaded program is for one call at a time. It may be passed to another thread. Threads that run the same program at
+ * the same time load it once each.
+ */
+uint32_t byzlab_run_loaded(struct byzlab_program *loaded, const uint8_t *context, size_t context_length,
+                           uint64_t board[BYZLAB_BOARD_WORDS], struct byzlab_outcome *outcome);
+
+/* Frees the memory of the loaded program. If none is loaded, it does nothing. */
+void byzlab_unload(struct byzlab_program *loaded);
 
 /*
  * Returns the same as byzlab_verify, 0 to 3. At 0 and 2 it writes what the verifier knows at each unit about the

@@ -142,6 +142,79 @@ static void run_many(void) {
     free(outcomes);
 }
 
+/* r0 = the context's last byte; exit */
+static const uint8_t last[16] = {0x71, 0x10, 0xff, 0x0f, 0, 0, 0, 0, EXIT};
+
+/* The status of a run in a context of so many bytes, in a block of its own that holds no more, and what it wrote. */
+static uint32_t run_in(struct byzlab_program *loaded, size_t length, uint8_t each, uint64_t *board,
+                       struct byzlab_outcome *outcome) {
+    uint8_t context[BYZLAB_CONTEXT_BYTES + 1], *lent;
+    memset(context, each, sizeof context);
+    lent = copied(context, length);
+    uint32_t status = byzlab_run_loaded(loaded, lent, length, board, outcome);
+    WANT(!memcmp(lent, context, length));
+    free(lent);
+    return status;
+}
+
+static void load(void) {
+    uint64_t words[BYZLAB_BOARD_WORDS] = {[3] = 1000, [63] = UINT64_MAX}, *board = copied(words, sizeof words);
+    struct byzlab_program loaded = {0};
+    struct byzlab_fault fault = {777, 888};
+    struct byzlab_outcome outcome = {111, 222};
+    WANT(run_in(&loaded, 4096, 9, board, &outcome) == BYZLAB_UNLOADED);
+    WANT(run_in(&loaded, 4097, 9, board, &outcome) == BYZLAB_LENGTH);
+    byzlab_unload(&loaded);
+    WANT(byzlab_load(unset, 16, &loaded, &fault) == BYZLAB_REFUSED && fault.number == BYZLAB_V5_UNSET && fault.unit == 0);
+    WANT(byzlab_load(answer, 15, &loaded, &fault) == BYZLAB_MISSPELT && fault.number == 1 && fault.unit == 1);
+    WANT(!loaded.full && !loaded.at && outcome.r0 == 111 && outcome.steps == 222 && board[3] == 1000);
+    fault = (struct byzlab_fault){777, 888};
+    uint8_t *program = copied(adds, 56);
+    WANT(byzlab_load(program, 56, &loaded, &fault) == BYZLAB_DONE && fault.number == 777 && fault.unit == 888);
+    free(program);
+    WANT(run_in(&loaded, 4096, 9, board, &outcome) == BYZLAB_DONE && outcome.r0 == 1009 && outcome.steps == 7);
+    WANT(board[3] == 1005 && board[0] == 0 && board[63] == UINT64_MAX);
+    WANT(run_in(&loaded, 1, 8, board, &outcome) == BYZLAB_DONE && outcome.r0 == 1013 && board[3] == 1010);
+    WANT(run_in(&loaded, 0, 8, board, &outcome) == BYZLAB_DONE && outcome.r0 == 1010 && board[3] == 1015);
+    WANT(run_in(&loaded, 4097, 8, board, &outcome) == BYZLAB_LENGTH && outcome.r0 == 1010 && board[3] == 1015);
+    WANT(byzlab_load(unset, 16, &loaded, &fault) == BYZLAB_REFUSED);
+    WANT(run_in(&loaded, 1, 8, board, &outcome) == BYZLAB_DONE && outcome.r0 == 1023);
+    /* Of each earlier context nothing is left behind a shorter one. */
+    WANT(byzlab_load(last, 16, &loaded, &fault) == BYZLAB_DONE);
+    for (int i = 0; i < 3; i++) {
+        WANT(run_in(&loaded, 4096, 5, board, &outcome) == BYZLAB_DONE && outcome.r0 == 5 && outcome.steps == 2);
+        WANT(run_in(&loaded, 4095, 6, board, &outcome) == BYZLAB_DONE && outcome.r0 == 0);
+        WANT(run_in(&loaded, (size_t)i, 7, board, &outcome) == BYZLAB_DONE && outcome.r0 == 0);
+    }
+    WANT(byzlab_load(exchanges, sizeof exchanges, &loaded, &fault) == BYZLAB_DONE);
+    memcpy(board, words, sizeof words);
+    board[0] = 1000;
+    board[63] = 7;
+    WANT(run_in(&loaded, 0, 0, board, &outcome) == BYZLAB_DONE && outcome.r0 == 16 && board[0] == 9 && board[3] == 1000);
+    byzlab_unload(&loaded);
+    byzlab_unload(&loaded);
+    WANT(run_in(&loaded, 0, 0, board, &outcome) == BYZLAB_UNLOADED && outcome.r0 == 16);
+    free(board);
+}
+
+static void *loaded_elsewhere(void *loaded) {
+    uint64_t board[BYZLAB_BOARD_WORDS] = {0};
+    struct byzlab_outcome outcome = {111, 222};
+    WANT(run_in(loaded, 1, 9, board, &outcome) == BYZLAB_DONE && outcome.r0 == 9);
+    return loaded;
+}
+
+/* A program that one thread loads, another runs, and the first unloads. */
+static void passed(void) {
+    struct byzlab_program loaded = {0};
+    struct byzlab_fault fault;
+    pthread_t other;
+    WANT(byzlab_load(adds, 56, &loaded, &fault) == BYZLAB_DONE);
+    if (pthread_create(&other, NULL, loaded_elsewhere, &loaded)) exit(2);
+    pthread_join(other, NULL);
+    byzlab_unload(&loaded);
+}
+
 static void texts(void) {
     static const char whole[] = "mov r0, 42\nexit\n";
     struct byzlab_fault fault = {777, 888};
@@ -174,6 +247,8 @@ static void *all(void *none) {
     run_once();
     exchange();
     run_many();
+    load();
+    passed();
     texts();
     WANT(byzlab_version() == BYZLAB_VERSION);
     return none;

@@ -49,8 +49,8 @@ pub extern "C" fn byzlab_load(
         Err(_) => return MEMORY,
     };
     match Box::new(alloc, kept) {
-        Ok(kept) => {
-            loaded.put(alloc, kept);
+        Ok(boxed) => {
+            loaded.put(alloc, boxed);
             DONE
         }
         Err(_) => MEMORY,

@@ -17,6 +17,8 @@ pub enum Error {
     Refused { number: u32, unit: usize },
     /// Out of memory.
     Memory,
+    /// The context is longer than 4,096 bytes.
+    Length,
 }
 
 impl fmt::Display for Error {
@@ -25,6 +27,7 @@ impl fmt::Display for Error {
             Error::Misspelt { number, unit } => write!(f, "C{number} unit {unit}"),
             Error::Refused { number, unit } => write!(f, "V{} unit {unit}", number - 100),
             Error::Memory => f.write_str("out of memory"),
+            Error::Length => f.write_str("the context is too long"),
         }
     }
 }
@@ -53,8 +56,50 @@ impl Fault {
             0 => Ok(value),
             1 => Err(Error::Misspelt { number, unit }),
             2 => Err(Error::Refused { number, unit }),
+            4 => Err(Error::Length),
             _ => Err(Error::Memory),
         }
+    }
+}
+
+/// A program that was verified, for any number of runs.
+#[repr(C)]
+pub struct Loaded {
+    full: bool,
+    at: *mut u8,
+}
+
+// The library proves that a loaded program may be passed to another thread.
+unsafe impl Send for Loaded {}
+
+impl Loaded {
+    /// Verifies the program and loads it.
+    pub fn new(program: &[u8]) -> Result<Loaded, Error> {
+        let (mut loaded, mut fault) = (Loaded { full: false, at: std::ptr::null_mut() }, Fault::default());
+        let status = unsafe { byzlab_load(program.as_ptr(), program.len(), &mut loaded, &mut fault) };
+        fault.result(status, loaded)
+    }
+
+    /// Runs the program in a context of at most 4,096 bytes, which zeros follow; the board is left as the program left
+    /// it.
+    pub fn run(&mut self, context: &[u8], board: &mut Board) -> Result<Outcome, Error> {
+        let mut outcome = Outcome::default();
+        let status = unsafe {
+            byzlab_run_loaded(
+                self,
+                context.as_ptr(),
+                context.len(),
+                board.as_mut_ptr(),
+                &mut outcome,
+            )
+        };
+        Fault::default().result(status, outcome)
+    }
+}
+
+impl Drop for Loaded {
+    fn drop(&mut self) {
+        unsafe { byzlab_unload(self) }
     }
 }
 
@@ -80,6 +125,20 @@ extern "C" {
         outcomes: *mut Outcome,
         count: usize,
     ) -> u32;
+    fn byzlab_load(
+        program: *const u8,
+        length: usize,
+        loaded: *mut Loaded,
+        fault: *mut Fault,
+    ) -> u32;
+    fn byzlab_run_loaded(
+        loaded: *mut Loaded,
+        context: *const u8,
+        context_length: usize,
+        board: *mut u64,
+        outcome: *mut Outcome,
+    ) -> u32;
+    fn byzlab_unload(loaded: *mut Loaded);
     fn byzlab_explain(
         program: *const u8,
         length: usize,
