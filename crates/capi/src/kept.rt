@@ -73,12 +73,11 @@ impl Kept {
         if start.len() == Context::BYTES {
             return run_whole(alloc, verified, start, words, activation);
         }
-        buffer.fill(start);
-        run_again(alloc, verified, &Context::new(buffer.bytes()), words, activation)
+        run_padded(alloc, verified, start, words, activation, buffer)
     }
 }
 
-/// Restarts the activation in a context that the caller gives as a whole, and runs it to its exit.
+/// Runs the program in a context that the caller gives as a whole.
 fn run_whole(
     alloc: Global,
     verified: &Verified,
@@ -90,7 +89,26 @@ fn run_whole(
     ensures exits { IfOk result (λ o. Exits words.old verified.now (padded bytes.now) o.r0 o.steps words.new) }
     ensures unrun { OnErr result (words.new ≡ words.old) }
 {
-    run_again(alloc, verified, &Context::new(bytes), words, activation)
+    let context = Context::new(bytes);
+    run_again(alloc, verified, &context, words, activation)
+}
+
+/// Runs the program in the context that begins with `start` and continues with zeros. The context is made in `buffer`.
+fn run_padded(
+    alloc: Global,
+    verified: &Verified,
+    start: &[u8],
+    words: &mut [u64; 64],
+    activation: &mut Machine,
+    buffer: &mut PaddedContext,
+) -> Result<RunOutcome, AllocError>
+    requires { length start.now ≤ 4096 }
+    ensures exits { IfOk result (λ o. Exits words.old verified.now (padded start.now) o.r0 o.steps words.new) }
+    ensures unrun { OnErr result (words.new ≡ words.old) }
+{
+    buffer.fill(start);
+    let context = Context::new(buffer.bytes());
+    run_again(alloc, verified, &context, words, activation)
 }
 
 /// Restarts the activation in this context, and runs it to its exit.

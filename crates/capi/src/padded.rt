@@ -27,6 +27,7 @@ impl Model for PaddedContext {
 
 impl PaddedContext {
     /// Creates a context of zeros.
+    #[tactic(auto, using(crate::proofs::Padding::blank))]
     pub fn new() -> PaddedContext
         ensures { result ≡ replicate 4096 0 }
     {
@@ -38,6 +39,7 @@ impl PaddedContext {
 
     /// Replaces the context by the one that begins with these bytes, at most 4,096. Zeros are written only where an
     /// earlier context had other bytes.
+    #[tactic(auto, using(crate::proofs::Padding::is_padded))]
     pub fn fill(&mut self, start: &[u8])
         requires { length start.now ≤ 4096 }
         ensures { self.new ≡ padded start.now }
@@ -57,6 +59,7 @@ impl PaddedContext {
 }
 
 /// Writes `start` over the beginning of `room`, and zeros after it. From index `filled` on, `room` has only zeros.
+#[tactic(auto, using(crate::proofs::Padding::covered, crate::proofs::Padding::cleared))]
 fn overlay(room: &mut [u8], start: &[u8], filled: usize)
     requires fits { length start.now ≤ length room.old }
     requires within { filled ≤ length room.old }
