@@ -42,7 +42,9 @@ enum byzlab_status {
     BYZLAB_MEMORY = 3,   /* malloc or realloc returned NULL; the bytes spell a program */
     BYZLAB_LENGTH = 4,   /* the context is not 4,096 bytes long, or the contexts not 4,096 for each outcome; in
                           * byzlab_run_loaded, the context is longer */
-    BYZLAB_UNLOADED = 5  /* no program is loaded */
+    BYZLAB_UNLOADED = 5, /* no program is loaded */
+    BYZLAB_FORBIDDEN = 6 /* the program is accepted, and calls a helper that is not allowed; the fault has the helper's
+                          * number and the unit of the first such call */
 };
 
 /* The numbers of the faults. Each comes with the unit in which the faulty instruction begins. Units have 8
@@ -78,7 +80,13 @@ enum byzlab_number {
 #define BYZLAB_BOARD_WORDS 64     /* how many words the helpers 1 to 5 read and write */
 #define BYZLAB_MOST_BYTES 32768   /* the longest program: 4,096 units */
 
-/* Why bytes are not accepted. It is written only at the statuses 1 and 2. */
+/* Which helpers a loaded program may call: bit n is for helper n. Outside of a campaign only those of the board do
+ * anything. */
+#define BYZLAB_NO_HELPERS UINT64_C(0)
+#define BYZLAB_BOARD_HELPERS UINT64_C(0x3e)
+#define BYZLAB_ALL_HELPERS UINT64_C(0xffe)
+
+/* Why bytes are not accepted. It is written only at the statuses 1, 2 and 6. */
 struct byzlab_fault {
     uint32_t number;
     size_t unit;
@@ -118,10 +126,11 @@ uint32_t byzlab_run_many(const uint8_t *program, size_t length, const uint8_t *c
                          struct byzlab_fault *fault, struct byzlab_outcome *outcomes, size_t count);
 
 /*
- * Verifies the program and, at status 0, loads it in place of one that is loaded there. Returns 0 to 3. The bytes are not
- * needed any more.
+ * Verifies the program and, at status 0, loads it in place of one that is loaded there. The program may only call helpers
+ * that the mask allows. Returns 0 to 3, or 6. The bytes are not needed any more.
  */
-uint32_t byzlab_load(const uint8_t *program, size_t length, struct byzlab_program *loaded, struct byzlab_fault *fault);
+uint32_t byzlab_load(const uint8_t *program, size_t length, uint64_t helpers, struct byzlab_program *loaded,
+                     struct byzlab_fault *fault);
 
 /*
  * Runs the loaded program once, as byzlab_run does. Returns 0, 3, 4 or 5. The context has at most 4,096 bytes; the program

@@ -165,28 +165,28 @@ static void load(void) {
     WANT(run_in(&loaded, 4096, 9, board, &outcome) == BYZLAB_UNLOADED);
     WANT(run_in(&loaded, 4097, 9, board, &outcome) == BYZLAB_LENGTH);
     byzlab_unload(&loaded);
-    WANT(byzlab_load(unset, 16, &loaded, &fault) == BYZLAB_REFUSED && fault.number == BYZLAB_V5_UNSET && fault.unit == 0);
-    WANT(byzlab_load(answer, 15, &loaded, &fault) == BYZLAB_MISSPELT && fault.number == 1 && fault.unit == 1);
+    WANT(byzlab_load(unset, 16, BYZLAB_NO_HELPERS, &loaded, &fault) == BYZLAB_REFUSED && fault.number == BYZLAB_V5_UNSET && fault.unit == 0);
+    WANT(byzlab_load(answer, 15, BYZLAB_NO_HELPERS, &loaded, &fault) == BYZLAB_MISSPELT && fault.number == 1 && fault.unit == 1);
     WANT(!loaded.full && !loaded.at && outcome.r0 == 111 && outcome.steps == 222 && board[3] == 1000);
     fault = (struct byzlab_fault){777, 888};
     uint8_t *program = copied(adds, 56);
-    WANT(byzlab_load(program, 56, &loaded, &fault) == BYZLAB_DONE && fault.number == 777 && fault.unit == 888);
+    WANT(byzlab_load(program, 56, BYZLAB_BOARD_HELPERS, &loaded, &fault) == BYZLAB_DONE && fault.number == 777 && fault.unit == 888);
     free(program);
     WANT(run_in(&loaded, 4096, 9, board, &outcome) == BYZLAB_DONE && outcome.r0 == 1009 && outcome.steps == 7);
     WANT(board[3] == 1005 && board[0] == 0 && board[63] == UINT64_MAX);
     WANT(run_in(&loaded, 1, 8, board, &outcome) == BYZLAB_DONE && outcome.r0 == 1013 && board[3] == 1010);
     WANT(run_in(&loaded, 0, 8, board, &outcome) == BYZLAB_DONE && outcome.r0 == 1010 && board[3] == 1015);
     WANT(run_in(&loaded, 4097, 8, board, &outcome) == BYZLAB_LENGTH && outcome.r0 == 1010 && board[3] == 1015);
-    WANT(byzlab_load(unset, 16, &loaded, &fault) == BYZLAB_REFUSED);
+    WANT(byzlab_load(unset, 16, BYZLAB_NO_HELPERS, &loaded, &fault) == BYZLAB_REFUSED);
     WANT(run_in(&loaded, 1, 8, board, &outcome) == BYZLAB_DONE && outcome.r0 == 1023);
     /* Of each earlier context nothing is left behind a shorter one. */
-    WANT(byzlab_load(last, 16, &loaded, &fault) == BYZLAB_DONE);
+    WANT(byzlab_load(last, 16, BYZLAB_NO_HELPERS, &loaded, &fault) == BYZLAB_DONE);
     for (int i = 0; i < 3; i++) {
         WANT(run_in(&loaded, 4096, 5, board, &outcome) == BYZLAB_DONE && outcome.r0 == 5 && outcome.steps == 2);
         WANT(run_in(&loaded, 4095, 6, board, &outcome) == BYZLAB_DONE && outcome.r0 == 0);
         WANT(run_in(&loaded, (size_t)i, 7, board, &outcome) == BYZLAB_DONE && outcome.r0 == 0);
     }
-    WANT(byzlab_load(exchanges, sizeof exchanges, &loaded, &fault) == BYZLAB_DONE);
+    WANT(byzlab_load(exchanges, sizeof exchanges, BYZLAB_ALL_HELPERS, &loaded, &fault) == BYZLAB_DONE);
     memcpy(board, words, sizeof words);
     board[0] = 1000;
     board[63] = 7;
@@ -195,6 +195,26 @@ static void load(void) {
     byzlab_unload(&loaded);
     WANT(run_in(&loaded, 0, 0, board, &outcome) == BYZLAB_UNLOADED && outcome.r0 == 16);
     free(board);
+}
+
+/* r0 = 0; goto the exit; send(); exit: a call that is never reached, behind a wide instruction */
+static const uint8_t sends[40] = {
+    UNIT(0x18, 0, 0, 0), UNIT(0, 0, 0, 0), UNIT(0x05, 0, 1, 0), UNIT(0x85, 0, 0, 6), EXIT,
+};
+
+static void forbid(void) {
+    struct byzlab_program loaded = {0};
+    struct byzlab_fault fault = {777, 888};
+    WANT(byzlab_load(adds, 56, BYZLAB_NO_HELPERS, &loaded, &fault) == BYZLAB_FORBIDDEN && !loaded.full);
+    WANT(fault.number == 3 && fault.unit == 3);
+    WANT(byzlab_load(adds, 56, UINT64_C(1) << 3, &loaded, &fault) == BYZLAB_DONE && loaded.full);
+    WANT(byzlab_load(adds, 56, ~(UINT64_C(1) << 3), &loaded, &fault) == BYZLAB_FORBIDDEN && loaded.full);
+    WANT(byzlab_load(sends, 40, BYZLAB_ALL_HELPERS, &loaded, &fault) == BYZLAB_DONE && fault.number == 3);
+    WANT(byzlab_load(sends, 40, BYZLAB_BOARD_HELPERS, &loaded, &fault) == BYZLAB_FORBIDDEN);
+    WANT(fault.number == 6 && fault.unit == 3);
+    WANT(byzlab_load(exchanges, sizeof exchanges, BYZLAB_BOARD_HELPERS - 32, &loaded, &fault) == BYZLAB_FORBIDDEN);
+    WANT(fault.number == 5 && fault.unit == 11);
+    byzlab_unload(&loaded);
 }
 
 static void *loaded_elsewhere(void *loaded) {
@@ -209,7 +229,7 @@ static void passed(void) {
     struct byzlab_program loaded = {0};
     struct byzlab_fault fault;
     pthread_t other;
-    WANT(byzlab_load(adds, 56, &loaded, &fault) == BYZLAB_DONE);
+    WANT(byzlab_load(adds, 56, BYZLAB_BOARD_HELPERS, &loaded, &fault) == BYZLAB_DONE);
     if (pthread_create(&other, NULL, loaded_elsewhere, &loaded)) exit(2);
     pthread_join(other, NULL);
     byzlab_unload(&loaded);
@@ -248,6 +268,7 @@ static void *all(void *none) {
     exchange();
     run_many();
     load();
+    forbid();
     passed();
     texts();
     WANT(byzlab_version() == BYZLAB_VERSION);

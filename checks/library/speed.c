@@ -83,7 +83,7 @@ static void run_loaded(const char *what, const uint8_t *p, size_t length, size_t
     struct byzlab_outcome outcome = {0};
     struct byzlab_fault fault;
     double least = 1e9;
-    uint32_t all = byzlab_load(p, length, &loaded, &fault);
+    uint32_t all = byzlab_load(p, length, BYZLAB_BOARD_HELPERS, &loaded, &fault);
     for (int round = 0; round < 5 * ROUNDS; round++) {
         double begun = now();
         for (int i = 0; i < CALLS; i++) all |= byzlab_run_loaded(&loaded, context, context_length, board, &outcome);

@@ -57,8 +57,8 @@ struct written {
 /* The first status above 0 of loading a program over another and running it twice. All is given back by unloading. */
 static uint32_t loaded(const uint8_t *bytes, size_t length, struct written *all) {
     struct byzlab_program one = {0};
-    uint32_t status = byzlab_load(program, 56, &one, &all->fault);
-    if (!status) status = byzlab_load(bytes, length, &one, &all->fault);
+    uint32_t status = byzlab_load(program, 56, BYZLAB_BOARD_HELPERS, &one, &all->fault);
+    if (!status) status = byzlab_load(bytes, length, BYZLAB_BOARD_HELPERS, &one, &all->fault);
     for (int i = 0; i < 2 && !status; i++) {
         struct written before = *all;
         status = byzlab_run_loaded(&one, contexts, 1, all->board, all->outcomes);

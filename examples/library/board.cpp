@@ -31,7 +31,7 @@ int main() {
     std::array<std::uint64_t, BYZLAB_BOARD_WORDS> board{};
     byzlab_fault fault{};
     Loaded loaded;
-    auto status = byzlab_load(filter.data(), filter.size(), &loaded, &fault);
+    auto status = byzlab_load(filter.data(), filter.size(), BYZLAB_BOARD_HELPERS, &loaded, &fault);
     for (std::uint8_t value : {3, 12, 9, 200, 0}) {
         byzlab_outcome outcome{};
         if (status == BYZLAB_DONE) status = byzlab_run_loaded(&loaded, &value, 1, board.data(), &outcome);

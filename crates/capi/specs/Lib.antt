@@ -7,3 +7,4 @@ pub mod Texts
 pub mod Padding
 pub mod Owned
 pub mod Loads
+pub mod Helpers

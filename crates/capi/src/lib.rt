@@ -5,6 +5,7 @@
 mod buffer;
 mod decoder;
 mod fault;
+mod helpers;
 mod host;
 mod kept;
 mod loaded;

@@ -1,33 +1,42 @@
 //! The exports that load a program once and run it often: `byzlab_load`, `byzlab_run_loaded` and `byzlab_unload`.
 ghost use Rattle.std.specs.Prelude.{◌≡◌, ◌≢◌, ◌≤◌, ◌<◌, ◌⊎◌, ℕ, List, None, length};
 ghost use Rattle.capi.specs.Bytes.{IsProgram, IsAccepted, IsMisspelt, IsRefused};
+ghost use Rattle.capi.specs.Helpers.{IsAllowed, IsForbidden};
 ghost use Rattle.capi.specs.Loads.{IsLoaded};
 ghost use Rattle.capi.specs.Padding.{padded};
 ghost use Rattle.capi.specs.Runs.{IsRun};
 
 use crate::decoder::accepted;
 use crate::fault::{NumberedFault, tell};
+use crate::helpers::first_forbidden;
 use crate::kept::Kept;
 use crate::loaded::Loaded;
 use crate::outcome::RunOutcome;
-use crate::status::{DONE, LENGTH, MEMORY, UNLOADED};
+use crate::status::{DONE, FORBIDDEN, LENGTH, MEMORY, UNLOADED};
 use mem::Context;
 use std::alloc::Global;
 
-/// Verifies a program and loads it, in place of one that is loaded there. The result is the status, 0 to 3.
+/// Verifies a program and loads it, in place of one that is loaded there. The program may call helper n only if bit n of
+/// `helpers` is set. The result is the status: 0 to 3, or 6.
 #[unsafe(no_mangle)]
 pub extern "C" fn byzlab_load(
     alloc: Global,
     program: &[u8],
+    helpers: u64,
     loaded: &mut Loaded,
     fault: &mut NumberedFault,
 ) -> u32
-    ensures known { result ≤ 3 }
+    ensures known { (result ≤ 3) ⊎ (result ≡ 6) }
 
-    // The status is 0 only if the program is accepted, and it is then loaded. If it is accepted, the status is 0 or 3.
+    // The status is 0 only if the program is accepted and calls only helpers that are allowed, and it is then loaded. If
+    // the program is accepted, the status is 0, 3 or 6.
     ensures accepted { result ≡ 0 → IsAccepted program.now }
-    ensures only { IsAccepted program.now → (result ≡ 0) ⊎ (result ≡ 3) }
+    ensures only { IsAccepted program.now → (result ≡ 0) ⊎ (result ≡ 3) ⊎ (result ≡ 6) }
+    ensures allowed { result ≡ 0 → IsAllowed program.now helpers }
     ensures kept { result ≡ 0 → IsLoaded program.now loaded.new.place.program }
+
+    // At status 6, the program is accepted, and the fault has the first helper that is not allowed and its unit.
+    ensures forbidden { result ≡ 6 → IsForbidden program.now helpers fault.new.number fault.new.unit }
 
     // At status 1 or 2, the fault has its number and its unit.
     ensures misspelt { result ≡ 1 → IsMisspelt program.now fault.new.number fault.new.unit }
@@ -37,13 +46,17 @@ pub extern "C" fn byzlab_load(
     ensures spelt { result ≡ 3 → IsProgram program.now }
 
     // Nothing else is written.
-    ensures untold { (result ≡ 1) ⊎ (result ≡ 2) ⊎ (fault.new ≡ fault.old) }
+    ensures untold { (result ≡ 1) ⊎ (result ≡ 2) ⊎ (result ≡ 6) ⊎ (fault.new ≡ fault.old) }
     ensures unwritten { (result ≡ 0) ⊎ (loaded.new ≡ loaded.old) }
 {
     let verified = match accepted(alloc, program) {
         Ok(verified) => verified,
         Err(refusal) => return tell(refusal, fault),
     };
+    if let Some((number, unit)) = first_forbidden(verified.program(), helpers) {
+        *fault = NumberedFault { number, unit };
+        return FORBIDDEN;
+    }
     let kept = match Kept::new(alloc, verified) {
         Ok(kept) => kept,
         Err(_) => return MEMORY,

@@ -19,6 +19,8 @@ pub enum Error {
     Memory,
     /// The context is longer than 4,096 bytes.
     Length,
+    /// The program calls this helper, which is not allowed, at this unit.
+    Forbidden { number: u32, unit: usize },
 }
 
 impl fmt::Display for Error {
@@ -28,6 +30,7 @@ impl fmt::Display for Error {
             Error::Refused { number, unit } => write!(f, "V{} unit {unit}", number - 100),
             Error::Memory => f.write_str("out of memory"),
             Error::Length => f.write_str("the context is too long"),
+            Error::Forbidden { number, unit } => write!(f, "helper {number} unit {unit}"),
         }
     }
 }
@@ -57,6 +60,7 @@ impl Fault {
             1 => Err(Error::Misspelt { number, unit }),
             2 => Err(Error::Refused { number, unit }),
             4 => Err(Error::Length),
+            6 => Err(Error::Forbidden { number, unit }),
             _ => Err(Error::Memory),
         }
     }
@@ -73,10 +77,23 @@ pub struct Loaded {
 unsafe impl Send for Loaded {}
 
 impl Loaded {
-    /// Verifies the program and loads it.
-    pub fn new(program: &[u8]) -> Result<Loaded, Error> {
-        let (mut loaded, mut fault) = (Loaded { full: false, at: std::ptr::null_mut() }, Fault::default());
-        let status = unsafe { byzlab_load(program.as_ptr(), program.len(), &mut loaded, &mut fault) };
+    /// Verifies the program and loads it. It may call helper n only if bit n of `helpers` is set: 0x3e for those of the
+    /// board.
+    pub fn new(program: &[u8], helpers: u64) -> Result<Loaded, Error> {
+        let mut fault = Fault::default();
+        let mut loaded = Loaded {
+            full: false,
+            at: std::ptr::null_mut(),
+        };
+        let status = unsafe {
+            byzlab_load(
+                program.as_ptr(),
+                program.len(),
+                helpers,
+                &mut loaded,
+                &mut fault,
+            )
+        };
         fault.result(status, loaded)
     }
 
@@ -128,6 +145,7 @@ extern "C" {
     fn byzlab_load(
         program: *const u8,
         length: usize,
+        helpers: u64,
         loaded: *mut Loaded,
         fault: *mut Fault,
     ) -> u32;

@@ -23,9 +23,10 @@ fn main() -> Result<(), Error> {
         .map(|outcome| outcome.r0)
         .collect();
     println!("r0 {each:?}");
-    let mut first = Loaded::new(&FIRST)?;
+    let mut first = Loaded::new(&FIRST, 0)?;
     let other = std::thread::spawn(move || first.run(&[9], &mut [0; 64]));
-    println!("loaded: {:?}", other.join().map(|run| run.map(|outcome| outcome.r0)));
+    let r0 = other.join().map(|run| run.map(|outcome| outcome.r0));
+    println!("loaded: {r0:?}");
     let (text, verdict) = explain(&UNSET);
     if let Err(error) = verdict {
         println!("{text}\nrefused {error}");
