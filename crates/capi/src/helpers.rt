@@ -4,6 +4,7 @@ ghost use Rattle.insn.specs.Program.{instruction_at};
 ghost use Rattle.capi.specs.Helpers.{called_by, is_allowed, IsAllowedAt, IsFirstForbidden};
 
 use insn::{Insn, Program};
+use verify::Verified;
 
 /// Checks whether the host allows the helper with this number. Bit n of `mask` is set exactly if it allows helper n.
 fn is_allowed(mask: u64, number: u32) -> bool
@@ -31,8 +32,8 @@ fn forbidden_at(program: &Program, mask: u64, unit: usize) -> Option<u32>
     Some(number)
 }
 
-/// Returns the program's first call of a helper that the host does not allow: the helper's number and the unit.
-pub fn first_forbidden(program: &Program, mask: u64) -> Option<(u32, usize)>
+/// Returns the first call of a helper that the host does not allow: the helper's number and the unit.
+fn first_in(program: &Program, mask: u64) -> Option<(u32, usize)>
     ensures some { IfSome result (λ found. IsFirstForbidden mask program.now found.0 found.1) }
     ensures none { IfNone result ((unit : ℕ) → IsAllowedAt mask program.now unit) }
 {
@@ -42,4 +43,13 @@ pub fn first_forbidden(program: &Program, mask: u64) -> Option<(u32, usize)>
         }
     }
     None
+}
+
+/// Returns the first call of a helper that the host does not allow in a verified program: the helper's number and the
+/// unit.
+pub fn first_forbidden(verified: &Verified, mask: u64) -> Option<(u32, usize)>
+    ensures some { IfSome result (λ found. IsFirstForbidden mask verified.now found.0 found.1) }
+    ensures none { IfNone result ((unit : ℕ) → IsAllowedAt mask verified.now unit) }
+{
+    first_in(verified.program(), mask)
 }

@@ -1,5 +1,5 @@
 //! The exports that load a program once and run it often: `byzlab_load`, `byzlab_run_loaded` and `byzlab_unload`.
-ghost use Rattle.std.specs.Prelude.{◌≡◌, ◌≢◌, ◌≤◌, ◌<◌, ◌⊎◌, ℕ, List, None, length};
+ghost use Rattle.std.specs.Prelude.{◌≡◌, ◌≤◌, ◌<◌, ◌⊎◌, ℕ, List, None, length};
 ghost use Rattle.capi.specs.Bytes.{IsProgram, IsAccepted, IsMisspelt, IsRefused};
 ghost use Rattle.capi.specs.Helpers.{IsAllowed, IsForbidden};
 ghost use Rattle.capi.specs.Loads.{IsLoaded};
@@ -53,7 +53,7 @@ pub extern "C" fn byzlab_load(
         Ok(verified) => verified,
         Err(refusal) => return tell(refusal, fault),
     };
-    if let Some((number, unit)) = first_forbidden(verified.program(), helpers) {
+    if let Some((number, unit)) = first_forbidden(&verified, helpers) {
         *fault = NumberedFault { number, unit };
         return FORBIDDEN;
     }

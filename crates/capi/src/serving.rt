@@ -11,11 +11,7 @@ use std::alloc::{AllocError, Global};
 
 /// Serves a request on a board of these words. Fails with `AllocError` if memory runs out, and then leaves the words as
 /// they were.
-pub fn serve(
-    alloc: Global,
-    words: &mut [u64; 64],
-    request: Request,
-) -> Result<Reply, AllocError>
+pub fn serve(alloc: Global, words: &mut [u64; 64], request: Request) -> Result<Reply, AllocError>
     ensures answer { IfOk result (λ r. words_in r ≡ reply words.old request) }
     ensures fits { IfOk result (λ r. fits request (words_in r) ≡ true) }
     ensures words { OnOk result (words.new ≡ next words.old request) }

@@ -8,11 +8,7 @@ use semantics::{Copied, Reply, Request};
 use std::alloc::{AllocError, Global};
 
 /// Computes the board's reply to a request. Fails with `AllocError` if memory runs out.
-pub fn answer(
-    alloc: Global,
-    words: &[u64; 64],
-    request: Request,
-) -> Result<Reply, AllocError>
+pub fn answer(alloc: Global, words: &[u64; 64], request: Request) -> Result<Reply, AllocError>
     ensures words { IfOk result (λ r. words_in r ≡ reply words.now request) }
     ensures form { IfOk result (λ r. IsReplyTo request r) }
 {
