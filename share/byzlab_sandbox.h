@@ -10,7 +10,8 @@
  *
  * The caller must ensure the following, which nothing checks:
  *
- * - Each pointer points to memory of the given size, is aligned for its type, and is not null, even if the size is 0.
+ * - Each pointer points to memory of the given size, is aligned for its type, and is not null. Only if the size beside it
+ *   is 0 it may be NULL, which does no harm (this is tested, and not proved).
  * - The memory that a function writes (fault, outcome, outcomes, board, text, needed, loaded) does not overlap any
  *   other argument, and no other thread reads or writes it during the call. No other thread writes the memory that a
  *   function only reads (program, context, contexts) during the call.
@@ -149,6 +150,7 @@ void byzlab_unload(struct byzlab_program *loaded);
  * Returns the same as byzlab_verify, 0 to 3. At 0 and 2 it writes what the verifier knows at each unit about the
  * registers that are read, and at 2 why it rejects the program: at most `room` bytes into text, and the length of the
  * whole text into needed. Each line begins with a line feed, and there is no terminating 0. At 1 and 3 it writes neither.
+ * A call with NULL and 0 for text and room asks for the length.
  */
 uint32_t byzlab_explain(const uint8_t *program, size_t length, char *text, size_t room, size_t *needed,
                         struct byzlab_fault *fault);
@@ -159,6 +161,12 @@ uint32_t byzlab_explain(const uint8_t *program, size_t length, char *text, size_
  */
 uint32_t byzlab_disassemble(const uint8_t *program, size_t length, char *text, size_t room, size_t *needed,
                             struct byzlab_fault *fault);
+
+/*
+ * Writes in the same way a sentence that describes the status or, at 1 and 2, the fault with this number. It is empty if
+ * there is no such status or fault.
+ */
+void byzlab_message(uint32_t status, uint32_t number, char *text, size_t room, size_t *needed);
 
 /* Returns 10,000 * major + 100 * minor + patch. */
 uint32_t byzlab_version(void);

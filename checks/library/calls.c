@@ -261,6 +261,53 @@ static void texts(void) {
     WANT(byzlab_disassemble(unset, 16, text, sizeof text, &needed, &fault) == BYZLAB_DONE);
 }
 
+static void message(uint32_t status, uint32_t number, const char *wanted) {
+    char text[128];
+    size_t needed = 99;
+    memset(text, '#', sizeof text);
+    byzlab_message(status, number, text, sizeof text, &needed);
+    WANT(needed == strlen(wanted) && !memcmp(text, wanted, needed) && text[needed] == '#');
+    byzlab_message(status, number, text, 3, &needed);
+    WANT(needed == strlen(wanted));
+}
+
+static void messages(void) {
+    message(BYZLAB_DONE, 7, "the call has done its work");
+    message(BYZLAB_MEMORY, BYZLAB_V1_BACK_JUMP, "out of memory");
+    message(BYZLAB_FORBIDDEN, 1, "a helper is called that is not allowed");
+    message(BYZLAB_MISSPELT, BYZLAB_C1_LENGTH, "the length is not a multiple of 8");
+    message(BYZLAB_MISSPELT, BYZLAB_C8_COUNT, "a program has 1 to 4,096 units");
+    message(BYZLAB_REFUSED, BYZLAB_V1_BACK_JUMP, "a jump leads to its own unit or backward");
+    message(BYZLAB_REFUSED, BYZLAB_V13_EXIT_POINTER, "the program ends with a pointer in r0");
+    message(7, 0, "");
+    message(UINT32_MAX, UINT32_MAX, "");
+    message(BYZLAB_MISSPELT, 0, "");
+    message(BYZLAB_MISSPELT, 9, "");
+    message(BYZLAB_REFUSED, 99, "");
+    message(BYZLAB_REFUSED, 114, "");
+    message(BYZLAB_REFUSED, UINT32_MAX, "");
+}
+
+/* NULL beside the size 0. */
+static void without(void) {
+    uint64_t board[BYZLAB_BOARD_WORDS] = {0};
+    struct byzlab_fault fault = {777, 888};
+    struct byzlab_outcome outcome = {111, 222};
+    struct byzlab_program loaded = {0};
+    size_t needed = 0;
+    WANT(byzlab_verify(NULL, 0, &fault) == BYZLAB_MISSPELT && fault.number == BYZLAB_C8_COUNT);
+    WANT(byzlab_run(answer, 16, NULL, 0, board, &fault, &outcome) == BYZLAB_LENGTH);
+    WANT(byzlab_run_many(answer, 16, NULL, 0, &fault, NULL, 0) == BYZLAB_DONE);
+    WANT(byzlab_load(NULL, 0, BYZLAB_NO_HELPERS, &loaded, &fault) == BYZLAB_MISSPELT);
+    WANT(byzlab_load(answer, 16, BYZLAB_NO_HELPERS, &loaded, &fault) == BYZLAB_DONE);
+    WANT(byzlab_run_loaded(&loaded, NULL, 0, board, &outcome) == BYZLAB_DONE && outcome.r0 == 42);
+    byzlab_unload(&loaded);
+    WANT(byzlab_explain(answer, 16, NULL, 0, &needed, &fault) == BYZLAB_DONE && needed > 10);
+    WANT(byzlab_disassemble(answer, 16, NULL, 0, &needed, &fault) == BYZLAB_DONE && needed == 16);
+    byzlab_message(BYZLAB_DONE, 0, NULL, 0, &needed);
+    WANT(needed == 26);
+}
+
 static void *all(void *none) {
     misspelt();
     refused();
@@ -271,6 +318,8 @@ static void *all(void *none) {
     forbid();
     passed();
     texts();
+    messages();
+    without();
     WANT(byzlab_version() == BYZLAB_VERSION);
     return none;
 }

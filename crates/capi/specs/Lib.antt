@@ -8,3 +8,4 @@ pub mod Padding
 pub mod Owned
 pub mod Loads
 pub mod Helpers
+pub mod Messages

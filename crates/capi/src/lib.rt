@@ -10,6 +10,7 @@ mod host;
 mod kept;
 mod loaded;
 mod loads;
+mod messages;
 mod outcome;
 mod padded;
 mod parts;
