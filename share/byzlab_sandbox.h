@@ -27,7 +27,6 @@
 #ifndef BYZLAB_SANDBOX_H
 #define BYZLAB_SANDBOX_H
 
-#include <stdbool.h>
 #include <stddef.h>
 #include <stdint.h>
 
@@ -104,7 +103,7 @@ struct byzlab_outcome {
  * is loaded it holds about 9 KB and 28 bytes for each unit.
  */
 struct byzlab_program {
-    bool full;
+    uint8_t full;
     void *at;
 };
 
