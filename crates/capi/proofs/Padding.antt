@@ -1,5 +1,5 @@
 -- Contexts of fewer bytes, and the zeros behind them.
-use Rattle.std.proofs.Common.{◌≡◌, ◌∙◌, ℕ, ◌+◌, ◌-◌, ◌≤◌, List, [], ◌++◌, append-nil, length, take, drop, replicate, sym, ap, refl, arith}
+use Rattle.std.proofs.Common.{◌≡◌, ◌∙◌, ℕ, ◌+◌, ◌-◌, ◌≤◌, List, [], ◌++◌, append-nil, length, take, drop, replicate, sym, ap, subst, refl, arith}
 use Rattle.std.proofs.lemmas.List.{drop-drop, drop_at, take_at, length-append, length-replicate, drop-replicate, replicate-append-replicate}
 use Rattle.semantics.specs.Limits.{context_size}
 use Rattle.capi.specs.Padding.{padded, IsPadded}
@@ -10,7 +10,7 @@ whole bytes long = let none : context_size - length bytes ≡ 0 = omega arith in
 
 -- zeros alone
 pub blank : IsPadded (replicate 4096 0) 0
-blank = record { long = length-replicate 4096 0; within = omega arith; zeros = refl }
+blank = record { long = length-replicate 4096 0; within = omega arith; zeros = drop-replicate 0 4096 0 }
 
 -- what is given is filled, and zeros are behind it
 pub is_padded : (bytes : List ℕ) → length bytes ≤ 4096 → IsPadded (padded bytes) (length bytes)
@@ -23,6 +23,19 @@ is_padded bytes few = record {
   within = few;
   zeros = drop_at bytes (replicate (context_size - length bytes) 0) (length bytes) refl;
 }
+
+-- the zeros of a buffer, by its length
+pub zeros_in : (bytes : List ℕ) (filled : ℕ) → IsPadded bytes filled → drop filled bytes ≡ replicate (length bytes - filled) 0
+zeros_in bytes filled h = h.zeros ∙ ap (λ (n : ℕ). replicate (n - filled) 0) (sym h.long)
+
+-- a buffer that is written over has the context
+pub refilled : (bytes room start : List ℕ) → length bytes ≡ 4096 → room ≡ start ++ replicate (length bytes - length start) 0 → room ≡ padded start
+refilled bytes room start long written = written ∙ ap (λ (n : ℕ). start ++ replicate (n - length start) 0) long
+
+-- and then what is given is filled
+pub filled_again : (bytes room start : List ℕ) (n : ℕ) → length bytes ≡ 4096 → length start ≤ 4096 → n ≡ length start → room ≡ start ++ replicate (length bytes - length start) 0 → IsPadded room n
+filled_again bytes room start n long few count written =
+    subst (λ (k : ℕ). IsPadded room k) (sym count) (subst (λ (l : List ℕ). IsPadded l (length start)) (sym (refilled bytes room start long written)) (is_padded start few))
 
 -- the zeros from one place on are those from a later place on
 zeros_later : (room : List ℕ) (filled n : ℕ) → filled ≤ n → drop filled room ≡ replicate (length room - filled) 0 → drop n room ≡ replicate (length room - n) 0

@@ -39,7 +39,7 @@ impl PaddedContext {
 
     /// Replaces the context by the one that begins with these bytes, at most 4,096. Zeros are written only where an
     /// earlier context had other bytes.
-    #[tactic(auto, using(crate::proofs::Padding::is_padded))]
+    #[tactic(auto, using(crate::proofs::Padding::zeros_in, crate::proofs::Padding::refilled, crate::proofs::Padding::filled_again))]
     pub fn fill(&mut self, start: &[u8])
         requires { length start.now ≤ 4096 }
         ensures { self.new ≡ padded start.now }
