@@ -217,6 +217,43 @@ static void forbid(void) {
     byzlab_unload(&loaded);
 }
 
+static uint32_t drawn(uint32_t *seed) {
+    *seed ^= *seed << 13;
+    *seed ^= *seed >> 17;
+    return *seed ^= *seed << 5;
+}
+
+/* A loaded program does in each of many contexts what byzlab_run does in the same context, padded. */
+static void alike(void) {
+    static const struct {
+        const uint8_t *bytes;
+        size_t length;
+    } programs[] = {{adds, sizeof adds}, {exchanges, sizeof exchanges}, {last, sizeof last}, {sends, sizeof sends}};
+    uint32_t seed = 1;
+    for (size_t which = 0; which < sizeof programs / sizeof *programs; which++) {
+        uint64_t one[BYZLAB_BOARD_WORDS] = {0}, other[BYZLAB_BOARD_WORDS] = {0};
+        struct byzlab_program loaded = {0};
+        struct byzlab_fault fault;
+        const uint8_t *bytes = programs[which].bytes;
+        size_t length = programs[which].length;
+        WANT(byzlab_load(bytes, length, BYZLAB_ALL_HELPERS, &loaded, &fault) == BYZLAB_DONE);
+        for (int i = 0; i < 100; i++) {
+            uint8_t padded[BYZLAB_CONTEXT_BYTES] = {0}, *lent;
+            size_t given = drawn(&seed) % (i % 2 ? 16 : BYZLAB_CONTEXT_BYTES + 1);
+            struct byzlab_outcome was = {111, 222}, is = {333, 444};
+            for (size_t at = 0; at < given; at++) padded[at] = (uint8_t)drawn(&seed);
+            one[0] = one[drawn(&seed) % 64] = drawn(&seed);
+            memcpy(other, one, sizeof one);
+            lent = copied(padded, given);
+            WANT(byzlab_run(bytes, length, padded, sizeof padded, one, &fault, &was) == BYZLAB_DONE);
+            WANT(byzlab_run_loaded(&loaded, lent, given, other, &is) == BYZLAB_DONE);
+            WANT(was.r0 == is.r0 && was.steps == is.steps && !memcmp(one, other, sizeof one));
+            free(lent);
+        }
+        byzlab_unload(&loaded);
+    }
+}
+
 static void *loaded_elsewhere(void *loaded) {
     uint64_t board[BYZLAB_BOARD_WORDS] = {0};
     struct byzlab_outcome outcome = {111, 222};
@@ -316,6 +353,7 @@ static void *all(void *none) {
     run_many();
     load();
     forbid();
+    alike();
     passed();
     texts();
     messages();
