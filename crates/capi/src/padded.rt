@@ -1,5 +1,5 @@
 //! A buffer for contexts that have fewer than 4,096 bytes.
-ghost use Rattle.std.specs.Prelude.{◌≡◌, ◌≤◌, ◌-◌, ◌++◌, length, drop, replicate};
+ghost use Rattle.std.specs.Prelude.{◌≡◌, ◌≤◌, ◌-◌, ◌++◌, length, take, drop, replicate};
 ghost use Rattle.semantics.specs.Run.{IsContext};
 ghost use Rattle.capi.specs.Padding.{padded};
 
@@ -66,9 +66,26 @@ fn overlay(room: &mut [u8], start: &[u8], filled: usize)
     requires zeros { drop filled room.old ≡ replicate (length room.old - filled) 0 }
     ensures { room.new ≡ start.now ++ replicate (length room.old - length start.now) 0 }
 {
+    put_start(room, start);
     let count = start.len();
-    room[..count].copy_from_slice(start);
-    if count < filled {
-        room[count..filled].fill(0);
+    if filled <= count {
+        return;
     }
+    clear(room, count, filled);
+}
+
+/// Writes `start` over the beginning of `room`.
+fn put_start(room: &mut [u8], start: &[u8])
+    requires { length start.now ≤ length room.old }
+    ensures { room.new ≡ start.now ++ drop (length start.now) room.old }
+{
+    room[..start.len()].copy_from_slice(start);
+}
+
+/// Writes zeros into `room` from index `from` up to index `to`.
+fn clear(room: &mut [u8], from: usize, to: usize)
+    requires { (from ≤ to) × (to ≤ length room.old) }
+    ensures { room.new ≡ take from room.old ++ (replicate (to - from) 0 ++ drop to room.old) }
+{
+    room[from..to].fill(0);
 }
