@@ -15,4 +15,4 @@ none_past mask program unit past =
 -- each unit is allowed where those of the program are
 pub each_below : (mask : ℕ) (program : List Insn) (units : ℕ) → units ≡ length (slots_of program) → ((unit : ℕ) → unit < units → IsAllowedAt mask program unit) → (unit : ℕ) → IsAllowedAt mask program unit
 each_below mask program units all below unit =
-    ⊎_elim (λ h. below unit (let less : unit < length (slots_of program) = h.1.0 in omega arith)) (λ h. none_past mask program unit h.0) (slice_get_cases (slots_of program) unit).1
+    ⊎_elim (λ h. below unit (let less : unit < length (slots_of program) = h.1 in omega arith)) (λ h. none_past mask program unit h.0) (slice_get_cases (slots_of program) unit).1

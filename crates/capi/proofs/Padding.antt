@@ -10,15 +10,16 @@ whole bytes long = let none : context_size - length bytes ≡ 0 = omega arith in
 
 -- zeros alone
 pub blank : IsPadded (replicate 4096 0) 0
-blank = record { long = length-replicate 4096 0; within = omega arith; zeros = drop-replicate 0 4096 0 }
+blank = record { long = length-replicate {A = ℕ} 4096 0; within = omega arith; zeros = drop-replicate 0 4096 0 }
 
 -- what is given is filled, and zeros are behind it
 pub is_padded : (bytes : List ℕ) → length bytes ≤ 4096 → IsPadded (padded bytes) (length bytes)
 is_padded bytes few = record {
   long = (
-      let parts = length-append bytes (replicate (context_size - length bytes) 0) in
-      let rest = length-replicate (context_size - length bytes) 0 in
-      omega arith
+      let zeros : List ℕ = replicate (context_size - length bytes) 0 in
+      let parts : length (bytes ++ zeros) ≡ length bytes + length zeros = length-append bytes zeros in
+      let rest : length zeros ≡ context_size - length bytes = length-replicate {A = ℕ} (context_size - length bytes) 0 in
+      parts ∙ omega arith
       );
   within = few;
   zeros = drop_at bytes (replicate (context_size - length bytes) 0) (length bytes) refl;

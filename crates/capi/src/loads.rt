@@ -73,7 +73,7 @@ pub extern "C" fn byzlab_load(
 /// Runs the loaded program in the context that begins with these bytes, at most 4,096, and continues with zeros. The
 /// board holds the words that the program finds, and after the run the words that it leaves. The result is the status:
 /// 0, 3, 4 or 5.
-#[tactic(auto, using(crate::proofs::Running::runs_loaded))]
+#[tactic(auto, using(crate::proofs::LoadedRuns::runs_loaded))]
 #[unsafe(no_mangle)]
 pub extern "C" fn byzlab_run_loaded(
     alloc: Global,
