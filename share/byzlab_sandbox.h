@@ -100,7 +100,7 @@ struct byzlab_outcome {
 
 /*
  * A loaded program, or none: struct byzlab_program loaded = {0}. C code reads and writes neither field. While a program
- * is loaded it holds about 9 KB and 28 bytes for each unit.
+ * is loaded it holds about 8 KB and 32 to 48 bytes for each unit.
  */
 struct byzlab_program {
     uint8_t full;

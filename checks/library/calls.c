@@ -354,7 +354,6 @@ static void *all(void *none) {
     load();
     forbid();
     alike();
-    passed();
     texts();
     messages();
     without();
@@ -371,6 +370,7 @@ int main(int count, char **words) {
         if (pthread_create(threads + i, NULL, all, NULL)) return 2;
     all(NULL);
     for (int i = 0; i < further; i++) pthread_join(threads[i], NULL);
+    passed();
     printf("%s\n", wrong ? "wrong" : "as wanted");
     return wrong != 0;
 }
