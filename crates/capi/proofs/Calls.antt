@@ -1,6 +1,6 @@
 -- The calls of a program.
-use Rattle.std.proofs.Common.{◌≡◌, ◌∙◌, ◌≤◌, ◌<◌, ◌⊎◌, ⊎_elim, ℕ, List, Option, None, length, ap, sym, subst, arith}
-use Rattle.std.specs.Prelude.{IfSome, true, slice_get}
+use Rattle.std.proofs.Common.{◌≡◌, ◌≤◌, ◌<◌, ⊎_elim, ℕ, List, Option, None, length, ap, sym, subst, arith}
+use Rattle.std.specs.Prelude.{IfSome, true}
 use Rattle.std.proofs.lemmas.Option.{slice_get_cases, slice_get_past}
 use Rattle.insn.specs.declared.insn.Insn.{Insn}
 use Rattle.insn.specs.Program.{instruction_at, joined, slots_of}

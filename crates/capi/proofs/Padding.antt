@@ -1,5 +1,5 @@
 -- Contexts of fewer bytes, and the zeros behind them.
-use Rattle.std.proofs.Common.{◌≡◌, ◌∙◌, ℕ, ◌+◌, ◌-◌, ◌≤◌, List, [], ◌++◌, append-nil, length, take, drop, replicate, sym, ap, subst, refl, arith}
+use Rattle.std.proofs.Common.{◌≡◌, ◌∙◌, ℕ, ◌+◌, ◌-◌, ◌≤◌, List, ◌++◌, append-nil, length, take, drop, replicate, sym, ap, subst, refl, arith}
 use Rattle.std.proofs.lemmas.List.{drop-drop, drop_at, take_at, length-append, length-replicate, drop-replicate, replicate-append-replicate}
 use Rattle.semantics.specs.Limits.{context_size}
 use Rattle.capi.specs.Padding.{padded, IsPadded}

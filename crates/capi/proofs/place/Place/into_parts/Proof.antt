@@ -1,8 +1,7 @@
 -- `into_parts` keeps the pointer, and what stands there goes with it.
 use Rattle.std.proofs.Common.{◌≡◌, List, [], ◌∷◌, ◌++◌, refl, sym, ap, ◌∙◌, subst}
-use seplogic.Ra.Ura.{Ura}
 use mir.Raw.{raw as bare}
-use mir.Val.{Val, vptr}
+use mir.Val.{Val}
 use base.Logic.{SProp, ent, emp, id⊢, never, fst∗}
 use base.Fml.{ftrue, fsep}
 use prog.Wp.{WpFn}
@@ -14,10 +13,10 @@ use types.ByLocal.{alloc_all, pass_all, free_all, look_at, get, get_in, sets}
 use contract.Monad.{fact, fact_i}
 use contract.Running.{tables}
 use denote.Exit.{yes}
-use denote.RattleType.{RattleType, owns}
+use denote.RattleType.{RattleType}
 use denote.RawPtr.{Ptr, block_ptr, null_ptr, in_a_block}
 use denote.Param.{layout}
-use denote.Signature.{types_at, type_at, plain}
+use denote.Signature.{type_at, plain}
 use denote.Steps.{heard, nothing}
 use denote.Triple.Walked.{Stays, stay_dropped, walk_of, Goes-dropped}
 use Rattle.core.proofs.cell.Inside.{one}

@@ -1,10 +1,7 @@
 -- `none` keeps the pointer, and owns nothing.
 use Rattle.std.proofs.Common.{◌≡◌, List, [], ◌∷◌, refl}
-use seplogic.Ra.Ura.{Ura}
-use base.Logic.{SProp, emp}
-use base.Fml.{ftrue}
-use mir.Val.{Val}
-use types.Kit.{‵, raw, ◌⊛◌, ◌$◌, ◌∵◌, !, qed, by, keep, drop, fjoin, use0}
+use base.Logic.{emp}
+use types.Kit.{‵, raw, ◌$◌, ◌∵◌, !, qed, by, keep, drop, fjoin, use0}
 use types.Run.{no_more, and_then, returns, enter}
 use types.ByLocal.{alloc_all, pass_all, free_all, look_at, get, sets}
 use types.Part.{agg}
