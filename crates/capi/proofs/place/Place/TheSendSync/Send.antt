@@ -7,7 +7,8 @@ use denote.RawPtr.{Ptr}
 use denote.Struct.Struct.{exits_of}
 use denote.Struct.Owning.{shape, fields, to}
 use denote.Param.Send.{IsSend, AllSend, owning_send, struct_send, sendable}
-use Rattle.libc.specs.Heap.{chunk-Keyless}
+use Rattle.std.proofs.Crossing as heap
+use Rattle.std_heap.proofs.Handle.{handle}
 use Rattle.std_alloc.proofs.SendSync.{quiet, lies}
 use Rattle.insn.specs.declared.insn.Insn.{Insn}
 use Rattle.capi.specs.contracts.kept.Kept as Kept
@@ -17,7 +18,7 @@ use Rattle.capi.specs.contracts.place.Place.{the_row, the_type}
 
 there : (p : Ptr) (o : Option (List Insn)) → Keyless (place_owns p o)
 there p None = tt
-there p (Some x) = (lies Kept.the_row kept p x, chunk-Keyless (raw (lone Kept.the_row.mir)) p)
+there p (Some x) = (lies Kept.the_row kept p x, heap.frees.frees handle (raw (lone Kept.the_row.mir)) p)
 
 pub send : IsSend the_row
 send =
