@@ -10,15 +10,19 @@
  *
  * The caller must ensure the following, which nothing checks:
  *
- * - Each pointer points to memory of the given size, is aligned for its type, and is not null, even if the size is 0.
- * - The memory that a function writes (fault, outcome, outcomes, board, text, needed) does not overlap any other
- *   argument, and no other thread reads or writes it during the call. No other thread writes the memory that a
+ * - Each pointer points to memory of the given size, is aligned for its type, and is not null. Only if the size beside it
+ *   is 0 it may be NULL, which does no harm (this is tested, and not proved).
+ * - The memory that a function writes (fault, outcome, outcomes, board, text, needed, loaded) does not overlap any
+ *   other argument, and no other thread reads or writes it during the call. No other thread writes the memory that a
  *   function only reads (program, context, contexts) during the call.
+ * - A struct byzlab_program is all zeros before the first call, and only the functions below write it afterwards. It is
+ *   not copied.
  * - malloc, realloc and free come from one allocator. malloc and realloc align a block to each power of two up to 16
  *   that divides its size, for instance to 8 for 24 bytes. Those of glibc do.
  * - No function is called from a signal handler, or from the forked child of a process with threads.
  *
- * A call keeps no state and no memory for the next. Threads may call at the same time if malloc allows that.
+ * A call keeps no state and no memory for the next, except in a struct byzlab_program. Threads may call at the same
+ * time if malloc allows that.
  */
 #ifndef BYZLAB_SANDBOX_H
 #define BYZLAB_SANDBOX_H
@@ -36,7 +40,11 @@ enum byzlab_status {
     BYZLAB_MISSPELT = 1, /* the bytes do not spell a program; the fault has a number from 1 to 8 */
     BYZLAB_REFUSED = 2,  /* the program is not accepted; the fault has a number from 101 to 113 */
     BYZLAB_MEMORY = 3,   /* malloc or realloc returned NULL; the bytes spell a program */
-    BYZLAB_LENGTH = 4    /* the context is not 4,096 bytes long, or the contexts not 4,096 for each outcome */
+    BYZLAB_LENGTH = 4,   /* the context is not 4,096 bytes long, or the contexts not 4,096 for each outcome; in
+                          * byzlab_run_loaded, the context is longer */
+    BYZLAB_UNLOADED = 5, /* no program is loaded */
+    BYZLAB_FORBIDDEN = 6 /* the program is accepted, and calls a helper that is not allowed; the fault has the helper's
+                          * number and the unit of the first such call */
 };
 
 /* The numbers of the faults. Each comes with the unit in which the faulty instruction begins. Units have 8
@@ -72,7 +80,13 @@ enum byzlab_number {
 #define BYZLAB_BOARD_WORDS 64     /* how many words the helpers 1 to 5 read and write */
 #define BYZLAB_MOST_BYTES 32768   /* the longest program: 4,096 units */
 
-/* Why bytes are not accepted. It is written only at the statuses 1 and 2. */
+/* Which helpers a loaded program may call: bit n is for helper n. Outside of a campaign only those of the board do
+ * anything. */
+#define BYZLAB_NO_HELPERS UINT64_C(0)
+#define BYZLAB_BOARD_HELPERS UINT64_C(0x3e)
+#define BYZLAB_ALL_HELPERS UINT64_C(0xffe)
+
+/* Why bytes are not accepted. It is written only at the statuses 1, 2 and 6. */
 struct byzlab_fault {
     uint32_t number;
     size_t unit;
@@ -82,6 +96,15 @@ struct byzlab_fault {
 struct byzlab_outcome {
     uint64_t r0;
     uint32_t steps;
+};
+
+/*
+ * A loaded program, or none: struct byzlab_program loaded = {0}. C code reads and writes neither field. While a program
+ * is loaded it holds about 8 KB and 32 to 48 bytes for each unit.
+ */
+struct byzlab_program {
+    uint8_t full;
+    void *at;
 };
 
 /* Checks whether the program is accepted. Returns 0 to 3. */
@@ -103,9 +126,30 @@ uint32_t byzlab_run_many(const uint8_t *program, size_t length, const uint8_t *c
                          struct byzlab_fault *fault, struct byzlab_outcome *outcomes, size_t count);
 
 /*
+ * Verifies the program and, at status 0, loads it in place of one that is loaded there. The program may only call helpers
+ * that the mask allows. Returns 0 to 3, or 6. The bytes are not needed any more.
+ */
+uint32_t byzlab_load(const uint8_t *program, size_t length, uint64_t helpers, struct byzlab_program *loaded,
+                     struct byzlab_fault *fault);
+
+/*
+ * Runs the loaded program once, as byzlab_run does. Returns 0, 3, 4 or 5. The context has at most 4,096 bytes; the program
+ * finds zeros after them. Board and outcome are written only at status 0. The program stays loaded.
+ *
+ * A loaded program is for one call at a time. It may be passed to another thread. Threads that run the same program at
+ * the same time load it once each.
+ */
+uint32_t byzlab_run_loaded(struct byzlab_program *loaded, const uint8_t *context, size_t context_length,
+                           uint64_t board[BYZLAB_BOARD_WORDS], struct byzlab_outcome *outcome);
+
+/* Frees the memory of the loaded program. If none is loaded, it does nothing. */
+void byzlab_unload(struct byzlab_program *loaded);
+
+/*
  * Returns the same as byzlab_verify, 0 to 3. At 0 and 2 it writes what the verifier knows at each unit about the
  * registers that are read, and at 2 why it rejects the program: at most `room` bytes into text, and the length of the
  * whole text into needed. Each line begins with a line feed, and there is no terminating 0. At 1 and 3 it writes neither.
+ * A call with NULL and 0 for text and room asks for the length.
  */
 uint32_t byzlab_explain(const uint8_t *program, size_t length, char *text, size_t room, size_t *needed,
                         struct byzlab_fault *fault);
@@ -116,6 +160,12 @@ uint32_t byzlab_explain(const uint8_t *program, size_t length, char *text, size_
  */
 uint32_t byzlab_disassemble(const uint8_t *program, size_t length, char *text, size_t room, size_t *needed,
                             struct byzlab_fault *fault);
+
+/*
+ * Writes in the same way a sentence that describes the status or, at 1 and 2, the fault with this number. It is empty if
+ * there is no such status or fault.
+ */
+void byzlab_message(uint32_t status, uint32_t number, char *text, size_t room, size_t *needed);
 
 /* Returns 10,000 * major + 100 * minor + patch. */
 uint32_t byzlab_version(void);

@@ -142,6 +142,136 @@ static void run_many(void) {
     free(outcomes);
 }
 
+/* r0 = the context's last byte; exit */
+static const uint8_t last[16] = {0x71, 0x10, 0xff, 0x0f, 0, 0, 0, 0, EXIT};
+
+/* The status of a run in a context of so many bytes, in a block of its own that holds no more, and what it wrote. */
+static uint32_t run_in(struct byzlab_program *loaded, size_t length, uint8_t each, uint64_t *board,
+                       struct byzlab_outcome *outcome) {
+    uint8_t context[BYZLAB_CONTEXT_BYTES + 1], *lent;
+    memset(context, each, sizeof context);
+    lent = copied(context, length);
+    uint32_t status = byzlab_run_loaded(loaded, lent, length, board, outcome);
+    WANT(!memcmp(lent, context, length));
+    free(lent);
+    return status;
+}
+
+static void load(void) {
+    uint64_t words[BYZLAB_BOARD_WORDS] = {[3] = 1000, [63] = UINT64_MAX}, *board = copied(words, sizeof words);
+    struct byzlab_program loaded = {0};
+    struct byzlab_fault fault = {777, 888};
+    struct byzlab_outcome outcome = {111, 222};
+    WANT(run_in(&loaded, 4096, 9, board, &outcome) == BYZLAB_UNLOADED);
+    WANT(run_in(&loaded, 4097, 9, board, &outcome) == BYZLAB_LENGTH);
+    byzlab_unload(&loaded);
+    WANT(byzlab_load(unset, 16, BYZLAB_NO_HELPERS, &loaded, &fault) == BYZLAB_REFUSED && fault.number == BYZLAB_V5_UNSET && fault.unit == 0);
+    WANT(byzlab_load(answer, 15, BYZLAB_NO_HELPERS, &loaded, &fault) == BYZLAB_MISSPELT && fault.number == 1 && fault.unit == 1);
+    WANT(!loaded.full && !loaded.at && outcome.r0 == 111 && outcome.steps == 222 && board[3] == 1000);
+    fault = (struct byzlab_fault){777, 888};
+    uint8_t *program = copied(adds, 56);
+    WANT(byzlab_load(program, 56, BYZLAB_BOARD_HELPERS, &loaded, &fault) == BYZLAB_DONE && fault.number == 777 && fault.unit == 888);
+    free(program);
+    WANT(run_in(&loaded, 4096, 9, board, &outcome) == BYZLAB_DONE && outcome.r0 == 1009 && outcome.steps == 7);
+    WANT(board[3] == 1005 && board[0] == 0 && board[63] == UINT64_MAX);
+    WANT(run_in(&loaded, 1, 8, board, &outcome) == BYZLAB_DONE && outcome.r0 == 1013 && board[3] == 1010);
+    WANT(run_in(&loaded, 0, 8, board, &outcome) == BYZLAB_DONE && outcome.r0 == 1010 && board[3] == 1015);
+    WANT(run_in(&loaded, 4097, 8, board, &outcome) == BYZLAB_LENGTH && outcome.r0 == 1010 && board[3] == 1015);
+    WANT(byzlab_load(unset, 16, BYZLAB_NO_HELPERS, &loaded, &fault) == BYZLAB_REFUSED);
+    WANT(run_in(&loaded, 1, 8, board, &outcome) == BYZLAB_DONE && outcome.r0 == 1023);
+    /* Of each earlier context nothing is left behind a shorter one. */
+    WANT(byzlab_load(last, 16, BYZLAB_NO_HELPERS, &loaded, &fault) == BYZLAB_DONE);
+    for (int i = 0; i < 3; i++) {
+        WANT(run_in(&loaded, 4096, 5, board, &outcome) == BYZLAB_DONE && outcome.r0 == 5 && outcome.steps == 2);
+        WANT(run_in(&loaded, 4095, 6, board, &outcome) == BYZLAB_DONE && outcome.r0 == 0);
+        WANT(run_in(&loaded, (size_t)i, 7, board, &outcome) == BYZLAB_DONE && outcome.r0 == 0);
+    }
+    WANT(byzlab_load(exchanges, sizeof exchanges, BYZLAB_ALL_HELPERS, &loaded, &fault) == BYZLAB_DONE);
+    memcpy(board, words, sizeof words);
+    board[0] = 1000;
+    board[63] = 7;
+    WANT(run_in(&loaded, 0, 0, board, &outcome) == BYZLAB_DONE && outcome.r0 == 16 && board[0] == 9 && board[3] == 1000);
+    byzlab_unload(&loaded);
+    byzlab_unload(&loaded);
+    WANT(run_in(&loaded, 0, 0, board, &outcome) == BYZLAB_UNLOADED && outcome.r0 == 16);
+    free(board);
+}
+
+/* r0 = 0; goto the exit; send(); exit: a call that is never reached, behind a wide instruction */
+static const uint8_t sends[40] = {
+    UNIT(0x18, 0, 0, 0), UNIT(0, 0, 0, 0), UNIT(0x05, 0, 1, 0), UNIT(0x85, 0, 0, 6), EXIT,
+};
+
+static void forbid(void) {
+    struct byzlab_program loaded = {0};
+    struct byzlab_fault fault = {777, 888};
+    WANT(byzlab_load(adds, 56, BYZLAB_NO_HELPERS, &loaded, &fault) == BYZLAB_FORBIDDEN && !loaded.full);
+    WANT(fault.number == 3 && fault.unit == 3);
+    WANT(byzlab_load(adds, 56, UINT64_C(1) << 3, &loaded, &fault) == BYZLAB_DONE && loaded.full);
+    WANT(byzlab_load(adds, 56, ~(UINT64_C(1) << 3), &loaded, &fault) == BYZLAB_FORBIDDEN && loaded.full);
+    WANT(byzlab_load(sends, 40, BYZLAB_ALL_HELPERS, &loaded, &fault) == BYZLAB_DONE && fault.number == 3);
+    WANT(byzlab_load(sends, 40, BYZLAB_BOARD_HELPERS, &loaded, &fault) == BYZLAB_FORBIDDEN);
+    WANT(fault.number == 6 && fault.unit == 3);
+    WANT(byzlab_load(exchanges, sizeof exchanges, BYZLAB_BOARD_HELPERS - 32, &loaded, &fault) == BYZLAB_FORBIDDEN);
+    WANT(fault.number == 5 && fault.unit == 11);
+    byzlab_unload(&loaded);
+}
+
+static uint32_t drawn(uint32_t *seed) {
+    *seed ^= *seed << 13;
+    *seed ^= *seed >> 17;
+    return *seed ^= *seed << 5;
+}
+
+/* A loaded program does in each of many contexts what byzlab_run does in the same context, padded. */
+static void alike(void) {
+    static const struct {
+        const uint8_t *bytes;
+        size_t length;
+    } programs[] = {{adds, sizeof adds}, {exchanges, sizeof exchanges}, {last, sizeof last}, {sends, sizeof sends}};
+    uint32_t seed = 1;
+    for (size_t which = 0; which < sizeof programs / sizeof *programs; which++) {
+        uint64_t one[BYZLAB_BOARD_WORDS] = {0}, other[BYZLAB_BOARD_WORDS] = {0};
+        struct byzlab_program loaded = {0};
+        struct byzlab_fault fault;
+        const uint8_t *bytes = programs[which].bytes;
+        size_t length = programs[which].length;
+        WANT(byzlab_load(bytes, length, BYZLAB_ALL_HELPERS, &loaded, &fault) == BYZLAB_DONE);
+        for (int i = 0; i < 100; i++) {
+            uint8_t padded[BYZLAB_CONTEXT_BYTES] = {0}, *lent;
+            size_t given = drawn(&seed) % (i % 2 ? 16 : BYZLAB_CONTEXT_BYTES + 1);
+            struct byzlab_outcome was = {111, 222}, is = {333, 444};
+            for (size_t at = 0; at < given; at++) padded[at] = (uint8_t)drawn(&seed);
+            one[0] = one[drawn(&seed) % 64] = drawn(&seed);
+            memcpy(other, one, sizeof one);
+            lent = copied(padded, given);
+            WANT(byzlab_run(bytes, length, padded, sizeof padded, one, &fault, &was) == BYZLAB_DONE);
+            WANT(byzlab_run_loaded(&loaded, lent, given, other, &is) == BYZLAB_DONE);
+            WANT(was.r0 == is.r0 && was.steps == is.steps && !memcmp(one, other, sizeof one));
+            free(lent);
+        }
+        byzlab_unload(&loaded);
+    }
+}
+
+static void *loaded_elsewhere(void *loaded) {
+    uint64_t board[BYZLAB_BOARD_WORDS] = {0};
+    struct byzlab_outcome outcome = {111, 222};
+    WANT(run_in(loaded, 1, 9, board, &outcome) == BYZLAB_DONE && outcome.r0 == 9);
+    return loaded;
+}
+
+/* A program that one thread loads, another runs, and the first unloads. */
+static void passed(void) {
+    struct byzlab_program loaded = {0};
+    struct byzlab_fault fault;
+    pthread_t other;
+    WANT(byzlab_load(adds, 56, BYZLAB_BOARD_HELPERS, &loaded, &fault) == BYZLAB_DONE);
+    if (pthread_create(&other, NULL, loaded_elsewhere, &loaded)) exit(2);
+    pthread_join(other, NULL);
+    byzlab_unload(&loaded);
+}
+
 static void texts(void) {
     static const char whole[] = "mov r0, 42\nexit\n";
     struct byzlab_fault fault = {777, 888};
@@ -168,13 +298,65 @@ static void texts(void) {
     WANT(byzlab_disassemble(unset, 16, text, sizeof text, &needed, &fault) == BYZLAB_DONE);
 }
 
+static void message(uint32_t status, uint32_t number, const char *wanted) {
+    char text[128];
+    size_t needed = 99;
+    memset(text, '#', sizeof text);
+    byzlab_message(status, number, text, sizeof text, &needed);
+    WANT(needed == strlen(wanted) && !memcmp(text, wanted, needed) && text[needed] == '#');
+    byzlab_message(status, number, text, 3, &needed);
+    WANT(needed == strlen(wanted));
+}
+
+static void messages(void) {
+    message(BYZLAB_DONE, 7, "the call has done its work");
+    message(BYZLAB_MEMORY, BYZLAB_V1_BACK_JUMP, "out of memory");
+    message(BYZLAB_FORBIDDEN, 1, "a helper is called that is not allowed");
+    message(BYZLAB_MISSPELT, BYZLAB_C1_LENGTH, "the length is not a multiple of 8");
+    message(BYZLAB_MISSPELT, BYZLAB_C8_COUNT, "a program has 1 to 4,096 units");
+    message(BYZLAB_REFUSED, BYZLAB_V1_BACK_JUMP, "a jump leads to its own unit or backward");
+    message(BYZLAB_REFUSED, BYZLAB_V13_EXIT_POINTER, "the program ends with a pointer in r0");
+    message(7, 0, "");
+    message(UINT32_MAX, UINT32_MAX, "");
+    message(BYZLAB_MISSPELT, 0, "");
+    message(BYZLAB_MISSPELT, 9, "");
+    message(BYZLAB_REFUSED, 99, "");
+    message(BYZLAB_REFUSED, 114, "");
+    message(BYZLAB_REFUSED, UINT32_MAX, "");
+}
+
+/* NULL beside the size 0. */
+static void without(void) {
+    uint64_t board[BYZLAB_BOARD_WORDS] = {0};
+    struct byzlab_fault fault = {777, 888};
+    struct byzlab_outcome outcome = {111, 222};
+    struct byzlab_program loaded = {0};
+    size_t needed = 0;
+    WANT(byzlab_verify(NULL, 0, &fault) == BYZLAB_MISSPELT && fault.number == BYZLAB_C8_COUNT);
+    WANT(byzlab_run(answer, 16, NULL, 0, board, &fault, &outcome) == BYZLAB_LENGTH);
+    WANT(byzlab_run_many(answer, 16, NULL, 0, &fault, NULL, 0) == BYZLAB_DONE);
+    WANT(byzlab_load(NULL, 0, BYZLAB_NO_HELPERS, &loaded, &fault) == BYZLAB_MISSPELT);
+    WANT(byzlab_load(answer, 16, BYZLAB_NO_HELPERS, &loaded, &fault) == BYZLAB_DONE);
+    WANT(byzlab_run_loaded(&loaded, NULL, 0, board, &outcome) == BYZLAB_DONE && outcome.r0 == 42);
+    byzlab_unload(&loaded);
+    WANT(byzlab_explain(answer, 16, NULL, 0, &needed, &fault) == BYZLAB_DONE && needed > 10);
+    WANT(byzlab_disassemble(answer, 16, NULL, 0, &needed, &fault) == BYZLAB_DONE && needed == 16);
+    byzlab_message(BYZLAB_DONE, 0, NULL, 0, &needed);
+    WANT(needed == 26);
+}
+
 static void *all(void *none) {
     misspelt();
     refused();
     run_once();
     exchange();
     run_many();
+    load();
+    forbid();
+    alike();
     texts();
+    messages();
+    without();
     WANT(byzlab_version() == BYZLAB_VERSION);
     return none;
 }
@@ -188,6 +370,7 @@ int main(int count, char **words) {
         if (pthread_create(threads + i, NULL, all, NULL)) return 2;
     all(NULL);
     for (int i = 0; i < further; i++) pthread_join(threads[i], NULL);
+    passed();
     printf("%s\n", wrong ? "wrong" : "as wanted");
     return wrong != 0;
 }

@@ -76,7 +76,27 @@ static void run_many(const char *what, const uint8_t *p) {
            all ? " (refused)" : "");
 }
 
+static void run_loaded(const char *what, const uint8_t *p, size_t length, size_t context_length) {
+    static uint8_t context[4096];
+    static uint64_t board[BYZLAB_BOARD_WORDS];
+    struct byzlab_program loaded = {0};
+    struct byzlab_outcome outcome = {0};
+    struct byzlab_fault fault;
+    double least = 1e9;
+    uint32_t all = byzlab_load(p, length, BYZLAB_BOARD_HELPERS, &loaded, &fault);
+    for (int round = 0; round < 5 * ROUNDS; round++) {
+        double begun = now();
+        for (int i = 0; i < CALLS; i++) all |= byzlab_run_loaded(&loaded, context, context_length, board, &outcome);
+        double spent = now() - begun;
+        if (spent < least) least = spent;
+    }
+    byzlab_unload(&loaded);
+    printf("byzlab_run_loaded, %-9s context of %4zu: %.3f us, %u steps%s\n", what, context_length, least / CALLS,
+           outcome.steps, all ? " (refused)" : "");
+}
+
 int main(void) {
+    static const uint8_t answer[16] = {0xb7, 0, 0, 0, 42, 0, 0, 0, 0x95};
     static uint8_t p[512], q[512];
     mixed(p);
     straight(q);
@@ -84,5 +104,9 @@ int main(void) {
     verify("straight", q);
     run_many("mixed", p);
     run_many("straight", q);
+    run_loaded("42", answer, 16, 4096);
+    run_loaded("42", answer, 16, 64);
+    run_loaded("mixed", p, 512, 4096);
+    run_loaded("straight", q, 512, 4096);
     return 0;
 }

@@ -36,6 +36,12 @@ static const uint8_t program[56] = {
     0x07, 2,    0, 0, 1, 0, 0, 0, 0x85, 0, 0, 0, 3, 0, 0, 0, 0x95,
 };
 static const uint8_t unset[16] = {0xbf, 0x20, 0, 0, 0, 0, 0, 0, 0x95};
+/* board_swap(0, 5); board_copy(0, r10 - 8, 1); r0 = 0; exit */
+static const uint8_t copies[72] = {
+    0xb7, 1, 0,    0, 0, 0, 0, 0, 0xb7, 2, 0, 0, 5,    0,    0,    0,    0x85, 0, 0, 0, 2, 0, 0, 0,
+    0xb7, 1, 0,    0, 0, 0, 0, 0, 0xbf, 0xa2, 0, 0, 0, 0,    0,    0,    0x07, 2, 0, 0, 0xf8, 0xff, 0xff, 0xff,
+    0xb7, 3, 0,    0, 1, 0, 0, 0, 0x85, 0, 0, 0, 5,    0,    0,    0,    0x95,
+};
 static const uint8_t misspelt[16] = {0xb7, 0, 0, 0, 0, 0, 0, 0, 0xff};
 static const uint8_t contexts[3 * 4096] = {[0] = 9, [4096] = 10};
 
@@ -48,6 +54,21 @@ struct written {
     char text[4096];
 };
 
+/* The first status above 0 of loading a program over another and running it twice. All is given back by unloading. */
+static uint32_t loaded(const uint8_t *bytes, size_t length, struct written *all) {
+    struct byzlab_program one = {0};
+    uint32_t status = byzlab_load(program, 56, BYZLAB_BOARD_HELPERS, &one, &all->fault);
+    if (!status) status = byzlab_load(bytes, length, BYZLAB_BOARD_HELPERS, &one, &all->fault);
+    for (int i = 0; i < 2 && !status; i++) {
+        struct written before = *all;
+        status = byzlab_run_loaded(&one, contexts, 1, all->board, all->outcomes);
+        if (status && memcmp(&before, all, sizeof before)) status = 99;
+        if (status) memset(all, '#', sizeof *all);
+    }
+    byzlab_unload(&one);
+    return status;
+}
+
 static uint32_t call(int which, struct written *all) {
     struct byzlab_fault *fault = &all->fault;
     switch (which) {
@@ -59,6 +80,8 @@ static uint32_t call(int which, struct written *all) {
     case 5: return byzlab_disassemble(program, 56, all->text, sizeof all->text, &all->needed, fault);
     case 6: return byzlab_verify(unset, 16, fault);
     case 7: return byzlab_verify(misspelt, 16, fault);
+    case 8: return loaded(program, 56, all);
+    case 9: return loaded(copies, 72, all);
     default: return byzlab_disassemble(misspelt, 16, all->text, sizeof all->text, &all->needed, fault);
     }
 }
@@ -85,12 +108,12 @@ int main(void) {
     static const char *const names[] = {
         "byzlab_verify",           "byzlab_run",         "byzlab_run_many",        "byzlab_explain",
         "byzlab_explain, refused", "byzlab_disassemble", "byzlab_verify, refused",
-        "byzlab_verify, misspelt", "byzlab_disassemble, misspelt",
+        "byzlab_verify, misspelt", "byzlab_run_loaded",  "byzlab_run_loaded, a copy", "byzlab_disassemble, misspelt",
     };
-    static const uint32_t wanted[] = {0, 0, 0, 0, 2, 0, 2, 1, 1};
+    static const uint32_t wanted[] = {0, 0, 0, 0, 2, 0, 2, 1, 0, 0, 1};
     static struct written full, all;
     int wrong = 0;
-    for (int which = 0; which < 9; which++) {
+    for (int which = 0; which < 11; which++) {
         uint32_t last = asked(which, -1, &full);
         long count = requests, without = 0;
         wrong += last != wanted[which] || count == 0 || held != 0;

@@ -1,4 +1,4 @@
-// A filter in C++. Over several runs the board counts what was let through.
+// A filter in C++, loaded once. Over several runs the board counts what was let through.
 #include <byzlab_sandbox.h>
 #include <array>
 #include <cstdint>
@@ -18,22 +18,28 @@ const std::vector<std::uint8_t> filter = {
     0x95, 0x00, 0, 0, 0, 0, 0, 0, // exit
 };
 
+// A program that is unloaded at the end of its scope.
+struct Loaded : byzlab_program {
+    Loaded() : byzlab_program{} {}
+    Loaded(const Loaded &) = delete;
+    ~Loaded() { byzlab_unload(this); }
+};
+
 } // namespace
 
 int main() {
-    std::vector<std::uint8_t> context(BYZLAB_CONTEXT_BYTES);
     std::array<std::uint64_t, BYZLAB_BOARD_WORDS> board{};
-    for (unsigned value : {3u, 12u, 9u, 200u, 0u}) {
-        byzlab_fault fault{};
+    byzlab_fault fault{};
+    Loaded loaded;
+    auto status = byzlab_load(filter.data(), filter.size(), BYZLAB_BOARD_HELPERS, &loaded, &fault);
+    for (std::uint8_t value : {3, 12, 9, 200, 0}) {
         byzlab_outcome outcome{};
-        context[0] = static_cast<std::uint8_t>(value);
-        auto status = byzlab_run(filter.data(), filter.size(), context.data(), context.size(), board.data(), &fault,
-                                 &outcome);
+        if (status == BYZLAB_DONE) status = byzlab_run_loaded(&loaded, &value, 1, board.data(), &outcome);
         if (status != BYZLAB_DONE) {
             std::printf("status %u number %u unit %zu\n", status, fault.number, fault.unit);
             return 1;
         }
-        std::printf("%u: %s\n", value, outcome.r0 ? "let through" : "dropped");
+        std::printf("%d: %s\n", value, outcome.r0 ? "let through" : "dropped");
     }
     std::printf("let through: %llu\n", static_cast<unsigned long long>(board[3]));
 }

@@ -4,7 +4,8 @@ import shutil
 
 from checkout import TOP, Failure, call, product, toolchain, version
 
-EXPORTS = ["byzlab_verify", "byzlab_run", "byzlab_run_many", "byzlab_explain", "byzlab_disassemble", "byzlab_version"]
+EXPORTS = ["byzlab_verify", "byzlab_run", "byzlab_run_many", "byzlab_load", "byzlab_run_loaded", "byzlab_unload",
+           "byzlab_explain", "byzlab_disassemble", "byzlab_message", "byzlab_version"]
 TOOLS = {"cc": "gcc", "ld": "binutils", "objcopy": "binutils", "ar": "binutils"}
 CONFIG = """prefix={prefix}
 includedir=${{prefix}}/include

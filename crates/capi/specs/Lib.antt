@@ -4,3 +4,8 @@ pub mod Refusals
 pub mod Runs
 pub mod Many
 pub mod Texts
+pub mod Padding
+pub mod Owned
+pub mod Loads
+pub mod Helpers
+pub mod Messages

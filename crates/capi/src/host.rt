@@ -1,5 +1,5 @@
 //! Runs one accepted program outside of any campaign, in one context or in many.
-ghost use Rattle.std.specs.Prelude.{◌≡◌, ◌*◌, List, [], ℕ, IfOk, length};
+ghost use Rattle.std.specs.Prelude.{◌≡◌, ◌*◌, List, [], ℕ, IfOk, OnErr, length};
 ghost use Rattle.codec.specs.Program.{SpellsProgram};
 ghost use Rattle.semantics.specs.Outbox.{empty_outbox};
 ghost use Rattle.semantics.specs.Relay.{oral};
@@ -9,13 +9,12 @@ ghost use Rattle.capi.specs.Runs.{Exits, host};
 ghost use Rattle.capi.specs.Many.{IsOutcome, AreRuns, AreBegun};
 
 use crate::outcome::RunOutcome;
-use board::Board;
+use crate::running::run_over;
 use label::Shape;
 use machine::Machine;
 use mem::Context;
 use outbox::Outbox;
 use std::alloc::{AllocError, Global};
-use trial::run_on;
 use verify::Verified;
 
 /// The general in whose place a program runs: the last of four generals in the first round, who relays nothing.
@@ -28,7 +27,7 @@ const HOST: Shape = Shape {
 
 /// Returns an empty outbox of the general `HOST`.
 #[inline(never)]
-fn outbox(alloc: Global) -> Result<Outbox, AllocError>
+pub fn outbox(alloc: Global) -> Result<Outbox, AllocError>
     ensures relay { IfOk result (λ o. o.relay ≡ oral host) }
     ensures empty { IfOk result (λ o. o.rows ≡ empty_outbox o.relay) }
     ensures unentered { IfOk result (λ o. o.entries ≡ []) }
@@ -36,35 +35,53 @@ fn outbox(alloc: Global) -> Result<Outbox, AllocError>
     Outbox::new(alloc, HOST)
 }
 
-/// Runs an accepted program to its exit, in the place of the general `HOST`. The board answers its requests, and keeps
-/// the words that the program leaves.
+/// Runs an accepted program to its exit, in the place of the general `HOST`. A board of these words answers its
+/// requests, and keeps the words that the program leaves.
+///
+/// # Errors
+///
+/// Fails with `AllocError` if memory runs out. The words are then unchanged.
 pub fn run_hosted(
     alloc: Global,
     verified: &Verified,
     context: &Context,
-    board: &mut Board,
+    words: &mut [u64; 64],
 ) -> Result<RunOutcome, AllocError>
-    ensures { IfOk result (λ o. Exits board.old.words verified.now context.now o.r0 o.steps board.new.words) }
+    ensures exits { IfOk result (λ o. Exits words.old verified.now context.now o.r0 o.steps words.new) }
+    ensures unrun { OnErr result (words.new ≡ words.old) }
 {
     let mut activation = Machine::start(verified, context, outbox(alloc)?);
-    run_begun(verified, context, board, &mut activation)
+    run_begun(alloc, verified, context, words, &mut activation)
 }
 
-/// Runs an activation that has just started to its exit, with the given board. It is not inlined, so that the library
-/// contains this code once.
+/// Runs an activation that has just started to its exit, on a board of these words. It is not inlined, so that the
+/// library contains this code once.
+///
+/// # Errors
+///
+/// Fails with `AllocError` if memory runs out. The words are then unchanged.
 #[inline(never)]
-fn run_begun(
+pub fn run_begun(
+    alloc: Global,
     verified: &Verified,
     context: &Context,
-    board: &mut Board,
+    words: &mut [u64; 64],
     activation: &mut Machine,
 ) -> Result<RunOutcome, AllocError>
     requires relay { activation.old.relay ≡ oral host }
     requires started { activation.old.state ≡ entry (empty_outbox (oral host)) }
     requires of_run { IsOfRun verified.now context.now activation.old }
-    ensures { IfOk result (λ o. Exits board.old.words verified.now context.now o.r0 o.steps board.new.words) }
+    ensures exits { IfOk result (λ o. Exits words.old verified.now context.now o.r0 o.steps words.new) }
+    ensures unrun { OnErr result (words.new ≡ words.old) }
 {
-    let r0 = run_on(board, verified, context, HOST, activation)?;
+    let before = *words;
+    let r0 = match run_over(alloc, words, verified, context, activation) {
+        Ok(r0) => r0,
+        Err(refused) => {
+            *words = before;
+            return Err(refused);
+        }
+    };
     Ok(RunOutcome {
         r0,
         steps: activation.steps(),
@@ -84,8 +101,8 @@ fn run_afresh(
     ensures { IfOk result (λ o. (bytes : List ℕ) → SpellsProgram bytes verified.now →
         IsOutcome bytes context.now o) }
 {
-    let mut board = Board::new(alloc, [0; 64]);
-    run_begun(verified, context, &mut board, activation)
+    let mut words = [0; 64];
+    run_begun(alloc, verified, context, &mut words, activation)
 }
 
 /// Runs a program once in each context, each time with a board of zeros, and stores the outcomes in order. A context is

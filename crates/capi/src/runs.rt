@@ -9,7 +9,6 @@ use crate::fault::{NumberedFault, tell};
 use crate::host::{run_each, run_hosted};
 use crate::outcome::RunOutcome;
 use crate::status::{DONE, LENGTH, MEMORY};
-use board::Board;
 use mem::Context;
 use std::alloc::Global;
 
@@ -54,10 +53,8 @@ pub extern "C" fn byzlab_run(
         Ok(verified) => verified,
         Err(refusal) => return tell(refusal, fault),
     };
-    let mut served = Board::new(alloc, *board);
-    match run_hosted(alloc, &verified, &context, &mut served) {
+    match run_hosted(alloc, &verified, &context, board) {
         Ok(exited) => {
-            *board = *served.words();
             *outcome = exited;
             DONE
         }

@@ -14,3 +14,9 @@ pub const MEMORY: u32 = 3;
 
 /// The contexts have the wrong length.
 pub const LENGTH: u32 = 4;
+
+/// No program is loaded.
+pub const UNLOADED: u32 = 5;
+
+/// The program calls a helper that is not allowed.
+pub const FORBIDDEN: u32 = 6;

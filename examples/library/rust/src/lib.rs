@@ -17,6 +17,10 @@ pub enum Error {
     Refused { number: u32, unit: usize },
     /// Out of memory.
     Memory,
+    /// The context is longer than 4,096 bytes.
+    Length,
+    /// The program calls this helper, which is not allowed, at this unit.
+    Forbidden { number: u32, unit: usize },
 }
 
 impl fmt::Display for Error {
@@ -25,6 +29,8 @@ impl fmt::Display for Error {
             Error::Misspelt { number, unit } => write!(f, "C{number} unit {unit}"),
             Error::Refused { number, unit } => write!(f, "V{} unit {unit}", number - 100),
             Error::Memory => f.write_str("out of memory"),
+            Error::Length => f.write_str("the context is too long"),
+            Error::Forbidden { number, unit } => write!(f, "helper {number} unit {unit}"),
         }
     }
 }
@@ -53,8 +59,64 @@ impl Fault {
             0 => Ok(value),
             1 => Err(Error::Misspelt { number, unit }),
             2 => Err(Error::Refused { number, unit }),
+            4 => Err(Error::Length),
+            6 => Err(Error::Forbidden { number, unit }),
             _ => Err(Error::Memory),
         }
+    }
+}
+
+/// A program that was verified, for any number of runs.
+#[repr(C)]
+pub struct Loaded {
+    full: bool,
+    at: *mut u8,
+}
+
+// The library proves that a loaded program may be passed to another thread.
+unsafe impl Send for Loaded {}
+
+impl Loaded {
+    /// Verifies the program and loads it. It may call helper n only if bit n of `helpers` is set: 0x3e for those of the
+    /// board.
+    pub fn new(program: &[u8], helpers: u64) -> Result<Loaded, Error> {
+        let mut fault = Fault::default();
+        let mut loaded = Loaded {
+            full: false,
+            at: std::ptr::null_mut(),
+        };
+        let status = unsafe {
+            byzlab_load(
+                program.as_ptr(),
+                program.len(),
+                helpers,
+                &mut loaded,
+                &mut fault,
+            )
+        };
+        fault.result(status, loaded)
+    }
+
+    /// Runs the program in a context of at most 4,096 bytes, which zeros follow; the board is left as the program left
+    /// it.
+    pub fn run(&mut self, context: &[u8], board: &mut Board) -> Result<Outcome, Error> {
+        let mut outcome = Outcome::default();
+        let status = unsafe {
+            byzlab_run_loaded(
+                self,
+                context.as_ptr(),
+                context.len(),
+                board.as_mut_ptr(),
+                &mut outcome,
+            )
+        };
+        Fault::default().result(status, outcome)
+    }
+}
+
+impl Drop for Loaded {
+    fn drop(&mut self) {
+        unsafe { byzlab_unload(self) }
     }
 }
 
@@ -80,6 +142,21 @@ extern "C" {
         outcomes: *mut Outcome,
         count: usize,
     ) -> u32;
+    fn byzlab_load(
+        program: *const u8,
+        length: usize,
+        helpers: u64,
+        loaded: *mut Loaded,
+        fault: *mut Fault,
+    ) -> u32;
+    fn byzlab_run_loaded(
+        loaded: *mut Loaded,
+        context: *const u8,
+        context_length: usize,
+        board: *mut u64,
+        outcome: *mut Outcome,
+    ) -> u32;
+    fn byzlab_unload(loaded: *mut Loaded);
     fn byzlab_explain(
         program: *const u8,
         length: usize,

@@ -1,5 +1,7 @@
-//! Verifies a program, runs it once and many times, and explains a program that is rejected.
-use byzlab_sandbox::{disassemble, explain, run, run_many, verify, version, Error, CONTEXT_BYTES};
+//! Verifies a program, runs it once and many times, loads it, and explains a program that is rejected.
+use byzlab_sandbox::{
+    disassemble, explain, run, run_many, verify, version, Error, Loaded, CONTEXT_BYTES,
+};
 
 const ANSWER: [u8; 16] = [0xb7, 0, 0, 0, 42, 0, 0, 0, 0x95, 0, 0, 0, 0, 0, 0, 0];
 /// r0 = the context's first byte; exit
@@ -21,6 +23,10 @@ fn main() -> Result<(), Error> {
         .map(|outcome| outcome.r0)
         .collect();
     println!("r0 {each:?}");
+    let mut first = Loaded::new(&FIRST, 0)?;
+    let other = std::thread::spawn(move || first.run(&[9], &mut [0; 64]));
+    let r0 = other.join().map(|run| run.map(|outcome| outcome.r0));
+    println!("loaded: {r0:?}");
     let (text, verdict) = explain(&UNSET);
     if let Err(error) = verdict {
         println!("{text}\nrefused {error}");

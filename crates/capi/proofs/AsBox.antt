@@ -1,0 +1,21 @@
+-- A box of a program, as its row.
+use mathlib.Core.List.{[]}
+use mir.Syntax.{impl, tnil, dnil}
+use denote.Signature.{Slot, plain}
+use Rattle.std_alloc.proofs.BoxSteps.Form.{Bx}
+use Rattle.std_heap.specs.contracts.Global as Heap
+use Rattle.std_heap.specs.contracts.GlobalAllocator.TheImpl.{ghosts, dict}
+use Rattle.std_heap.proofs.Global.TheLaws as heap
+use Rattle.capi.specs.contracts.kept.Kept as Kept
+use Rattle.capi.proofs.kept.Kept.TheLaws as kept
+use Rattle.capi.specs.contracts.parts.Parts as Parts
+use Rattle.capi.specs.contracts.place.Place as Place
+
+abbrev pub E : Bx
+E = record { row = Kept.the_row; laws = kept.the_row_laws; al = record { row = Heap.the_row; laws = heap.the_row_laws; g = ghosts; d = dict; drops = impl [] tnil dnil } }
+
+abbrev pub FromParts : Slot 0
+FromParts = plain (λ _. Parts.the_row Kept.the_row Heap.the_row ghosts)
+
+abbrev pub FromPlace : Slot 0
+FromPlace = plain (λ _. Place.the_row)

@@ -1,0 +1,10 @@
+-- Each unit is allowed that was passed, and past the end there is none.
+use Rattle.std.proofs.Common.{arith, below_more}
+use Rattle.capi.proofs.Calls.{each_below}
+use Rattle.capi.proofs.helpers.first_in.Goals as goal
+
+pub loop-unit-preserved : goal.loop-unit-preserved
+loop-unit-preserved c = below_more _ _ c.loop-unit.invariant c.in_default.ensures.none
+
+pub returns-clause-none : goal.returns-clause-none
+returns-clause-none c = each_below c.args.mask c.args.program.now c.units-unit-end.result c.units-unit-end.ensures.units (λ earlier less. c.loop-unit.invariant earlier (omega arith))

@@ -1,0 +1,10 @@
+-- Defines loaded programs.
+use Rattle.std.specs.Prelude.{ℕ, ◌≡◌, List, Option, Some}
+use Rattle.insn.specs.declared.insn.Insn.{Insn}
+use Rattle.codec.specs.Program.{SpellsProgram}
+
+-- States that the program that the bytes encode is loaded.
+pub record IsLoaded (bytes : List ℕ) (loaded : Option (List Insn)) : Type 0 where
+  pub program : List Insn
+  pub spelt : SpellsProgram bytes program
+  pub is : loaded ≡ Some program

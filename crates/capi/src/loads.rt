@@ -1,0 +1,125 @@
+//! The exports that load a program once and run it often: `byzlab_load`, `byzlab_run_loaded` and `byzlab_unload`.
+ghost use Rattle.std.specs.Prelude.{◌≡◌, ◌≤◌, ◌<◌, ◌⊎◌, ℕ, List, None, length};
+ghost use Rattle.capi.specs.Bytes.{IsProgram, IsAccepted, IsMisspelt, IsRefused};
+ghost use Rattle.capi.specs.Helpers.{IsAllowed, IsForbidden};
+ghost use Rattle.capi.specs.Loads.{IsLoaded};
+ghost use Rattle.capi.specs.Padding.{padded};
+ghost use Rattle.capi.specs.Runs.{IsRun};
+
+use crate::decoder::accepted;
+use crate::fault::{NumberedFault, tell};
+use crate::helpers::first_forbidden;
+use crate::kept::Kept;
+use crate::loaded::Loaded;
+use crate::outcome::RunOutcome;
+use crate::status::{DONE, FORBIDDEN, LENGTH, MEMORY, UNLOADED};
+use mem::Context;
+use std::alloc::Global;
+
+/// Verifies a program and loads it, in place of one that is loaded there. The program may call helper n only if bit n of
+/// `helpers` is set. The result is the status: 0 to 3, or 6.
+#[unsafe(no_mangle)]
+pub extern "C" fn byzlab_load(
+    alloc: Global,
+    program: &[u8],
+    helpers: u64,
+    loaded: &mut Loaded,
+    fault: &mut NumberedFault,
+) -> u32
+    ensures known { (result ≤ 3) ⊎ (result ≡ 6) }
+
+    // The status is 0 only if the program is accepted and calls only helpers that are allowed, and it is then loaded. If
+    // the program is accepted, the status is 0, 3 or 6.
+    ensures accepted { result ≡ 0 → IsAccepted program.now }
+    ensures only { IsAccepted program.now → (result ≡ 0) ⊎ (result ≡ 3) ⊎ (result ≡ 6) }
+    ensures allowed { result ≡ 0 → IsAllowed program.now helpers }
+    ensures kept { result ≡ 0 → IsLoaded program.now loaded.new.place.program }
+
+    // At status 6, the program is accepted, and the fault has the first helper that is not allowed and its unit.
+    ensures forbidden { result ≡ 6 → IsForbidden program.now helpers fault.new.number fault.new.unit }
+
+    // At status 1 or 2, the fault has its number and its unit.
+    ensures misspelt { result ≡ 1 → IsMisspelt program.now fault.new.number fault.new.unit }
+    ensures refused { result ≡ 2 → IsRefused program.now fault.new.number fault.new.unit }
+
+    // The status is 3 only if the bytes encode a program.
+    ensures spelt { result ≡ 3 → IsProgram program.now }
+
+    // Nothing else is written.
+    ensures untold { (result ≡ 1) ⊎ (result ≡ 2) ⊎ (result ≡ 6) ⊎ (fault.new ≡ fault.old) }
+    ensures unwritten { (result ≡ 0) ⊎ (loaded.new ≡ loaded.old) }
+{
+    let verified = match accepted(alloc, program) {
+        Ok(verified) => verified,
+        Err(refusal) => return tell(refusal, fault),
+    };
+    if let Some((number, unit)) = first_forbidden(&verified, helpers) {
+        *fault = NumberedFault { number, unit };
+        return FORBIDDEN;
+    }
+    let kept = match Kept::new(alloc, verified) {
+        Ok(kept) => kept,
+        Err(_) => return MEMORY,
+    };
+    match Box::new(alloc, kept) {
+        Ok(boxed) => {
+            loaded.put(alloc, boxed);
+            DONE
+        }
+        Err(_) => MEMORY,
+    }
+}
+
+/// Runs the loaded program in the context that begins with these bytes, at most 4,096, and continues with zeros. The
+/// board holds the words that the program finds, and after the run the words that it leaves. The result is the status:
+/// 0, 3, 4 or 5.
+#[tactic(auto, using(crate::proofs::LoadedRuns::runs_loaded))]
+#[unsafe(no_mangle)]
+pub extern "C" fn byzlab_run_loaded(
+    alloc: Global,
+    loaded: &mut Loaded,
+    context: &[u8],
+    board: &mut [u64; 64],
+    outcome: &mut RunOutcome,
+) -> u32
+    ensures known { (result ≡ 0) ⊎ (result ≡ 3) ⊎ (result ≡ 4) ⊎ (result ≡ 5) }
+
+    // The status is 4 exactly if the context has more than 4,096 bytes. Otherwise it is 5 exactly if no program is
+    // loaded.
+    ensures long { result ≡ 4 → 4096 < length context.now }
+    ensures cut { 4096 < length context.now → result ≡ 4 }
+    ensures none { result ≡ 5 → loaded.old.place.program ≡ None }
+    ensures lacking { length context.now ≤ 4096 → loaded.old.place.program ≡ None → result ≡ 5 }
+
+    // At status 0 the program that was loaded has run as by `byzlab_run`. It stays loaded at each status.
+    ensures ran { result ≡ 0 → (bytes : List ℕ) → IsLoaded bytes loaded.old.place.program →
+        IsRun bytes (padded context.now) board.old outcome.new.r0 outcome.new.steps board.new }
+    ensures kept { loaded.new.place.program ≡ loaded.old.place.program }
+
+    // Nothing else is written.
+    ensures unwritten { (result ≡ 0) ⊎ (board.new ≡ board.old) × (outcome.new ≡ outcome.old) }
+{
+    if context.len() > Context::BYTES {
+        return LENGTH;
+    }
+    let Some(mut kept) = loaded.take(alloc) else {
+        return UNLOADED;
+    };
+    let status = match kept.run(alloc, context, board) {
+        Ok(exited) => {
+            *outcome = exited;
+            DONE
+        }
+        Err(_) => MEMORY,
+    };
+    loaded.put(alloc, kept);
+    status
+}
+
+/// Frees the memory of the loaded program, if there is one. None is loaded then.
+#[unsafe(no_mangle)]
+pub extern "C" fn byzlab_unload(alloc: Global, loaded: &mut Loaded)
+    ensures { loaded.new.place.program ≡ None }
+{
+    let _gone = loaded.take(alloc);
+}

@@ -1,0 +1,106 @@
+//! The sentences that describe statuses and faults, and the export that writes them: `byzlab_message`.
+ghost use Rattle.std.specs.Prelude.{◌≡◌, [], length, map, slice_index_or};
+ghost use Rattle.capi.specs.Messages.{message, misspellings, rejections, statuses};
+ghost use Rattle.capi.specs.Texts.{overwritten};
+
+use crate::buffer::put_text;
+use crate::status::{MISSPELT, REFUSED};
+
+/// The sentence of each status.
+const STATUSES: &[&str] = &[
+    "the call has done its work",
+    "the bytes spell no program",
+    "the program is rejected",
+    "out of memory",
+    "the context has the wrong length",
+    "no program is loaded",
+    "a helper is called that is not allowed",
+];
+
+/// The sentence of each fault in the bytes, by its number.
+const MISSPELLINGS: &[&str] = &[
+    "",
+    "the length is not a multiple of 8",
+    "no instruction has this opcode",
+    "an unused field, or a reserved bit of a wide instruction, is not zero",
+    "the second half of a wide instruction is missing",
+    "a register above r10 is used",
+    "this instruction of the standard is not supported",
+    "an operand that selects the instruction has a wrong value",
+    "a program has 1 to 4,096 units",
+];
+
+/// The sentence of each reason why the verifier rejects a program, by its number less 100.
+const REJECTIONS: &[&str] = &[
+    "",
+    "a jump leads to its own unit or backward",
+    "a jump leads past the end",
+    "a jump leads into the second half of a wide instruction",
+    "the last instruction is not the exit",
+    "a register is read that may be unset, or of different kinds on different paths",
+    "the frame pointer is written",
+    "a pointer is misused, or a number is used as an address",
+    "an access may leave its region",
+    "a stack cell is read that may be unset",
+    "the context is written",
+    "a helper is called that does not exist",
+    "a helper is called with an argument that it does not accept",
+    "the program ends with a pointer in r0",
+];
+
+/// Returns the sentence of each status.
+fn statuses() -> &'static [&'static str]
+    ensures { map (λ m. m.now) result.now ≡ statuses }
+{
+    STATUSES
+}
+
+/// Returns the sentence of each fault in the bytes, by its number.
+fn misspellings() -> &'static [&'static str]
+    ensures { map (λ m. m.now) result.now ≡ misspellings }
+{
+    MISSPELLINGS
+}
+
+/// Returns the sentence of each reason why the verifier rejects a program, by its number less 100.
+fn rejections() -> &'static [&'static str]
+    ensures { map (λ m. m.now) result.now ≡ rejections }
+{
+    REJECTIONS
+}
+
+/// Returns the sentence with this index, or an empty one if there is none.
+#[tactic(auto, using(crate::proofs::Sentences::sentence_read, crate::proofs::Sentences::no_sentence))]
+fn sentence_at(sentences: &'static [&'static str], index: usize) -> &'static str
+    ensures { result.now ≡ slice_index_or (map (λ m. m.now) sentences.now) index [] }
+{
+    if index < sentences.len() {
+        sentences[index]
+    } else {
+        ""
+    }
+}
+
+/// Returns the sentence that describes a status or, at status 1 and 2, the fault with this number. It is empty if there
+/// is no such status or fault.
+fn message(status: u32, number: u32) -> &'static str
+    ensures { result.now ≡ message status number }
+{
+    if status == MISSPELT {
+        return sentence_at(misspellings(), number as usize);
+    }
+    if status == REFUSED {
+        return sentence_at(rejections(), number.saturating_sub(100) as usize);
+    }
+    sentence_at(statuses(), status as usize)
+}
+
+/// Writes the sentence that describes a status or, at status 1 and 2, the fault with this number. The text is cut at the
+/// end of `text`, and `needed` receives the length of the whole text in bytes: 0 if there is no such status or fault.
+#[unsafe(no_mangle)]
+pub extern "C" fn byzlab_message(status: u32, number: u32, text: &mut [u8], needed: &mut usize)
+    ensures text { text.new ≡ overwritten (message status number) text.old }
+    ensures needed { needed.new ≡ length (message status number) }
+{
+    put_text(message(status, number).as_bytes(), text, needed);
+}
