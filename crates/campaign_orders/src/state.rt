@@ -9,14 +9,12 @@ ghost use Rattle.world.specs.World.{oral_kind};
 
 use crate::early_runs::run_on;
 use crate::likeness::are_alike;
+use crate::marks::world_mark;
 use crate::order::{compared, copied};
-use insn::Reg;
-use machine::Machine;
 use round::Scenario;
-use semantics::Value;
 use std::alloc::{AllocError, Global};
 use std::marker::Model;
-use world::{PlayableWorld, Progress, World};
+use world::World;
 
 /// A state: a world, how many beginnings of orders lead to it or to an alike world, and the least of these beginnings.
 #[derive(Drop)]
@@ -54,7 +52,7 @@ impl State {
     pub(crate) fn new(world: World, ways: u64, rows: Vec<Vec<u8>>, names: Vec<u8>) -> State
         ensures { result ≡ record { world = world; ways = ways; rows = lists_in rows.items; names = names.items } }
     {
-        let mark = mark_of(&world);
+        let mark = world_mark(&world);
         State {
             world,
             ways,
@@ -119,49 +117,6 @@ pub(crate) fn with_access(
     let mut names = Vec::from_slice(alloc, names)?;
     names.push(general)?;
     Ok(State::new(world, ways, rows, names))
-}
-
-/// Returns the mark that results from mixing a number into `mark`.
-fn mixed(mark: u64, number: u64) -> u64 {
-    let product = (mark ^ number).wrapping_mul(0x9E37_79B9_7F4A_7C15);
-    product ^ (product >> 32)
-}
-
-/// Returns the mark of a world. It is computed from the board's words and, for each activation, its steps and
-/// registers.
-fn mark_of(world: &World) -> u64 {
-    let mut mark = 0;
-    for word in world.words().as_slice() {
-        mark = mixed(mark, *word);
-    }
-    for part in world.open_parts() {
-        match part {
-            Progress::Acting(running) => mark = mixed_activation(mark, running.activation()),
-            Progress::Silent => {}
-            Progress::Posted => {}
-        }
-    }
-    mark
-}
-
-/// Mixes the steps and the registers of an activation into a mark.
-fn mixed_activation(mark: u64, activation: &Machine) -> u64 {
-    let mut mark = mixed(mark, u64::from(activation.steps()));
-    for number in 0..10u8 {
-        if let Some(register) = Reg::new(number) {
-            mark = mixed(mark, word_of(activation.value(register)));
-        }
-    }
-    mark
-}
-
-/// Returns a number for what a register holds.
-fn word_of(value: Value) -> u64 {
-    match value {
-        Value::Unset => 0,
-        Value::Number(number) => number,
-        Value::Pointer(_, offset) => u64::from(offset.cast_unsigned()),
-    }
 }
 
 /// Checks whether the beginning of a state is less than that of another state.
