@@ -3,7 +3,7 @@ use Rattle.std.proofs.Common.{◌∙◌, ap, arith}
 use Rattle.world.specs.Kind.{opening}
 use Rattle.world.specs.World.{oral_kind}
 use Rattle.campaign_orders.proofs.Reaching.{played_more, played_last}
-use Rattle.campaign_orders.proofs.layers.again.Goals as goal
+use Rattle.campaign_orders.proofs.replays.played.Goals as goal
 
 pub loop-round-init : goal.loop-round-init
 loop-round-init c = c.in_ok-world.ensures ∙ ap (opening oral_kind) c.in_ok-copy.ensures
