@@ -1,4 +1,4 @@
-; Puts the traitor's number into word 0 of the board, and sends everyone what was there before.
+; Writes the number of the traitor into word 0 of the board, and sends everyone the word that was there.
         ldw r2, [r1+8]
         mov r1, 0
         call board_swap

@@ -46,8 +46,19 @@ fn is_full(count: u64) -> bool
     count == u64::MAX
 }
 
-/// Returns the outcomes of all orders, found layer by layer.
+/// Returns the outcomes of all orders. If there are few, they are played one by one, which is faster than by layers.
 fn explore_all(alloc: Global, scenario: &Scenario) -> Result<Exploration, AllocError>
+    ensures { IfOk result (λ exploration. IsExploration oral_kind oral_outcome scenario.now (2 ^ 64 - 1) exploration) }
+{
+    let few = explore_least(alloc, scenario, 128)?;
+    match few.reach() {
+        Reach::Whole => Ok(few),
+        _ => explore_layers(alloc, scenario),
+    }
+}
+
+/// Returns the outcomes of all orders, found layer by layer.
+fn explore_layers(alloc: Global, scenario: &Scenario) -> Result<Exploration, AllocError>
     ensures { IfOk result (λ exploration. IsExploration oral_kind oral_outcome scenario.now (2 ^ 64 - 1) exploration) }
 {
     scenario.recall();

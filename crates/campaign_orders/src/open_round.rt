@@ -7,6 +7,7 @@ ghost use Rattle.campaign_orders.specs.Merging.{RoundsAlike};
 ghost use Rattle.campaign_orders.specs.OpenRounds.{IsRoundAfter};
 ghost use Rattle.world.specs.Chronicle.{decisions};
 
+use crate::accessed::Accessed;
 use crate::likeness::{rounds_alike, same_shared, same_words};
 use crate::marked_part::MarkedPart;
 use crate::marks::{board_mark, mixed, rounds_mark};
@@ -72,12 +73,15 @@ impl OpenRound {
         let Some(made) = part.next_access(alloc, &self.words, u32::from(general))? else {
             return Ok(None);
         };
-        let part = MarkedPart::new(Progress::Acting(made.running));
+        let Accessed { running, words } = made;
+        let later = MarkedPart::new(Progress::Acting(running));
+        let parts = replaced(alloc, self.parts.as_slice(), usize::from(general), later)?;
+        let start = self.start.clone()?;
         Ok(Some(OpenRound {
-            start: self.start.clone()?,
+            start,
             told: self.told,
-            words: made.words,
-            parts: replaced(alloc, self.parts.as_slice(), usize::from(general), part)?,
+            words,
+            parts,
         }))
     }
 
