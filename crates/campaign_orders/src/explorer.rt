@@ -22,6 +22,9 @@ use round::Scenario;
 use std::alloc::{AllocError, Global};
 use world::replay;
 
+/// How many orders are played one by one before they are explored layer by layer.
+const FEW: u64 = 128;
+
 /// Returns the outcomes of all orders in which the traitors of an oral campaign can access the board, if there are at
 /// most `most` orders. Otherwise it returns the outcomes of the `most` least orders and says that there are more. If
 /// `most` is `u64::MAX`, all orders are counted, and counts stop at 2^64 - 1. Time and memory then grow with the number
@@ -50,7 +53,7 @@ fn is_full(count: u64) -> bool
 fn explore_all(alloc: Global, scenario: &Scenario) -> Result<Exploration, AllocError>
     ensures { IfOk result (λ exploration. IsExploration oral_kind oral_outcome scenario.now (2 ^ 64 - 1) exploration) }
 {
-    let few = explore_least(alloc, scenario, 128)?;
+    let few = explore_least(alloc, scenario, FEW)?;
     match few.reach() {
         Reach::Whole => Ok(few),
         _ => explore_layers(alloc, scenario),
