@@ -152,6 +152,11 @@ module _ (o : OpenRound) (rows : List (List ℕ)) (names : List ℕ) (good : IsS
       (λ i. record (there i) { closed = sym p.closed_are i; words = sym p.words_are i; parts = sym p.parts_are i }) ∙ rest in
       (p.asks, subst (λ (y : World). IsRunOn (past oral_kind w g) y) (sym same ∙ ap (world_in rows (names ++ g ∷ [])) (sym next_is)) p.run_on)
 
+-- as code makes it
+pub after_is : (o : OpenRound) (g : ℕ) (made : Accessed) (start : World) (parts : List Progress) → IsPartAfter g o.words (slice_get o.parts g) (Some made) → start ≡ o.start → parts ≡ slice_set o.parts g (Acting made.running)
+    → IsRoundAfter o g (Some (record { start = start; words = made.words; parts = parts }))
+after_is o g made start parts h a b = (made, h, (λ i. record { start = a i; words = made.words; parts = b i }))
+
 -- as code has them
 module _ (t : State) (o : OpenRound) (g : ℕ) (same : world_in t.rows t.names o ≡ t.world) where
   pub past_none : IsRoundAfter o g None → IsPastOf t.world t g None

@@ -1,5 +1,6 @@
 -- Lists that are copied, shared or compared element by element, as a function sees the elements.
-use Rattle.std.proofs.Common.{◌≡◌, ℕ, ◌+◌, ◌<◌, ◌≤◌, List, [], ◌∷◌, ◌++◌, length, map, take, get_or, set, suc, refl, sym, ap, ◌∙◌, arith}
+use Rattle.std.proofs.Common.{◌≡◌, ℕ, ◌+◌, ◌<◌, ◌≤◌, List, [], ◌∷◌, ◌++◌, length, map, take, get_or, set, zero, suc, refl, sym, ap, ◌∙◌, Some, None, arith}
+use Rattle.std.specs.Prelude.{slice_get}
 use Rattle.std.proofs.lemmas.List.{map-append, map-set, set_past, take_all, take_more}
 
 module _ {A B : Type 0} (f : A → B) where
@@ -29,6 +30,17 @@ module _ {A B : Type 0} (f : A → B) where
   -- one is replaced
   pub replaced_here : (copies new ys : List A) (i : ℕ) (x : A) (y : B) → new ≡ set copies i x → f x ≡ y → map f copies ≡ map f ys → map f new ≡ set (map f ys) i y
   replaced_here copies new ys i x y is same h = ap (map f) is ∙ (map-set f copies i x ∙ (λ j. set (h j) i (same j)))
+
+  -- the element at an index
+  pub get_map : (xs : List A) (i : ℕ) (x : A) → slice_get xs i ≡ Some x → slice_get (map f xs) i ≡ Some (f x)
+  get_map [] i x e = absurd (let g : None ≡ Some x = e in cc)
+  get_map (y ∷ ys) zero x e = ap (λ (z : A). Some (f z)) (let g : Some y ≡ Some x = e in let h : y ≡ x = cc in h)
+  get_map (y ∷ ys) (suc i) x e = get_map ys i x e
+
+  pub get_none : (xs : List A) (i : ℕ) → slice_get xs i ≡ None → slice_get (map f xs) i ≡ None
+  get_none [] i e = refl
+  get_none (y ∷ ys) zero e = absurd (let g : Some y ≡ None = e in cc)
+  get_none (y ∷ ys) (suc i) e = get_none ys i e
 
   length_map : (xs : List A) → length (map f xs) ≡ length xs
   length_map [] = refl

@@ -1,10 +1,10 @@
 //! An open round in parts that states share.
-ghost use Rattle.std.specs.Prelude.{◌≡◌, IfOk, IsTrue, map, slice_set};
+ghost use Rattle.std.specs.Prelude.{◌≡◌, IfOk, IsTrue, map, slice_get, slice_set};
 ghost use Rattle.std.specs.Arc.{arc_value};
 ghost use Rattle.round.specs.Letters.{messages};
 ghost use Rattle.round.specs.Scenario.{IsScenario};
 ghost use Rattle.campaign_orders.specs.Merging.{RoundsAlike};
-ghost use Rattle.campaign_orders.specs.OpenRounds.{IsRoundAfter};
+ghost use Rattle.campaign_orders.specs.OpenRounds.{IsPartAfter, IsRoundAfter};
 ghost use Rattle.world.specs.Chronicle.{decisions};
 
 use crate::accessed::Accessed;
@@ -67,22 +67,32 @@ impl OpenRound {
     pub(crate) fn after(&self, alloc: Global, general: u8) -> Result<Option<OpenRound>, AllocError>
         ensures { IfOk result (λ next. IsRoundAfter self.now general next) }
     {
-        let Some(part) = self.parts.get(usize::from(general)) else {
-            return Ok(None);
-        };
-        let Some(made) = part.next_access(alloc, &self.words, u32::from(general))? else {
-            return Ok(None);
-        };
-        let Accessed { running, words } = made;
-        let later = MarkedPart::new(Progress::Acting(running));
-        let parts = replaced(alloc, self.parts.as_slice(), usize::from(general), later)?;
-        let start = self.start.clone()?;
-        Ok(Some(OpenRound {
-            start,
-            told: self.told,
-            words,
-            parts,
-        }))
+        match self.next_access(alloc, general)? {
+            Some(made) => {
+                let Accessed { running, words } = made;
+                let part = MarkedPart::new(Progress::Acting(running));
+                let parts = replaced(alloc, self.parts.as_slice(), usize::from(general), part)?;
+                let start = self.start.clone()?;
+                Ok(Some(OpenRound {
+                    start,
+                    told: self.told,
+                    words,
+                    parts,
+                }))
+            }
+            None => Ok(None),
+        }
+    }
+
+    /// Makes the next access of a general on a copy of his activation, and returns what it leaves. Returns `None` if he
+    /// makes no further access in the round.
+    fn next_access(&self, alloc: Global, general: u8) -> Result<Option<Accessed>, AllocError>
+        ensures { IfOk result (λ made. IsPartAfter general self.now.words (slice_get self.now.parts general) made) }
+    {
+        match self.parts.get(usize::from(general)) {
+            Some(part) => part.next_access(alloc, &self.words, u32::from(general)),
+            None => Ok(None),
+        }
     }
 
     /// Checks whether two open rounds have the same words and the same parts, and whether the letters of their closed

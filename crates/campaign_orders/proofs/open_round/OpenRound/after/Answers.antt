@@ -1,6 +1,15 @@
--- No part, no access, or the part after it.
-use Rattle.std.proofs.Common.{◌∙◌, refl, sym, subst}
+-- The part after it in place of that before it.
+use Rattle.std.proofs.Common.{◌∙◌, ap}
+use Rattle.std.specs.Prelude.{slice_set}
+use Rattle.campaign_orders.specs.OpenRounds.{OpenRound}
+use Rattle.campaign_orders.proofs.Accessing.{after_is}
 use Rattle.campaign_orders.proofs.open_round.OpenRound.after.Goals as goal
 
-pub returns : goal.returns
-returns c = ?
+pub returns-in-Some : goal.returns-in-Some
+returns-in-Some c =
+    after_is c.args.self.now c.args.general c.in-Some.made _ _ (rw c.in-Some.is at c.in_ok-made.ensures)
+    (c.in_ok-start-in-Some.ensures ∙ ap (λ (o : OpenRound). o.start) c.self.view_is)
+    ?
+
+pub returns-in-None : goal.returns-in-None
+returns-in-None c = (rw c.in-None.is at c.in_ok-made.ensures)
