@@ -55,9 +55,11 @@ opened_is t rows names stage later ways rows' names' a b same seen =
     (λ i. record { world = e i; ways = ways; rows = rows; names = names }) ∙ seen
 
 -- the state as a round begins
-pub begun_same : (s : Scenario) (ways : ℕ) (rows : List (List ℕ)) (names : List ℕ) → names ≡ []
-    → record { world = reached (opening oral_kind s) rows names; ways = ways; rows = rows; names = names } ≡ record { world = behind_all (opening oral_kind s) rows; ways = ways; rows = rows; names = [] }
-begun_same s ways rows names none = (λ i. record { world = reached (opening oral_kind s) rows (none i); ways = ways; rows = rows; names = none i })
+abbrev state_at : World → ℕ → List (List ℕ) → List ℕ → State
+state_at w ways rows names = record { world = w; ways = ways; rows = rows; names = names }
+
+pub begun_same : (s : Scenario) (ways : ℕ) (rows : List (List ℕ)) (names : List ℕ) → names ≡ [] → state_at (reached (opening oral_kind s) rows names) ways rows names ≡ state_at (behind_all (opening oral_kind s) rows) ways rows []
+begun_same s ways rows names none = (λ i. state_at (reached (opening oral_kind s) rows (none i)) ways rows (none i))
 
 pub closed_rows : (rows pushed : List (Vec ℕ Global)) (names : Vec ℕ Global) (t : State) → lists_in rows ≡ t.rows → names.items ≡ t.names → pushed ≡ rows ++ names ∷ [] → lists_in pushed ≡ t.rows ++ t.names ∷ []
 closed_rows rows pushed names t a b is = ap lists_in is ∙ (map-append (λ (v : Vec ℕ Global). v.items) rows (names ∷ []) ∙ (λ i. a i ++ b i ∷ []))

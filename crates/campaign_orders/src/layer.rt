@@ -73,7 +73,8 @@ impl Layer {
                 return Ok(None);
             }
             let other = &states[place];
-            if is_like(alloc, other, state)? {
+            let alike = is_like(alloc, other, state)?;
+            if alike {
                 return Ok(Some(place));
             }
             next = other.before;

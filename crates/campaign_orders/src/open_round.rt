@@ -166,6 +166,7 @@ fn replaced(
     let mut copies = shared(alloc, parts)?;
     if index < copies.len() {
         copies[index] = Arc::new(alloc, part)?;
+        return Ok(copies);
     }
     Ok(copies)
 }

@@ -5,7 +5,7 @@ use Rattle.round.specs.Running.{Silently, Pauses}
 use Rattle.campaign_orders.proofs.access.next_access.Goals as goal
 
 pub returns-then-has_ended : goal.returns-then-has_ended
-returns-then-has_ended c = (c.args.running.now, (0, refl, refl), sym c.has_ended.ensures.ended ∙ c.if-has_ended.true)
+returns-then-has_ended c = (c.args.running.now, (0, (refl, refl)), sym c.has_ended.ensures.ended ∙ c.if-has_ended.true)
 
 pub returns-then-has_ended-2 : goal.returns-then-has_ended-2
 returns-then-has_ended-2 c = (

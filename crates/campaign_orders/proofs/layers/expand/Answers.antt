@@ -18,12 +18,12 @@ loop-general-preserved c =
 
 pub returns-then-asked : goal.returns-then-asked
 returns-then-asked c =
-    let there : c.loop-general.general ≡ c.generals.result = omega arith in
-    expanded_if c.args.scenario.now c.args.state c.loop-general.general c.args.next.now c.args.done.now c.loop-general.next c.loop-general.asked (omega (arith, there, c.generals.ensures)) c.if-asked.true c.loop-general.invariant c.recall.ensures
+    let there : c.loop-general.general ≡ c.generals-general-end.result = omega arith in
+    expanded_if c.args.scenario.now c.args.state c.loop-general.general c.args.next.now c.args.done.now c.loop-general.next c.loop-general.asked (omega (arith, there, c.generals-general-end.ensures)) c.if-asked.true c.loop-general.invariant c.recall.ensures
 
 pub returns : goal.returns
 returns c =
-    let there : c.loop-general.general ≡ c.generals.result = omega arith in
+    let there : c.loop-general.general ≡ c.generals-general-end.result = omega arith in
     expanded_else c.args.scenario.now c.args.state c.loop-general.general c.args.next.now c.args.done.now c.loop-general.next c.loop-general.asked c.in_ok-shut.shut c.enter.new.self
-    (omega (arith, there, c.generals.ensures)) c.if-asked.false c.loop-general.invariant
+    (omega (arith, there, c.generals-general-end.ensures)) c.if-asked.false c.loop-general.invariant
     (shut_is c.args.scenario.now c.args.state c.in_ok-from.from c.in_ok-shut.shut c.in_ok-from.ensures c.in_ok-shut.ensures) c.in_ok-enter.ensures c.recall.ensures

@@ -11,4 +11,4 @@ pub loop-place-preserved : goal.loop-place-preserved
 loop-place-preserved c =
     let same = c.same_marked.ensures c.if-not-same_marked.false in
     same_more arc_value c.args.parts.now c.args.others.now c.loop-place.place c.index-parts-place.result c.index-others-place.result c.loop-place-test.true (omega arith) c.index-parts-place.is c.index-others-place.is
-    (sym c.deref.ensures ∙ (same ∙ c.deref-2.ensures)) c.loop-place.invariant
+    (sym c.deref.ensures ∙ (same ∙ c.deref-in-loop-place.ensures)) c.loop-place.invariant

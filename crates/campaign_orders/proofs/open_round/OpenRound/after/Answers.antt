@@ -5,8 +5,8 @@ use Rattle.campaign_orders.specs.OpenRounds.{OpenRound}
 use Rattle.campaign_orders.proofs.Accessing.{after_is}
 use Rattle.campaign_orders.proofs.open_round.OpenRound.after.Goals as goal
 
-pub returns-in-Some : goal.returns-in-Some
-returns-in-Some c =
+pub returns-in_ok-start-in-Some : goal.returns-in_ok-start-in-Some
+returns-in_ok-start-in-Some c =
     after_is c.args.self.now c.args.general c.in-Some.made _ _ (rw c.in-Some.is at c.in_ok-made.ensures)
     (c.in_ok-start-in-Some.ensures ∙ ap (λ (o : OpenRound). o.start) c.self.view_is)
     ?
