@@ -8,12 +8,12 @@ use Rattle.campaign_orders.proofs.state.State.outcome.Goals as goal
 pub returns-in-Open : goal.returns-in-Open
 returns-in-Open c =
     c.decisions.ensures
-    ∙ open_outcome c.args.self.now c.in-Open.round.now
-    (open_world c.args.self.now (lists_in c.self.inside.rows.items) c.self.inside.names.items c.self.inside.stage c.self.inside.ways c.self.view_is c.in-Open.round.now c.in-Open.is)
+    ∙ open_outcome c.args.self.now c.in-Open.round
+    (open_world c.args.self.now (lists_in c.self.inside.rows.items) c.self.inside.names.items c.self.inside.stage c.self.inside.ways c.self.view_is c.in-Open.round c.in-Open.is)
 
 pub returns-in_ok-world-in-Begun : goal.returns-in_ok-world-in-Begun
 returns-in_ok-world-in-Begun c =
     c.decisions-in-Begun.ensures.values
     ∙ ap oral_outcome
     (c.in_ok-world-in-Begun.ensures
-    ∙ begun_world c.args.self.now (lists_in c.self.inside.rows.items) c.self.inside.names.items c.self.inside.stage c.self.inside.ways c.self.view_is c.in-Begun.scenario.now c.in-Begun.is)
+    ∙ begun_world c.args.self.now (lists_in c.self.inside.rows.items) c.self.inside.names.items c.self.inside.stage c.self.inside.ways c.self.view_is c.in-Begun.scenario c.in-Begun.is)
