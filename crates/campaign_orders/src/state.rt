@@ -71,7 +71,12 @@ impl State {
         }) }
     {
         let names = Vec::new(alloc);
-        let world = played(alloc, scenario.scenario(), rows.as_slice(), names.as_slice())?;
+        let world = played(
+            alloc,
+            scenario.scenario(),
+            rows.as_slice(),
+            names.as_slice(),
+        )?;
         let mark = world_mark(&world);
         Ok(State {
             ways,
@@ -149,7 +154,11 @@ impl State {
     }
 
     /// Returns the state at the start of the next round, if no general has accesses left in the open round.
-    pub(crate) fn closed(self, alloc: Global, scenario: &SharedScenario) -> Result<State, AllocError>
+    pub(crate) fn closed(
+        self,
+        alloc: Global,
+        scenario: &SharedScenario,
+    ) -> Result<State, AllocError>
         ensures { IfOk result (λ next. next ≡ record {
           world = behind_all (opening oral_kind scenario.now) (self.rows ++ self.names ∷ []);
           ways = self.ways;
