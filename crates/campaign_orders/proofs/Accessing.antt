@@ -1,11 +1,11 @@
 -- What an access leaves of an open round is what the event leaves of its world.
-use Rattle.std.proofs.Common.{◌≡◌, ℕ, zero, suc, ◌≤◌, List, [], ◌∷◌, ◌++◌, length, true, false, refl, sym, ap, subst, ◌∙◌, ⊎_elim, Option, Some, None, arith}
+use Rattle.std.proofs.Common.{◌≡◌, ℕ, zero, suc, List, [], ◌∷◌, ◌++◌, length, true, false, refl, sym, ap, subst, ◌∙◌, ⊎_elim, Option, Some, None, arith}
 use Rattle.std.specs.Prelude.{slice_get, slice_set, replicate}
 use Rattle.std.proofs.lemmas.List.{set-set}
 use Rattle.board.specs.Board.{next, reply}
 use Rattle.board.specs.Ledger.{RecordedBoard}
-use Rattle.round.specs.Activation.{Activation, Turn, Goes, Asks, Ended, turn, has_ended}
-use Rattle.round.specs.Running.{Silently, Pauses, moved}
+use Rattle.round.specs.Activation.{Activation, Turn, Goes, Asks, Ended, turn}
+use Rattle.round.specs.Running.{moved}
 use Rattle.round.specs.Runs.{Onward, Runs}
 use Rattle.round.specs.Scenario.{Scenario, IsScenario}
 use Rattle.round.proofs.Going.{ended_over}
@@ -13,7 +13,6 @@ use Rattle.world.specs.declared.event.Event.TheVariants.{Tick}
 use Rattle.world.specs.declared.part.Progress.{Progress}
 use Rattle.world.specs.declared.part.Progress.TheVariants.{Acting, Silent, Posted}
 use Rattle.world.specs.Kind.{World, happen, opening, run, served}
-use Rattle.world.specs.KindLists.{names_events}
 use Rattle.world.specs.World.{oral_kind}
 use Rattle.world.proofs.Holding.{set-same}
 use Rattle.world.proofs.Lasting.{IsOnTime}

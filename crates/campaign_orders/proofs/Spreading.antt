@@ -1,5 +1,5 @@
 -- A layer gives way to the next, state by state and access by access.
-use Rattle.std.proofs.Common.{◌≡◌, ℕ, suc, ◌+◌, ◌*◌, ◌-◌, ◌^◌, ◌<◌, ◌≤◌, List, [], ◌∷◌, ◌++◌, length, drop, get_or, reverse, take, Bool, true, false, refl, sym, ap, subst, ◌∙◌, inl, ⊎_elim, arith, All, None, Some, append-nil, append_assoc, length-append, zero}
+use Rattle.std.proofs.Common.{◌≡◌, ℕ, suc, ◌+◌, ◌*◌, ◌-◌, ◌^◌, ◌<◌, ◌≤◌, List, [], ◌∷◌, ◌++◌, length, drop, get_or, reverse, take, Bool, true, false, refl, sym, ap, subst, ◌∙◌, inl, ⊎_elim, arith, All, Some, append-nil, append_assoc, length-append}
 use Rattle.std.specs.Prelude.{slice_get, sum_by, ◌||◌}
 use Rattle.std.proofs.lemmas.Bool.{cases_lt}
 use Rattle.std.proofs.Math.Nat.{mul-add, mul-zero, one-mul}

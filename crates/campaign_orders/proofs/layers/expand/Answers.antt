@@ -1,5 +1,5 @@
 -- General by general.
-use Rattle.std.proofs.Common.{◌≡◌, ◌+◌, Bool, refl, sym, subst, arith}
+use Rattle.std.proofs.Common.{◌≡◌, ◌+◌, Bool, sym, subst, arith}
 use Rattle.campaign_orders.proofs.Spreading.{IsSpread, expanded_if, expanded_else, own_run, shut_is, spread_begins, spread_next}
 use Rattle.campaign_orders.proofs.layers.expand.Goals as goal
 

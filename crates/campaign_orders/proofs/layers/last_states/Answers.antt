@@ -1,5 +1,5 @@
 -- Round by round.
-use Rattle.std.proofs.Common.{◌+◌, ◌∙◌, [], List, ap, arith, subst, sym}
+use Rattle.std.proofs.Common.{◌+◌, ◌∙◌, [], ap, arith, subst, sym}
 use Rattle.round.specs.Scenario.{Scenario}
 use Rattle.world.specs.Kind.{opening}
 use Rattle.world.specs.World.{oral_kind}
