@@ -1,5 +1,5 @@
 -- The error of a text, by the answer to it.
-use Rattle.std.proofs.Common.{◌≡◌, ◌≢◌, Option, None, Some, Result, Ok, Err}
+use Rattle.std.proofs.Common.{◌≢◌, Option, None, Some, Result, Ok, Err}
 use Rattle.std.specs.Prelude.{IfOk}
 use Rattle.std.specs.declared.alloc.AllocError.{AllocError}
 use Rattle.scenario.specs.declared.fault.ScenarioError.{ScenarioError}

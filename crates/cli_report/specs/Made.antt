@@ -1,5 +1,5 @@
 -- Defines the report of an error of a scenario that names files, at its own lines or at those of the files (own).
-use Rattle.std.specs.Prelude.{ℕ, ◌≡◌, ◌+◌, ◌*◌, true, false, nat_le, if◌then◌else◌, List, [], ◌∷◌, ◌++◌, Option, None, Some, codes, drop, take, option_and_then, option_map, string_bytes}
+use Rattle.std.specs.Prelude.{ℕ, ◌≡◌, ◌+◌, ◌*◌, true, false, nat_le, if◌then◌else◌, List, [], ◌++◌, Option, None, Some, codes, drop, take, option_and_then, option_map, string_bytes}
 use Rattle.toml.specs.Data.{Members}
 use Rattle.toml.specs.Parse.{parse_document}
 use Rattle.asm.specs.declared.fault.AsmFault.{AsmFault}
