@@ -1,4 +1,4 @@
-use Rattle.std.proofs.Common.{ℕ, ◌+◌, ◌≤◌, ◌∙◌, List, ap, subst, arith}
+use Rattle.std.proofs.Common.{ℕ, ◌+◌, ◌≤◌, ◌∙◌, List, ap, refl, subst, arith}
 use Rattle.std.specs.Prelude.{flat_map}
 use Rattle.std.specs.Io.KnownBytes.{Appends}
 use Rattle.surveys.specs.Account.{Account}
@@ -6,8 +6,12 @@ use Rattle.surveys.specs.Accounting.{account_text}
 use Rattle.surveys.specs.declared.finding.Finding.{Finding}
 use Rattle.surveyor.specs.Kept.{Gains, campaign_files}
 use Rattle.surveyor.specs.Printed.{kept_seeds}
-use Rattle.surveyor.proofs.AccountLemmas.{accounts_end, accounts_go, findings}
+use Rattle.surveyor.proofs.AccountLemmas.{accounts_begin, accounts_end, accounts_go, findings}
 use Rattle.surveyor.proofs.accounts.accounted.Goals as goal
+
+pub loop-next-init : goal.loop-next-init
+loop-next-init g c =
+    accounts_begin c.args.asked.now c.args.family.now (g.O.Output.contents c.args.out.now) (g.O.Output.contents c.put_head.new.out) (g.K.Keeper.files c.args.keeper.now) c.args.asked.now.first refl c.requires.asked.ordered c.in_ok-put_head.ensures.written
 
 pub loop-next-preserved : goal.loop-next-preserved
 loop-next-preserved g c =
