@@ -15,7 +15,7 @@ use Rattle.std.specs.Io.KnownBytes.{Appends}
 use Rattle.std.specs.declared.result.Result.{Result}
 use Rattle.std.proofs.KnownBytes.{Appends-nil}
 use Rattle.surveyor.specs.Statuses.{IsReported}
-use Rattle.surveyor.specs.Summed.{AreEnds, IsAskedFor, IsCovered, IsCoveredBy, IsSeedReport, AreLeastAndGreatest, IsToldOf, report_text, span_of, with_seed}
+use Rattle.surveyor.specs.Summed.{AreEnds, IsAskedFor, IsCoveredBy, IsSeedReport, AreLeastAndGreatest, IsToldOf, report_text, span_of, with_seed}
 
 -- one campaign more
 times_push : (x : ℕ) (found : List Finding) (f : Finding) → times x (seeds_in (found ++ f ∷ [])) ≡ times x (seeds_in found) + cond (f.seed == x) 1 0

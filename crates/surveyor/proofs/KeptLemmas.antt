@@ -1,8 +1,8 @@
 -- Files that are kept, one behind the other.
-use Rattle.std.proofs.Common.{ℕ, ◌+◌, ◌<◌, ◌≤◌, ◌≡◌, List, [], ◌∷◌, ◌++◌, length, map, take, get_or, refl, sym, ap, subst, ◌∙◌, append_assoc, append-nil, Option, None, Some, Bool, true, false}
+use Rattle.std.proofs.Common.{ℕ, ◌+◌, ◌<◌, ◌≡◌, List, [], ◌∷◌, ◌++◌, length, map, take, get_or, refl, sym, ap, subst, ◌∙◌, append_assoc, append-nil, Option, None, Some, Bool, true, false}
 use Rattle.std.specs.Prelude.{String, cond, flat_map, string_bytes}
 use Rattle.std.specs.Global.{Global}
-use Rattle.std.proofs.lemmas.List.{map_more, take_all, take_more}
+use Rattle.std.proofs.lemmas.List.{map_more, take_more}
 use Rattle.surveys.specs.declared.finding.Finding.{Finding}
 use Rattle.surveys.specs.Family.{Family}
 use Rattle.surveys.specs.Sums.{is_sound}

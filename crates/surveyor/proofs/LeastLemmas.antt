@@ -2,7 +2,6 @@
 use Rattle.std.proofs.Common.{ℕ, ◌+◌, ◌-◌, ◌≤◌, ◌≡◌, List, [], ◌++◌, sym, subst, arith, Option, None}
 use Rattle.std.specs.List.{AllZip, range_with_len}
 use Rattle.std.proofs.lemmas.List.Elements.{All-nil}
-use Rattle.surveys.specs.Plot.{Plot}
 use Rattle.surveys.specs.Family.{Family}
 use Rattle.surveys.specs.Plotting.{plot_of}
 use Rattle.surveys.specs.declared.breach.Breach.{Breach}

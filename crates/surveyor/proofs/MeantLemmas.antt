@@ -1,5 +1,5 @@
 -- Words that ask for nothing.
-use Rattle.std.proofs.Common.{ℕ, ◌+◌, ◌-◌, ◌<◌, ◌≤◌, ◌≡◌, ◌≢◌, ◌∙◌, Bool, true, false, ap, arith, codes, refl, sym, subst, is_some, ◌⊎◌, inl, inr, [], List, Option, None, Some}
+use Rattle.std.proofs.Common.{ℕ, ◌<◌, ◌≤◌, ◌≡◌, ◌∙◌, Bool, true, false, ap, arith, codes, refl, sym, subst, is_some, ◌⊎◌, inl, inr, [], List, Option, None, Some}
 use Rattle.std.specs.Prelude.{IfErr, IfOk, IsErrAnd, IsSomeAnd, Result, Ok, Err, String, count_by, option_map, string_bytes, unwrap_or}
 use Rattle.std.specs.Global.{Global}
 use Rattle.std.specs.Str.{bytes_eq}
@@ -10,10 +10,10 @@ use Rattle.combine.specs.declared.campaign_rule.Rule.{Rule as CombineRule}
 use Rattle.surveys.specs.declared.manner.Manner.TheVariants.{Oral}
 use Rattle.surveys.specs.declared.span.CountRange.{CountRange}
 use Rattle.surveyor.specs.Flags.{given, has, survey_app}
-use Rattle.surveyor.specs.Meant.{AreSaid, AreSeeds, Asks, IsBreaking, IsCommander, IsMerging, IsPatience, IsShowing, IsSurveying, IsWithin, bars_campaign, bars_keeping, bars_sum, break_shape, complaint_in, folder_in, names_in, shape_in, some_traitors, value}
+use Rattle.surveyor.specs.Meant.{AreSaid, Asks, IsBreaking, IsCommander, IsMerging, IsShowing, IsSurveying, IsWithin, bars_campaign, bars_keeping, bars_sum, complaint_in, folder_in, names_in, shape_in, some_traitors, value}
 use Rattle.surveyor.specs.Numbers.{IsNoSpan, IsTold}
 use Rattle.surveyor.specs.Words.{manner_named}
-use Rattle.surveyor.specs.Wrong.{AreNoOrders, AreNoSeeds, AreTwice, AsksNothing, IsByClap, IsNoBreak, IsNoCommander, IsNoManner, IsNoPatience, IsNoRule, IsNoSeed, IsOutside, IsRefused, IsSaid, IsUnmet, IsWrong}
+use Rattle.surveyor.specs.Wrong.{AreNoOrders, AreNoSeeds, AreTwice, AsksNothing, IsByClap, IsNoBreak, IsNoCommander, IsNoManner, IsNoPatience, IsNoSeed, IsOutside, IsRefused, IsSaid, IsUnmet, IsWrong}
 use Rattle.surveyor.specs.Wrong.IsWrong.{generals, bound, traitors, seeds, commander, orders, patience, signed, shape, broken, keep, every, single, campaign, sum, twice}
 use Rattle.surveyor.specs.declared.task.Asked.{Asked}
 use Rattle.surveyor.specs.declared.task.Asked.TheVariants.{Survey as Surveys, Campaign, Break, Merge as Merges}
@@ -21,7 +21,6 @@ use Rattle.surveyor.specs.declared.task.AskedError.{AskedError}
 use Rattle.surveyor.specs.declared.task.AskedError.TheVariants.{Words, Value, Rule, Memory}
 use Rattle.surveyor.specs.declared.task.Merge.{Merge}
 use Rattle.surveyor.specs.declared.task.OneCampaign.{OneCampaign}
-use Rattle.surveyor.specs.declared.task.ReportKind.{ReportKind}
 use Rattle.surveyor.specs.declared.task.Survey.{Survey}
 use Rattle.surveyor.proofs.FlagLemmas.{survey_free, survey_simple}
 use Rattle.surveyor.proofs.NumberLemmas.{told_once}

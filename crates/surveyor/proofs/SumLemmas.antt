@@ -1,10 +1,9 @@
 -- What files tell, one behind the other.
-use Rattle.std.proofs.Common.{ℕ, ◌+◌, ◌≤◌, ◌≡◌, ◌≢◌, false, List, [], ◌∷◌, ◌++◌, get_or, length, refl, sym, ap, subst, ◌∙◌, arith, append_assoc, append-nil, length-append, Option, None, Some, ◌⊎◌, ⊎_elim, inl, inr}
-use Rattle.std.specs.Prelude.{flat_map, nat_le, ◌==◌, ◌&&◌, ◌<◌, IfSome, String, string_bytes}
+use Rattle.std.proofs.Common.{ℕ, ◌+◌, ◌≡◌, ◌≢◌, List, [], ◌∷◌, ◌++◌, get_or, length, refl, sym, ap, subst, ◌∙◌, arith, append_assoc, append-nil, length-append, Option, None, Some, ◌⊎◌, ⊎_elim, inl, inr}
+use Rattle.std.specs.Prelude.{flat_map, ◌<◌, String, string_bytes}
 use Rattle.std.specs.Global.{Global}
 use Rattle.std.specs.List.{All, AllZip}
 use Rattle.std.proofs.lemmas.List.Elements.{All-append, All-cons, All-nil}
-use Rattle.std.proofs.lemmas.Bool.Decides.{nat_tests}
 use Rattle.rayon.proofs.ListFacts.{AllZip-append}
 use Rattle.surveys.specs.declared.finding.Finding.{Finding}
 use Rattle.surveys.specs.Parts.{AreOf, IsFaulty, IsLed, IsOf, IsPart, IsReadOn, found_in, row_text}

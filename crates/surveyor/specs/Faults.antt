@@ -20,7 +20,7 @@ use Rattle.verify.specs.declared.error.VerifyError.{VerifyError}
 use Rattle.verify.specs.declared.error.VerifyError.TheVariants as verifier
 use Rattle.surveyor.specs.declared.task.Merge.{Merge}
 use Rattle.surveyor.specs.declared.fault.SurveyFailure.{SurveyFailure}
-use Rattle.surveyor.specs.declared.fault.SurveyFailure.TheVariants.{Unread, NotText, Unwritten, Refused, Campaign, Words, Memory}
+use Rattle.surveyor.specs.declared.fault.SurveyFailure.TheVariants.{Unread, NotText, Unwritten, Refused, Words, Memory}
 use Rattle.surveyor.specs.Summed.{joined, span_of}
 use Rattle.surveyor.specs.Words.{IsProgramOf}
 

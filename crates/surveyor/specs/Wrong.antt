@@ -1,5 +1,5 @@
 -- Defines why words ask for nothing and what is reported then, in terms of what `clap` has found in them.
-use Rattle.std.specs.Prelude.{⊤, ℕ, ◌≡◌, ◌≢◌, ◌<◌, ◌⊎◌, Bool, true, false, List, Option, None, Some, IsSomeAnd, codes, count_by, is_some}
+use Rattle.std.specs.Prelude.{⊤, ℕ, ◌≡◌, ◌≢◌, ◌<◌, Bool, true, false, List, Option, None, Some, IsSomeAnd, codes, count_by, is_some}
 use Rattle.std.specs.Str.{bytes_eq}
 use Rattle.clap.specs.Words.{IsAmong, Row, Text, fault_of, kind_of, matches_of}
 use Rattle.clap.specs.declared.error.Error.{Error}

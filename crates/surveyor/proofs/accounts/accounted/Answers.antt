@@ -3,7 +3,6 @@ use Rattle.std.specs.Prelude.{flat_map}
 use Rattle.std.specs.Io.KnownBytes.{Appends}
 use Rattle.surveys.specs.Account.{Account}
 use Rattle.surveys.specs.Accounting.{account_text}
-use Rattle.surveys.specs.declared.finding.Finding.{Finding}
 use Rattle.surveyor.specs.Kept.{Gains, campaign_files}
 use Rattle.surveyor.specs.Printed.{kept_seeds}
 use Rattle.surveyor.proofs.AccountLemmas.{accounts_begin, accounts_end, accounts_go, findings}

@@ -1,4 +1,4 @@
-use Rattle.std.proofs.Common.{◌<◌, ◌≤◌, arith, refl}
+use Rattle.std.proofs.Common.{arith, refl}
 use Rattle.surveyor.proofs.MeantLemmas.{no_within, other_within}
 use Rattle.surveyor.proofs.task_words.plays.within.Goals as goal
 use Rattle.surveyor.proofs.task_words.plays.within.Goals.{in_default-via-in-Some+then-least-span+else-span-most, in_default-via-in-Some+else-least-span, in_default-via-in_default}
