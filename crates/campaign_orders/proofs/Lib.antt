@@ -35,3 +35,5 @@ pub mod Stating
 pub mod RunningOn
 pub mod Muting
 pub mod Steady
+pub mod Accessing
+pub mod Sharing

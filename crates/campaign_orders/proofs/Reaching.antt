@@ -119,6 +119,14 @@ way_time s good rows names =
     let t = reached_time w (subst (λ (c : Scenario). IsScenario c) (sym e) good) (way_reached s rows names) in
     subst (λ (c : Scenario). IsOnTime oral_kind c w) e t
 
+-- the world as the next round begins
+pub closed_all : (s : Scenario) (rows : List (List ℕ)) (names : List ℕ) → behind_all (opening oral_kind s) (rows ++ names ∷ []) ≡ behind oral_kind (reached (opening oral_kind s) rows names) []
+closed_all s rows names =
+    let u = behind_all (opening oral_kind s) rows in
+    let v = run oral_kind u (names_events oral_kind u names) in
+    let same : v.scenario ≡ u.scenario = run_scenario oral_kind (names_events oral_kind u names) u in
+    behind_more (opening oral_kind s) rows names ∙ (behind_events u names ∙ ap (λ (c : Scenario). run oral_kind v (wound_up c)) (sym same))
+
 module _ (s : Scenario) (k : ℕ) (t : State) (is : IsStateOf s k t) where
   abbrev way : World
   way = reached (opening oral_kind s) t.rows t.names

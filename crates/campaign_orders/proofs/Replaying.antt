@@ -126,3 +126,13 @@ module _ (s : Scenario) (is : IsScenario s) where
   visits_cut n most names findings v e =
       let A : ℕ → Type 0 = λ m. IsExploredInPart oral_kind oral_outcome s m findings in
       subst A e (visit_limit oral_kind oral_campaigns oral_outcome s is n (lists_in names) findings v)
+
+-- all orders, fewer than a limit, are all within a greater one
+pub whole_within : (s : Scenario) (n most : ℕ) (e : Exploration) → n ≤ most → e.reach ≡ Whole → IsExploration oral_kind oral_outcome s n e → IsExploration oral_kind oral_outcome s most e
+whole_within s n most e le whole h = record {
+  few = λ r. (let l = h.few r in omega arith);
+  all = h.all;
+  beyond = λ b. absurd (let f : Whole ≡ Beyond = sym whole ∙ b in cc);
+  part = λ b. absurd (let f : Whole ≡ InPart = sym whole ∙ b in cc);
+  least = h.least;
+}

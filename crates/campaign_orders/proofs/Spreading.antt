@@ -1,5 +1,5 @@
 -- A layer gives way to the next, state by state and access by access.
-use Rattle.std.proofs.Common.{◌≡◌, ℕ, suc, ◌+◌, ◌*◌, ◌-◌, ◌^◌, ◌<◌, ◌≤◌, List, [], ◌∷◌, ◌++◌, length, drop, get_or, reverse, take, Bool, true, false, refl, sym, ap, subst, ◌∙◌, inl, ⊎_elim, arith, All, None, Some, append-nil, append_assoc, length-append, zero}
+use Rattle.std.proofs.Common.{◌≡◌, ℕ, suc, ◌+◌, ◌*◌, ◌-◌, ◌^◌, ◌<◌, ◌≤◌, List, [], ◌∷◌, ◌++◌, length, drop, get_or, reverse, take, Bool, true, false, refl, sym, ap, subst, ◌∙◌, inl, ⊎_elim, arith, All, Some, append-nil, append_assoc, length-append}
 use Rattle.std.specs.Prelude.{slice_get, sum_by, ◌||◌}
 use Rattle.std.proofs.lemmas.Bool.{cases_lt}
 use Rattle.std.proofs.Math.Nat.{mul-add, mul-zero, one-mul}
@@ -7,11 +7,9 @@ use Rattle.std.proofs.lemmas.List.{get_or_append_left, get_or_push, reverse-appe
 use Rattle.std.proofs.lemmas.List.Sums.{sum_by_push, sum_by-cons}
 use Rattle.std.proofs.lemmas.List.Elements.{All-weaker, All-nil, All-push}
 use Rattle.round.specs.Scenario.{Scenario, IsScenario}
-use Rattle.world.specs.declared.part.Progress.{Progress}
 use Rattle.world.specs.Kind.{World, opening}
 use Rattle.world.specs.KindHeld.{IsReached}
 use Rattle.world.specs.KindLists.{ticks_named}
-use Rattle.world.specs.Playing.{program_length}
 use Rattle.world.specs.World.{oral_kind}
 use Rattle.world.proofs.Lasting.{IsOnTime}
 use Rattle.world.proofs.Punctual.{run_scenario}
@@ -26,10 +24,9 @@ use Rattle.campaign_orders.proofs.Leading.{round_walks}
 use Rattle.campaign_orders.proofs.Lesser.{beginning_total, least_self}
 use Rattle.campaign_orders.proofs.Listed.{passes_of, to_asker}
 use Rattle.campaign_orders.proofs.Onward.{nothing, rounds_front, rounds_last, short_front, short_last, step_closes, step_goes}
-use Rattle.campaign_orders.proofs.Reaching.{past_state, closed_state, ends_alike, scenario_is, few_parts, reached_behind, runs_reached, way_reached, way_scenario, way_time, askers_below, asks_more, asks_no_more, all_askers, or_some}
+use Rattle.campaign_orders.proofs.Reaching.{past_state, closed_all, closed_state, ends_alike, scenario_is, few_parts, reached_behind, runs_reached, way_reached, way_scenario, way_time, askers_below, asks_more, asks_no_more, all_askers, or_some}
 use Rattle.campaign_orders.proofs.Steady.{round_steady, zero_steady, runs_asks, runs_past, runs_scenario, runs_time}
 use Rattle.campaign_orders.proofs.Standing.{ending, entered_made, entered_stands, stands_own, walk_front, walk_last}
-use Rattle.campaign_orders.proofs.Stepping.{idle_asks}
 use Rattle.campaign_orders.proofs.Weighing.{as_more, entered_weighs, entered_states, entered_fresh}
 
 -- all of one scenario
@@ -151,37 +148,27 @@ module _ (s : Scenario) (t : State) (w : World) (base : IsBase s t w) where
   spread_more n old mid new true true h (next, is, entered) = spread_some next n old mid new true h is entered
   spread_more n old mid new false true h (next, is, entered) = spread_some next n old mid new false h is entered
 
--- the rest of the generals do not act
-pub spread_rest : (s : Scenario) (t : State) (k n : ℕ) (old new : List State) (asked : Bool) → IsSpread s t n old new asked
-    → ((g : ℕ) → n ≤ g → g < n + k → will_ask (slice_get t.world.parts g) ≡ false) → IsSpread s t (n + k) old new asked
-spread_rest s t zero n old new asked h idle = (let e : n ≡ n + 0 = omega arith in subst (λ (m : ℕ). IsSpread s t m old new asked) e h)
-spread_rest s t (suc k) n old new asked h idle =
-    let e : n + 1 + k ≡ n + suc k = omega arith in
-    let one = spread_none s t n old new asked h (idle n (omega arith) (omega arith)) in
-    let rest = spread_rest s t k (n + 1) old new asked one (λ g a b. idle g (omega arith) (omega arith)) in
-    subst (λ (m : ℕ). IsSpread s t m old new asked) e rest
+-- run on from a state's beginning, by the state's own scenario
+pub own_run : (s : Scenario) (t u : State) → u ≡ t → IsRunOn (reached (opening oral_kind s) t.rows t.names) t.world → IsRunOn (reached (opening oral_kind u.world.scenario) u.rows u.names) u.world
+own_run s t u same run =
+    let own : t.world.scenario ≡ s = runs_scenario run.0 (reached (opening oral_kind s) t.rows t.names) t.world run.1 ∙ way_scenario s t.rows t.names in
+    subst (λ (v : State). IsRunOn (reached (opening oral_kind v.world.scenario) v.rows v.names) v.world) (sym same)
+    (subst (λ (c : Scenario). IsRunOn (reached (opening oral_kind c) t.rows t.names) t.world) (sym own) run)
 
-pub spread_all : (s : Scenario) (t : State) (last n : ℕ) (old new : List State) (asked : Bool) → IsSpread s t (last + 1) old new asked → last < n
-    → ((g : ℕ) → last < g → g < n → program_length (slice_get t.world.parts g) ≡ None) → IsSpread s t n old new asked
-spread_all s t last n old new asked h less idle =
-    let e : last + 1 + (n - (last + 1)) ≡ n = omega arith in
-    subst (λ (m : ℕ). IsSpread s t m old new asked) e
-    (spread_rest s t (n - (last + 1)) (last + 1) old new asked h (λ g a b. idle_asks (slice_get t.world.parts g) (idle g (omega arith) (omega arith))))
+-- a general is asked of a state that is the same
+pub spread_next : (s : Scenario) (t u : State) (n : ℕ) (old mid new : List State) (asked one : Bool) → IsScenario s → IsRunOn (reached (opening oral_kind s) t.rows t.names) t.world → u ≡ t
+    → IsSpread s t n old mid asked → IsAsked u.world u n mid one new → IsSpread s t (n + 1) old new (asked || one)
+spread_next s t u n old mid new asked one good run same h asks =
+    spread_more s t t.world (record { good = good; from = run; to = ([], refl) }) n old mid new asked one h (subst (λ (v : State). IsAsked v.world v n mid one new) same asks)
 
--- the last who acts is asked of the state itself, and then all are
-pub spread_last : (s : Scenario) (t u : State) (last n all : ℕ) (parts : List Progress) (old mid new : List State) (asked own : Bool) → IsBase s t t.world → n ≡ last → all ≡ s.generals → last < all
-    → u ≡ t → parts ≡ t.world.parts → IsSpread s t n old mid asked → IsAsked u.world u last mid own new
-    → ((g : ℕ) → last < g → g < all → program_length (slice_get parts g) ≡ None) → IsSpread s t s.generals old new (asked || own)
-spread_last s t u last n all parts old mid new asked own base there whole inside same acting h asks idle =
-    let one = spread_more s t t.world base last old mid new asked own (subst (λ (m : ℕ). IsSpread s t m old mid asked) there h) (subst (λ (v : State). IsAsked v.world v last mid own new) same asks) in
-    spread_all s t last s.generals old new (asked || own) one (omega (arith, whole, inside))
-    (λ g a b. subst (λ (l : List Progress). program_length (slice_get l g) ≡ None) acting (idle g a (omega (arith, whole, b))))
-
--- the state as the next round begins, by its parts
-pub shut_is : (o : World) (t u shut : State) → u ≡ t
-    → shut ≡ record { world = behind oral_kind (reached o u.rows u.names) []; ways = u.ways; rows = u.rows ++ u.names ∷ []; names = [] }
-    → shut ≡ record { world = behind oral_kind (reached o t.rows t.names) []; ways = t.ways; rows = t.rows ++ t.names ∷ []; names = [] }
-shut_is o t u shut same is = is ∙ (λ i. record { world = behind oral_kind (reached o (same i).rows (same i).names) []; ways = (same i).ways; rows = (same i).rows ++ (same i).names ∷ []; names = [] })
+-- the state as the next round begins
+pub shut_is : (s : Scenario) (t u shut : State) → u ≡ t
+    → shut ≡ record { world = behind_all (opening oral_kind s) (u.rows ++ u.names ∷ []); ways = u.ways; rows = u.rows ++ u.names ∷ []; names = [] }
+    → shut ≡ record { world = behind oral_kind (reached (opening oral_kind s) t.rows t.names) []; ways = t.ways; rows = t.rows ++ t.names ∷ []; names = [] }
+shut_is s t u shut same is =
+    is
+    ∙ ((λ i. record { world = behind_all (opening oral_kind s) ((same i).rows ++ (same i).names ∷ []); ways = (same i).ways; rows = (same i).rows ++ (same i).names ∷ []; names = [] })
+    ∙ (λ i. record { world = closed_all s t.rows t.names i; ways = t.ways; rows = t.rows ++ t.names ∷ []; names = [] }))
 
 -- who is to make an access is one of the generals
 asks_within : (s : Scenario) (k : ℕ) (t : State) → IsScenario s → IsStateOf s k t → (g : ℕ) → will_ask (slice_get t.world.parts g) ≡ true → g < s.generals

@@ -1,54 +1,89 @@
 -- States as code makes them.
-use Rattle.std.proofs.Common.{◌≡◌, ℕ, ◌<◌, List, [], ◌∷◌, ◌++◌, length, get_or, false, inr, sym, ap, subst, ◌∙◌, None, Some, Result, Ok, Err}
-use Rattle.std.specs.Prelude.{slice_get, OnOk}
-use Rattle.std.proofs.lemmas.List.{get_or_default}
-use Rattle.world.specs.declared.part.Progress.{Progress}
-use Rattle.round.specs.Scenario.{Scenario, IsScenario}
-use Rattle.world.specs.Kind.{World, opening, run}
-use Rattle.world.specs.KindLists.{wound_up}
-use Rattle.world.specs.Playing.{program_length}
+use Rattle.std.proofs.Common.{◌≡◌, ℕ, ◌<◌, List, [], ◌∷◌, ◌++◌, length, get_or, inr, sym, ap, subst, ◌∙◌, Result, Ok, Err, Vec}
+use Rattle.std.specs.Global.{Global}
+use Rattle.std.specs.Prelude.{OnOk}
+use Rattle.std.proofs.lemmas.List.{get_or_default, map-append}
+use Rattle.round.specs.Letters.{messages}
+use Rattle.round.specs.Scenario.{Scenario}
+use Rattle.world.specs.Chronicle.{decisions}
+use Rattle.world.specs.Kind.{World, opening}
+use Rattle.world.specs.Playing.{lists_in}
 use Rattle.world.specs.World.{oral_kind}
-use Rattle.campaign_orders.specs.Ahead.{IsRunOn}
-use Rattle.campaign_orders.specs.Layers.{State, IsAhead, IsEntered, IsPastOf, IsAlikeAt, reached}
-use Rattle.campaign_orders.specs.Merging.{AreAlike}
-use Rattle.campaign_orders.specs.Orders.{will_ask, past, behind}
-use Rattle.campaign_orders.specs.Planning.{IsStepTo}
-use Rattle.campaign_orders.proofs.Reaching.{way_time}
-use Rattle.campaign_orders.proofs.Steady.{runs_asks}
-use Rattle.campaign_orders.proofs.Stepping.{idle_asks}
+use Rattle.campaign_orders.specs.declared.stage.Stage.{Stage}
+use Rattle.campaign_orders.specs.declared.stage.Stage.TheVariants.{Begun, Open}
+use Rattle.campaign_orders.specs.Layers.{State, IsEntered, IsAlikeAt, behind_all, reached}
+use Rattle.campaign_orders.specs.Merging.{AreAlike, RoundsAlike}
+use Rattle.campaign_orders.specs.OpenRounds.{OpenRound, world_in}
+use Rattle.campaign_orders.specs.Outcomes.{oral_outcome}
+use Rattle.campaign_orders.specs.Stages.{world_at}
+use Rattle.campaign_orders.proofs.Reaching.{way_scenario}
 
--- played again by its way
-pub again_is : (o : World) (t v : State) (w : World) (rows : List (List ℕ)) (names : List ℕ) → v ≡ t → rows ≡ v.rows → names ≡ v.names → w ≡ reached o rows names → w ≡ reached o t.rows t.names
-again_is o t v w rows names seen a b made = made ∙ (λ i. reached o ((a ∙ ap (λ (u : State). u.rows) seen) i) ((b ∙ ap (λ (u : State). u.names) seen) i))
+-- a round that is played again from its start
+pub played_open : (s : Scenario) (rows : List (List ℕ)) (names : List ℕ) (w : World) (o : OpenRound) → w ≡ reached (opening oral_kind s) rows names → o ≡ record { start = w; words = w.words; parts = w.parts }
+    → world_in rows names o ≡ reached (opening oral_kind s) rows names
+played_open s rows names w o played is =
+    let r = reached (opening oral_kind s) rows names in
+    let begun : World → OpenRound = λ v. record { start = v; words = v.words; parts = v.parts } in
+    ap (world_in rows names) (is ∙ ap begun played)
+    ∙ ap (λ (c : Scenario). record (reached (opening oral_kind c) rows names) { closed = r.closed; words = r.words; parts = r.parts }) (way_scenario s rows names)
 
--- nobody acts there, and so he makes none, also where nothing is run on
-pub past_idle : (s : Scenario) → IsScenario s → (t : State) (g : ℕ) (parts : List Progress) → IsRunOn (reached (opening oral_kind s) t.rows t.names) t.world → parts ≡ t.world.parts → None ≡ program_length (slice_get parts g)
-    → IsPastOf (reached (opening oral_kind s) t.rows t.names) t g None
-past_idle s good t g parts on same none =
-    let w = reached (opening oral_kind s) t.rows t.names in
-    let idle : will_ask (slice_get t.world.parts g) ≡ false = ap (λ (l : List Progress). will_ask (slice_get l g)) (sym same) ∙ idle_asks (slice_get parts g) (sym none) in
-    sym (runs_asks s on.0 w t.world (way_time s good t.rows t.names) on.1 g) ∙ idle
+-- a state by its fields
+module _ (t : State) (rows : List (List ℕ)) (names : List ℕ) (stage : Stage) (ways : ℕ)
+    (seen : record { world = world_at rows names stage; ways = ways; rows = rows; names = names } ≡ t) where
+  -- in an open round
+  pub open_world : (o : OpenRound) → stage ≡ Open o → world_in t.rows t.names o ≡ t.world
+  open_world o is = (λ i. world_in (sym seen i).rows (sym seen i).names o) ∙ (ap (world_at rows names) (sym is) ∙ ap (λ (u : State). u.world) seen)
 
--- he has no access left
-pub past_stuck : (t : State) (g : ℕ) (u w v : World) → w ≡ u → IsStepTo oral_kind w g v None → IsPastOf u t g None
-past_stuck t g u w v same none = ap (λ (x : World). will_ask (slice_get x.parts g)) (sym same) ∙ none
+  -- at the start of a round
+  pub begun_world : (s : Scenario) → stage ≡ Begun s → reached (opening oral_kind s) t.rows t.names ≡ t.world
+  begun_world s is = (λ i. reached (opening oral_kind s) (sym seen i).rows (sym seen i).names) ∙ (ap (world_at rows names) (sym is) ∙ ap (λ (u : State). u.world) seen)
 
--- he has made it
-pub past_made : (t next : State) (g steps ways : ℕ) (rows : List (List ℕ)) (names : List ℕ) (u w v : World) → ways ≡ t.ways → rows ≡ t.rows → names ≡ t.names → w ≡ u
-    → IsStepTo oral_kind w g v (Some steps) → IsAhead v ways rows (names ++ g ∷ []) next → IsPastOf u t g (Some next)
-past_made t next g steps ways rows names u w v a b c same step is = (
-  ap (λ (x : World). will_ask (slice_get x.parts g)) (sym same) ∙ step.0,
-  record {
-    world = subst (λ (x : World). IsRunOn x next.world) (step.2 ∙ ap (λ (x : World). past oral_kind x g) same) is.world;
-    ways = is.ways ∙ a;
-    rows = is.rows ∙ b;
-    names = is.names ∙ ap (λ (l : List ℕ). l ++ g ∷ []) c;
-  },
-)
+-- played again with numbers as code has them
+pub again_open : (t : State) (s c : Scenario) (rows : List (List ℕ)) (names : List ℕ) (o : OpenRound) → c ≡ s → rows ≡ t.rows → names ≡ t.names → reached (opening oral_kind s) t.rows t.names ≡ t.world
+    → world_in rows names o ≡ reached (opening oral_kind c) rows names → world_in t.rows t.names o ≡ t.world
+again_open t s c rows names o same a b there is =
+    (λ i. world_in (sym a i) (sym b i) o) ∙ (is ∙ ((λ i. reached (opening oral_kind (same i)) (a i) (b i)) ∙ there))
 
--- the round is over
-pub wound : (u w v : World) → w ≡ u → v ≡ run oral_kind w (wound_up w.scenario) → v ≡ behind oral_kind u []
-wound u w v same is = is ∙ ap (λ (x : World). behind oral_kind x []) same
+pub again_is : (t : State) (s c : Scenario) (rows : List (List ℕ)) (names : List ℕ) (w : World) → c ≡ s → rows ≡ t.rows → names ≡ t.names → w ≡ reached (opening oral_kind c) rows names → w ≡ reached (opening oral_kind s) t.rows t.names
+again_is t s c rows names w same a b is = is ∙ (λ i. reached (opening oral_kind (same i)) (a i) (b i))
+
+-- in another stage
+pub opened_is : (t : State) (rows : List (List ℕ)) (names : List ℕ) (stage later : Stage) (ways : ℕ) (rows' : List (List ℕ)) (names' : List ℕ) → rows' ≡ rows → names' ≡ names → world_at rows' names' later ≡ world_at rows' names' stage
+    → record { world = world_at rows names stage; ways = ways; rows = rows; names = names } ≡ t → record { world = world_at rows names later; ways = ways; rows = rows; names = names } ≡ t
+opened_is t rows names stage later ways rows' names' a b same seen =
+    let e : world_at rows names later ≡ world_at rows names stage = (λ i. world_at (sym a i) (sym b i) later) ∙ (same ∙ (λ i. world_at (a i) (b i) stage)) in
+    (λ i. record { world = e i; ways = ways; rows = rows; names = names }) ∙ seen
+
+-- the state as a round begins
+abbrev state_at : World → ℕ → List (List ℕ) → List ℕ → State
+state_at w ways rows names = record { world = w; ways = ways; rows = rows; names = names }
+
+pub begun_same : (s : Scenario) (ways : ℕ) (rows : List (List ℕ)) (names : List ℕ) → names ≡ [] → state_at (reached (opening oral_kind s) rows names) ways rows names ≡ state_at (behind_all (opening oral_kind s) rows) ways rows []
+begun_same s ways rows names none = (λ i. state_at (reached (opening oral_kind s) rows (none i)) ways rows (none i))
+
+pub closed_rows : (rows pushed : List (Vec ℕ Global)) (names : Vec ℕ Global) (t : State) → lists_in rows ≡ t.rows → names.items ≡ t.names → pushed ≡ rows ++ names ∷ [] → lists_in pushed ≡ t.rows ++ t.names ∷ []
+closed_rows rows pushed names t a b is = ap lists_in is ∙ (map-append (λ (v : Vec ℕ Global). v.items) rows (names ∷ []) ∙ (λ i. a i ++ b i ∷ []))
+
+pub closed_is : (s c : Scenario) (t next : State) (ways : ℕ) (rows : List (List ℕ)) → c ≡ s → ways ≡ t.ways → rows ≡ t.rows ++ t.names ∷ [] → next ≡ record { world = behind_all (opening oral_kind c) rows; ways = ways; rows = rows; names = [] }
+    → next ≡ record { world = behind_all (opening oral_kind s) (t.rows ++ t.names ∷ []); ways = t.ways; rows = t.rows ++ t.names ∷ []; names = [] }
+closed_is s c t next ways rows same a b is = is ∙ (λ i. record { world = behind_all (opening oral_kind (same i)) (b i); ways = a i; rows = b i; names = [] })
+
+-- what comes of it
+pub open_outcome : (t : State) (o : OpenRound) → world_in t.rows t.names o ≡ t.world → decisions o.start.scenario (messages o.start.closed) ≡ oral_outcome t.world
+open_outcome t o there = ap (λ (c : Scenario). decisions c (messages o.start.closed)) (sym (way_scenario o.start.scenario t.rows t.names)) ∙ ap oral_outcome there
+
+-- alike, in open rounds and as rounds begin
+pub open_alike : (t u : State) (o p : OpenRound) → world_in t.rows t.names o ≡ t.world → world_in u.rows u.names p ≡ u.world → o.words ≡ p.words → o.parts ≡ p.parts → RoundsAlike o.start.closed p.start.closed
+    → t.world.scenario ≡ u.world.scenario → AreAlike t.world u.world
+open_alike t u o p a b words parts closed same =
+    let w = world_in t.rows t.names o in
+    let v = world_in u.rows u.names p in
+    let one : w.scenario ≡ v.scenario = ap (λ (x : World). x.scenario) a ∙ (same ∙ sym (ap (λ (x : World). x.scenario) b)) in
+    subst (λ (x : World). AreAlike x u.world) a (subst (λ (x : World). AreAlike (world_in t.rows t.names o) x) b (record { scenario = one; words = words; parts = parts; closed = closed }))
+
+pub begun_alike : (t u : State) (w v : World) → w ≡ t.world → v ≡ u.world → (w.scenario ≡ v.scenario → AreAlike w v) → t.world.scenario ≡ u.world.scenario → AreAlike t.world u.world
+begun_alike t u w v a b alike =
+    subst (λ (x : World). x.scenario ≡ u.world.scenario → AreAlike x u.world) a (subst (λ (x : World). w.scenario ≡ x.scenario → AreAlike w x) b alike)
 
 -- found at a place
 pub alike_at : (states : List State) (t was : State) (place : ℕ) → place < length states → was ≡ get_or states place was → (was.world.scenario ≡ t.world.scenario → AreAlike was.world t.world) → IsAlikeAt states t place

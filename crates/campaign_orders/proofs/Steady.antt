@@ -153,7 +153,7 @@ module _ (g : ℕ) where
   ahead_by n w a b at again (Asks q f) e way = absurd way
   ahead_by n w a b at again Ended e way = absurd way
 
-  ahead_runs : (n : ℕ) (w : World) (a b : Activation) → slice_get w.parts g ≡ Some (Acting a) → Runs n a [] b → RunsOn w (replicate n g) (run oral_kind w (replicate n (Tick g)))
+  pub ahead_runs : (n : ℕ) (w : World) (a b : Activation) → slice_get w.parts g ≡ Some (Acting a) → Runs n a [] b → RunsOn w (replicate n g) (run oral_kind w (replicate n (Tick g)))
   ahead_runs zero w a b at way = refl
   ahead_runs (suc n) w a b at way =
       let both = ahead_by n w a b at (λ v c e r. ahead_runs n v c b e r) (turn a) refl way in

@@ -75,7 +75,7 @@ asks_then taken g a b left way is t e asks one =
     )
 
 module _ (K : Kind) where
-  asks_on : (s : Scenario) (w : World) (g taken : ℕ) (a b : Activation) → IsBoard w.words → IsDue s g a → Runs taken a [] b → (IsStill (Some (Acting b)) → ⊥) → (t : Turn) → turn b ≡ t → Pauses (length a.program) b t → AsksAt taken g (Some (Acting a))
+  pub asks_on : (s : Scenario) (w : World) (g taken : ℕ) (a b : Activation) → IsBoard w.words → IsDue s g a → Runs taken a [] b → (IsStill (Some (Acting b)) → ⊥) → (t : Turn) → turn b ≡ t → Pauses (length a.program) b t → AsksAt taken g (Some (Acting a))
   asks_on s w g taken a b board d way on (Goes c) e pause = absurd (over_past s g taken a b c board d way e pause)
   asks_on s w g taken a b board d way on (Asks q f) e pause =
       let l = one_left s g taken a b w.words board d way (Asks q f) e (λ h. cc) in

@@ -8,11 +8,13 @@ pub mod Layers
 pub mod Least
 pub mod Listing
 pub mod Merging
+pub mod OpenRounds
 pub mod Orders
 pub mod Outcomes
 pub mod Places
 pub mod Planning
 pub mod Schedules
+pub mod Stages
 pub mod Succession
 pub mod Text
 pub mod Walks

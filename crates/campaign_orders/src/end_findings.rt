@@ -12,7 +12,7 @@ use std::alloc::{AllocError, Global};
 fn find(alloc: Global, findings: &mut Vec<DecisionGroup>, state: &State) -> Result<(), AllocError>
     ensures { OnOk result (IsFound findings.old.items state.now findings.new.items) }
 {
-    let outcome = state.world.decisions();
+    let outcome = state.outcome(alloc)?;
     let decisions = outcome.as_slice();
     match place_of(findings.as_slice(), decisions) {
         Some(place) => { findings[place].count_more(alloc, state.ways, state.rows.as_slice()) }

@@ -22,6 +22,9 @@ use round::Scenario;
 use std::alloc::{AllocError, Global};
 use world::replay;
 
+/// How many orders are played one by one before they are explored layer by layer.
+const FEW: u64 = 128;
+
 /// Returns the outcomes of all orders in which the traitors of an oral campaign can access the board, if there are at
 /// most `most` orders. Otherwise it returns the outcomes of the `most` least orders and says that there are more. If
 /// `most` is `u64::MAX`, all orders are counted, and counts stop at 2^64 - 1. Time and memory then grow with the number
@@ -46,8 +49,19 @@ fn is_full(count: u64) -> bool
     count == u64::MAX
 }
 
-/// Returns the outcomes of all orders, found layer by layer.
+/// Returns the outcomes of all orders. If there are few, they are played one by one, which is faster than by layers.
 fn explore_all(alloc: Global, scenario: &Scenario) -> Result<Exploration, AllocError>
+    ensures { IfOk result (λ exploration. IsExploration oral_kind oral_outcome scenario.now (2 ^ 64 - 1) exploration) }
+{
+    let few = explore_least(alloc, scenario, FEW)?;
+    match few.reach() {
+        Reach::Whole => Ok(few),
+        _ => explore_layers(alloc, scenario),
+    }
+}
+
+/// Returns the outcomes of all orders, found layer by layer.
+fn explore_layers(alloc: Global, scenario: &Scenario) -> Result<Exploration, AllocError>
     ensures { IfOk result (λ exploration. IsExploration oral_kind oral_outcome scenario.now (2 ^ 64 - 1) exploration) }
 {
     scenario.recall();

@@ -1,5 +1,5 @@
 //! A layer of states, in which alike worlds are one state. States are found by their marks.
-ghost use Rattle.std.specs.Prelude.{◌≡◌, ◌++◌, ◌∷◌, [], IfSome, OnOk};
+ghost use Rattle.std.specs.Prelude.{◌≡◌, ◌++◌, ◌∷◌, [], IfOk, IfSome, OnOk};
 ghost use Rattle.campaign_orders.specs.Layers.{IsAlikeAt, IsEntered};
 
 use crate::state::{State, is_like};
@@ -46,10 +46,10 @@ impl Layer {
 
     /// Adds a state to the layer. If a state of the layer has an alike world, the two are merged. Otherwise the new
     /// state is appended.
-    pub(crate) fn enter(&mut self, state: State) -> Result<(), AllocError>
+    pub(crate) fn enter(&mut self, alloc: Global, state: State) -> Result<(), AllocError>
         ensures { OnOk result (IsEntered self.old state self.new) }
     {
-        match self.place_of(&state) {
+        match self.place_of(alloc, &state)? {
             Some(place) => {
                 self.states[place].join(state);
                 Ok(())
@@ -59,24 +59,27 @@ impl Layer {
     }
 
     /// Returns the index of a state whose world is alike, if one is found.
-    fn place_of(&self, state: &State) -> Option<usize>
-        ensures { IfSome result (λ place. IsAlikeAt self.now state.now place) }
+    fn place_of(&self, alloc: Global, state: &State) -> Result<Option<usize>, AllocError>
+        ensures { IfOk result (λ found. IfSome found (λ place. IsAlikeAt self.now state.now place)) }
     {
         let states = self.states.as_slice();
         let mut next = self.newest.get(&state.mark).copied();
         for tried in 0..states.len() {
             let _ = tried;
-            let place = next?;
+            let Some(place) = next else {
+                return Ok(None);
+            };
             if place >= states.len() {
-                return None;
+                return Ok(None);
             }
             let other = &states[place];
-            if is_like(other, state) {
-                return Some(place);
+            let alike = is_like(alloc, other, state)?;
+            if alike {
+                return Ok(Some(place));
             }
             next = other.before;
         }
-        None
+        Ok(None)
     }
 
     /// Appends a state.

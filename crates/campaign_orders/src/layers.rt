@@ -1,186 +1,31 @@
 //! Explores orders layer by layer. Each layer has one access more, and alike worlds of a layer are one state.
-ghost use Rattle.std.specs.Prelude.{◌≡◌, ◌<◌, ◌≤◌, ◌*◌, ◌++◌, ◌∷◌, ◌||◌, ℕ, [], suc, IfOk, None, OnOk, slice_get};
+ghost use Rattle.std.specs.Prelude.{◌≡◌, ◌<◌, ◌≤◌, ◌*◌, ◌||◌, ℕ, suc, IfOk, OnOk};
 ghost use Rattle.campaign_orders.specs.Ahead.{IsRunOn};
-ghost use Rattle.campaign_orders.specs.Layers.{AreLayers, AreStatesOf, IsAsked, IsExpanded, IsPastOf, IsRoundOn, IsStep, reached};
+ghost use Rattle.campaign_orders.specs.Layers.{AreLayers, AreStatesOf, IsAsked, IsExpanded, IsRoundOn, IsStep, reached};
 ghost use Rattle.campaign_orders.specs.Listing.{instructions, most_in_round};
-ghost use Rattle.campaign_orders.specs.Orders.{behind};
 ghost use Rattle.round.specs.Scenario.{program_of};
 ghost use Rattle.world.specs.Kind.{opening};
-ghost use Rattle.world.specs.Playing.{lists_in, program_length};
 ghost use Rattle.world.specs.World.{oral_kind};
 
 use crate::layer::Layer;
-use crate::schedules::{instructions, steps_to_access};
-use crate::state::{State, with_access};
+use crate::shared_scenario::SharedScenario;
+use crate::state::State;
 use round::Scenario;
 use std::alloc::{AllocError, Global};
-use world::{PlayableWorld, Progress, World, named_round, play_names, wind_up};
 
-/// Plays a campaign from its start and returns its world after these accesses. `rows` lists the generals who made the
-/// accesses of the closed rounds, and `names` those of the open round.
-fn again(
-    alloc: Global,
-    scenario: &Scenario,
-    rows: &[Vec<u8>],
-    names: &[u8],
-) -> Result<World, AllocError>
-    ensures { IfOk result (λ world. world ≡ reached (opening oral_kind scenario.now) (lists_in rows.now) names.now) }
+/// Enters the state after a general has made his next access. Returns whether he has a next access in the open round.
+fn ask(alloc: Global, state: &State, general: u8, next: &mut Layer) -> Result<bool, AllocError>
+    requires { IsRunOn (reached (opening oral_kind state.now.world.scenario) state.now.rows state.now.names)
+        state.now.world }
+    ensures { IfOk result (λ asked. IsAsked state.now.world state.now general next.old asked next.new) }
 {
-    let mut world = World::open(alloc, scenario.copy(alloc)?)?;
-    for (round, row) in rows.iter().enumerate() {
-        let _ = round;
-        named_round(&mut world, row.as_slice())?;
-    }
-    play_names(&mut world, names)?;
-    Ok(world)
-}
-
-/// Returns the state after a general has made his next access, in a world that is played again. Returns `None` if he
-/// makes no further access in the open round.
-fn past(
-    alloc: Global,
-    scenario: &Scenario,
-    state: &State,
-    general: u8,
-) -> Result<Option<State>, AllocError>
-    requires { IsRunOn (reached (opening oral_kind scenario.now) state.now.rows state.now.names) state.now.world }
-    ensures { IfOk result (λ next. IsPastOf
-        (reached (opening oral_kind scenario.now) state.now.rows state.now.names) state.now general next) }
-{
-    scenario.recall();
-    match instructions(state.world.open_parts(), general) {
-        Some(most) => {
-            let _ = most;
-            played_past(alloc, scenario, state, general)
-        }
-        None => Ok(None),
-    }
-}
-
-/// Returns the state after a traitor has made his next access, in a world that is played again. Returns `None` if he
-/// makes no further access in the open round.
-fn played_past(
-    alloc: Global,
-    scenario: &Scenario,
-    state: &State,
-    general: u8,
-) -> Result<Option<State>, AllocError>
-    requires { IsRunOn (reached (opening oral_kind scenario.now) state.now.rows state.now.names) state.now.world }
-    ensures { IfOk result (λ next. IsPastOf
-        (reached (opening oral_kind scenario.now) state.now.rows state.now.names) state.now general next) }
-{
-    let mut world = again(
-        alloc,
-        scenario,
-        state.rows.as_slice(),
-        state.names.as_slice(),
-    )?;
-    match steps_to_access(&mut world, general)? {
-        Some(steps) => {
-            let _ = steps;
-            let next = with_access(
-                alloc,
-                world,
-                state.ways,
-                state.rows.as_slice(),
-                state.names.as_slice(),
-                general,
-            )?;
-            Ok(Some(next))
-        }
-        None => Ok(None),
-    }
-}
-
-/// Returns the state at the start of the next round, if no general has accesses left in the open round after these
-/// rounds and accesses.
-fn closed(
-    alloc: Global,
-    scenario: &Scenario,
-    ways: u64,
-    rows: Vec<Vec<u8>>,
-    names: Vec<u8>,
-) -> Result<State, AllocError>
-    ensures { IfOk result (λ next. next ≡ record {
-      world = behind oral_kind (reached (opening oral_kind scenario.now) (lists_in rows.items) names.items) [];
-      ways = ways;
-      rows = lists_in rows.items ++ names.items ∷ [];
-      names = [];
-    }) }
-{
-    let mut world = again(alloc, scenario, rows.as_slice(), names.as_slice())?;
-    wind_up(&mut world)?;
-    let mut rows = rows;
-    rows.push(names)?;
-    Ok(State::new(world, ways, rows, Vec::new(alloc)))
-}
-
-/// Enters the state after a general has made his next access, in a world that is played again. Returns whether he has a
-/// next access in the open round.
-fn ask(
-    alloc: Global,
-    scenario: &Scenario,
-    state: &State,
-    general: u8,
-    next: &mut Layer,
-) -> Result<bool, AllocError>
-    requires { IsRunOn (reached (opening oral_kind scenario.now) state.now.rows state.now.names) state.now.world }
-    ensures { IfOk result (λ asked. IsAsked
-        (reached (opening oral_kind scenario.now) state.now.rows state.now.names) state.now general next.old asked
-        next.new) }
-{
-    match past(alloc, scenario, state, general)? {
+    match state.after(alloc, general)? {
         Some(more) => {
-            next.enter(more)?;
+            next.enter(alloc, more)?;
             Ok(true)
         }
         None => Ok(false),
     }
-}
-
-/// Enters the state after a general has made his next access, in the state's own world, so that nothing is played
-/// again. Returns whether he has a next access in the open round.
-fn ask_last(
-    alloc: Global,
-    world: World,
-    ways: u64,
-    rows: &[Vec<u8>],
-    names: &[u8],
-    general: u8,
-    next: &mut Layer,
-) -> Result<bool, AllocError>
-    ensures { IfOk result (λ asked. IsAsked world (record {
-      world = world;
-      ways = ways;
-      rows = lists_in rows.now;
-      names = names.now;
-    }) general next.old asked next.new) }
-{
-    let mut world = world;
-    match steps_to_access(&mut world, general)? {
-        Some(steps) => {
-            let _ = steps;
-            let more = with_access(alloc, world, ways, rows, names, general)?;
-            next.enter(more)?;
-            Ok(true)
-        }
-        None => Ok(false),
-    }
-}
-
-/// Returns the last general who acts in the open round, or 0 if nobody does.
-fn last_acting(standing: &[Progress], generals: u8) -> u8
-    requires { 0 < generals }
-    ensures inside { result < generals }
-    ensures last { (g : ℕ) → result < g → g < generals → program_length (slice_get standing.now g) ≡ None }
-{
-    let mut last = 0;
-    for general in 0..generals {
-        if instructions(standing, general).is_some() {
-            last = general;
-        }
-    }
-    last
 }
 
 /// Checks whether at least one of two conditions is true.
@@ -191,11 +36,10 @@ fn either(one: bool, other: bool) -> bool
 }
 
 /// Enters the states that can follow a state. If some generals have accesses left, these are the states after the next
-/// access of each of them. Otherwise it is the state at the start of the next round, which is entered in `done`. The
-/// campaign is played again for each acting general except the last, for whom the state's own world is used.
+/// access of each of them. Otherwise it is the state at the start of the next round, which is entered in `done`.
 fn expand(
     alloc: Global,
-    scenario: &Scenario,
+    scenario: &SharedScenario,
     state: State,
     next: &mut Layer,
     done: &mut Layer,
@@ -204,33 +48,17 @@ fn expand(
     ensures { OnOk result (IsExpanded scenario.now state next.old done.old next.new done.new) }
 {
     scenario.recall();
-    let last = last_acting(state.world.open_parts(), scenario.generals());
+    let from = state.opened(alloc)?;
     let mut asked = false;
-    for general in 0..last {
-        let one = ask(alloc, scenario, &state, general, next)?;
+    for general in 0..scenario.generals() {
+        let one = ask(alloc, &from, general, next)?;
         asked = either(asked, one);
     }
-    let State {
-        world,
-        ways,
-        rows,
-        names,
-        ..
-    } = state;
-    let own = ask_last(
-        alloc,
-        world,
-        ways,
-        rows.as_slice(),
-        names.as_slice(),
-        last,
-        next,
-    )?;
-    if either(asked, own) {
+    if asked {
         return Ok(());
     }
-    let shut = closed(alloc, scenario, ways, rows, names)?;
-    done.enter(shut)?;
+    let shut = from.closed(alloc, scenario)?;
+    done.enter(alloc, shut)?;
     Ok(())
 }
 
@@ -238,7 +66,7 @@ fn expand(
 /// entered in `done`.
 fn step(
     alloc: Global,
-    scenario: &Scenario,
+    scenario: &SharedScenario,
     layer: Vec<State>,
     done: &mut Layer,
 ) -> Result<Vec<State>, AllocError>
@@ -257,7 +85,7 @@ fn step(
 /// Returns the states after a round that begins in the states `first` and has at most `most` accesses.
 fn whole_round(
     alloc: Global,
-    scenario: &Scenario,
+    scenario: &SharedScenario,
     first: Vec<State>,
     most: u32,
 ) -> Result<Vec<State>, AllocError>
@@ -315,11 +143,12 @@ pub(crate) fn last_states(alloc: Global, scenario: &Scenario) -> Result<Vec<Stat
 {
     scenario.recall();
     let most = most_in_round(scenario);
+    let shared = SharedScenario::new(alloc, scenario)?;
     let mut states = Vec::new(alloc);
-    states.push(State::opening(alloc, scenario)?)?;
+    states.push(State::opening(alloc, &shared)?)?;
     for made in 0..scenario.bound() + 1 {
         let _ = made;
-        let next = whole_round(alloc, scenario, states, most)?;
+        let next = whole_round(alloc, &shared, states, most)?;
         states = next;
     }
     Ok(states)

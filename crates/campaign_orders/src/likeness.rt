@@ -1,8 +1,11 @@
 //! Checks whether two worlds go on alike, so that their states can be merged.
-ghost use Rattle.std.specs.Prelude.{◌≡◌, ◌↔◌, IsTrue};
+ghost use Rattle.std.specs.Prelude.{◌≡◌, ◌↔◌, IsTrue, map};
+ghost use Rattle.std.specs.Arc.{arc_value};
 ghost use Rattle.campaign_orders.specs.Merging.{AreAlike, RoundsAlike, TellAlike};
 
+use crate::marked_part::MarkedPart;
 use round::{Letter, Round};
+use std::sync::Arc;
 use world::{PlayableWorld, Progress, World};
 
 /// Checks whether two letters are of the same general and send the same.
@@ -29,7 +32,7 @@ fn tell_alike(letters: &[Letter], others: &[Letter]) -> bool
 }
 
 /// Checks whether the letters of two lists of rounds are pairwise of the same general and send the same.
-fn rounds_alike(rounds: &[Round], others: &[Round]) -> bool
+pub(crate) fn rounds_alike(rounds: &[Round], others: &[Round]) -> bool
     ensures { IsTrue result → RoundsAlike rounds.now others.now }
 {
     if rounds.len() != others.len() {
@@ -78,8 +81,30 @@ fn same_parts(parts: &[Progress], others: &[Progress]) -> bool
     true
 }
 
+/// Checks whether two lists of shared parts are the same.
+pub(crate) fn same_shared(parts: &[Arc<MarkedPart>], others: &[Arc<MarkedPart>]) -> bool
+    ensures { IsTrue result → map arc_value parts.now ≡ map arc_value others.now }
+{
+    if parts.len() != others.len() {
+        return false;
+    }
+    for place in 0..parts.len() {
+        if !same_marked(&parts[place], &others[place]) {
+            return false;
+        }
+    }
+    true
+}
+
+/// Checks whether two parts are the same. Only parts with the same mark are compared.
+fn same_marked(part: &MarkedPart, other: &MarkedPart) -> bool
+    ensures { IsTrue result → part.now ≡ other.now }
+{
+    part.mark() == other.mark() && same_part(part.progress(), other.progress())
+}
+
 /// Checks whether the words of two boards are the same.
-fn same_words(words: &[u64; 64], others: &[u64; 64]) -> bool
+pub(crate) fn same_words(words: &[u64; 64], others: &[u64; 64]) -> bool
     ensures { IsTrue result ↔ (words.now ≡ others.now) }
 {
     words.as_slice() == others.as_slice()

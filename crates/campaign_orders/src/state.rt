@@ -1,35 +1,40 @@
 //! States of an exploration: a world with the beginnings of orders that lead to it.
 ghost use Rattle.std.specs.Prelude.{◌≡◌, ◌++◌, ◌∷◌, [], IfOk, IsTrue};
 ghost use Rattle.std.specs.Ordering.{is_lt};
-ghost use Rattle.campaign_orders.specs.Layers.{IsAhead, State as StateSeen, begins_cmp, joined};
+ghost use Rattle.campaign_orders.specs.Ahead.{IsRunOn};
+ghost use Rattle.campaign_orders.specs.Layers.{IsPastOf, State as StateSeen, begins_cmp, behind_all, joined, reached};
 ghost use Rattle.campaign_orders.specs.Merging.{AreAlike};
+ghost use Rattle.campaign_orders.specs.OpenRounds.{world_in};
+ghost use Rattle.campaign_orders.specs.Outcomes.{oral_outcome};
+ghost use Rattle.campaign_orders.specs.Stages.{world_at};
 ghost use Rattle.world.specs.Kind.{opening};
 ghost use Rattle.world.specs.Playing.{lists_in};
 ghost use Rattle.world.specs.World.{oral_kind};
 
-use crate::early_runs::run_on;
 use crate::likeness::are_alike;
+use crate::marks::world_mark;
+use crate::open_round::OpenRound;
 use crate::order::{compared, copied};
-use insn::Reg;
-use machine::Machine;
-use round::Scenario;
-use semantics::Value;
+use crate::replays::{opened_stage, played, played_round};
+use crate::shared_scenario::SharedScenario;
+use crate::stage::Stage;
+use arrayvec::ArrayVec;
 use std::alloc::{AllocError, Global};
 use std::marker::Model;
-use world::{PlayableWorld, Progress, World};
+use world::World;
 
 /// A state: a world, how many beginnings of orders lead to it or to an alike world, and the least of these beginnings.
 #[derive(Drop)]
 pub(crate) struct State {
-    /// The world, in which each activation may have been run on to its next request or its end.
-    pub(crate) world: World,
     /// How many beginnings of orders lead here, at most 2^64 - 1. Further ones are not counted.
     pub(crate) ways: u64,
     /// The generals who made the accesses of the closed rounds, by round.
     pub(crate) rows: Vec<Vec<u8>>,
     /// The generals who made the accesses of the open round.
     pub(crate) names: Vec<u8>,
-    /// A hash of the world. Alike worlds have the same mark, and other worlds seldom do.
+    /// The world. In an open round each activation may have been run on to its next request or its end.
+    stage: Stage,
+    /// The mark of the world.
     pub(crate) mark: u64,
     /// In a layer, the index of the state with the same mark that was entered last before this one.
     pub(crate) before: Option<usize>,
@@ -37,12 +42,13 @@ pub(crate) struct State {
 
 impl Model for State {
     ghost use Rattle.campaign_orders.specs.Layers.{State as StateSeen};
+    ghost use Rattle.campaign_orders.specs.Stages.{world_at};
     ghost use Rattle.world.specs.Playing.{lists_in};
 
     ghost Value = { StateSeen };
 
     ghost view = { λ t. record {
-      world = t.world;
+      world = world_at (lists_in t.rows.items) t.names.items t.stage;
       ways = t.ways;
       rows = lists_in t.rows.items;
       names = t.names.items;
@@ -50,19 +56,69 @@ impl Model for State {
 }
 
 impl State {
-    /// Returns a state with its mark computed from the world.
-    pub(crate) fn new(world: World, ways: u64, rows: Vec<Vec<u8>>, names: Vec<u8>) -> State
-        ensures { result ≡ record { world = world; ways = ways; rows = lists_in rows.items; names = names.items } }
+    /// Returns the state at the start of the round that follows these closed rounds.
+    fn begun(
+        alloc: Global,
+        scenario: SharedScenario,
+        ways: u64,
+        rows: Vec<Vec<u8>>,
+    ) -> Result<State, AllocError>
+        ensures { IfOk result (λ state. state ≡ record {
+          world = behind_all (opening oral_kind scenario) (lists_in rows.items);
+          ways = ways;
+          rows = lists_in rows.items;
+          names = [];
+        }) }
     {
-        let mark = mark_of(&world);
-        State {
-            world,
+        let names = Vec::new(alloc);
+        let world = played(
+            alloc,
+            scenario.scenario(),
+            rows.as_slice(),
+            names.as_slice(),
+        )?;
+        let mark = world_mark(&world);
+        Ok(State {
             ways,
             rows,
             names,
+            stage: Stage::Begun(scenario),
+            mark,
+            before: None,
+        })
+    }
+
+    /// Returns the state in an open round after these closed rounds and accesses.
+    fn within(round: OpenRound, ways: u64, rows: Vec<Vec<u8>>, names: Vec<u8>) -> State
+        ensures { result ≡ record {
+          world = world_in (lists_in rows.items) names.items round;
+          ways = ways;
+          rows = lists_in rows.items;
+          names = names.items;
+        } }
+    {
+        let mark = round.mark();
+        State {
+            ways,
+            rows,
+            names,
+            stage: Stage::Open(round),
             mark,
             before: None,
         }
+    }
+
+    /// Returns the one state before the first access.
+    pub(crate) fn opening(alloc: Global, scenario: &SharedScenario) -> Result<State, AllocError>
+        ensures { IfOk result (λ state. state ≡ record {
+          world = opening oral_kind scenario.now;
+          ways = 1;
+          rows = [];
+          names = [];
+        }) }
+    {
+        let state = State::begun(alloc, scenario.share()?, 1, Vec::new(alloc))?;
+        Ok(state)
     }
 
     /// Returns the same state with another index in the field `before`.
@@ -74,17 +130,124 @@ impl State {
         state
     }
 
-    /// Returns the one state before the first access.
-    pub(crate) fn opening(alloc: Global, scenario: &Scenario) -> Result<State, AllocError>
-        ensures { IfOk result (λ state. state ≡ record {
-          world = opening oral_kind scenario.now;
-          ways = 1;
-          rows = [];
+    /// Returns the same state with its round opened, so that successors share what they have in common.
+    pub(crate) fn opened(self, alloc: Global) -> Result<State, AllocError>
+        ensures { IfOk result (λ state. state ≡ self) }
+    {
+        let State {
+            ways,
+            rows,
+            names,
+            stage,
+            mark,
+            before,
+        } = self;
+        let stage = opened_stage(alloc, stage, rows.as_slice(), names.as_slice())?;
+        Ok(State {
+            ways,
+            rows,
+            names,
+            stage,
+            mark,
+            before,
+        })
+    }
+
+    /// Returns the state at the start of the next round, if no general has accesses left in the open round.
+    pub(crate) fn closed(
+        self,
+        alloc: Global,
+        scenario: &SharedScenario,
+    ) -> Result<State, AllocError>
+        ensures { IfOk result (λ next. next ≡ record {
+          world = behind_all (opening oral_kind scenario.now) (self.rows ++ self.names ∷ []);
+          ways = self.ways;
+          rows = self.rows ++ self.names ∷ [];
           names = [];
         }) }
     {
-        let world = World::open(alloc, scenario.copy(alloc)?)?;
-        Ok(State::new(world, 1, Vec::new(alloc), Vec::new(alloc)))
+        let State {
+            ways,
+            rows,
+            names,
+            ..
+        } = self;
+        let mut rows = rows;
+        rows.push(names)?;
+        let next = State::begun(alloc, scenario.share()?, ways, rows)?;
+        Ok(next)
+    }
+
+    /// Returns the state after a general has made his next access. Returns `None` if he makes no further access in the
+    /// open round.
+    pub(crate) fn after(&self, alloc: Global, general: u8) -> Result<Option<State>, AllocError>
+        requires { IsRunOn (reached (opening oral_kind self.now.world.scenario) self.now.rows self.now.names)
+            self.now.world }
+        ensures { IfOk result (λ next. IsPastOf self.now.world self.now general next) }
+    {
+        match &self.stage {
+            Stage::Open(round) => self.after_in(alloc, round, general),
+            Stage::Begun(scenario) => {
+                let round = played_round(
+                    alloc,
+                    scenario.scenario(),
+                    self.rows.as_slice(),
+                    self.names.as_slice(),
+                )?;
+                self.after_in(alloc, &round, general)
+            }
+        }
+    }
+
+    /// Returns the state after a general has made his next access in this state's open round, which is given. Returns
+    /// `None` if he makes no further access in it.
+    fn after_in(
+        &self,
+        alloc: Global,
+        round: &OpenRound,
+        general: u8,
+    ) -> Result<Option<State>, AllocError>
+        requires round { world_in self.now.rows self.now.names round.now ≡ self.now.world }
+        requires run_on { IsRunOn (reached (opening oral_kind self.now.world.scenario) self.now.rows self.now.names)
+            self.now.world }
+        ensures { IfOk result (λ next. IsPastOf self.now.world self.now general next) }
+    {
+        round.recall();
+        match round.after(alloc, general)? {
+            Some(later) => {
+                let rows = copied(alloc, self.rows.as_slice())?;
+                let mut names = Vec::from_slice(alloc, self.names.as_slice())?;
+                names.push(general)?;
+                Ok(Some(State::within(later, self.ways, rows, names)))
+            }
+            None => Ok(None),
+        }
+    }
+
+    /// Returns what the lieutenants decide from the messages of the closed rounds.
+    pub(crate) fn outcome(&self, alloc: Global) -> Result<ArrayVec<u32, 12>, AllocError>
+        ensures { IfOk result (λ decisions. decisions.items ≡ oral_outcome self.now.world) }
+    {
+        match &self.stage {
+            Stage::Open(round) => Ok(round.decisions()),
+            Stage::Begun(scenario) => {
+                let world = self.replayed(alloc, scenario)?;
+                Ok(world.decisions())
+            }
+        }
+    }
+
+    /// Plays the campaign of a scenario from its start and returns its world after this state's beginning.
+    fn replayed(&self, alloc: Global, scenario: &SharedScenario) -> Result<World, AllocError>
+        ensures { IfOk result (λ world. world ≡ reached (opening oral_kind scenario.now) self.now.rows self.now.names) }
+    {
+        let world = played(
+            alloc,
+            scenario.scenario(),
+            self.rows.as_slice(),
+            self.names.as_slice(),
+        )?;
+        Ok(world)
     }
 
     /// Merges another state, whose world is alike, into this one. The result counts the beginnings of both. It has the
@@ -101,69 +264,6 @@ impl State {
     }
 }
 
-/// Returns the state of `world`, whose last access is that of `general` after these rounds and accesses. Its
-/// activations are run on.
-pub(crate) fn with_access(
-    alloc: Global,
-    world: World,
-    ways: u64,
-    rows: &[Vec<u8>],
-    names: &[u8],
-    general: u8,
-) -> Result<State, AllocError>
-    ensures { IfOk result (λ state. IsAhead world ways (lists_in rows.now) (names.now ++ general ∷ []) state) }
-{
-    let mut world = world;
-    run_on(&mut world);
-    let rows = copied(alloc, rows)?;
-    let mut names = Vec::from_slice(alloc, names)?;
-    names.push(general)?;
-    Ok(State::new(world, ways, rows, names))
-}
-
-/// Returns the mark that results from mixing a number into `mark`.
-fn mixed(mark: u64, number: u64) -> u64 {
-    let product = (mark ^ number).wrapping_mul(0x9E37_79B9_7F4A_7C15);
-    product ^ (product >> 32)
-}
-
-/// Returns the mark of a world. It is computed from the board's words and, for each activation, its steps and
-/// registers.
-fn mark_of(world: &World) -> u64 {
-    let mut mark = 0;
-    for word in world.words().as_slice() {
-        mark = mixed(mark, *word);
-    }
-    for part in world.open_parts() {
-        match part {
-            Progress::Acting(running) => mark = mixed_activation(mark, running.activation()),
-            Progress::Silent => {}
-            Progress::Posted => {}
-        }
-    }
-    mark
-}
-
-/// Mixes the steps and the registers of an activation into a mark.
-fn mixed_activation(mark: u64, activation: &Machine) -> u64 {
-    let mut mark = mixed(mark, u64::from(activation.steps()));
-    for number in 0..10u8 {
-        if let Some(register) = Reg::new(number) {
-            mark = mixed(mark, word_of(activation.value(register)));
-        }
-    }
-    mark
-}
-
-/// Returns a number for what a register holds.
-fn word_of(value: Value) -> u64 {
-    match value {
-        Value::Unset => 0,
-        Value::Number(number) => number,
-        Value::Pointer(_, offset) => u64::from(offset.cast_unsigned()),
-    }
-}
-
 /// Checks whether the beginning of a state is less than that of another state.
 fn begins_before(state: &State, other: &State) -> bool
     ensures { result ≡ is_lt (begins_cmp state.now other.now) }
@@ -173,9 +273,20 @@ fn begins_before(state: &State, other: &State) -> bool
 }
 
 /// Checks whether the worlds of two states are found to be alike.
-pub(crate) fn is_like(state: &State, other: &State) -> bool
-    ensures { IsTrue result → state.now.world.scenario ≡ other.now.world.scenario →
-        AreAlike state.now.world other.now.world }
+pub(crate) fn is_like(alloc: Global, state: &State, other: &State) -> Result<bool, AllocError>
+    ensures { IfOk result (λ like. IsTrue like → state.now.world.scenario ≡ other.now.world.scenario →
+        AreAlike state.now.world other.now.world) }
 {
-    state.mark == other.mark && are_alike(&state.world, &other.world)
+    if state.mark != other.mark {
+        return Ok(false);
+    }
+    match (&state.stage, &other.stage) {
+        (Stage::Open(round), Stage::Open(second)) => Ok(round.is_like(second)),
+        (Stage::Begun(scenario), Stage::Begun(second)) => {
+            let world = state.replayed(alloc, scenario)?;
+            let twin = other.replayed(alloc, second)?;
+            Ok(are_alike(&world, &twin))
+        }
+        _ => Ok(false),
+    }
 }

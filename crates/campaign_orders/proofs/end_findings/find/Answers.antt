@@ -14,7 +14,7 @@ pub returns-in-Some : goal.returns-in-Some
 returns-in-Some c =
     let ds = c.as_slice-decisions.result.now in
     let was = c.index_mut.result.now in
-    let same : ds ≡ oral_outcome c.args.state.now.world = c.as_slice-decisions.ensures.value ∙ (c.decisions-outcome.ensures.values ∙ ap (λ (t : State). oral_outcome t.world) c.state.view_is) in
+    let same : ds ≡ oral_outcome c.args.state.now.world = c.as_slice-decisions.ensures.value ∙ c.in_ok-outcome.ensures in
     let here = subst (λ (l : List Finding). IsPlaceOf l ds c.in-Some.place) c.as_slice.ensures.value c.in-Some.ensures in
     let t = c.args.state.now in
     let rows = lists_in c.as_slice-in-Some.result.now in
@@ -29,7 +29,7 @@ pub returns-in_ok-push-in-None : goal.returns-in_ok-push-in-None
 returns-in_ok-push-in-None c =
     let ds = c.as_slice-decisions.result.now in
     let rows = lists_in c.as_slice-in-None.result.now in
-    let same : ds ≡ oral_outcome c.args.state.now.world = c.as_slice-decisions.ensures.value ∙ (c.decisions-outcome.ensures.values ∙ ap (λ (t : State). oral_outcome t.world) c.state.view_is) in
+    let same : ds ≡ oral_outcome c.args.state.now.world = c.as_slice-decisions.ensures.value ∙ c.in_ok-outcome.ensures in
     let here = subst (λ (l : List Finding). IsNowhere l ds) c.as_slice.ensures.value c.in-None.ensures in
     let way : rows ≡ c.args.state.now.rows = ap lists_in c.as_slice-in-None.ensures.value ∙ ap (λ (t : State). t.rows) c.state.view_is in
     let made = c.in_ok-of-in-None.ensures ∙ ap (λ (n : ℕ). record { decisions = ds; count = kept n; example = rows }) (ap (λ (t : State). t.ways) c.state.view_is) in

@@ -8,7 +8,7 @@ use Rattle.campaign_orders.proofs.layer.Layer.enter.Goals as goal
 pub returns-in-Some : goal.returns-in-Some
 returns-in-Some c =
     let was = c.index_mut.result.now in
-    joins c.args.self.now c.args.state c.in-Some.place was c.join.new.self _ c.in-Some.ensures
+    joins c.args.self.now c.args.state c.in-Some.place was c.join.new.self _ (rw c.in-Some.is at c.in_ok-place.ensures)
     (subst (λ (l : List State). was ≡ get_or l c.in-Some.place was) c.self.view_is c.index_mut.ensures.value)
     c.join.ensures
     (ap (λ (l : List State). set l c.in-Some.place c.join.new.self) c.self.view_is)

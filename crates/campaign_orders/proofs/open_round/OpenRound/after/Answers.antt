@@ -1,0 +1,16 @@
+-- The part after it in place of that before it.
+use Rattle.std.proofs.Common.{◌∙◌, ap, map}
+use Rattle.std.specs.Arc.{arc_value}
+use Rattle.std.specs.Prelude.{slice_set}
+use Rattle.campaign_orders.specs.OpenRounds.{OpenRound}
+use Rattle.campaign_orders.proofs.Accessing.{after_is}
+use Rattle.campaign_orders.proofs.open_round.OpenRound.after.Goals as goal
+
+pub returns-in_ok-start-in-Some : goal.returns-in_ok-start-in-Some
+returns-in_ok-start-in-Some c =
+    after_is c.args.self.now c.args.general c.in-Some.made _ _ (rw c.in-Some.is at c.in_ok-made.ensures)
+    (c.in_ok-start-in-Some.ensures.cases ∙ ap (λ (o : OpenRound). o.start) c.self.view_is)
+    (c.in_ok-parts-in-Some.ensures ∙ (λ i. slice_set ((ap (map arc_value) c.as_slice.ensures.value ∙ ap (λ (o : OpenRound). o.parts) c.self.view_is) i) (c.from.ensures i) (c.new-part.ensures i)))
+
+pub returns-in-None : goal.returns-in-None
+returns-in-None c = (rw c.in-None.is at c.in_ok-made.ensures)

@@ -1,0 +1,7 @@
+-- No accesses in the open round.
+use Rattle.world.specs.Playing.{lists_in}
+use Rattle.campaign_orders.proofs.Stating.{begun_same}
+use Rattle.campaign_orders.proofs.state.State.begun.Goals as goal
+
+pub returns : goal.returns
+returns c = begun_same c.args.scenario c.args.ways (lists_in c.args.rows.items) c.new-names.result.items c.new-names.ensures.items

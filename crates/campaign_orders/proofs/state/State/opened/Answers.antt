@@ -1,0 +1,10 @@
+-- The same world in another stage.
+use Rattle.std.proofs.Common.{ap}
+use Rattle.world.specs.Playing.{lists_in}
+use Rattle.campaign_orders.proofs.Stating.{opened_is}
+use Rattle.campaign_orders.proofs.state.State.opened.Goals as goal
+
+pub returns : goal.returns
+returns c =
+    opened_is c.args.self (lists_in c.self.inside.rows.items) c.self.inside.names.items c.self.inside.stage c.in_ok-stage.stage c.self.inside.ways (lists_in c.as_slice.result.now) c.as_slice-2.result.now
+    (ap lists_in c.as_slice.ensures.value) c.as_slice-2.ensures.value c.in_ok-stage.ensures c.self.view_is

@@ -1,0 +1,128 @@
+//! Marks, which are hashes by which alike worlds are found. Alike worlds have the same mark, and other worlds seldom do.
+//! Nothing is proved of marks, since worlds with the same mark are compared before their states are merged.
+
+use insn::Reg;
+use machine::Machine;
+use outbox::{Outbox, ReceiverOrders};
+use round::{Round, Running};
+use semantics::{Region, Value};
+use world::{PlayableWorld, Progress, World};
+
+/// Returns the mark that results from mixing a number into `mark`.
+pub(crate) fn mixed(mark: u64, number: u64) -> u64 {
+    let product = (mark ^ number).wrapping_mul(0x9E37_79B9_7F4A_7C15);
+    product ^ (product >> 32)
+}
+
+/// Returns the mark of a world: of its closed rounds, its board and its generals' parts in the open round.
+pub(crate) fn world_mark(world: &World) -> u64 {
+    let mut mark = board_mark(rounds_mark(world.closed_rounds()), world.words());
+    for part in world.open_parts() {
+        mark = mixed(mark, part_mark(part));
+    }
+    mark
+}
+
+/// Mixes the words of a board into a mark.
+pub(crate) fn board_mark(mark: u64, words: &[u64; 64]) -> u64 {
+    let mut mark = mark;
+    for word in words.as_slice() {
+        mark = mixed(mark, *word);
+    }
+    mark
+}
+
+/// Returns the mark of what the letters of closed rounds send.
+pub(crate) fn rounds_mark(rounds: &[Round]) -> u64 {
+    let mut mark = 0;
+    for round in rounds {
+        for letter in round.letters() {
+            mark = outbox_mark(mixed(mark, u64::from(letter.general)), &letter.outbox);
+        }
+    }
+    mark
+}
+
+/// Returns the mark of a general's part in the open round.
+pub(crate) fn part_mark(part: &Progress) -> u64 {
+    match part {
+        Progress::Acting(running) => running_mark(running),
+        Progress::Silent => 1,
+        Progress::Posted => 2,
+    }
+}
+
+/// Returns the mark of an activation: of its machine, its outbox, and whether its program has exited. The context is
+/// left out, since it depends only on the closed rounds.
+fn running_mark(running: &Running) -> u64 {
+    let mark = mixed(3, u64::from(running.has_exited()));
+    outbox_mark(machine_mark(mark, running.activation()), running.outbox())
+}
+
+/// Mixes the next instruction, the steps and the registers of a machine into a mark. Its stack cannot be read here and
+/// is left out.
+fn machine_mark(mark: u64, machine: &Machine) -> u64 {
+    let mut mark = mixed(
+        mixed(mark, machine.unit() as u64),
+        u64::from(machine.steps()),
+    );
+    for number in 0..11u8 {
+        if let Some(register) = Reg::new(number) {
+            mark = value_mark(mark, machine.value(register));
+        }
+    }
+    mark
+}
+
+/// Mixes what a register holds into a mark.
+fn value_mark(mark: u64, value: Value) -> u64 {
+    match value {
+        Value::Unset => mixed(mark, 1),
+        Value::Number(number) => mixed(mixed(mark, 2), number),
+        Value::Pointer(Region::Stack, offset) => {
+            mixed(mixed(mark, 3), u64::from(offset.cast_unsigned()))
+        }
+        Value::Pointer(Region::Context, offset) => {
+            mixed(mixed(mark, 4), u64::from(offset.cast_unsigned()))
+        }
+    }
+}
+
+/// Mixes the orders of an outbox into a mark, receiver by receiver, so that it does not matter how they are stored.
+fn outbox_mark(mark: u64, outbox: &Outbox) -> u64 {
+    let mut mark = mark;
+    for rank in 0..outbox.labels() {
+        mark = match outbox.told(rank) {
+            ReceiverOrders::Alike { order, times } => alike_mark(mark, order, times),
+            ReceiverOrders::Apart(orders) => orders_mark(mark, orders.as_slice()),
+        };
+    }
+    mark
+}
+
+/// Mixes one order of `times` receivers into a mark.
+fn alike_mark(mark: u64, order: Option<u32>, times: u32) -> u64 {
+    let mut mark = mark;
+    for receiver in 0..times {
+        let _ = receiver;
+        mark = mixed(mark, order_number(order));
+    }
+    mark
+}
+
+/// Mixes the orders of receivers into a mark.
+fn orders_mark(mark: u64, orders: &[Option<u32>]) -> u64 {
+    let mut mark = mark;
+    for order in orders {
+        mark = mixed(mark, order_number(*order));
+    }
+    mark
+}
+
+/// Returns a number for an order: 0 if there is none, and otherwise one more than the order.
+fn order_number(order: Option<u32>) -> u64 {
+    match order {
+        Some(order) => u64::from(order) + 1,
+        None => 0,
+    }
+}

@@ -1,0 +1,183 @@
+//! An open round in parts that states share.
+ghost use Rattle.std.specs.Prelude.{◌≡◌, IfOk, IsTrue, map, slice_get, slice_set};
+ghost use Rattle.std.specs.Arc.{arc_value};
+ghost use Rattle.round.specs.Letters.{messages};
+ghost use Rattle.round.specs.Scenario.{IsScenario};
+ghost use Rattle.campaign_orders.specs.Merging.{RoundsAlike};
+ghost use Rattle.campaign_orders.specs.OpenRounds.{IsPartAfter, IsRoundAfter};
+ghost use Rattle.world.specs.Chronicle.{decisions};
+
+use crate::accessed::Accessed;
+use crate::likeness::{rounds_alike, same_shared, same_words};
+use crate::marked_part::MarkedPart;
+use crate::marks::{board_mark, mixed, rounds_mark};
+use arrayvec::ArrayVec;
+use std::alloc::{AllocError, Global};
+use std::marker::Model;
+use std::sync::Arc;
+use world::{PlayableWorld, Progress, World};
+
+/// An open round: all that the further accesses depend on. A copy shares the parts of the generals.
+#[derive(Drop)]
+pub(crate) struct OpenRound {
+    /// The world at the start of the round.
+    start: Arc<World>,
+    /// The mark of the closed rounds.
+    told: u64,
+    /// The board's words now.
+    words: [u64; 64],
+    /// The parts of the generals now, by general.
+    parts: Vec<Arc<MarkedPart>>,
+}
+
+impl Model for OpenRound {
+    ghost use Rattle.std.specs.Prelude.{map};
+    ghost use Rattle.std.specs.Arc.{arc_value};
+    ghost use Rattle.campaign_orders.specs.OpenRounds.{OpenRound as RoundSeen};
+
+    ghost Value = { RoundSeen };
+
+    ghost view = { λ o. record {
+      start = arc_value o.start;
+      words = o.words;
+      parts = map arc_value o.parts.items;
+    } };
+}
+
+impl OpenRound {
+    /// Returns the round that is open in a world, before its first access. Fails with `AllocError` if it runs out of
+    /// memory.
+    pub(crate) fn begin(alloc: Global, world: World) -> Result<OpenRound, AllocError>
+        ensures { IfOk result (λ round. round ≡ record { start = world; words = world.words; parts = world.parts }) }
+    {
+        let told = rounds_mark(world.closed_rounds());
+        let words = *world.words();
+        let parts = marked(alloc, world.open_parts())?;
+        let start = Arc::new(alloc, world)?;
+        Ok(OpenRound {
+            start,
+            told,
+            words,
+            parts,
+        })
+    }
+
+    /// Returns the round after a general has made his next access, or `None` if he makes no further access in it. Only
+    /// his own part is copied. Fails with `AllocError` if it runs out of memory.
+    pub(crate) fn after(&self, alloc: Global, general: u8) -> Result<Option<OpenRound>, AllocError>
+        ensures { IfOk result (λ next. IsRoundAfter self.now general next) }
+    {
+        match self.next_access(alloc, general)? {
+            Some(made) => {
+                let Accessed { running, words } = made;
+                let part = MarkedPart::new(Progress::Acting(running));
+                let parts = replaced(alloc, self.parts.as_slice(), usize::from(general), part)?;
+                let start = self.start.clone()?;
+                Ok(Some(OpenRound {
+                    start,
+                    told: self.told,
+                    words,
+                    parts,
+                }))
+            }
+            None => Ok(None),
+        }
+    }
+
+    /// Makes the next access of a general on a copy of his activation, and returns what it leaves. Returns `None` if he
+    /// makes no further access in the round.
+    fn next_access(&self, alloc: Global, general: u8) -> Result<Option<Accessed>, AllocError>
+        ensures { IfOk result (λ made. IsPartAfter general self.now.words (slice_get self.now.parts general) made) }
+    {
+        match self.parts.get(usize::from(general)) {
+            Some(part) => part.next_access(alloc, &self.words, u32::from(general)),
+            None => Ok(None),
+        }
+    }
+
+    /// Checks whether two open rounds have the same words and the same parts, and whether the letters of their closed
+    /// rounds send the same.
+    pub(crate) fn is_like(&self, other: &OpenRound) -> bool
+        ensures words { IsTrue result → self.now.words ≡ other.now.words }
+        ensures parts { IsTrue result → self.now.parts ≡ other.now.parts }
+        ensures closed { IsTrue result → RoundsAlike self.now.start.closed other.now.start.closed }
+    {
+        if !same_words(&self.words, &other.words) {
+            return false;
+        }
+        if !same_shared(self.parts.as_slice(), other.parts.as_slice()) {
+            return false;
+        }
+        rounds_alike(self.start().closed_rounds(), other.start().closed_rounds())
+    }
+
+    /// Returns the mark of the round.
+    pub(crate) fn mark(&self) -> u64 {
+        let mut mark = board_mark(self.told, &self.words);
+        for part in self.parts.as_slice() {
+            mark = mixed(mark, part.mark());
+        }
+        mark
+    }
+
+    /// Returns what the lieutenants decide from the messages of the closed rounds.
+    pub(crate) fn decisions(&self) -> ArrayVec<u32, 12>
+        ensures { result.items ≡ decisions self.now.start.scenario (messages self.now.start.closed) }
+    {
+        self.start().decisions()
+    }
+
+    /// Does nothing. Its contract says that the scenario is within its limits.
+    pub(crate) fn recall(&self)
+        ensures { IsScenario self.now.start.scenario }
+    {
+        self.start().campaign().recall();
+    }
+
+    /// Returns a reference to the world at the start of the round.
+    fn start(&self) -> &World
+        ensures { result.now ≡ self.now.start }
+    {
+        &self.start
+    }
+}
+
+/// Returns copies of parts, each with its mark. Fails with `AllocError` if it runs out of memory.
+fn marked(alloc: Global, parts: &[Progress]) -> Result<Vec<Arc<MarkedPart>>, AllocError>
+    ensures { IfOk result (λ copies. map arc_value copies.items ≡ parts.now) }
+{
+    let mut copies = Vec::with_capacity(alloc, parts.len())?;
+    for part in parts {
+        copies.push(Arc::new(alloc, MarkedPart::copied(alloc, part)?)?)?;
+    }
+    Ok(copies)
+}
+
+/// Returns these parts, which are shared, with another part at an index. Fails with `AllocError` if it runs out of
+/// memory.
+fn replaced(
+    alloc: Global,
+    parts: &[Arc<MarkedPart>],
+    index: usize,
+    part: MarkedPart,
+) -> Result<Vec<Arc<MarkedPart>>, AllocError>
+    ensures { IfOk result (λ copies. map arc_value copies.items ≡ slice_set (map arc_value parts.now) index part) }
+{
+    let mut copies = shared(alloc, parts)?;
+    if index < copies.len() {
+        copies[index] = Arc::new(alloc, part)?;
+        return Ok(copies);
+    }
+    Ok(copies)
+}
+
+/// Returns further owners of these parts. Fails with `AllocError` if it runs out of memory.
+fn shared(alloc: Global, parts: &[Arc<MarkedPart>]) -> Result<Vec<Arc<MarkedPart>>, AllocError>
+    ensures { IfOk result (λ copies. map arc_value copies.items ≡ map arc_value parts.now) }
+{
+    let mut copies = Vec::with_capacity(alloc, parts.len())?;
+    for part in parts {
+        copies.push(part.clone()?)?;
+    }
+    Ok(copies)
+}

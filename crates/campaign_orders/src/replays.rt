@@ -1,0 +1,68 @@
+//! Plays a campaign again, from its start.
+ghost use Rattle.std.specs.Prelude.{◌≡◌, IfOk};
+ghost use Rattle.campaign_orders.specs.Layers.{reached};
+ghost use Rattle.campaign_orders.specs.OpenRounds.{world_in};
+ghost use Rattle.campaign_orders.specs.Stages.{world_at};
+ghost use Rattle.world.specs.Kind.{opening};
+ghost use Rattle.world.specs.Playing.{lists_in};
+ghost use Rattle.world.specs.World.{oral_kind};
+
+use crate::open_round::OpenRound;
+use crate::stage::Stage;
+use round::Scenario;
+use std::alloc::{AllocError, Global};
+use world::{World, named_round, play_names};
+
+/// Plays a campaign from its start and returns its world after these accesses. `rows` lists the generals who made the
+/// accesses of the closed rounds, and `names` those of the open round.
+pub(crate) fn played(
+    alloc: Global,
+    scenario: &Scenario,
+    rows: &[Vec<u8>],
+    names: &[u8],
+) -> Result<World, AllocError>
+    ensures { IfOk result (λ world. world ≡ reached (opening oral_kind scenario.now) (lists_in rows.now) names.now) }
+{
+    let mut world = World::open(alloc, scenario.copy(alloc)?)?;
+    for (round, row) in rows.iter().enumerate() {
+        let _ = round;
+        named_round(&mut world, row.as_slice())?;
+    }
+    play_names(&mut world, names)?;
+    Ok(world)
+}
+
+/// Plays a campaign from its start and returns the round that is open after these accesses.
+pub(crate) fn played_round(
+    alloc: Global,
+    scenario: &Scenario,
+    rows: &[Vec<u8>],
+    names: &[u8],
+) -> Result<OpenRound, AllocError>
+    ensures { IfOk result (λ round. world_in (lists_in rows.now) names.now round
+        ≡ reached (opening oral_kind scenario.now) (lists_in rows.now) names.now) }
+{
+    let world = played(alloc, scenario, rows, names)?;
+    let round = OpenRound::begin(alloc, world)?;
+    Ok(round)
+}
+
+/// Returns the same stage with its round opened, after the accesses of these closed rounds and of the open round. Fails
+/// with `AllocError` if it runs out of memory.
+pub(crate) fn opened_stage(
+    alloc: Global,
+    stage: Stage,
+    rows: &[Vec<u8>],
+    names: &[u8],
+) -> Result<Stage, AllocError>
+    ensures { IfOk result
+        (λ later. world_at (lists_in rows.now) names.now later ≡ world_at (lists_in rows.now) names.now stage) }
+{
+    match stage {
+        Stage::Open(round) => Ok(Stage::Open(round)),
+        Stage::Begun(scenario) => {
+            let round = played_round(alloc, scenario.scenario(), rows, names)?;
+            Ok(Stage::Open(round))
+        }
+    }
+}
