@@ -1,4 +1,4 @@
-; Writes the number of the traitor into word 0 of the board, and sends everyone the word that was there.
+; Writes the number of the traitor into word 0 of the board, sends everyone the word that was there, and forgets it.
         ldw r2, [r1+8]
         mov r1, 0
         call board_swap
@@ -30,4 +30,5 @@
         mov r1, 8
         mov r2, r6
         call sway
+        mov r6, 0
         exit

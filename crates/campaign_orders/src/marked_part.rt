@@ -9,7 +9,7 @@ use std::alloc::{AllocError, Global};
 use std::marker::Model;
 use world::Progress;
 
-/// A general's part in the open round, with its mark, so that it is computed once. Contracts see it as the part.
+/// A general's part in the open round, with its mark, which is computed once. Contracts see it as the part.
 #[derive(Drop)]
 pub(crate) struct MarkedPart {
     progress: Progress,

@@ -56,7 +56,7 @@ impl Model for State {
 }
 
 impl State {
-    /// Returns the state at the start of the round after these rounds.
+    /// Returns the state at the start of the round that follows these closed rounds.
     fn begun(
         alloc: Global,
         scenario: SharedScenario,
@@ -88,7 +88,7 @@ impl State {
         })
     }
 
-    /// Returns a state in an open round.
+    /// Returns the state in an open round after these closed rounds and accesses.
     fn within(round: OpenRound, ways: u64, rows: Vec<Vec<u8>>, names: Vec<u8>) -> State
         ensures { result ≡ record {
           world = world_in (lists_in rows.items) names.items round;

@@ -464,7 +464,8 @@ pub(crate) fn subcommands() -> &'static [Subcommand<'static>]
     ensures { map usage_of result.now ≡ usages }
 {
     &[
-        CHECK, ASM, DIS, BOOK, TABLE, REFUTE, MUSTER, PLAY, AUDIT, EXPLORE, TREE, DRAW, PAGE, SCHEDULE,
+        CHECK, ASM, DIS, BOOK, TABLE, REFUTE, MUSTER, PLAY, AUDIT, EXPLORE, TREE, DRAW, PAGE,
+        SCHEDULE,
     ]
 }
 
