@@ -4,7 +4,7 @@ ghost use Rattle.std.specs.Prelude.{◌≡◌, ◌<◌};
 use std::marker::Model;
 
 /// A signer: with a reference to it one can sign for one general of a campaign. It cannot be copied, and only
-/// `SignedWorld::open` makes signers, one for each general.
+/// `SignedWorld::open` and `ChainLog::new` make signers, one for each general.
 #[derive(Drop)]
 pub struct Signer {
     general: u8,
