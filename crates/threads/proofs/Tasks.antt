@@ -6,7 +6,7 @@ use Rattle.label.specs.Relay.{IsShape}
 use Rattle.round.specs.Scenario.{Scenario, IsScenario, shape_of}
 use Rattle.round.specs.Letters.{Letter}
 use Rattle.round.specs.Contexts.{context_of, IsToldTo, shape_told}
-use Rattle.world.specs.World.{each}
+use Rattle.world.specs.Kind.{Kind, each}
 use Rattle.threads.specs.Duties.{Duty, duty_of}
 use Rattle.round.proofs.Contexts.{context_is, shape_is}
 use Rattle.round.proofs.Loyal.{own_is_told, shape_is_told}
@@ -23,8 +23,8 @@ task_is s before g h round bytes is lt le own of_round told =
       subst (λ (shape : Shape). IsShape shape) (sym e) (shape_is s g (length before) is lt le),
     )
 
-pub duties_more : (s : Scenario) (before : List (List Letter)) (g : ℕ) (old new : List Duty) (task : Duty) → new ≡ old ++ task ∷ [] → old ≡ each g (λ h. duty_of s before h ∷ []) → task ≡ duty_of s before g
-    → new ≡ each (g + 1) (λ h. duty_of s before h ∷ [])
-duties_more s before g old new task items so_far is =
-    let f : ℕ → List Duty = λ h. duty_of s before h ∷ [] in
+pub duties_more : (K : Kind) (s : Scenario) (before : List (List Letter)) (g : ℕ) (old new : List Duty) (task : Duty) → new ≡ old ++ task ∷ [] → old ≡ each g (λ h. duty_of K s before h ∷ []) → task ≡ duty_of K s before g
+    → new ≡ each (g + 1) (λ h. duty_of K s before h ∷ [])
+duties_more K s before g old new task items so_far is =
+    let f : ℕ → List Duty = λ h. duty_of K s before h ∷ [] in
     items ∙ ((λ i. so_far i ++ is i ∷ []) ∙ ap (λ n. each n f) (sym (add-one g)))

@@ -4,8 +4,9 @@ use Rattle.std.specs.Prelude.{ℕ, ◌≡◌, suc, List, length, Option, None, S
 use Rattle.insn.specs.declared.insn.Insn.{Insn}
 use Rattle.round.specs.Scenario.{Scenario, program_of}
 use Rattle.round.specs.Letters.{Letter}
-use Rattle.round.specs.Contexts.{context_of, letter_told}
+use Rattle.round.specs.Contexts.{letter_told}
 use Rattle.round.specs.Running.{IsLived}
+use Rattle.world.specs.Kind.{Kind}
 
 -- A general's duty in a round: his context, his program, or `None` if he is loyal, and his patience.
 pub record Duty : Type 0 where
@@ -15,13 +16,13 @@ pub record Duty : Type 0 where
   pub program : Option (List Insn)
   pub patience : Option ℕ
 
--- Returns the duty of a general in the round after the given ones.
-abbrev pub duty_of : Scenario → List (List Letter) → ℕ → Duty
-duty_of s before g =
+-- Returns the duty of a general in the round after the given ones, in a campaign of this kind.
+abbrev pub duty_of : Kind → Scenario → List (List Letter) → ℕ → Duty
+duty_of K s before g =
     record {
       general = g;
       round = suc (length before);
-      context = context_of s before g;
+      context = K.context s before g;
       program = program_of s g;
       patience = s.patience;
     }

@@ -2,6 +2,7 @@
 ghost use Rattle.std.specs.Prelude.{◌≡◌, ◌<◌, ◌≤◌, ◌++◌, List, IfOk};
 ghost use Rattle.round.specs.Letters.{Letter as LetterSeen};
 ghost use Rattle.round.specs.Told.{WasTold};
+ghost use Rattle.world.specs.World.{oral_kind};
 ghost use Rattle.threads.specs.Duties.{duty_of, IsDone};
 
 use round::{Letter, Player, Received, Scenario, Server, live, loyal_letter};
@@ -11,7 +12,7 @@ use std::marker::Model;
 /// The task of a general in a round. A traitor runs his program, and a loyal general relays what he received. Contracts
 /// see it as his duty.
 #[derive(Drop)]
-pub(crate) struct Task {
+pub struct Task {
     program: Player,
     context: Vec<u8>,
     general: u32,
@@ -40,7 +41,7 @@ impl Model for Task {
 }
 
 impl Task {
-    /// Returns a general's task in the next round.
+    /// Returns a general's task in the next round of an oral campaign.
     ///
     /// # Errors
     ///
@@ -55,7 +56,7 @@ impl Task {
         requires left { told.now.rounds ≤ scenario.now.bound }
         requires general { general < scenario.now.generals }
         ensures duty { IfOk result (λ task. (before : List (List LetterSeen)) → WasTold scenario.now before told.now →
-            task ≡ duty_of scenario.now before general) }
+            task ≡ duty_of oral_kind scenario.now before general) }
         ensures general { IfOk result (λ task. task.general ≡ general) }
     {
         scenario.recall();

@@ -10,13 +10,13 @@ pub(crate) use uncounted_letter::{Uncounted, send};
 
 /// Evidence that all generals have posted their letters of a round. Only `Count::begin_again` creates one.
 #[derive(Drop)]
-pub(crate) struct AllPosted {
+pub(crate) struct AllPosted<D> {
     letters: usize,
     /// The evidence for the tasks for which they posted.
-    out: HandedOut,
+    out: HandedOut<D>,
 }
 
-impl AllPosted {
+impl<D> AllPosted<D> {
     /// Returns the number of letters that they have posted.
     pub(crate) fn letters(&self) -> usize
         ensures { result ≡ self.now.letters }
@@ -80,11 +80,11 @@ impl Count {
     /// # Errors
     ///
     /// `SomeoneFailed` if a general has failed.
-    pub(super) fn begin_again(
+    pub(super) fn begin_again<D: Drop>(
         &mut self,
         generals: usize,
-        out: HandedOut,
-    ) -> Result<AllPosted, SomeoneFailed>
+        out: HandedOut<D>,
+    ) -> Result<AllPosted<D>, SomeoneFailed>
         requires over { (generals ≤ self.old.posted) ⊎ IsSome self.old.failed }
         ensures count { self.new ≡ record self.old { posted = 0 } }
         ensures nobody { OnOk result (self.old.failed ≡ None) }

@@ -5,5 +5,5 @@ use Rattle.signed.specs.Sending.{entries_behind}
 use Rattle.signed.proofs.Receipts.{sent_rows}
 use Rattle.signed.proofs.outset.begun_outbox.Goals as goal
 
-pub outbox-outbox-requires-clause-rows : goal.outbox-outbox-requires-clause-rows
-outbox-outbox-requires-clause-rows c = sent_rows c.args.scenario.now c.args.sent.now c.requires.sent
+pub outbox-requires-clause-rows : goal.outbox-outbox-requires-clause-rows
+outbox-requires-clause-rows c = sent_rows c.args.scenario.now c.args.sent.now c.requires.sent
