@@ -119,8 +119,9 @@ impl ChainLog {
         ensures entries { IfOk result (λ r. (before : List (List LetterSeen)) → IsLogOf scenario.now before self.now →
             r.1.entries ≡ begun_entries scenario.now (take rounds before) general (program_of scenario.now general)) }
     {
-        let sent = self.sent.as_slice();
-        outset(alloc, scenario, &sent[..usize::from(rounds)], general)
+        let (sent, _later) = self.sent.as_slice().split_at(usize::from(rounds));
+        let (context, outbox) = outset(alloc, scenario, sent, general)?;
+        Ok((context, outbox))
     }
 
     /// Returns the decisions of the lieutenants from the chains sent so far, in ascending order of the lieutenants.
