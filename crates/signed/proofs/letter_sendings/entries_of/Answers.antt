@@ -12,7 +12,7 @@ returns-then-letter-general-clause-same c =
     let i = c.loop-index.index in
     let l = c.index-letters-index.result in
     c.entries.ensures.same
-    ∙ (ap (λ (y : Letter). y.outbox.entries) (sym c.letter.view_is)
+    ∙ (ap (λ (y : Letter). y.outbox.entries) c.letter.view_is
     ∙ ap entries_in (sym (first_letter row c.args.general i l l c.loop-index-test.true c.index-letters-index.is (ap (λ (y : Letter). y.general) (sym c.letter.view_is) ∙ c.if-letter-general.true) c.loop-index.invariant)))
 
 pub loop-index-preserved : goal.loop-index-preserved
