@@ -1,0 +1,2 @@
+pub mod Briefings
+pub mod Concluded
