@@ -71,8 +71,8 @@ impl Delivered for DeliveredChains {
         general: u8,
         letter: &Letter,
     ) -> Result<bool, AllocError> {
-        let (context, outbox) = self.log.outset_after(alloc, scenario, general, rounds)?;
-        let has = has_outset(scenario, general, letter, context.as_slice(), &outbox);
+        let (context, begun) = self.log.outset_after(alloc, scenario, general, rounds)?;
+        let has = has_outset(scenario, general, letter, context.as_slice(), &begun);
         Ok(has)
     }
 
