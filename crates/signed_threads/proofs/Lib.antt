@@ -1,2 +1,3 @@
 pub mod Briefings
 pub mod Concluded
+pub mod Outsets
