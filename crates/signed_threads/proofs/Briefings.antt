@@ -3,7 +3,7 @@ use Rattle.std.proofs.Common.{◌≡◌, ℕ, false, List, [], refl, sym, ap, �
 use Rattle.std.specs.Prelude.{is_some}
 use Rattle.insn.specs.declared.insn.Insn.{Insn}
 use Rattle.outbox.specs.Contents.{Contents}
-use Rattle.round.specs.Scenario.{Scenario, is_traitor, program_of}
+use Rattle.round.specs.Scenario.{Scenario, program_of}
 use Rattle.round.specs.Letters.{Letter}
 use Rattle.signed.specs.Kind.{signed_context, signed_entries, signed_kind, signed_relay}
 use Rattle.signed.specs.Logs.{begun_entries}

@@ -14,7 +14,7 @@ use Rattle.signed.specs.Kind.{signed_context, signed_kind, signed_relay}
 use Rattle.signed.specs.Logs.{begun_entries}
 use Rattle.signed.proofs.Telling.{not_oral, signed_relays}
 use Rattle.signed.proofs.Worlds.{signed_campaigns}
-use Rattle.threads.specs.Duties.{Duty, HasBegun, IsOutset, begun_outbox, duty_of}
+use Rattle.threads.specs.Duties.{HasBegun, IsOutset, begun_outbox, duty_of}
 
 -- all rounds are the first ones
 pub all_rounds : (before : List (List Letter)) (rounds : ℕ) → rounds ≡ length before → take rounds before ≡ before

@@ -1,5 +1,5 @@
 -- With an oral outbox.
-use Rattle.std.proofs.Common.{◌≡◌, ◌∙◌, ℕ, List, [], ap, sym, subst, refl}
+use Rattle.std.proofs.Common.{◌∙◌, ℕ, List, [], ap, sym, subst, refl}
 use Rattle.std.specs.Prelude.{IfOk, OnErr}
 use Rattle.std.specs.Arc.{arc_value}
 use Rattle.semantics.specs.Outbox.{empty_outbox}

@@ -1,5 +1,5 @@
 -- From the start to the end.
-use Rattle.std.proofs.Common.{◌≡◌, ◌∙◌, ℕ, List, [], ◌++◌, ap, sym, subst, arith, refl}
+use Rattle.std.proofs.Common.{◌∙◌, ℕ, List, [], ◌++◌, ap, sym, subst, arith, refl}
 use Rattle.std.specs.Arc.{arc_value}
 use Rattle.semantics.specs.Relay.{Relay}
 use Rattle.round.specs.Activation.{Activation, started}

@@ -1,4 +1,4 @@
-use Rattle.std.proofs.Common.{◌≡◌, suc, List, sym, ap, subst, ◌∙◌}
+use Rattle.std.proofs.Common.{suc, List, sym, ap, subst, ◌∙◌}
 use Rattle.std.specs.Prelude.{All}
 use Rattle.board.specs.Board.{Access, IsLegal}
 use Rattle.round.specs.Letters.{Letter}

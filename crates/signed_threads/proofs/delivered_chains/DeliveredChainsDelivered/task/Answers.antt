@@ -1,5 +1,5 @@
 -- The task has what its general begins with.
-use Rattle.std.proofs.Common.{◌≡◌, ◌+◌, ◌∙◌, List, ap, sym, arith}
+use Rattle.std.proofs.Common.{◌+◌, ◌∙◌, List, ap, sym, arith}
 use Rattle.round.specs.Letters.{Letter}
 use Rattle.round.specs.Scenario.{program_of}
 use Rattle.signed.specs.Kind.{signed_context, signed_relay}
