@@ -1,21 +1,19 @@
 -- What a log has of the letters of closed rounds.
-use Rattle.std.proofs.Common.{◌≡◌, ℕ, suc, ◌+◌, ◌<◌, ◌≤◌, List, [], ◌∷◌, ◌++◌, length, take, drop, refl, sym, ap, subst, ◌∙◌, arith, inr, append-nil, append_assoc, length-append, Option, Some, None}
-use Rattle.std.specs.Prelude.{All, slice_get}
+use Rattle.std.proofs.Common.{◌≡◌, ℕ, suc, ◌+◌, ◌≤◌, List, [], ◌∷◌, ◌++◌, length, take, drop, refl, sym, ap, subst, ◌∙◌, arith, inr, append-nil, append_assoc, length-append, Option, Some, None}
+use Rattle.std.specs.Prelude.{All}
 use Rattle.std.proofs.lemmas.List.{take-append-drop, take_at, length-take-le}
 use Rattle.std.proofs.lemmas.List.Elements.{All-nil, All-push, All-take}
 use Rattle.std.proofs.lemmas.Option.{get_or_from_slice_get, slice_get_within}
 use Rattle.insn.specs.declared.insn.Insn.{Insn}
-use Rattle.semantics.specs.Relay.{Relay}
 use Rattle.round.specs.Scenario.{Scenario}
-use Rattle.round.specs.Letters.{Letter, letter_of}
+use Rattle.round.specs.Letters.{Letter}
 use Rattle.round.proofs.Senders.{letter_stands}
-use Rattle.signed.specs.Entries.{Dispatch, Entry, dispatched}
+use Rattle.signed.specs.Entries.{Dispatch, dispatched}
 use Rattle.signed.specs.Kind.{signed_context, signed_entries, signed_relay}
 use Rattle.signed.specs.Logs.{LogSeen, HasFewEntries, IsLogOf, begun_entries, entries_in}
 use Rattle.signed.specs.Loyal.{loyal_entries}
 use Rattle.signed.specs.Sending.{AreWritten, IsSent, context_behind, entries_behind, relay_behind, signatures}
 use Rattle.signed.specs.Sent.{Sent, delivered, held_behind, sends, round_sent, sent_along, sent_in}
-use Rattle.signed.specs.Signers.{Signature}
 use Rattle.signed.proofs.Along.{sent_length, sent_more, sent_none}
 use Rattle.signed.proofs.Behind.{relayed_behind, told_behind}
 

@@ -29,7 +29,7 @@ use Rattle.signed.specs.Kind.{signed_kind, played}
 use Rattle.signed.specs.Traitors.{IsAnyLetter, AreAnyLetters}
 use Rattle.signed.proofs.Along.{held_is, sent_none, sent_more, sent_length}
 use Rattle.signed.proofs.Passing.{proved_loyal_entries_are_sent}
-use Rattle.signed.proofs.Making.{IsMadeOf, of_entries, of_loyal, made_more, full_more, sent_last}
+use Rattle.signed.proofs.Making.{IsMadeOf, of_loyal, made_more, full_more}
 use Rattle.signed.proofs.Making as making
 use Rattle.signed.proofs.Places.{row_at, row_past, get_or_at}
 use Rattle.signed.proofs.Sending.{runs_kept, start_kept}

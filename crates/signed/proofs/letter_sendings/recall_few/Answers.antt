@@ -1,5 +1,5 @@
 -- One letter more.
-use Rattle.std.proofs.Common.{◌≡◌, ◌∙◌, List, take_all, subst, arith}
+use Rattle.std.proofs.Common.{◌∙◌, List, take_all, subst, arith}
 use Rattle.std.specs.Prelude.{All}
 use Rattle.std.proofs.lemmas.List.Elements.{All-more}
 use Rattle.round.specs.Letters.{Letter}

@@ -1,9 +1,6 @@
 -- Empty, or with what a loyal general enters.
-use Rattle.std.proofs.Common.{◌≡◌, ◌∙◌, List, Option, Some, None, sym, subst}
-use Rattle.insn.specs.declared.insn.Insn.{Insn}
-use Rattle.signed.specs.Sending.{entries_behind}
 use Rattle.signed.proofs.Receipts.{sent_rows}
 use Rattle.signed.proofs.outset.begun_outbox.Goals as goal
 
-pub outbox-requires-clause-rows : goal.outbox-outbox-requires-clause-rows
+pub outbox-requires-clause-rows : goal.outbox-requires-clause-rows
 outbox-requires-clause-rows c = sent_rows c.args.scenario.now c.args.sent.now c.requires.sent

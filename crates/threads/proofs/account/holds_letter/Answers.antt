@@ -1,4 +1,4 @@
-use Rattle.std.proofs.Common.{◌≡◌, ◌+◌, suc, length, take, refl, arith}
+use Rattle.std.proofs.Common.{◌≡◌, ◌+◌, length, take, refl, arith}
 use Rattle.std.proofs.lemmas.List.{length-take-le}
 use Rattle.threads.proofs.Whose.{holds}
 use Rattle.threads.proofs.account.holds_letter.Goals as goal

@@ -1,5 +1,5 @@
 -- The letters that are delivered are those of the round to come.
-use Rattle.std.proofs.Common.{rules, ◌∷◌, [], ◌++◌, suc, List, sym, subst, arith}
+use Rattle.std.proofs.Common.{rules, ◌∷◌, [], ◌++◌, suc, List, sym, subst}
 use Rattle.std.specs.Prelude.{All}
 use Rattle.round.specs.Letters.{Letter}
 use Rattle.round.specs.Origin.{AreLettersOf}

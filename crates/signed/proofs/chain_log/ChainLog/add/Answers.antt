@@ -1,5 +1,5 @@
 -- The letters' round more.
-use Rattle.std.proofs.Common.{◌≡◌, ◌+◌, ◌∙◌, ◌++◌, ◌∷◌, [], sym, ap, subst}
+use Rattle.std.proofs.Common.{◌+◌, ◌∙◌, ◌++◌, ◌∷◌, [], sym, ap, subst}
 use Rattle.signed.specs.Logs.{LogSeen}
 use Rattle.signed.specs.Sending.{AreRows}
 use Rattle.signed.specs.Sent.{Sent, round_sent}

@@ -1,5 +1,5 @@
 -- From what the letters sent.
-use Rattle.std.proofs.Common.{◌≡◌, ◌∙◌, length, ap, arith}
+use Rattle.std.proofs.Common.{◌∙◌, length, ap, arith}
 use Rattle.signed.specs.Logs.{LogSeen}
 use Rattle.signed.proofs.Along.{sent_length}
 use Rattle.signed.proofs.chain_log.ChainLog.decisions.Goals as goal

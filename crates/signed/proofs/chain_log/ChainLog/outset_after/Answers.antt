@@ -1,5 +1,5 @@
 -- Behind the first rounds.
-use Rattle.std.proofs.Common.{◌≡◌, ◌≤◌, ◌∙◌, take, length, sym, ap, subst, arith}
+use Rattle.std.proofs.Common.{◌∙◌, take, length, sym, ap, subst, arith}
 use Rattle.round.specs.Scenario.{program_of}
 use Rattle.signed.specs.Logs.{LogSeen}
 use Rattle.signed.specs.Sending.{IsSent, context_behind, entries_behind, relay_behind}

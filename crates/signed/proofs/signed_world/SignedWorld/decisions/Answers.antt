@@ -1,5 +1,5 @@
 -- From what the closed rounds have sent.
-use Rattle.std.proofs.Common.{◌≡◌, ◌≤◌, suc, length, ap, subst, ◌∙◌, arith}
+use Rattle.std.proofs.Common.{◌≡◌, length, ap, subst, ◌∙◌, arith}
 use Rattle.world.specs.Kind.{World}
 use Rattle.signed.specs.Chronicle.{signed_decisions}
 use Rattle.signed.proofs.Closed.{few_rounds, sent_long}

@@ -1,5 +1,5 @@
 -- The context decides.
-use Rattle.std.proofs.Common.{◌≡◌, ◌≤◌, suc, length, take, ap, ◌∙◌, arith}
+use Rattle.std.proofs.Common.{◌≡◌, suc, length, take, ap, ◌∙◌, arith}
 use Rattle.std.proofs.lemmas.List.{length-take-le}
 use Rattle.threads.proofs.Briefings.{briefed}
 use Rattle.threads.proofs.received.ReceivedDelivered.is_briefed.Goals as goal
