@@ -59,7 +59,12 @@ pub trait Delivered: Drop {
     /// # Errors
     ///
     /// `AllocError` if an allocation fails. Nothing is known then of what was delivered, and it should be dropped.
-    fn add(&mut self, alloc: Global, scenario: &Scenario, letters: &[Letter]) -> Result<(), AllocError>
+    fn add(
+        &mut self,
+        alloc: Global,
+        scenario: &Scenario,
+        letters: &[Letter],
+    ) -> Result<(), AllocError>
         requires told { (before : List (List LetterSeen)) × was_told scenario.now before self.old }
         requires left { count self.old ≤ scenario.now.bound }
         requires letters { AreLettersOf scenario.now (suc (count self.old)) letters.now }
