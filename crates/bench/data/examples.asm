@@ -199,13 +199,13 @@ out:    exit
         call sway
         exit
 ;; campaign_two_faced.asm
-        mov r6, r1          ; keeps the context's address, since a call loses r1
+        mov r6, r1          ; the context, which a call would take from r1
         mov r1, 1
-        call honest         ; sends general 1 the order that general 2 took
-        ldw r2, [r6+32]     ; reads this order (in round 1 he has none, and sway sends nothing)
-        xor r2, 1           ; 1 becomes 0, and 0 becomes 1
+        call honest         ; to general 1 what he himself took
+        ldw r2, [r6+32]     ; the first order that he took: 0 in round 1, where he relays nothing
+        xor r2, 1
         mov r1, 3
-        call sway           ; sends general 3 the opposite
+        call sway           ; to general 3 the opposite
         exit
 ;; division.asm
 ; r0 15: division by 0 gives 0, and its remainder is the number. The least number by -1 is itself, with remainder 0.
