@@ -3,7 +3,7 @@ use Rattle.std.specs.Prelude.{ℕ, ◌≡◌, ◌++◌, Bool, true, false, List,
 use Rattle.std.specs.declared.alloc.Global.{Global}
 use Rattle.insn.specs.declared.insn.Insn.{Insn}
 use Rattle.insn.specs.Program.{slots_of}
-use Rattle.label.specs.declared.shape.Shape.{Shape}
+use Rattle.answer_lines.specs.declared.line.Line.{Line}
 use Rattle.semantics.specs.Relay.{oral}
 use Rattle.semantics.specs.Run.{IsSound}
 use Rattle.codec.specs.Spelling.{program_bytes}
@@ -37,14 +37,13 @@ abbrev pub steps_behind : Bool → List Insn → Setting → List ℕ
 steps_behind false program s = []
 steps_behind true program s = codes "\n" ++ trace_on s.board program (context_in s) (oral s.shape)
 
--- States that the file contains a program in its notation, and that the text has the lines of its run in the bench
+-- States that the file contains a program in its notation, and that these are the lines of its run in the bench
 -- setting. The steps and the explanation follow, if they are asked for.
-abbrev pub IsChecked : Notation → Bool → Bool → List ℕ → List ℕ → Type 0
-IsChecked notation explained traced bytes text =
+abbrev pub IsChecked : Notation → Bool → Bool → List ℕ → List Line → List ℕ → Type 0
+IsChecked notation explained traced bytes lines rest =
     (program : List Insn) × HasProgram notation bytes program
-    × ((checked : Checked) × IsRun program checked
-    × IsBehind (if_asked explained notation) bytes program
-    (checked_lines checked ++ steps_behind traced program bench) text)
+    × ((checked : Checked) × IsRun program checked × (lines ≡ checked_lines checked)
+    × IsBehind (if_asked explained notation) bytes program (steps_behind traced program bench) rest)
 
 -- States that the text begins with `told`, what is printed of a program that a file contains and that is tried in this
 -- setting. If an explanation is asked for, a note follows for each call that puts no order, with the place of its unit.
@@ -54,20 +53,19 @@ AreSlipsBehind (Some notation) bytes program s told text =
     (places : List (String Global)) × ArePlaces notation bytes (map string_bytes places)
     × (text ≡ told ++ slips_on places s.board program (context_in s) (oral s.shape))
 
--- States that the text has the lines of the program's trial in this setting, and then its steps, if they are asked for.
--- If an explanation is asked for, the explanation of the program in the file follows, and a note for each call that
--- puts no order.
-abbrev pub IsTriedIn : Setting → Bool → Option Notation → List ℕ → List Insn → List ℕ → Type 0
-IsTriedIn s traced asked bytes program text =
-    (lines : List ℕ) × IsTried program s lines
-    × ((told : List ℕ) × IsBehind asked bytes program (lines ++ steps_behind traced program s) told
-    × AreSlipsBehind asked bytes program s told text)
+-- States that these are the lines of the program's trial in this setting. The steps follow, if they are asked for. If an
+-- explanation is asked for, the explanation of the program in the file follows, and a note for each call that puts no
+-- order.
+abbrev pub IsTriedIn : Setting → Bool → Option Notation → List ℕ → List Insn → List Line → List ℕ → Type 0
+IsTriedIn s traced asked bytes program lines rest =
+    IsTried program s lines
+    × ((told : List ℕ) × IsBehind asked bytes program (steps_behind traced program s) told
+    × AreSlipsBehind asked bytes program s told rest)
 
--- States that the text is that of a trial in the setting that the second file describes, and that this is the relay of
--- the trial.
-abbrev pub IsTriedAt : Shape → Bool → Option Notation → List ℕ → List ℕ → List Insn → List ℕ → Type 0
-IsTriedAt shape traced asked first second program text =
-    (s : Setting) × TellsSetting second s × (shape ≡ s.shape) × IsTriedIn s traced asked first program text
+-- States that these are the lines of a trial in the setting that the second file describes, and the text after them.
+abbrev pub IsTriedBy : Bool → Option Notation → List ℕ → List ℕ → List Insn → List Line → List ℕ → Type 0
+IsTriedBy traced asked first second program lines rest =
+    (s : Setting) × TellsSetting second s × IsTriedIn s traced asked first program lines rest
 
 -- States that the text assembles to a program, and that this is its bytecode.
 abbrev pub AssemblesRaw : List ℕ → List ℕ → Type 0

@@ -7,7 +7,8 @@ use Rattle.cli_words.specs.declared.tasks.Lieutenants.{Lieutenants}
 use Rattle.cli_words.specs.declared.tasks.Notation.{Notation}
 use Rattle.cli_words.specs.declared.tasks.Task.{Task}
 use Rattle.insn.specs.declared.insn.Insn.{Insn}
-use Rattle.label.specs.declared.shape.Shape.{Shape}
+use Rattle.answer_lines.specs.Text.{text_of}
+use Rattle.answer_lines.specs.declared.line.Line.{Line}
 use Rattle.round.specs.Scenario.{Scenario}
 use Rattle.scenario.specs.declared.messages.Campaign.{Campaign}
 use Rattle.scenario.specs.declared.messages.Campaign.TheVariants.{Oral}
@@ -17,7 +18,7 @@ use Rattle.cli_tasks.specs.declared.refusal.InputRefusal.TheVariants.{NotText, M
 use Rattle.cli_tasks.specs.declared.first_answer.FirstAnswer.{FirstAnswer}
 use Rattle.cli_tasks.specs.declared.first_answer.FirstAnswer.TheVariants as answer
 use Rattle.cli_tasks.specs.TaskAnswers.{ComesTo, GoesOn}
-use Rattle.cli_tasks.specs.Answers.{IsTriedAt}
+use Rattle.cli_tasks.specs.Answers.{IsTriedBy}
 use Rattle.cli_tasks.specs.Campaigns.{IsAudited, IsMustered, IsPlayed}
 use Rattle.cli_tasks.specs.Schedules.{IsSchedule}
 use Rattle.cli_tasks.specs.Diagrams.{IsCampaignDrawn, IsRecordDrawn}
@@ -100,13 +101,11 @@ IsPagedAs known c text page = (bytes : List ℕ) × AreSecondBytes known bytes �
 abbrev pub IsRetracedBy : Option (Option (List ℕ)) → Scenario → List ℕ → Type 0
 IsRetracedBy known s lines = (bytes : List ℕ) × AreSecondBytes known bytes × IsScheduleFor s bytes lines
 
--- States that the text is that of the program's trial in the setting that the second file describes, and that `place`
--- is the relay of the trial.
-abbrev pub IsTrialAt : Option (Option (List ℕ)) → Bool → Option Notation → List ℕ → List Insn → List ℕ → Option Shape →
-    Type 0
-IsTrialAt known traced asked first program text place =
-    (bytes : List ℕ) × AreSecondBytes known bytes
-    × ((shape : Shape) × IsTriedAt shape traced asked first bytes program text × (place ≡ Some shape))
+-- States that these are the lines of the program's trial in the setting that the second file describes, and the text
+-- after them.
+abbrev pub IsTrialOf : Option (Option (List ℕ)) → Bool → Option Notation → List ℕ → List Insn → List Line → List ℕ → Type 0
+IsTrialOf known traced asked first program lines rest =
+    (bytes : List ℕ) × AreSecondBytes known bytes × IsTriedBy traced asked first bytes program lines rest
 
 -- States that this is the text of a task that goes on with `more` after its first file.
 abbrev pub IsTextAfter : Option (Option (List ℕ)) → FirstAnswer → List ℕ → Type 0
@@ -122,23 +121,23 @@ IsTextAfter known (answer.PageRecorded c scenario) text = IsPagedAs known c (str
 IsTextAfter known (answer.Retrace s) text = IsRetracedBy known s text
 IsTextAfter known _ text = ⊥
 
--- States that this is the text of a task that goes on with `more` after its first file. If the task tries a program in
--- the setting of its second file, `place` is the relay of the trial, and otherwise it is `None`.
-abbrev pub EndsIn : Task → List ℕ → Option (Option (List ℕ)) → FirstAnswer → List ℕ → Option Shape → Type 0
-EndsIn task first known (answer.Trial program told) text place =
-    IsTrialAt known told (explained_in task) first program text place
-EndsIn task first known more text place = IsTextAfter known more text × (place ≡ None)
+-- States that these are the lines of a task that goes on with `more` after its first file, and the text after them.
+abbrev pub EndsIn : Task → List ℕ → Option (Option (List ℕ)) → FirstAnswer → List Line → List ℕ → Type 0
+EndsIn task first known (answer.Lines all text) lines rest = (lines ≡ all.items) × (rest ≡ string_bytes text)
+EndsIn task first known (answer.Trial program told) lines rest =
+    IsTrialOf known told (explained_in task) first program lines rest
+EndsIn task first known more lines rest = (lines ≡ []) × IsTextAfter known more rest
 
--- States that the task prints this text on the files. If the task tries a program in the setting of its second file,
--- `place` is the relay of the trial, and otherwise it is `None`.
-abbrev pub IsPlacedAnswer : Task → Files → List ℕ → Option Shape → Type 0
-IsPlacedAnswer task files text place =
+-- States that the task prints these lines on the files, and this text after them.
+abbrev pub IsLinedAnswer : Task → Files → List Line → List ℕ → Type 0
+IsLinedAnswer task files lines rest =
     (first : List ℕ) × AreBytes files.first first
-    × ((more : FirstAnswer) × ComesTo task first more × EndsIn task first files.second more text place)
+    × ((more : FirstAnswer) × ComesTo task first more × EndsIn task first files.second more lines rest)
 
 -- States that the task prints this text on the files.
 abbrev pub IsAnswer : Task → Files → List ℕ → Type 0
-IsAnswer task files text = (place : Option Shape) × IsPlacedAnswer task files text place
+IsAnswer task files text =
+    (lines : List Line) × ((rest : List ℕ) × IsLinedAnswer task files lines rest × (text ≡ text_of lines ++ rest))
 
 -- States that the task has an answer on the files, and that `stands` holds of this answer.
 abbrev pub HasAnswer : (List ℕ → Type 0) → Task → Files → Type 0

@@ -1,5 +1,6 @@
 -- Defines what a task results in on its first file.
 use Rattle.std.specs.Prelude.{ℕ, ◌≡◌, false, true, List, None, Some, string_bytes}
+use Rattle.answer_lines.specs.declared.line.Line.{Line}
 use Rattle.semantics.specs.Run.{IsSound}
 use Rattle.cli_words.specs.declared.tasks.Spelling.TheVariants.{Hex, Raw}
 use Rattle.cli_words.specs.declared.tasks.Task.{Task}
@@ -25,7 +26,6 @@ use Rattle.cli_tasks.specs.Answers.{IsChecked, AssemblesRaw, Assembles, Disassem
 
 -- States that the task prints this text on a first file with these bytes, and needs no second file.
 abbrev pub Prints : Task → List ℕ → List ℕ → Type 0
-Prints (Check file notation None explained traced) first text = IsChecked notation explained traced first text
 Prints (Assemble file Hex target explained) first text = Assembles first text
 Prints (Assemble file Raw target explained) first text = AssemblesRaw first text
 Prints (AssemblePartly file Hex target explained) first text = AssemblesPartly first text
@@ -48,6 +48,13 @@ Prints (Tree file general traitors drawing depth folded) first text =
 Prints (Retrace scenario (Listed list)) first text = Arranges (string_bytes list) first text
 Prints _ first text = ⊥
 
+-- States that the task prints these lines, and this text after them, on a first file with these bytes, and needs no second
+-- file.
+abbrev pub PrintsLines : Task → List ℕ → List Line → List ℕ → Type 0
+PrintsLines (Check file notation None explained traced) first lines rest =
+    IsChecked notation explained traced first lines rest
+PrintsLines _ first lines rest = ⊥
+
 -- States that the task goes on with this after its first file: with a program to try and whether its steps are printed,
 -- or with a campaign.
 abbrev pub GoesOn : Task → List ℕ → FirstAnswer → Type 0
@@ -68,15 +75,17 @@ GoesOn (Page scenario (Recorded file) target) first (answer.PageRecorded c text)
 GoesOn (Retrace scenario (OfChronicle file)) first (answer.Retrace s) = Tells first s
 GoesOn _ first _ = ⊥
 
--- States that the task results in this on its first file: in a text or bytes to print, or in something with which it
--- goes on.
+-- States that the task results in this on its first file: in lines, a text or bytes to print, or in something with which
+-- it goes on.
 abbrev pub ComesTo : Task → List ℕ → FirstAnswer → Type 0
+ComesTo task first (answer.Lines lines rest) = PrintsLines task first lines.items (string_bytes rest)
 ComesTo task first (answer.Text text) = Prints task first (string_bytes text)
 ComesTo task first (answer.Bytes bytes) = Prints task first bytes.items
 ComesTo task first more = GoesOn task first more
 
 -- States that the task goes on after its first file.
 abbrev pub IsUnfinished : FirstAnswer → Type 0
+IsUnfinished (answer.Lines lines rest) = ⊥
 IsUnfinished (answer.Text text) = ⊥
 IsUnfinished (answer.Bytes bytes) = ⊥
 IsUnfinished _ = Unit {0}

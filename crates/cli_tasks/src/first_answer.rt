@@ -1,4 +1,5 @@
 //! What a task results in on its first file: all that it prints, or a program or a campaign with which it goes on.
+use answer_lines::Line;
 use cli_words::{Account, Lieutenants};
 use round::Scenario;
 use scenario::Campaign;
@@ -7,6 +8,8 @@ use verify::Verified;
 /// The result of a task on its only or first file.
 #[derive(Drop)]
 pub enum FirstAnswer {
+    /// The lines that the task prints, and the text after them. They are its whole answer.
+    Lines(Vec<Line>, String),
     /// The text that the task prints, which is its whole answer.
     Text(String),
     /// The bytes that the task prints, which are its whole answer and not text.

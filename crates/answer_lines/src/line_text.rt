@@ -1,0 +1,52 @@
+//! Prints lines as text.
+ghost use Rattle.std.specs.Prelude.{◌≡◌, ◌++◌, IfOk, OnOk, string_bytes};
+ghost use Rattle.answer_lines.specs.Text.{ended, line_text, text_of};
+
+use crate::line::Line;
+use std::alloc::{AllocError, Global};
+
+/// Returns the text of a line, without the line feed at its end.
+///
+/// # Errors
+///
+/// Fails with `AllocError` if there is not enough memory.
+pub fn line_text(alloc: Global, line: Line) -> Result<String, AllocError>
+    ensures { IfOk result (λ text. string_bytes text ≡ line_text line) }
+{
+    match line {
+        Line::Accepted { instructions, units } => {
+            format!(in alloc; "accepted {instructions} instructions {units} units")
+        }
+        Line::Run { r0, steps } => format!(in alloc; "r0 {r0} steps {steps}"),
+        Line::Put {
+            rank,
+            receiver,
+            order,
+            ..
+        } => format!(in alloc; "put {rank} {receiver} {order}"),
+        Line::Word { slot, value } => format!(in alloc; "word {slot} {value}"),
+    }
+}
+
+/// Appends a line to the text, and a line feed.
+fn push_line(alloc: Global, text: &mut Vec<u8>, line: Line) -> Result<(), AllocError>
+    ensures { OnOk result (text.new.items ≡ text.old.items ++ ended line) }
+{
+    let written = line_text(alloc, line)?;
+    text.extend_from_slice(written.as_bytes())?;
+    text.push(b'\n')
+}
+
+/// Appends lines to the text, each with a line feed at its end.
+///
+/// # Errors
+///
+/// Fails with `AllocError` if there is not enough memory. Then only some of the lines may have been appended.
+pub fn push_lines(alloc: Global, text: &mut Vec<u8>, lines: &[Line]) -> Result<(), AllocError>
+    ensures { OnOk result (text.new.items ≡ text.old.items ++ text_of lines.now) }
+{
+    for line in lines {
+        push_line(alloc, text, *line)?;
+    }
+    Ok(())
+}
