@@ -6,7 +6,7 @@ use Rattle.serde_json.specs.Data.{number, unsigned, array, Items, no_items, item
 use Rattle.serde_json.specs.Find.{get_member, as_number, as_u64}
 use Rattle.cli_answers.specs.declared.position.Held.{Held}
 use Rattle.cli_answers.specs.declared.shape.Within.{Within}
-use Rattle.cli_answers.specs.declared.shape.Within.TheVariants.{Nothing, Round, Letter, Outbox}
+use Rattle.cli_answers.specs.declared.shape.Within.TheVariants.{Nothing, Round, Letter}
 
 -- Returns the number at this name, if there is one.
 abbrev pub number_at : List ℕ → Members → Option ℕ
@@ -16,11 +16,9 @@ number_at name ms = option_and_then as_u64 (option_and_then as_number (get_membe
 abbrev pub at_first : Held
 at_first = record { generals = 0; commander = 0; round = 0; general = 0 }
 
--- Returns what is known before the first line of a text. If the text is the answer of a trial, it is the relay in which
--- the program was tried.
-abbrev pub held_by : Option Shape → Held
-held_by None = at_first
-held_by (Some s) = record { generals = s.generals; commander = s.commander; round = s.round; general = s.general }
+-- Returns what is known of the place of a line that belongs to a relay.
+abbrev pub held_by : Shape → Held
+held_by s = record { generals = s.generals; commander = s.commander; round = s.round; general = s.general }
 
 -- Returns what is known after a line: the numbers that it has at these names, and otherwise those from before.
 abbrev pub heard : Held → Members → Held
@@ -63,12 +61,10 @@ with_label (Some w) ms = put (codes "label") (array (numbers w)) ms
 abbrev pub with_number : List ℕ → ℕ → Members → Members
 with_number name n ms = put name (number (unsigned n)) ms
 
--- Puts the place of a line into its object: its round, or the round, the general and the label of its rank, or, in an
--- outbox, only that label.
+-- Puts the place of a line into its object: its round, or the round, the general and the label of its rank.
 abbrev pub placed : Within → Held → Members → Members
 placed Nothing h ms = ms
 placed Round h ms = with_number (codes "round") h.round ms
 placed Letter h ms =
     with_label (option_and_then (label_of h) (number_at (codes "rank") ms))
     (with_number (codes "general") h.general (with_number (codes "round") h.round ms))
-placed Outbox h ms = with_label (option_and_then (label_of h) (number_at (codes "rank") ms)) ms

@@ -6,9 +6,12 @@ use Rattle.cli_words.specs.Tasks.{file_of}
 use Rattle.cli_words.specs.declared.tasks.TaskRequest.{TaskRequest}
 use Rattle.cli_words.specs.declared.tasks.Task.{Task}
 use Rattle.cli_words.specs.declared.tasks.Task.TheVariants.{Audit}
-use Rattle.label.specs.declared.shape.Shape.{Shape}
+use Rattle.answer_lines.specs.Text.{line_text, text_of}
+use Rattle.answer_lines.specs.declared.line.Line.{Line}
+use Rattle.serde_json.specs.Data.{Members}
 use Rattle.cli_answers.specs.Labels.{at_first}
-use Rattle.cli_answers.specs.Lines.{json_text, object_line, with_file}
+use Rattle.cli_answers.specs.Lines.{json_answer, object_line, with_file}
+use Rattle.cli_answers.specs.Members.{members}
 use Rattle.cli_answers.specs.Objects.{line_object}
 use Rattle.cli_answers.specs.Refusals.{refusal_object}
 use Rattle.streams.specs.Names.{shown}
@@ -28,25 +31,36 @@ judged task = unwrap_or (file_of task) []
 abbrev pub is_verdict : List ℕ → Bool
 is_verdict line = bytes_eq (take 8 line) (codes "verdict ")
 
--- Returns the line that says how a task ended: the verdict on a campaign or, without one, the first line.
-abbrev pub outcome : List ℕ → List ℕ
-outcome text = unwrap_or (find is_verdict (lines_of text)) (before feed text)
+-- Returns the line that says how a task ended, of an answer without lines that are values: the verdict on a campaign or,
+-- without one, the first line.
+abbrev pub outcome_in : List ℕ → List ℕ
+outcome_in text = unwrap_or (find is_verdict (lines_of text)) (before feed text)
+
+-- Returns the line that says how a task ended.
+abbrev pub outcome : List Line → List ℕ → List ℕ
+outcome [] rest = outcome_in rest
+outcome (line ∷ lines) rest = line_text line
+
+-- Returns the object of the line that says how a task ended.
+abbrev pub outcome_object : List Line → List ℕ → Members
+outcome_object [] rest = line_object at_first (outcome_in rest)
+outcome_object (line ∷ lines) rest = members line
 
 -- Returns a line with its file's name before it, or `None` if it is not specified how the name is shown.
 abbrev pub named_line : List ℕ → List ℕ → Option (List ℕ)
 named_line name line = option_map (λ told. told ++ codes ": " ++ line ++ 10 ∷ []) (shown name)
 
--- Returns an answer's text as it is, as JSON Lines, as one line, or as one line of JSON. If it is the answer of a
--- trial, `place` is the relay in which the program was tried.
-abbrev pub answer_by : Bool → Bool → List ℕ → Option Shape → List ℕ → Option (List ℕ)
-answer_by false false name place text = Some text
-answer_by true false name place text = Some (json_text place text)
-answer_by false true name place text = named_line name (outcome text)
-answer_by true true name place text = Some (object_line (with_file name (line_object at_first (outcome text))))
+-- Returns an answer as text, as JSON Lines, as one line, or as one line of JSON. The answer has these lines, and `rest`
+-- after them.
+abbrev pub answer_by : Bool → Bool → List ℕ → List Line → List ℕ → Option (List ℕ)
+answer_by false false name lines rest = Some (text_of lines ++ rest)
+answer_by true false name lines rest = Some (json_answer lines rest)
+answer_by false true name lines rest = named_line name (outcome lines rest)
+answer_by true true name lines rest = Some (object_line (with_file name (outcome_object lines rest)))
 
--- Returns an answer's text in the form that the request asks for.
-abbrev pub answer_as : TaskRequest → Option Shape → List ℕ → Option (List ℕ)
-answer_as request place text = answer_by request.json request.verdicts (judged request.task) place text
+-- Returns an answer in the form that the request asks for.
+abbrev pub answer_as : TaskRequest → List Line → List ℕ → Option (List ℕ)
+answer_as request lines rest = answer_by request.json request.verdicts (judged request.task) lines rest
 
 -- Returns a refusal's text as it is, as a JSON object, as one line, or as a JSON object with the file's name.
 abbrev pub refusal_by : Bool → Bool → List ℕ → List ℕ → Option (List ℕ)

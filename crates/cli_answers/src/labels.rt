@@ -87,7 +87,7 @@ fn put_own(
 
 /// Puts the label of this rank into the object, if the general relays one of this rank.
 #[tactic(auto, unfolding(crate::specs::Labels::label_of), using(crate::proofs::LabelLemmas::own_relayed))]
-fn put_label(
+pub(crate) fn put_label(
     alloc: Global,
     object: &mut Map<String, Value>,
     held: Held,
@@ -137,10 +137,6 @@ pub(crate) fn put_place(
             let rank = number_at(object, "rank");
             put(object, alloc, "round", Value::from(held.round))?;
             put(object, alloc, "general", Value::from(held.general))?;
-            put_label_of(alloc, object, held, rank)
-        }
-        Within::Outbox => {
-            let rank = number_at(object, "rank");
             put_label_of(alloc, object, held, rank)
         }
     }

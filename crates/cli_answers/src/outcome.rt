@@ -2,7 +2,7 @@
 ghost use Rattle.std.specs.Prelude.{◌≡◌, find, option_map};
 ghost use Rattle.text.specs.Parts.{before, lines_of};
 ghost use Rattle.text.specs.Stop.{feed};
-ghost use Rattle.cli_answers.specs.Printing.{is_verdict, judged, outcome};
+ghost use Rattle.cli_answers.specs.Printing.{is_verdict, judged, outcome_in};
 
 use cli_words::Task;
 use text::{Stop, cut, line};
@@ -47,9 +47,10 @@ fn verdict(text: &[u8]) -> Option<&[u8]>
     None
 }
 
-/// Returns the line that says how the task ended: the first verdict or, without one, the first line.
-pub(crate) fn outcome(text: &[u8]) -> &[u8]
-    ensures { result.now ≡ outcome text.now }
+/// Returns the line that says how the task ended, from an answer without lines that are values: the first verdict or,
+/// without one, the first line.
+pub(crate) fn outcome_in(text: &[u8]) -> &[u8]
+    ensures { result.now ≡ outcome_in text.now }
 {
     match verdict(text) {
         Some(line) => line,

@@ -40,19 +40,15 @@ impl Held {
         }
     }
 
-    /// Returns what is known before the first line of a text. If the text is the answer of a trial, `place` is the
-    /// relay in which the program was tried.
-    pub(crate) fn by(place: Option<Shape>) -> Held
-        ensures { result ≡ held_by place }
+    /// Returns what is known of the place of a line that belongs to a relay.
+    pub(crate) fn by(relay: Shape) -> Held
+        ensures { result ≡ held_by relay }
     {
-        match place {
-            None => Held::at_first(),
-            Some(shape) => Held {
-                generals: u64::from(shape.generals),
-                commander: u64::from(shape.commander),
-                round: u64::from(shape.round),
-                general: u64::from(shape.general),
-            },
+        Held {
+            generals: u64::from(relay.generals),
+            commander: u64::from(relay.commander),
+            round: u64::from(relay.round),
+            general: u64::from(relay.general),
         }
     }
 

@@ -14,8 +14,6 @@ pub(crate) enum Within {
     Round,
     /// The line is in a letter of a round.
     Letter,
-    /// The line is in an outbox, where a rank has its label.
-    Outbox,
 }
 
 /// A shape of lines: what its words are, and their names.
@@ -183,45 +181,6 @@ const SHAPES: &[Shape] = &[
     Shape {
         line: "sound",
         parts: &[("sound", "-")],
-        mark: "",
-        holds: false,
-        within: Within::Nothing,
-    },
-    Shape {
-        line: "accepted",
-        parts: &[
-            ("accepted", "-"),
-            ("N", "instructions"),
-            ("instructions", "-"),
-            ("N", "units"),
-            ("units", "-"),
-        ],
-        mark: "",
-        holds: false,
-        within: Within::Nothing,
-    },
-    Shape {
-        line: "run",
-        parts: &[("r0", "-"), ("N", "r0"), ("steps", "-"), ("N", "steps")],
-        mark: "",
-        holds: false,
-        within: Within::Nothing,
-    },
-    Shape {
-        line: "put",
-        parts: &[
-            ("put", "-"),
-            ("N", "rank"),
-            ("N", "receiver"),
-            ("N", "order"),
-        ],
-        mark: "",
-        holds: false,
-        within: Within::Outbox,
-    },
-    Shape {
-        line: "word",
-        parts: &[("word", "-"), ("N", "slot"), ("N", "value")],
         mark: "",
         holds: false,
         within: Within::Nothing,
