@@ -17,4 +17,13 @@ pub enum Line {
     },
     /// A program's run left this value in a word of the board.
     Word { slot: usize, value: u64 },
+    /// A chronicle is sound.
+    Sound,
+    /// The verdict on a campaign: whether the loyal lieutenants decide alike, whether they obey the commander, and whether
+    /// the bound holds. `obeyed` is `None` if the commander is a traitor.
+    Verdict {
+        alike: bool,
+        obeyed: Option<bool>,
+        bound: bool,
+    },
 }

@@ -1,9 +1,39 @@
 //! Prints lines as text.
-ghost use Rattle.std.specs.Prelude.{◌≡◌, ◌++◌, IfOk, OnOk, string_bytes};
-ghost use Rattle.answer_lines.specs.Text.{ended, line_text, text_of};
+ghost use Rattle.std.specs.Prelude.{◌≡◌, ◌++◌, IfOk, OnOk, codes, string_bytes};
+ghost use Rattle.answer_lines.specs.Text.{ended, line_text, perhaps, text_of, yes_no};
 
 use crate::line::Line;
 use std::alloc::{AllocError, Global};
+
+/// Returns `yes` or `no`.
+fn yes_no(value: bool) -> &'static str
+    ensures { result.now ≡ yes_no value }
+{
+    if value { "yes" } else { "no" }
+}
+
+/// Returns `yes`, `no`, or a dash if there is no value.
+fn perhaps(value: Option<bool>) -> &'static str
+    ensures { result.now ≡ perhaps value }
+{
+    match value {
+        Some(value) => yes_no(value),
+        None => "-",
+    }
+}
+
+/// Returns the text of a verdict by its words.
+fn verdict_text(
+    alloc: Global,
+    alike: &str,
+    obeyed: &str,
+    bound: &str,
+) -> Result<String, AllocError>
+    ensures { IfOk result (λ text. string_bytes text
+        ≡ codes "verdict alike " ++ alike.now ++ codes " obeyed " ++ obeyed.now ++ codes " bound " ++ bound.now) }
+{
+    format!(in alloc; "verdict alike {alike} obeyed {obeyed} bound {bound}")
+}
 
 /// Returns the text of a line, without the line feed at its end.
 ///
@@ -25,6 +55,12 @@ pub fn line_text(alloc: Global, line: Line) -> Result<String, AllocError>
             ..
         } => format!(in alloc; "put {rank} {receiver} {order}"),
         Line::Word { slot, value } => format!(in alloc; "word {slot} {value}"),
+        Line::Sound => String::from_str(alloc, "sound"),
+        Line::Verdict {
+            alike,
+            obeyed,
+            bound,
+        } => verdict_text(alloc, yes_no(alike), perhaps(obeyed), yes_no(bound)),
     }
 }
 

@@ -13,8 +13,8 @@ use Rattle.cli_answers.specs.declared.position.Held.{Held}
 use Rattle.cli_answers.specs.declared.shape.Within.{Within}
 use Rattle.cli_answers.specs.declared.shape.Within.TheVariants.{Nothing, Round, Letter}
 use Rattle.answer_lines.specs.declared.line.Line.{Line}
-use Rattle.answer_lines.specs.declared.line.Line.TheVariants.{Accepted, Run, Put, Word as BoardWord}
-use Rattle.cli_answers.specs.Members.{members, of_two}
+use Rattle.answer_lines.specs.declared.line.Line.TheVariants.{Accepted, Run, Put, Word as BoardWord, Sound, Verdict}
+use Rattle.cli_answers.specs.Members.{members, of_two, perhaps}
 use Rattle.cli_answers.specs.Printing.{outcome_in, outcome_object}
 use Rattle.cli_answers.specs.Labels.{at_first, held_by, label_of, number_at, numbers, placed, with_label, with_number}
 use Rattle.cli_answers.specs.Lines.{with_file}
@@ -185,6 +185,10 @@ line_clean h line =
 two_clean : (kind first : List ℕ) (m : ℕ) (second : List ℕ) (n : ℕ) → NoFloat (of_two kind first m second n)
 two_clean kind first m second n = within_clean second n (with_number first m (called kind)) (within_clean first m (called kind) refl)
 
+perhaps_clean : (o : Option Bool) → has_float (perhaps o) ≡ false
+perhaps_clean None = refl
+perhaps_clean (Some value) = refl
+
 pub members_clean : (line : Line) → members_have_float (members line) ≡ false
 unfolding members
 members_clean (Accepted instructions units) = two_clean (codes "accepted") (codes "instructions") instructions (codes "units") units
@@ -193,12 +197,18 @@ members_clean (Put relay rank receiver order) =
     let two = of_two (codes "put") (codes "rank") rank (codes "receiver") receiver in
     label_clean (label_of (held_by relay) rank) (with_number (codes "order") order two)
     (within_clean (codes "order") order two (two_clean (codes "put") (codes "rank") rank (codes "receiver") receiver))
+members_clean Sound = refl
+members_clean (Verdict alike obeyed bound) =
+    let first = put (codes "alike") (boolean alike) (called (codes "verdict")) in
+    let second = put (codes "obeyed") (perhaps obeyed) first in
+    put_clean (codes "bound") (boolean bound) second refl
+    (put_clean (codes "obeyed") (perhaps obeyed) first (perhaps_clean obeyed) (put_clean (codes "alike") (boolean alike) (called (codes "verdict")) refl refl))
 members_clean (BoardWord slot value) = two_clean (codes "word") (codes "slot") slot (codes "value") value
 
 -- nor that of the outcome
-pub outcome_clean : (lines : List Line) (rest : List ℕ) → members_have_float (outcome_object lines rest) ≡ false
-outcome_clean [] rest = line_clean at_first (outcome_in rest)
-outcome_clean (line ∷ lines) rest = members_clean line
+pub outcome_clean : (line : Option Line) (rest : List ℕ) → members_have_float (outcome_object line rest) ≡ false
+outcome_clean None rest = line_clean at_first (outcome_in rest)
+outcome_clean (Some line) rest = members_clean line
 
 -- nor does a refusal
 text_clean : (name t : List ℕ) (ms : Members) → NoFloat ms → NoFloat (with_text name t ms)

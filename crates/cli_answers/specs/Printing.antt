@@ -1,5 +1,6 @@
 -- Defines what is printed of an answer or of a refusal, as text, as JSON, or as one line (own).
-use Rattle.std.specs.Prelude.{ℕ, ◌++◌, ◌||◌, Bool, true, false, List, [], ◌∷◌, Option, Some, codes, find, option_map, take, unwrap_or}
+use Rattle.std.specs.Prelude.{ℕ, ◌++◌, ◌||◌, Bool, true, false, List, [], ◌∷◌, Option, None, Some, codes, find, option_map, slice_get, take, unwrap_or}
+use Rattle.std.specs.Option.{option_or}
 use Rattle.std.specs.Str.{bytes_eq}
 use Rattle.std.specs.String.{string_bytes}
 use Rattle.cli_words.specs.Tasks.{file_of}
@@ -8,6 +9,7 @@ use Rattle.cli_words.specs.declared.tasks.Task.{Task}
 use Rattle.cli_words.specs.declared.tasks.Task.TheVariants.{Audit}
 use Rattle.answer_lines.specs.Text.{line_text, text_of}
 use Rattle.answer_lines.specs.declared.line.Line.{Line}
+use Rattle.answer_lines.specs.declared.line.Line.TheVariants.{Verdict}
 use Rattle.serde_json.specs.Data.{Members}
 use Rattle.cli_answers.specs.Labels.{at_first}
 use Rattle.cli_answers.specs.Lines.{json_answer, object_line, with_file}
@@ -36,15 +38,24 @@ is_verdict line = bytes_eq (take 8 line) (codes "verdict ")
 abbrev pub outcome_in : List ℕ → List ℕ
 outcome_in text = unwrap_or (find is_verdict (lines_of text)) (before feed text)
 
--- Returns the line that says how a task ended.
-abbrev pub outcome : List Line → List ℕ → List ℕ
-outcome [] rest = outcome_in rest
-outcome (line ∷ lines) rest = line_text line
+-- Holds if the line is a verdict.
+abbrev pub is_final : Line → Bool
+is_final (Verdict alike obeyed bound) = true
+is_final _ = false
 
--- Returns the object of the line that says how a task ended.
-abbrev pub outcome_object : List Line → List ℕ → Members
-outcome_object [] rest = line_object at_first (outcome_in rest)
-outcome_object (line ∷ lines) rest = members line
+-- Returns the line that says how a task ended, if it is a value: the verdict or, without one, the first line.
+abbrev pub final : List Line → Option Line
+final lines = option_or (find is_final lines) (slice_get lines 0)
+
+-- Returns the line that says how a task ended, where `line` is this line if it is a value.
+abbrev pub outcome : Option Line → List ℕ → List ℕ
+outcome None rest = outcome_in rest
+outcome (Some line) rest = line_text line
+
+-- Returns the object of the line that says how a task ended, where `line` is this line if it is a value.
+abbrev pub outcome_object : Option Line → List ℕ → Members
+outcome_object None rest = line_object at_first (outcome_in rest)
+outcome_object (Some line) rest = members line
 
 -- Returns a line with its file's name before it, or `None` if it is not specified how the name is shown.
 abbrev pub named_line : List ℕ → List ℕ → Option (List ℕ)
@@ -55,8 +66,8 @@ named_line name line = option_map (λ told. told ++ codes ": " ++ line ++ 10 ∷
 abbrev pub answer_by : Bool → Bool → List ℕ → List Line → List ℕ → Option (List ℕ)
 answer_by false false name lines rest = Some (text_of lines ++ rest)
 answer_by true false name lines rest = Some (json_answer lines rest)
-answer_by false true name lines rest = named_line name (outcome lines rest)
-answer_by true true name lines rest = Some (object_line (with_file name (outcome_object lines rest)))
+answer_by false true name lines rest = named_line name (outcome (final lines) rest)
+answer_by true true name lines rest = Some (object_line (with_file name (outcome_object (final lines) rest)))
 
 -- Returns an answer in the form that the request asks for.
 abbrev pub answer_as : TaskRequest → List Line → List ℕ → Option (List ℕ)

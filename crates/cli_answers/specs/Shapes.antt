@@ -73,7 +73,6 @@ shapes =
     ∷ marked (codes "decision") (codes "decision N traitor N") (codes "- general - decision")
     (codes "traitor") true Nothing
     ∷ plain (codes "verdict") (codes "verdict alike A obeyed A bound A") (codes "- - alike - obeyed - bound") Nothing
-    ∷ plain (codes "sound") (codes "sound") (codes "-") Nothing
     ∷ plain (codes "table") (codes "generals N bound N commander N") (codes "- generals - bound - commander") Nothing
     ∷ plain (codes "table") (codes "generals N bound N commander N rule C")
     (codes "- generals - bound - commander - rule") Nothing

@@ -3,13 +3,13 @@ ghost use Rattle.std.specs.Prelude.{◌≡◌, false, IfOk};
 ghost use Rattle.serde_json.specs.View.{members_view};
 ghost use Rattle.serde_json.specs.Written.{members_have_float};
 ghost use Rattle.cli_answers.specs.Lines.{object_line, with_file};
-ghost use Rattle.cli_answers.specs.Printing.{outcome_object};
+ghost use Rattle.cli_answers.specs.Printing.{final, outcome_object};
 ghost use Rattle.cli_answers.specs.Refusals.{refusal_object};
 
 use crate::json_lines::push_object;
 use crate::members::members;
 use crate::objects::line_object;
-use crate::outcome::outcome_in;
+use crate::outcome::{final_line, outcome_in};
 use crate::position::Held;
 use crate::refusals::refusal_object;
 use answer_lines::Line;
@@ -34,20 +34,19 @@ fn named(alloc: Global, file: &str, object: Map<String, Value>) -> Result<Vec<u8
     Ok(out)
 }
 
-/// Returns the object of the line that says how the task ended, from an answer that has these lines, and `rest` after
-/// them.
+/// Returns the object of the line that says how the task ended: `line` or, if that is `None`, the line in the text.
 #[tactic(auto, using(crate::proofs::CleanLemmas::outcome_clean))]
 fn outcome_object(
     alloc: Global,
-    lines: &[Line],
+    line: Option<Line>,
     rest: &[u8],
 ) -> Result<Map<String, Value>, AllocError>
-    ensures object { IfOk result (λ object. members_view object.entries ≡ outcome_object lines.now rest.now) }
+    ensures object { IfOk result (λ object. members_view object.entries ≡ outcome_object line rest.now) }
     ensures clean { IfOk result (λ object. members_have_float (members_view object.entries) ≡ false) }
 {
-    match lines {
-        [] => line_object(alloc, Held::at_first(), outcome_in(rest)),
-        [line, ..] => members(alloc, *line),
+    match line {
+        None => line_object(alloc, Held::at_first(), outcome_in(rest)),
+        Some(line) => members(alloc, line),
     }
 }
 
@@ -63,9 +62,9 @@ pub fn answer_of(
     lines: &[Line],
     rest: &[u8],
 ) -> Result<Vec<u8>, AllocError>
-    ensures { IfOk result (λ out. out.items ≡ object_line (with_file file.now (outcome_object lines.now rest.now))) }
+    ensures { IfOk result (λ out. out.items ≡ object_line (with_file file.now (outcome_object (final lines.now) rest.now))) }
 {
-    let object = outcome_object(alloc, lines, rest)?;
+    let object = outcome_object(alloc, final_line(lines), rest)?;
     named(alloc, file, object)
 }
 

@@ -1,8 +1,8 @@
 //! Turns a line that is a value into a JSON object.
 ghost use Rattle.std.specs.Prelude.{◌≡◌, IfOk, OnOk};
-ghost use Rattle.serde_json.specs.View.{members_view};
+ghost use Rattle.serde_json.specs.View.{members_view, view};
 ghost use Rattle.cli_answers.specs.Labels.{with_number};
-ghost use Rattle.cli_answers.specs.Members.{members, of_two};
+ghost use Rattle.cli_answers.specs.Members.{members, of_two, perhaps};
 
 use crate::labels::put_label;
 use crate::objects::called;
@@ -22,6 +22,16 @@ fn put_number(
         ≡ with_number name.now number (members_view object.old.entries)) }
 {
     put(object, alloc, name, Value::from(number))
+}
+
+/// Returns a truth value, or null if there is none.
+fn perhaps(value: Option<bool>) -> Value
+    ensures { view result ≡ perhaps value }
+{
+    match value {
+        Some(value) => Value::Bool(value),
+        None => Value::Null,
+    }
 }
 
 /// Returns an object of this kind with two numbers, each with its name.
@@ -66,6 +76,18 @@ pub(crate) fn members(alloc: Global, line: Line) -> Result<Map<String, Value>, A
             let mut object = of_two(alloc, "put", ranked, ("receiver", u64::from(receiver)))?;
             put_number(alloc, &mut object, "order", u64::from(order))?;
             put_label(alloc, &mut object, Held::by(relay), u64::from(rank))?;
+            Ok(object)
+        }
+        Line::Sound => called(alloc, "sound"),
+        Line::Verdict {
+            alike,
+            obeyed,
+            bound,
+        } => {
+            let mut object = called(alloc, "verdict")?;
+            put(&mut object, alloc, "alike", Value::Bool(alike))?;
+            put(&mut object, alloc, "obeyed", perhaps(obeyed))?;
+            put(&mut object, alloc, "bound", Value::Bool(bound))?;
             Ok(object)
         }
         Line::Word { slot, value } => {

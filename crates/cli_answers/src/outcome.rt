@@ -2,8 +2,9 @@
 ghost use Rattle.std.specs.Prelude.{◌≡◌, find, option_map};
 ghost use Rattle.text.specs.Parts.{before, lines_of};
 ghost use Rattle.text.specs.Stop.{feed};
-ghost use Rattle.cli_answers.specs.Printing.{is_verdict, judged, outcome_in};
+ghost use Rattle.cli_answers.specs.Printing.{final, is_final, is_verdict, judged, outcome_in};
 
+use answer_lines::Line;
 use cli_words::Task;
 use text::{Stop, cut, line};
 
@@ -45,6 +46,28 @@ fn verdict(text: &[u8]) -> Option<&[u8]>
         rest = behind;
     }
     None
+}
+
+/// Returns the first of the lines that is a verdict, if there is one.
+fn verdict_line(lines: &[Line]) -> Option<Line>
+    ensures { result ≡ find is_final lines.now }
+{
+    for line in lines {
+        if let Line::Verdict { .. } = line {
+            return Some(*line);
+        }
+    }
+    None
+}
+
+/// Returns the line that says how the task ended, if it is a value: the verdict or, without one, the first line.
+pub(crate) fn final_line(lines: &[Line]) -> Option<Line>
+    ensures { result ≡ final lines.now }
+{
+    match verdict_line(lines) {
+        Some(line) => Some(line),
+        None => lines.first().copied(),
+    }
 }
 
 /// Returns the line that says how the task ended, from an answer without lines that are values: the first verdict or,

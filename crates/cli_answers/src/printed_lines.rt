@@ -1,9 +1,9 @@
 //! Lays out an answer or a refusal in the form that is asked for: as text, as JSON, or as one line.
 ghost use Rattle.std.specs.Prelude.{◌≡◌, ◌++◌, IfOk, IfSome};
 ghost use Rattle.answer_lines.specs.Text.{text_of};
-ghost use Rattle.cli_answers.specs.Printing.{answer_as, named_line, outcome, refusal_as};
+ghost use Rattle.cli_answers.specs.Printing.{answer_as, final, named_line, outcome, refusal_as};
 
-use crate::outcome::{first_line, judged, outcome_in};
+use crate::outcome::{final_line, first_line, judged, outcome_in};
 use answer_lines::{Line, line_text, push_lines};
 use cli_words::TaskRequest;
 use std::alloc::{AllocError, Global};
@@ -29,12 +29,12 @@ fn named_outcome(
     rest: &[u8],
 ) -> Result<Vec<u8>, AllocError>
     ensures { IfOk result
-        (λ all. IfSome (named_line name.now (outcome lines.now rest.now)) (λ known. all.items ≡ known)) }
+        (λ all. IfSome (named_line name.now (outcome (final lines.now) rest.now)) (λ known. all.items ≡ known)) }
 {
-    match lines {
-        [] => named_line(alloc, name, outcome_in(rest)),
-        [line, ..] => {
-            let text = line_text(alloc, *line)?;
+    match final_line(lines) {
+        None => named_line(alloc, name, outcome_in(rest)),
+        Some(line) => {
+            let text = line_text(alloc, line)?;
             named_line(alloc, name, text.as_bytes())
         }
     }

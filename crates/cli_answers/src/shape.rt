@@ -179,13 +179,6 @@ const SHAPES: &[Shape] = &[
         within: Within::Nothing,
     },
     Shape {
-        line: "sound",
-        parts: &[("sound", "-")],
-        mark: "",
-        holds: false,
-        within: Within::Nothing,
-    },
-    Shape {
         line: "table",
         parts: &[
             ("generals", "-"),

@@ -5,6 +5,7 @@ use Rattle.cli_words.specs.declared.tasks.Account.TheVariants as accounts
 use Rattle.cli_words.specs.declared.tasks.Lieutenants.{Lieutenants}
 use Rattle.cli_words.specs.declared.tasks.Lieutenants.TheVariants as lieutenants
 use Rattle.show_table.specs.Retold.{Explains, IsRetold}
+use Rattle.answer_lines.specs.declared.line.Line.{Line}
 use Rattle.round.specs.Scenario.{Scenario}
 use Rattle.world.specs.declared.schedule.Repeat.{Repeat}
 use Rattle.world.specs.Chronicle.{Chronicle, chronicle_of}
@@ -100,23 +101,26 @@ pub record IsMustered (s : Scenario) (explained : Option Lieutenants) (text : Li
   pub verdict : IsVerdictOn s chronicle.decisions chronicle.verdict
   pub well : IsWellUnderBound chronicle.verdict
 
--- States that the bytes are the text of a chronicle of the oral campaign. The lines say so, give the verdict of its
--- replay, which is a complete run, and then the explanation, if it is asked for.
-pub record IsOralAudited (s : Scenario) (explained : Option Lieutenants) (bytes text : List ℕ) : Type 0 where
+-- States that the bytes are the text of a chronicle of the oral campaign. The lines say so and give the verdict of its
+-- replay, which is a complete run. The explanation follows, if it is asked for.
+pub record IsOralAudited (s : Scenario) (explained : Option Lieutenants) (bytes : List ℕ) (lines : List Line)
+    (rest : List ℕ) : Type 0 where
   pub sound : IsSoundText s bytes
   pub run : IsCompleteRun oral_kind s (replayed oral_kind s (names_of bytes)) (chronicle_told s bytes)
-  pub told : IsFollowed explained (chronicle_told s bytes) (sound_lines (chronicle_told s bytes).verdict) text
+  pub told : lines ≡ sound_lines (chronicle_told s bytes).verdict
+  pub behind : IsBehind explained (chronicle_told s bytes) rest
 
--- States that the bytes are the text of a chronicle of the signed campaign. The lines say so, give the verdict of its
--- replay, which is a complete run, and then the explanation, if it is asked for.
-pub record IsSignedAudited (s : Scenario) (explained : Option Lieutenants) (bytes text : List ℕ) : Type 0 where
+-- States that the bytes are the text of a chronicle of the signed campaign. The lines say so and give the verdict of its
+-- replay, which is a complete run. The explanation follows, if it is asked for.
+pub record IsSignedAudited (s : Scenario) (explained : Option Lieutenants) (bytes : List ℕ) (lines : List Line)
+    (rest : List ℕ) : Type 0 where
   pub sound : IsSoundSignedText s bytes
   pub run : IsCompleteRun signed_kind s (replayed signed_kind s (names_of bytes)) (signed_chronicle_told s bytes)
-  pub told : text ≡ sound_lines (signed_chronicle_told s bytes).verdict
-      ++ signed_behind explained (signed_chronicle_told s bytes)
+  pub told : lines ≡ sound_lines (signed_chronicle_told s bytes).verdict
+  pub behind : rest ≡ signed_behind explained (signed_chronicle_told s bytes)
 
--- States that the bytes are the text of a chronicle of the campaign. The lines say so, give the verdict of its replay,
--- and then the explanation, if it is asked for.
-abbrev pub IsAudited : Campaign → Option Lieutenants → List ℕ → List ℕ → Type 0
-IsAudited (Oral s) explained bytes text = IsOralAudited s explained bytes text
-IsAudited (Signed s) explained bytes text = IsSignedAudited s explained bytes text
+-- States that the bytes are the text of a chronicle of the campaign. The lines say so and give the verdict of its
+-- replay. The explanation follows, if it is asked for.
+abbrev pub IsAudited : Campaign → Option Lieutenants → List ℕ → List Line → List ℕ → Type 0
+IsAudited (Oral s) explained bytes lines rest = IsOralAudited s explained bytes lines rest
+IsAudited (Signed s) explained bytes lines rest = IsSignedAudited s explained bytes lines rest

@@ -73,9 +73,11 @@ abbrev pub IsPlayedBy : Option (Option (List ℕ)) → Campaign → Account → 
 IsPlayedBy known c account explained text =
     (schedule : List (List Repeat)) × IsScheduleOf known schedule × IsPlayed c schedule account explained text
 
--- States that these are the lines of the audit of the second file as a chronicle of the campaign.
-abbrev pub IsAuditOf : Option (Option (List ℕ)) → Campaign → Option Lieutenants → List ℕ → Type 0
-IsAuditOf known c explained text = (bytes : List ℕ) × AreSecondBytes known bytes × IsAudited c explained bytes text
+-- States that these are the lines of the audit of the second file as a chronicle of the campaign, and the text after
+-- them.
+abbrev pub IsAuditOf : Option (Option (List ℕ)) → Campaign → Option Lieutenants → List Line → List ℕ → Type 0
+IsAuditOf known c explained lines rest =
+    (bytes : List ℕ) × AreSecondBytes known bytes × IsAudited c explained bytes lines rest
 
 -- States that the picture shows the campaign played by the schedule in the second file.
 abbrev pub IsDrawnBy : Option (Option (List ℕ)) → Campaign → List ℕ → Type 0
@@ -113,7 +115,6 @@ IsTextAfter known (answer.Text all) text = text ≡ string_bytes all
 IsTextAfter known (answer.Bytes all) text = text ≡ all.items
 IsTextAfter known (answer.Play c account explained) text = IsPlayedBy known c account explained text
 IsTextAfter known (answer.Muster s explained) text = IsMustered s explained text
-IsTextAfter known (answer.Audit c explained) text = IsAuditOf known c explained text
 IsTextAfter known (answer.Draw c) text = IsDrawnBy known c text
 IsTextAfter known (answer.DrawRecorded c) text = IsDrawnAs known c text
 IsTextAfter known (answer.Page c scenario) text = IsPagedBy known c (string_bytes scenario) text
@@ -126,6 +127,7 @@ abbrev pub EndsIn : Task → List ℕ → Option (Option (List ℕ)) → FirstAn
 EndsIn task first known (answer.Lines all text) lines rest = (lines ≡ all.items) × (rest ≡ string_bytes text)
 EndsIn task first known (answer.Trial program told) lines rest =
     IsTrialOf known told (explained_in task) first program lines rest
+EndsIn task first known (answer.Audit c explained) lines rest = IsAuditOf known c explained lines rest
 EndsIn task first known more lines rest = (lines ≡ []) × IsTextAfter known more rest
 
 -- States that the task prints these lines on the files, and this text after them.

@@ -199,8 +199,7 @@ where
             Ok(Answer::plain(alloc, mustered_text(alloc, text, told, file)?))
         }
         FirstAnswer::Audit(campaign, explained) => {
-            let text = audit_of(alloc, &campaign, explained, told, file, second)?;
-            Ok(Answer::plain(alloc, text))
+            audit_of(alloc, &campaign, explained, told, file, second)
         }
         FirstAnswer::Draw(campaign) => {
             Ok(Answer::plain(alloc, draw_by(alloc, campaign, told, file, second)?))
@@ -348,8 +347,9 @@ fn audit_of<'a, R: Source>(
     reported: bool,
     file: &'a str,
     second: Option<R>,
-) -> Result<Vec<u8>, TaskFailure<'a>>
-    ensures audited { IfOk result (λ text. IsAuditOf (option_map R.bytes second) campaign.now explained text.items) }
+) -> Result<Answer, TaskFailure<'a>>
+    ensures audited { IfOk result
+        (λ answer. IsAuditOf (option_map R.bytes second) campaign.now explained answer.lines.items answer.rest.items) }
     ensures fault { IfErr result
         (Stops (IsSomeAnd second R.fails)
         (IsToldLater reported file.entry.now (option_map R.bytes second)
@@ -357,7 +357,7 @@ fn audit_of<'a, R: Source>(
 {
     let bytes = read_second(alloc, file, second)?;
     match audited(alloc, campaign, bytes.as_slice(), explained) {
-        Ok(text) => Ok(text),
+        Ok(answer) => Ok(answer),
         Err(refusal) => {
             Err(later(
                 alloc,
