@@ -2,7 +2,7 @@
 #![tactic(auto)]
 
 mod line;
-mod line_text;
+mod texts;
 
 pub use line::Line;
-pub use line_text::{line_text, push_lines};
+pub use texts::{line_text, push_lines};

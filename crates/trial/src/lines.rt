@@ -126,7 +126,8 @@ fn push_order(
         rank,
         receiver,
         order,
-    })
+    })?;
+    Ok(())
 }
 
 /// Appends a line for each word that has changed.
@@ -159,5 +160,6 @@ fn push_word(
     lines.push(Line::Word {
         slot: index,
         value: word,
-    })
+    })?;
+    Ok(())
 }

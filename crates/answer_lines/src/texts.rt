@@ -23,12 +23,7 @@ fn perhaps(value: Option<bool>) -> &'static str
 }
 
 /// Returns the text of a verdict by its words.
-fn verdict_text(
-    alloc: Global,
-    alike: &str,
-    obeyed: &str,
-    bound: &str,
-) -> Result<String, AllocError>
+fn verdict_text(alloc: Global, alike: &str, obeyed: &str, bound: &str) -> Result<String, AllocError>
     ensures { IfOk result (λ text. string_bytes text
         ≡ codes "verdict alike " ++ alike.now ++ codes " obeyed " ++ obeyed.now ++ codes " bound " ++ bound.now) }
 {
@@ -44,9 +39,10 @@ pub fn line_text(alloc: Global, line: Line) -> Result<String, AllocError>
     ensures { IfOk result (λ text. string_bytes text ≡ line_text line) }
 {
     match line {
-        Line::Accepted { instructions, units } => {
-            format!(in alloc; "accepted {instructions} instructions {units} units")
-        }
+        Line::Accepted {
+            instructions,
+            units,
+        } => { format!(in alloc; "accepted {instructions} instructions {units} units") }
         Line::Run { r0, steps } => format!(in alloc; "r0 {r0} steps {steps}"),
         Line::Put {
             rank,
@@ -70,7 +66,8 @@ fn push_line(alloc: Global, text: &mut Vec<u8>, line: Line) -> Result<(), AllocE
 {
     let written = line_text(alloc, line)?;
     text.extend_from_slice(written.as_bytes())?;
-    text.push(b'\n')
+    text.push(b'\n')?;
+    Ok(())
 }
 
 /// Appends lines to the text, each with a line feed at its end.
