@@ -56,6 +56,15 @@ class Command:
         raise Refused("400 Bad Request", "The command does not take this word or number.")
 
 
+class Tree(Command):
+    """The tree of a lieutenant, whom each request names."""
+
+    def call(self, request):
+        if "of" not in request:
+            raise Refused("400 Bad Request", "A tree needs a lieutenant.")
+        return super().call(request)
+
+
 class Search(Command):
     """The search for a campaign that breaks. It takes both numbers, and plays as many campaigns as the time allows: with no
     more traitors than one above the bound, who are enough if any are."""
@@ -93,7 +102,7 @@ COMMANDS = {
     "check": Command(["check", "--asm", "--explain"], TEXT, is_scenario=False),
     "play": Command(["play", "--json", "--explain"], LINES, OF, files=SCHEDULE),
     "chronicle": Command(["play"], TEXT, files=SCHEDULE),
-    "tree": Command(["tree", "--svg"], SVG, {**OF, "depth": ("--depth", 0, 4)}, {"fold": ["--fold"]}),
+    "tree": Tree(["tree", "--svg"], SVG, {**OF, "depth": ("--depth", 0, 4)}, {"fold": ["--fold"]}),
     "draw": Command(["draw"], SVG, files=SCHEDULE),
     "page": Command(["page"], HTML, files=SCHEDULE),
     "audit": Command(["audit", "--explain"], TEXT, files={"chronicle": [None]}),
