@@ -11,7 +11,7 @@ use codec::encode;
 use insn::Program;
 use std::alloc::{AllocError, Global};
 
-/// Assembles a program from text, and returns its bytecode in lower-case hex on one line.
+/// Assembles a program from text, and returns its bytecode as one line of lower-case hexadecimal digits.
 ///
 /// # Errors
 ///
@@ -40,13 +40,14 @@ pub fn assembled_raw(alloc: Global, text: &str) -> Result<Vec<u8>, InputRefusal>
     Ok(encode(alloc, &program)?)
 }
 
-/// Disassembles the program that a file contains in this notation. If `units` is set, the number of its unit precedes
-/// each instruction.
+/// Reads the program in a file, and returns it as assembly text. `notation` says whether the file is bytecode, assembly
+/// or an ELF object. If `units` is set, each line begins with the number of the unit (8 bytes) at which its instruction
+/// begins.
 ///
 /// # Errors
 ///
-/// Fails if the codec or the assembler rejects the program, if an object has no code for the entry, if a text is not
-/// UTF-8, or if memory runs out.
+/// Fails if the bytes are not the bytecode of a program, if an object has no code for the entry, if a text does not
+/// assemble or is not UTF-8, or if memory runs out.
 pub fn disassembled(
     alloc: Global,
     notation: &Notation,
@@ -60,7 +61,8 @@ pub fn disassembled(
     Ok(listed(alloc, units, &program)?)
 }
 
-/// Returns a program as text. If `units` is set, the number of its unit precedes each instruction.
+/// Returns a program as assembly text. If `units` is set, each line begins with the number of the unit (8 bytes) at
+/// which its instruction begins.
 fn listed(alloc: Global, units: bool, program: &Program) -> Result<String, AllocError>
     ensures { IfOk result (λ text. string_bytes text ≡ listing units program.now) }
 {

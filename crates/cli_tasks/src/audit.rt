@@ -15,8 +15,8 @@ use std::alloc::{AllocError, Global};
 use trace::{Latch, write_verdict};
 use world::Verdict;
 
-/// Audits the bytes as the text of a chronicle of the campaign. Returns a line which says that the text is sound, and
-/// the line of its verdict. The explanation of the decisions follows, if one is asked for.
+/// Checks that the bytes are the text of a chronicle of the campaign. Returns the line `sound` and the line of the
+/// campaign's verdict. If `explained` names lieutenants, the explanation of their decisions follows.
 ///
 /// # Errors
 ///
@@ -37,7 +37,7 @@ pub fn audited(
     }
 }
 
-/// Audits the bytes as the text of a chronicle of an oral campaign.
+/// Checks that the bytes are the text of a chronicle of an oral campaign, and returns the lines that `audit` prints.
 #[tactic(auto, using(crate::proofs::CampaignLemmas::is_audited, crate::proofs::CampaignLemmas::told_wholly))]
 fn oral_audited(
     alloc: Global,
@@ -54,7 +54,7 @@ fn oral_audited(
     Ok(with_decisions(alloc, lines, &chronicle, explained)?)
 }
 
-/// Audits the bytes as the text of a chronicle of a signed campaign.
+/// Checks that the bytes are the text of a chronicle of a signed campaign, and returns the lines that `audit` prints.
 #[tactic(auto, using(crate::proofs::CampaignLemmas::is_signed_audited))]
 fn signed_audited(
     alloc: Global,
@@ -71,7 +71,7 @@ fn signed_audited(
     Ok(with_signed_decisions(alloc, front, &chronicle, explained)?)
 }
 
-/// Returns the line `sound` and the line of the verdict.
+/// Returns the two lines that `audit` prints about a sound chronicle: `sound`, and the verdict on the campaign.
 fn sound_text(alloc: Global, verdict: Verdict) -> Result<Vec<u8>, AllocError>
     ensures { IfOk result (λ lines. lines.items ≡ sound_lines verdict) }
 {

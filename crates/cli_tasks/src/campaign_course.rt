@@ -1,5 +1,5 @@
-//! Continues the subcommands `draw`, `page` and `schedule` with the second file, which has the course of the campaign:
-//! a schedule or a chronicle.
+//! Finishes the subcommands `draw`, `page` and `schedule` when the campaign has been read: reads the second file, which
+//! is a schedule or a chronicle of the campaign.
 ghost use Rattle.std.specs.Prelude.{IfErr, IfOk, IsSomeAnd, option_map, string_bytes};
 ghost use Rattle.cli_tasks.specs.Faults.{Stops};
 ghost use Rattle.cli_tasks.specs.Serving.{IsDrawnAs, IsDrawnBy, IsPagedAs, IsPagedBy, IsRetracedBy, IsToldLater};
@@ -17,7 +17,8 @@ use scenario::Campaign;
 use std::alloc::Global;
 use streams::Source;
 
-/// Plays the campaign by the schedule in the second file, and returns its picture.
+/// Plays the campaign by the schedule in the second file, and returns its space-time diagram in SVG. Without a second
+/// file the schedule is empty.
 pub(crate) fn draw_by<'a, R: Source>(
     alloc: Global,
     campaign: Campaign,
@@ -37,7 +38,8 @@ pub(crate) fn draw_by<'a, R: Source>(
     }
 }
 
-/// Returns the picture of the campaign as the chronicle in the second file records it.
+/// Reads the chronicle of the campaign from the second file, and returns its space-time diagram in SVG. The failure
+/// describes the fault if `reported` is set.
 pub(crate) fn draw_record<'a, R: Source>(
     alloc: Global,
     campaign: &Campaign,
@@ -67,8 +69,8 @@ pub(crate) fn draw_record<'a, R: Source>(
     }
 }
 
-/// Plays the campaign by the schedule in the second file, and returns its page. `text` is the text of the campaign's
-/// scenario.
+/// Plays the campaign by the schedule in the second file, and returns it as an HTML page. Without a second file the
+/// schedule is empty. `text` is the text of the campaign's scenario.
 pub(crate) fn page_by<'a, R: Source>(
     alloc: Global,
     campaign: Campaign,
@@ -89,7 +91,7 @@ pub(crate) fn page_by<'a, R: Source>(
     }
 }
 
-/// Returns the page of the campaign as the chronicle in the second file records it. `text` is the text of the
+/// Reads the chronicle of the campaign from the second file, and returns it as an HTML page. `text` is the text of the
 /// campaign's scenario.
 pub(crate) fn page_record<'a, R: Source>(
     alloc: Global,
@@ -121,7 +123,8 @@ pub(crate) fn page_record<'a, R: Source>(
     }
 }
 
-/// Returns a schedule by which the campaign has the chronicle in the second file.
+/// Reads a chronicle of an oral campaign from the second file. Returns the text of a schedule by which the campaign has
+/// this chronicle.
 pub(crate) fn retrace_of<'a, R: Source>(
     alloc: Global,
     scenario: &Scenario,

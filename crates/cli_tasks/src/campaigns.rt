@@ -1,4 +1,4 @@
-//! Reads campaigns and schedules from the bytes of files.
+//! Reads campaigns and schedules from the bytes of files, and reports why the bytes are rejected.
 ghost use Rattle.std.specs.Prelude.{◌≡◌, ◌≢◌, ◌<◌, ◌≤◌, ℕ, List, length, IfOk, IfErr, Ok, Some, string_bytes};
 ghost use Rattle.std.specs.Str.{IsUtf8};
 ghost use Rattle.scenario.specs.Reading.{Tells, TellsAny};
@@ -48,8 +48,8 @@ pub fn campaign(alloc: Global, bytes: &[u8]) -> Result<Scenario, InputRefusal>
     Ok(scenario::read(alloc, as_text(bytes)?)?)
 }
 
-/// Reads a campaign of which this account is printed. A chronicle can be printed of any campaign. A message table needs
-/// an oral campaign, since a signed campaign has none.
+/// Reads a campaign that will be printed as a chronicle or as a message table, as `account` says. Only an oral campaign
+/// has a message table, so for a table a signed campaign is rejected.
 ///
 /// # Errors
 ///
@@ -70,7 +70,7 @@ pub fn asked_campaign(
     }
 }
 
-/// Reads a schedule.
+/// Reads a schedule: the lines that say in which order the generals act.
 ///
 /// # Errors
 ///
@@ -84,8 +84,8 @@ pub fn schedule(alloc: Global, bytes: &[u8]) -> Result<Schedule, InputRefusal>
     Ok(read_schedule(alloc, as_text(bytes)?)?)
 }
 
-/// Reads the schedule of a file. `front` contains all bytes of the file or, if there are more than 1,048,576, a
-/// beginning of the file that is longer than this limit. A file that is longer is rejected, whatever bytes follow.
+/// Reads a schedule from the front of its file. `front` contains the whole file if the file has at most 1,048,576
+/// bytes. Otherwise it contains the first bytes of the file, more than 1,048,576 of them, and the file is rejected.
 ///
 /// # Errors
 ///
@@ -109,8 +109,8 @@ pub fn schedule_of(alloc: Global, front: &[u8]) -> Result<Schedule, InputRefusal
     Err(too_long(front))
 }
 
-/// Returns why a file that begins with these bytes is rejected as a schedule. They are more than 1,048,576, the most
-/// that a schedule may have.
+/// Returns why a file with more than 1,048,576 bytes is rejected as a schedule: with `Trace` for line 1 if a UTF-8 text
+/// may begin with the bytes `front`, and with `NotText` otherwise.
 fn too_long(front: &[u8]) -> InputRefusal
     requires { 1048576 < length front.now }
     ensures told { result ≢ Memory }
@@ -124,7 +124,7 @@ fn too_long(front: &[u8]) -> InputRefusal
     InputRefusal::Trace(TraceError::At(TraceFault::Line, 1))
 }
 
-/// Reads a campaign, with oral or with signed messages, and returns it with its text.
+/// Reads a campaign, with oral or with signed messages, and returns it with the text of its scenario.
 ///
 /// # Errors
 ///

@@ -1,4 +1,5 @@
-//! Makes the failure of a task that rejects its first file, and explains a rejected program for `check --explain`.
+//! Describes why a task rejects its first file. For `check --explain` this includes the explanation of a rejected
+//! program.
 ghost use Rattle.std.specs.Prelude.{◌≡◌, ◌≢◌, false, option_map};
 ghost use Rattle.object.specs.Symbol.{asked};
 ghost use Rattle.cli_tasks.specs.Hints.{is_reported};
@@ -15,7 +16,7 @@ use crate::whys::unjudged;
 use cli_words::{Notation, Task};
 use std::alloc::Global;
 
-/// Returns the notation of the program that the task must explain, or `None` if it must explain none.
+/// Returns how the program is written that the task must explain, or `None` if the task is not `check --explain`.
 pub(crate) fn explained_in(task: &Task) -> Option<&Notation>
     ensures { option_map (λ notation. notation.now) result ≡ explained_in task.now }
 {
@@ -29,8 +30,8 @@ pub(crate) fn explained_in(task: &Task) -> Option<&Notation>
     }
 }
 
-/// Returns the code of the object's entry, or no bytes if the object has no such entry. The entry is the function with
-/// the given name, if one is given.
+/// Returns the code of the function named `entry` in an ELF object or, without a name, the code of its only global
+/// function. Returns no bytes if the object has no such code.
 fn entry_code<'a>(object: &'a [u8], entry: Option<&str>) -> &'a [u8]
     ensures { result.now ≡ entry_code (asked entry.entry) object.now }
 {
@@ -40,8 +41,8 @@ fn entry_code<'a>(object: &'a [u8], entry: Option<&str>) -> &'a [u8]
     }
 }
 
-/// Returns the bytes in which the faults of the task's first file are located: the code of the entry if the task reads
-/// an object, and otherwise all bytes of the file.
+/// Returns the bytes by which a fault in the task's first file is located. If the task reads an ELF object, they are
+/// the code of its entry. Otherwise they are the whole file.
 fn bytecode_in<'a>(task: &Task, bytes: &'a [u8]) -> &'a [u8]
     ensures { result.now ≡ bytecode_in task.now bytes.now }
 {
@@ -62,8 +63,8 @@ fn bytecode_in<'a>(task: &Task, bytes: &'a [u8]) -> &'a [u8]
     }
 }
 
-/// Returns the notation in which a rejected program is read once more. This is the notation of the task if the verifier
-/// rejected the program and an explanation is asked for, and `None` otherwise.
+/// Returns how a program is written that the verifier rejected, if the task must explain it. Returns `None` if the task
+/// asks for no explanation, or if the program was rejected for another reason.
 fn asked_of<'a>(refusal: &InputRefusal, task: &'a Task) -> Option<&'a Notation>
     ensures { option_map (λ notation. notation.now) result ≡ asked_of refusal.now task.now }
 {
@@ -73,8 +74,9 @@ fn asked_of<'a>(refusal: &InputRefusal, task: &'a Task) -> Option<&'a Notation>
     }
 }
 
-/// Returns the failure of a task that rejects its first file, which has these bytes, with the hint that is printed
-/// after the error. If the task asks for no report and `refusal` is not `Memory`, the failure is not `Memory` either.
+/// Returns the failure of a task that rejects its first file for the reason `refusal`. The file has the bytes `bytes`.
+/// The failure contains the hint that is printed after the error line. If the task asks for no report and `refusal` is
+/// not `Memory`, the failure is not `Memory` either.
 pub(crate) fn refused<'a>(
     alloc: Global,
     task: &'a Task,

@@ -1,5 +1,5 @@
-//! Plays a campaign by a schedule, and writes its chronicle or its message table and the explanation of its decisions
-//! (subcommand `play`).
+//! Plays a campaign by a schedule, and writes its chronicle or its message table. Appends the explanation of the
+//! decisions if one is asked for (subcommand `play`).
 ghost use Rattle.std.specs.Prelude.{◌≡◌, ◌++◌, ◌∷◌, IfOk};
 ghost use Rattle.trace.specs.SignedText.{signed_text};
 ghost use Rattle.trace.specs.Text.{chronicle_text};
@@ -15,9 +15,9 @@ use std::alloc::{AllocError, Global};
 use trace::{Latch, write_chronicle, write_signed};
 use world::{Chronicle, Schedule, play};
 
-/// Plays the campaign by the schedule. Returns the account that is asked for, which for a signed campaign is always its
-/// chronicle. The explanation of the decisions follows, if one is asked for. The whole text is in memory, and takes
-/// some bytes for each word and access in it.
+/// Plays the campaign by the schedule. Returns its chronicle or its message table, as `account` says; a signed campaign
+/// always gets its chronicle. If `explained` names lieutenants, the explanation of their decisions follows. The whole
+/// text is in memory, and takes some bytes for each word and access in it.
 ///
 /// # Errors
 ///
@@ -37,8 +37,8 @@ pub fn played(
     }
 }
 
-/// Plays an oral campaign by the schedule. Returns the account that is asked for, and after it the explanation of the
-/// decisions, if one is asked for.
+/// Plays an oral campaign by the schedule. Returns its chronicle or its message table, as `account` says. If
+/// `explained` names lieutenants, the explanation of their decisions follows.
 #[tactic(auto, using(crate::proofs::CampaignLemmas::played_wholly))]
 fn oral_played(
     alloc: Global,
@@ -55,7 +55,7 @@ fn oral_played(
     with_decisions(alloc, front, &chronicle, explained)
 }
 
-/// Returns this account of an oral campaign: the text of its chronicle, or its message table.
+/// Returns an oral campaign as text: its chronicle or its message table, as `account` says.
 fn account_text(
     alloc: Global,
     chronicle: &Chronicle,
@@ -70,8 +70,8 @@ fn account_text(
     }
 }
 
-/// Plays a signed campaign by the schedule. Returns its chronicle, and after it the explanation of the decisions, if
-/// one is asked for.
+/// Plays a signed campaign by the schedule, and returns its chronicle. If `explained` names lieutenants, the
+/// explanation of their decisions follows.
 fn signed_played(
     alloc: Global,
     scenario: Scenario,
@@ -96,7 +96,7 @@ pub(crate) fn chronicle_text(alloc: Global, chronicle: &Chronicle) -> Result<Vec
     }
 }
 
-/// Appends a line feed and the lines to the text. If the text ends with a line feed, an empty line separates the two.
+/// Appends a line feed and then `lines` to a text. After a text that ends with a line feed this makes an empty line.
 #[tactic(auto, using(crate::proofs::CampaignLemmas::behind_lines))]
 fn with_lines(front: Vec<u8>, lines: &str) -> Result<Vec<u8>, AllocError>
     ensures { IfOk result (λ text. text.items ≡ front.items ++ 10 ∷ lines.now) }
@@ -107,8 +107,8 @@ fn with_lines(front: Vec<u8>, lines: &str) -> Result<Vec<u8>, AllocError>
     Ok(text)
 }
 
-/// Appends an empty line and the explanation of decisions in an oral campaign to the text. Returns the text unchanged
-/// if no explanation is asked for.
+/// Appends an empty line and the explanation of decisions in an oral campaign to its text. Returns the text unchanged
+/// if `explained` is `None`.
 #[tactic(auto, using(crate::proofs::CampaignLemmas::alone, crate::proofs::CampaignLemmas::followed))]
 pub(crate) fn with_decisions(
     alloc: Global,
@@ -126,8 +126,8 @@ pub(crate) fn with_decisions(
     with_lines(front, lines.as_str())
 }
 
-/// Appends an empty line and the explanation of decisions in a signed campaign to the text. Returns the text unchanged
-/// if no explanation is asked for.
+/// Appends an empty line and the explanation of decisions in a signed campaign to its text. Returns the text unchanged
+/// if `explained` is `None`.
 #[tactic(auto, using(crate::proofs::CampaignLemmas::signed_alone, crate::proofs::CampaignLemmas::signed_followed))]
 pub(crate) fn with_signed_decisions(
     alloc: Global,
@@ -144,7 +144,7 @@ pub(crate) fn with_signed_decisions(
     with_lines(front, lines.as_str())
 }
 
-/// Returns the general whose decision is asked for, or `None` if the decisions of all are asked for.
+/// Returns the number of the lieutenant whose decision is explained, or `None` if the decisions of all lieutenants are.
 fn asked(who: Lieutenants) -> Option<u8>
     ensures { result ≡ asked who }
 {

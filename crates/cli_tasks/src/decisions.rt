@@ -10,7 +10,7 @@ use crate::strangers::know_all;
 use book::{Table, explain, read_table};
 use std::alloc::Global;
 
-/// Computes what the lieutenants of a message table decide, and returns the decisions as text.
+/// Computes what the lieutenants of a message table decide, and returns a text with their decisions.
 ///
 /// # Errors
 ///
@@ -22,11 +22,12 @@ pub fn decided(alloc: Global, text: &str) -> Result<String, InputRefusal>
     Ok(book::decided(alloc, text)?)
 }
 
-/// Explains how the lieutenants of a message table reach their decisions if these generals are named as traitors.
+/// Explains how the lieutenants of a message table reach their decisions. The explanation assumes that the generals in
+/// `traitors` are the traitors.
 ///
 /// # Errors
 ///
-/// Fails with `Table` for the first fault of the table, with `Stranger` for the first named general who is not one of
+/// Fails with `Table` for the first fault of the table, with `Stranger` for the first of `traitors` who is not one of
 /// its generals, and with `Memory` if memory runs out.
 #[tactic(auto, using(crate::proofs::StrangerLemmas::table_explained))]
 pub fn explained(alloc: Global, text: &str, traitors: &[u8]) -> Result<String, InputRefusal>
@@ -39,7 +40,7 @@ pub fn explained(alloc: Global, text: &str, traitors: &[u8]) -> Result<String, I
     Ok(explain(alloc, &table, traitors)?)
 }
 
-/// Reads a message table from text.
+/// Reads a message table from text. Fails with `Table` for its first fault, and with `Memory` if memory runs out.
 pub(crate) fn table_in(alloc: Global, text: &str) -> Result<Table, InputRefusal>
     ensures told { IfOk result (λ table. table_told text.now ≡ Ok table) }
     ensures refused { IfErr result (RefusesTable text.now) }

@@ -37,7 +37,7 @@ pub fn diagrammed(
     }
 }
 
-/// Plays an oral campaign by the schedule, and returns its diagram.
+/// Plays an oral campaign by the schedule, and returns its space-time diagram in SVG.
 #[tactic(auto, using(crate::proofs::DiagramLemmas::played_drawn))]
 fn oral_diagrammed(
     alloc: Global,
@@ -51,7 +51,7 @@ fn oral_diagrammed(
     Ok(diagram_of(alloc, &chronicle)?)
 }
 
-/// Plays a signed campaign by the schedule, and returns its diagram.
+/// Plays a signed campaign by the schedule, and returns its space-time diagram in SVG.
 fn signed_diagrammed(
     alloc: Global,
     scenario: Scenario,
@@ -64,7 +64,7 @@ fn signed_diagrammed(
     Ok(signed_diagram_of(alloc, &chronicle)?)
 }
 
-/// Reads a chronicle of the campaign, and returns the diagram of the chronicle in SVG.
+/// Reads a chronicle of the campaign, and returns its space-time diagram in SVG.
 ///
 /// # Errors
 ///
@@ -84,7 +84,7 @@ pub fn record_diagrammed(
     }
 }
 
-/// Reads a chronicle of an oral campaign, and returns its diagram.
+/// Reads a chronicle of an oral campaign, and returns its space-time diagram in SVG.
 #[tactic(auto, using(crate::proofs::DiagramLemmas::told_drawn))]
 fn oral_record_diagrammed(
     alloc: Global,
@@ -99,7 +99,7 @@ fn oral_record_diagrammed(
     Ok(diagram_of(alloc, &chronicle)?)
 }
 
-/// Reads a chronicle of a signed campaign, and returns its diagram.
+/// Reads a chronicle of a signed campaign, and returns its space-time diagram in SVG.
 fn signed_record_diagrammed(
     alloc: Global,
     scenario: &Scenario,
@@ -113,7 +113,8 @@ fn signed_record_diagrammed(
     Ok(signed_diagram_of(alloc, &chronicle)?)
 }
 
-/// Returns the diagram of an oral campaign's chronicle and of the message table that its letters give.
+/// Returns the space-time diagram of an oral campaign in SVG. It shows the chronicle, and the message table that the
+/// letters in it give.
 fn diagram_of(alloc: Global, chronicle: &Chronicle) -> Result<Vec<u8>, AllocError>
     requires whole { IsWhole chronicle.now }
     requires faithful { AreFaithful chronicle.now }
@@ -126,7 +127,7 @@ fn diagram_of(alloc: Global, chronicle: &Chronicle) -> Result<Vec<u8>, AllocErro
     Ok(campaign_svg(alloc, &table, chronicle)?.into_bytes())
 }
 
-/// Returns the diagram of a signed campaign's chronicle.
+/// Returns the space-time diagram of a signed campaign's chronicle in SVG.
 fn signed_diagram_of(alloc: Global, chronicle: &SignedChronicle) -> Result<Vec<u8>, AllocError>
     ensures { IfOk result (λ picture. picture.items ≡ signed_svg chronicle.now) }
 {

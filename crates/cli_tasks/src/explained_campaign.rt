@@ -1,4 +1,5 @@
-//! Reads campaigns of which decisions may be explained, and checks that a lieutenant who is named for this is one.
+//! Reads campaigns whose decisions may be explained, and checks that the general whose decision is explained is a
+//! lieutenant.
 ghost use Rattle.std.specs.Prelude.{◌≡◌, None, IfErr, IfOk, OnOk, false};
 ghost use Rattle.scenario.specs.declared.messages.Campaign.TheVariants.{Oral};
 ghost use Rattle.cli_tasks.specs.Explained.{RefusesExplained, TellsAsked, scenario_of, stranger_asked};
@@ -14,11 +15,11 @@ use round::Scenario;
 use scenario::Campaign;
 use std::alloc::Global;
 
-/// Checks that the general whose decision is to be explained, if one is named, is a lieutenant of the campaign.
+/// Checks that `explained` names a lieutenant of the scenario. All lieutenants, and none, are allowed too.
 ///
 /// # Errors
 ///
-/// Fails with `Stranger` if he is not.
+/// Fails with `Stranger` if the named general is not a lieutenant.
 fn know_asked(scenario: &Scenario, explained: Option<Lieutenants>) -> Result<(), InputRefusal>
     ensures known { OnOk result (stranger_asked scenario.now explained ≡ None) }
     ensures refused { IfErr result (IsOf scenario.now.generals (stranger_asked scenario.now explained)) }
@@ -31,11 +32,12 @@ fn know_asked(scenario: &Scenario, explained: Option<Lieutenants>) -> Result<(),
     }
 }
 
-/// Checks the same in a campaign with oral or signed messages.
+/// Checks that `explained` names a lieutenant of an oral or signed campaign. All lieutenants, and none, are allowed
+/// too.
 ///
 /// # Errors
 ///
-/// Fails with `Stranger` if he is not.
+/// Fails with `Stranger` if the named general is not a lieutenant.
 fn know_asked_in(campaign: &Campaign, explained: Option<Lieutenants>) -> Result<(), InputRefusal>
     ensures known { OnOk result (stranger_asked (scenario_of campaign.now) explained ≡ None) }
     ensures refused { IfErr result
@@ -47,12 +49,13 @@ fn know_asked_in(campaign: &Campaign, explained: Option<Lieutenants>) -> Result<
     }
 }
 
-/// Reads a campaign of which this account is printed, and perhaps decisions explained (`campaigns::asked_campaign`).
+/// Reads the campaign that `play` or `audit` needs. `account` says whether it is printed as a chronicle or as a message
+/// table, and `explained` which decisions are explained. Only an oral campaign has a message table.
 ///
 /// # Errors
 ///
-/// Fails as `asked_campaign` does, and with `Stranger` if the general whose decision is to be explained is not a
-/// lieutenant.
+/// Fails with `Scenario` for the first fault of the scenario, with `NotText` if the bytes are not UTF-8, with
+/// `Stranger` if `explained` names a general who is not a lieutenant, and with `Memory` if memory runs out.
 #[tactic(auto, using(crate::proofs::ExplainedLemmas::campaign_asked))]
 pub(crate) fn played_campaign(
     alloc: Global,
@@ -68,12 +71,12 @@ pub(crate) fn played_campaign(
     Ok(campaign)
 }
 
-/// Reads a campaign with oral messages of which decisions may be explained.
+/// Reads an oral campaign that will be run with threads. `explained` says which decisions are explained.
 ///
 /// # Errors
 ///
-/// Fails as `campaigns::campaign` does, and with `Stranger` if the general whose decision is to be explained is not a
-/// lieutenant.
+/// Fails with `Scenario` for the first fault of the scenario, with `NotText` if the bytes are not UTF-8, with
+/// `Stranger` if `explained` names a general who is not a lieutenant, and with `Memory` if memory runs out.
 #[tactic(auto, using(crate::proofs::ExplainedLemmas::oral_asked))]
 pub(crate) fn mustered_campaign(
     alloc: Global,

@@ -1,4 +1,5 @@
-//! Explores all orders of a campaign's accesses, and counts which decisions they lead to (subcommand `explore`).
+//! Plays a campaign once for each sequence of its accesses to the board, and counts which decisions result (subcommand
+//! `explore`).
 ghost use Rattle.std.specs.Prelude.{IfErr, IfOk, map, string_bytes};
 ghost use Rattle.cli_tasks.specs.Exploring.{IsExplored, KeepsOrders, limit};
 ghost use Rattle.cli_tasks.specs.Refusals.{RefusesScenario, RefusesText};
@@ -9,9 +10,9 @@ use campaign_orders::findings_agree;
 use round::Scenario;
 use std::alloc::{AllocError, Global};
 
-/// Plays an oral campaign in each order of its accesses, and returns the outcomes as text. If there are more than
-/// `most` orders, only the `most` least ones are counted. If `most` is `None`, all orders are counted. Time and memory
-/// then grow with the number of worlds that do not go on alike.
+/// Plays an oral campaign once for each sequence in which its accesses to the board can happen, and returns the
+/// outcomes as text. If there are more than `most` sequences, only the `most` least ones are counted. If `most` is
+/// `None`, all are counted. Time and memory then grow with the number of worlds that can go on differently.
 ///
 /// # Errors
 ///
@@ -24,8 +25,8 @@ pub fn explored(alloc: Global, scenario: &Scenario, most: Option<u64>) -> Result
     campaign_orders::explored(alloc, scenario, most.unwrap_or(u64::MAX))
 }
 
-/// Returns what `explore` prints of a file with these bytes, and for each outcome the text of a schedule, in the same
-/// order.
+/// Reads an oral campaign, and returns the text that `explore` prints about it. Returns for each outcome also the text
+/// of a schedule that leads to this outcome, in the order of the printed outcomes.
 ///
 /// # Errors
 ///

@@ -1,4 +1,4 @@
-//! Why a task failed: the text of its error, and its exit status.
+//! Why a task of the command line failed, with the text of its error and its exit status.
 ghost use Rattle.std.specs.Prelude.{◌≡◌};
 ghost use Rattle.cli_tasks.specs.Faults.{fault_of, fault_of_bytes, status_of};
 
@@ -7,14 +7,14 @@ use crate::refusal::InputRefusal;
 use std::fmt;
 use streams::FileName;
 
-/// The error of a task that was not done.
+/// The error of a task that could not be done, for example `fault read FILE`.
 #[derive(Drop)]
 pub enum TaskFailure<'a> {
-    /// The file of this name could not be read.
+    /// The file with this name could not be read.
     Read(&'a str),
-    /// The file of this name is not UTF-8 text.
+    /// The file with this name is not UTF-8 text.
     Text(&'a str),
-    /// The input is rejected. The hint, if there is one, is printed after the line of the error.
+    /// The input is rejected for this reason. The hint, if there is one, is printed after the error line.
     Refused(InputRefusal, Option<Hint>),
     /// The output could not be written.
     Write,
@@ -40,8 +40,7 @@ impl fmt::Display for TaskFailure<'_> {
 }
 
 impl<'a> TaskFailure<'a> {
-    /// Returns the failure of a task that rejects the file named `file` for the reason `refusal`. The failure has no
-    /// hint.
+    /// Returns the failure of a task that rejects the file named `file` for the reason `refusal`, without a hint.
     pub(crate) fn of(refusal: InputRefusal, file: &'a str) -> TaskFailure<'a>
         ensures { result ≡ fault_of refusal file.entry }
     {
@@ -52,9 +51,9 @@ impl<'a> TaskFailure<'a> {
         }
     }
 
-    /// Returns the failure for a rejected file with this name and these bytes. If the bytes are not bytecode, the hint
-    /// says what they seem to be. If an object has no code for the entry, the hint says why. Otherwise there is no
-    /// hint.
+    /// Returns the failure of a task that rejects the file named `file` with the bytes `bytes` for the reason
+    /// `refusal`. If the bytes are not bytecode, the hint says what they seem to be. If an object has no code for the
+    /// entry, the hint says why. Otherwise there is no hint.
     pub(crate) fn of_bytes(refusal: InputRefusal, file: &'a str, bytes: &[u8]) -> TaskFailure<'a>
         ensures { result ≡ fault_of_bytes refusal file.entry bytes.now }
     {
@@ -70,7 +69,7 @@ impl<'a> TaskFailure<'a> {
         }
     }
 
-    /// Returns the exit status: 3 if memory ran out, and 1 for any other failure.
+    /// Returns the exit status of a task with this failure: 3 if memory ran out, and 1 for any other failure.
     pub fn status(&self) -> u8
         ensures { result ≡ status_of self.now }
     {

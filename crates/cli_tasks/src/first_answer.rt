@@ -1,36 +1,39 @@
-//! What a task results in on its first file: all that it prints, or a program or a campaign with which it goes on.
+//! The result of a task on its first file: everything that it prints, or a program or a campaign that it needs for the
+//! second file.
 use cli_words::{Account, Lieutenants};
 use round::Scenario;
 use scenario::Campaign;
 use verify::Verified;
 
-/// The result of a task on its only or first file.
+/// The result of a task on its only or first file: everything that it prints, or a program or a campaign that it needs
+/// for the second file.
 #[derive(Drop)]
 pub enum FirstAnswer {
-    /// The text that the task prints, which is its whole answer.
+    /// The whole answer, as text.
     Text(String),
-    /// The bytes that the task prints, which are its whole answer and not text.
+    /// The whole answer, as bytes that need not be text.
     Bytes(Vec<u8>),
-    /// A verified program to try in the setting of the second file, and whether its steps are printed.
+    /// A verified program that will run in the setting of the second file. The flag says whether its steps are printed.
     Trial(Verified, bool),
-    /// A campaign to play by the schedule in the second file, the account to print of it, and the lieutenants whose
-    /// decisions are explained, if any.
+    /// A campaign to play by the schedule in the second file, whether to print its chronicle or its message table, and
+    /// the lieutenants whose decisions are explained, if any.
     Play(Campaign, Account, Option<Lieutenants>),
     /// An oral campaign to run with a thread for each general, and the lieutenants whose decisions are explained, if
     /// any.
     Muster(Scenario, Option<Lieutenants>),
-    /// A campaign for which the second file is audited as its chronicle, and the lieutenants whose decisions are
-    /// explained, if any.
+    /// A campaign of which the second file should be a chronicle, and the lieutenants whose decisions are explained, if
+    /// any.
     Audit(Campaign, Option<Lieutenants>),
-    /// A campaign to draw. The picture shows the campaign played by the schedule in the second file.
+    /// A campaign to play by the schedule in the second file and to draw as a diagram.
     Draw(Campaign),
-    /// A campaign to draw. The picture shows the chronicle in the second file.
+    /// A campaign to draw as a diagram, in the course that the chronicle in the second file records.
     DrawRecorded(Campaign),
-    /// A campaign to write as a page, with the text of its scenario. The page shows the campaign played by the schedule
-    /// in the second file.
+    /// A campaign to play by the schedule in the second file and to write as an HTML page, with the text of its
+    /// scenario.
     Page(Campaign, String),
-    /// A campaign to write as a page, with the text of its scenario. The page shows the chronicle in the second file.
+    /// A campaign to write as an HTML page, in the course that the chronicle in the second file records, with the text
+    /// of its scenario.
     PageRecorded(Campaign, String),
-    /// An oral campaign. The task prints a schedule by which it has the chronicle in the second file.
+    /// An oral campaign. The task prints a schedule that leads to the chronicle in the second file.
     Retrace(Scenario),
 }

@@ -1,8 +1,8 @@
-//! The folder in which a scenario's named files are found, as a trait.
+//! The trait `Folder`: reads the files that a scenario names.
 use std::alloc::Global;
 use std::io;
 
-/// A folder from which the files that a scenario names are read.
+/// A folder with the files that a scenario names, such as the folder of the scenario's own file.
 pub trait Folder {
     ghost use Rattle.std.specs.Prelude.{◌≡◌, ◌≤◌, ℕ, List, None, Option, IfErr, IfOk, IfSome, length};
     ghost use Rattle.std.specs.IoError.{error_kind};
@@ -14,12 +14,12 @@ pub trait Folder {
     // States what is known after a read of the file with a given name failed with an error of this kind.
     ghost fails: { Self → List ℕ → ErrorKind → Type 0 } = { λ _ _ _. Unit {0} };
 
-    /// Reads all bytes of the file with this name, if it has at most `most` bytes.
+    /// Reads all bytes of the file named `name`, if it has at most `most` bytes.
     ///
     /// # Errors
     ///
-    /// Fails if the file has more bytes, with the kind `FileTooLarge`. Fails if it cannot be opened or read, or if
-    /// memory runs out.
+    /// Fails with the kind `FileTooLarge` if the file has more than `most` bytes. Fails if the file cannot be opened or
+    /// read, or if memory runs out.
     fn read(&self, alloc: Global, name: &str, most: usize) -> io::Result<Vec<u8>>
         ensures few { IfOk result (λ all. length all.items ≤ most) }
         ensures whole { IfOk result (λ all. IfSome (bytes self.now name.now) (λ known. all.items ≡ known)) }

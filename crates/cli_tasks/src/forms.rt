@@ -1,4 +1,5 @@
-//! Writes message tables for the numbers of a campaign, to be filled in or already filled in (subcommand `table`).
+//! Writes the message table of a campaign with given numbers: an empty one, or one that is already filled in
+//! (subcommand `table`).
 ghost use Rattle.std.specs.Prelude.{◌≢◌, IfOk, IfErr, OnOk, string_bytes};
 ghost use Rattle.book.specs.Answers.{IsFilled, IsFormOf};
 ghost use Rattle.cli_tasks.specs.TableRefusals.{RefusesFilled, RefusesForm};
@@ -10,11 +11,12 @@ use crate::strangers::know_all;
 use cli_words::Filling;
 use std::alloc::Global;
 
-/// Returns a message table to fill in, for a campaign with these numbers.
+/// Returns a message table to fill in, with a question mark for each order. The words `generals`, `bound` and
+/// `commander` give the number of generals, the bound m on the traitors and the commander.
 ///
 /// # Errors
 ///
-/// Fails with `Table` for the fault that the first line of a table with these numbers has, and with `Memory` if memory
+/// Fails with `Table` if a table with these numbers would have a fault in its first line, and with `Memory` if memory
 /// runs out.
 pub fn formed(
     alloc: Global,
@@ -28,12 +30,13 @@ pub fn formed(
     Ok(book::formed(alloc, generals, bound, commander)?)
 }
 
-/// Returns the message table of a campaign with these numbers in which every general sends the same order. If a liar is
-/// named, the orders that he sends are left to be filled in.
+/// Returns a message table in which every general sends the order of `filling`. The words `generals`, `bound` and
+/// `commander` give the number of generals, the bound m on the traitors and the commander. If `filling` names a liar,
+/// the orders that he sends are question marks, to be filled in.
 ///
 /// # Errors
 ///
-/// Fails with `Table` for the fault that the first line of a table with these numbers has, with `Stranger` if the liar
+/// Fails with `Table` if a table with these numbers would have a fault in its first line, with `Stranger` if the liar
 /// is not one of the generals, and with `Memory` if memory runs out.
 #[tactic(auto, using(crate::proofs::StrangerLemmas::unfilled))]
 pub fn filled(
@@ -53,7 +56,8 @@ pub fn filled(
     Ok(book::filled(alloc, generals, bound, commander, order, liar)?)
 }
 
-/// Checks that the words are the numbers of a campaign, and that the liar, if there is one, is one of its generals.
+/// Checks that the words are the numbers of a campaign, and that `liar` is one of its generals if there is a liar.
+/// Fails with `Table` or with `Stranger`, and never with `Memory`.
 #[tactic(auto, using(crate::proofs::StrangerLemmas::liar_known))]
 fn know_liar(
     generals: &str,

@@ -1,15 +1,15 @@
-//! Hints: the text that is printed after the error line of a rejected input.
+//! Hints: explanations that are printed after the error line of a rejected input.
 use crate::likeness::{Likeness, seems};
 use std::fmt;
 
-/// The text that is printed after the error line of a rejected input.
+/// A hint: the text that is printed after the error line of a rejected input.
 #[derive(Drop)]
 pub enum Hint {
-    /// Says what the bytes seem to be.
+    /// Says what bytes that are not bytecode seem to be.
     Seems(Likeness),
-    /// Says why an object has no code for the entry.
+    /// Says why an ELF object has no code for the entry.
     Fault(object::ObjectFault),
-    /// Explains a rejected program, or reports on another rejected input.
+    /// Explains a rejected program, or reports where and why another input is at fault.
     Explained(String),
 }
 
@@ -36,8 +36,8 @@ impl Hint {
     ghost use Rattle.cli_tasks.specs.Seeming.{seems_at_first};
     ghost use Rattle.cli_tasks.specs.declared.hint.Hint.TheVariants.{Seems};
 
-    /// Returns a hint that says what bytes that are not bytecode seem to be, or `None` if they seem to be nothing
-    /// known.
+    /// Returns a hint that says what bytes which are not bytecode seem to be: hex, an ELF object or text. Returns
+    /// `None` if they seem to be none of these.
     pub(crate) fn of_bytes(bytes: &[u8]) -> Option<Hint>
         ensures { result ≡ option_map Seems (seems_at_first bytes.now) }
     {

@@ -1,5 +1,5 @@
-//! Does the tasks of the command line: reads the files of a subcommand, computes its answer, and prints the answer or
-//! why there is none. There are tasks for programs, message tables, campaigns and pictures.
+//! Does the tasks of the command line. For each subcommand it reads the files, computes the answer, and prints the
+//! answer or the error. There are tasks for programs, message tables, campaigns and pictures.
 #![tactic(auto)]
 
 mod assembly;

@@ -1,4 +1,4 @@
-//! Guesses what a file is that is not bytecode: bytecode in hex, an ELF object, or text.
+//! Guesses what a file is if it should be bytecode but is not: bytecode in hex, an ELF object, or text.
 ghost use Rattle.std.specs.Prelude.{◌≡◌};
 ghost use Rattle.std.specs.List.{list_all};
 ghost use Rattle.cli_tasks.specs.Seeming.{is_of_hex, is_of_text, seems_at_first, seems_of};
@@ -6,7 +6,7 @@ ghost use Rattle.cli_tasks.specs.Seeming.{is_of_hex, is_of_text, seems_at_first,
 use insn::Program;
 use std::fmt;
 
-/// What a file that should be bytecode, and is not, seems to be.
+/// What a file seems to be that should be bytecode but is not.
 #[derive(Clone, Copy, PartialEq, Eq)]
 pub enum Likeness {
     /// A program in hexadecimal digits, as `asm` prints it.
@@ -32,8 +32,8 @@ impl fmt::Display for Likeness {
     }
 }
 
-/// Returns what the bytes seem to be, or `None` if they seem to be nothing known. If there are more bytes than a
-/// program may have, only the first of them are examined.
+/// Returns what the bytes seem to be: hex, an ELF object or text. Returns `None` if they seem to be none of these. Of a
+/// long file only the first 32,768 bytes are examined, the size of the longest program.
 #[tactic(auto, unfolding(crate::specs::Seeming::seems_at_first))]
 pub fn seems(bytes: &[u8]) -> Option<Likeness>
     ensures { result ≡ seems_at_first bytes.now }
@@ -41,8 +41,8 @@ pub fn seems(bytes: &[u8]) -> Option<Likeness>
     whole(&bytes[..bytes.len().min(8 * Program::MOST_UNITS)])
 }
 
-/// Returns what these bytes seem to be. An object is recognized by its first four bytes, and hex and text are
-/// recognized by all bytes. Returns `None` if there are no bytes.
+/// Returns what these bytes seem to be. An ELF object is recognized by its first four bytes. The bytes are hex or text
+/// if all of them are. Returns `None` for anything else, and if there are no bytes.
 fn whole(bytes: &[u8]) -> Option<Likeness>
     ensures { result ≡ seems_of bytes.now }
 {

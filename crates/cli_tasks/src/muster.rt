@@ -12,12 +12,13 @@ use std::sync::Wait;
 use std::thread::Threads;
 use threads::{Open, muster};
 
-/// Runs an oral campaign with a thread for each general, and waits for the threads. Returns the text of its chronicle,
-/// and after it the explanation of the decisions, if one is asked for.
+/// Runs an oral campaign with a thread for each general, and waits for the threads. Returns the text of its chronicle.
+/// If `explained` names lieutenants, the explanation of their decisions follows.
 ///
 /// # Errors
 ///
-/// Fails with `Threads` if the threads give no chronicle, and with `Memory` if memory runs out.
+/// Fails with `Threads` if the threads make no chronicle, for example if one cannot be started, and with `Memory` if
+/// memory runs out.
 #[tactic(auto, using(crate::proofs::CampaignLemmas::is_mustered, crate::proofs::CampaignLemmas::mustered_wholly))]
 pub fn mustered<T: Threads + Wait + Sync>(
     rt: &T,

@@ -1,4 +1,4 @@
-//! Reads the files that a scenario names, and reports a file that cannot be used.
+//! Reads the files that a scenario names, such as the programs of its traitors, and reports a file that cannot be used.
 ghost use Rattle.std.specs.Prelude.{◌≡◌, Ok, Err, IfErr, IfOk, IfSome, MatchResult, string_bytes};
 ghost use Rattle.std.specs.IoError.{error_kind};
 ghost use Rattle.object.specs.Entry.{entry_of};
@@ -15,15 +15,15 @@ use std::alloc::{AllocError, Global};
 use std::io::{self, ErrorKind};
 use streams::FileName;
 
-/// The reason why a file that a scenario names cannot be used.
+/// Why a file that a scenario names cannot be used.
 #[derive(Drop)]
 pub enum FileProblem {
-    /// The file could not be read, or it has a fault.
+    /// The file could not be read, or its content is at fault.
     Told {
-        /// The lines of the report: the fault, for an object the sentence that explains the fault, and the key by which
-        /// the scenario names the file.
+        /// The lines of the report. They name the fault and the key of the scenario, such as `traitor[0].code_file`,
+        /// under which the file is named. For an ELF object they explain the fault too.
         lines: String,
-        /// The kind of the error if the file could not be read, and `None` if the file has a fault.
+        /// The kind of the error if the file could not be read, and `None` if its content is at fault.
         kind: Option<ErrorKind>,
     },
     /// Memory ran out.
@@ -38,8 +38,8 @@ impl From<AllocError> for FileProblem {
     }
 }
 
-/// Returns how many bytes a file of this kind may have: for bytecode as many as the longest program, for assembly eight
-/// times as many.
+/// Returns the most bytes that a file under this key may have: 32,768 for bytecode, as for the longest program, 262,144
+/// for assembly, and 1,048,576 for an ELF object.
 fn most_bytes(key: ReferenceKey) -> usize
     ensures { result ≡ most_bytes key }
 {
@@ -50,8 +50,8 @@ fn most_bytes(key: ReferenceKey) -> usize
     }
 }
 
-/// Reads a file that the scenario names from the folder, unless it has too many bytes. The key by which it is named
-/// says whether the file is assembly, bytecode or an object.
+/// Reads a file that the scenario names from the folder. The key under which it is named says whether it is assembly,
+/// bytecode or an ELF object. Fails with a report if the file cannot be read, is too long or is at fault.
 pub(crate) fn beside<D: Folder>(
     alloc: Global,
     folder: &D,
@@ -75,7 +75,7 @@ pub(crate) fn beside<D: Folder>(
     }
 }
 
-/// Returns the file of assembly with these bytes, which must be UTF-8 text.
+/// Returns a named file of assembly with these bytes. Fails with a report if the bytes are not UTF-8 text.
 fn assembly(alloc: Global, named: &Reference, bytes: Vec<u8>) -> Result<LoadedFile, FileProblem>
     requires { named.now.key ≡ Assembly }
     ensures file { IfOk result (IsFile named.now bytes.items) }
@@ -91,8 +91,8 @@ fn assembly(alloc: Global, named: &Reference, bytes: Vec<u8>) -> Result<LoadedFi
     }
 }
 
-/// Returns the file of an object with these bytes, with the code of the function that the scenario names. If it names
-/// no function, the object must have only one.
+/// Returns a named ELF object with these bytes and the code of the function that the scenario names. Without such a
+/// name the object must have only one function. Fails with a report if there is no such code.
 fn object(alloc: Global, named: &Reference, bytes: &[u8]) -> Result<LoadedFile, FileProblem>
     requires { named.now.key ≡ Object }
     ensures file { IfOk result (IsFile named.now bytes.now) }
@@ -109,7 +109,8 @@ fn object(alloc: Global, named: &Reference, bytes: &[u8]) -> Result<LoadedFile, 
     }
 }
 
-/// Returns the code of an object's function: of the one with the given name, or of the only one if no name is given.
+/// Returns the code of the function named `function` in an ELF object or, without a name, the code of its only global
+/// function. Fails with the object's fault if there is no such code.
 fn code_in<'a>(object: &'a [u8], function: Option<&str>) -> Result<&'a [u8], ObjectFault>
     ensures { MatchResult result (λ code. entry_of object.now (asked function.entry) ≡ Ok code.now)
         (λ fault. entry_of object.now (asked function.entry) ≡ Err fault) }
@@ -120,7 +121,8 @@ fn code_in<'a>(object: &'a [u8], function: Option<&str>) -> Result<&'a [u8], Obj
     }
 }
 
-/// Returns why a file that could not be read because of this error cannot be used.
+/// Returns why a named file cannot be used after `error` occurred while it was read: `Memory` if memory ran out, and a
+/// report otherwise.
 fn unread(alloc: Global, error: &io::Error, named: &Reference) -> Result<FileProblem, AllocError>
     ensures { IfOk result (IsUnread named.now (error_kind error.now)) }
 {
@@ -133,14 +135,14 @@ fn unread(alloc: Global, error: &io::Error, named: &Reference) -> Result<FilePro
     }
 }
 
-/// Returns the name of a file as it is printed.
+/// Returns the name of a file as it is printed: on one line, with control characters escaped.
 fn shown(alloc: Global, name: &str) -> Result<String, AllocError>
     ensures { IfOk result (λ text. IfSome (shown name.now) (λ own. string_bytes text ≡ own)) }
 {
     format!(in alloc; "{}", FileName(name))
 }
 
-/// Returns the lines that report a fault of a named file. `fault` is `read` or `text`.
+/// Returns the report on a named file that could not be read (`fault` is `read`) or is not UTF-8 (`fault` is `text`).
 fn told(alloc: Global, fault: &str, named: &Reference) -> Result<String, AllocError>
     ensures { IfOk result (λ text. IsNamed named.now (fault_told named.now fault.now) (string_bytes text)) }
 {
@@ -148,7 +150,7 @@ fn told(alloc: Global, fault: &str, named: &Reference) -> Result<String, AllocEr
     fault_lines(alloc, fault, name.as_str(), named.index, named.key)
 }
 
-/// Returns the lines that report a fault of a named object.
+/// Returns the report on a named ELF object that has no code for the function.
 fn refused(alloc: Global, fault: ObjectFault, named: &Reference) -> Result<String, AllocError>
     ensures { IfOk result (λ text. IsNamed named.now (refused_told named.now fault) (string_bytes text)) }
 {
@@ -156,8 +158,8 @@ fn refused(alloc: Global, fault: ObjectFault, named: &Reference) -> Result<Strin
     refused_lines(alloc, fault, name.as_str(), named.index, named.key)
 }
 
-/// Returns the lines which report that a file could not be read or is not UTF-8 text. `name` is the file's name as it
-/// is printed. The list entry `traitor[index]` names the file by this key.
+/// Returns two lines about a named file: `fault read NAME` or `fault text NAME`, and then the key `traitor[index].key`
+/// under which the scenario names it. `name` is the file's name as it is printed.
 fn fault_lines(
     alloc: Global,
     fault: &str,
@@ -171,8 +173,8 @@ fn fault_lines(
     format!(in alloc; "fault {fault} {name}\nit is named by traitor[{index}].{key}")
 }
 
-/// Returns the lines that report a fault of an object. `name` is the file's name as it is printed. The list entry
-/// `traitor[index]` names the file by this key.
+/// Returns three lines about a named ELF object: the code of its fault, a sentence that explains the fault, and the key
+/// `traitor[index].key` under which the scenario names the object. `name` is the file's name as it is printed.
 fn refused_lines(
     alloc: Global,
     fault: ObjectFault,

@@ -37,7 +37,7 @@ pub fn paged(
     }
 }
 
-/// Plays an oral campaign by the schedule, and returns its page.
+/// Plays an oral campaign by the schedule, and returns it as an HTML page. `text` is the text of its scenario.
 #[tactic(auto, using(crate::proofs::PageLemmas::played_paged))]
 fn oral_paged(
     alloc: Global,
@@ -52,7 +52,7 @@ fn oral_paged(
     Ok(page_of(alloc, text, Some(schedule), &chronicle)?)
 }
 
-/// Plays a signed campaign by the schedule, and returns its page.
+/// Plays a signed campaign by the schedule, and returns it as an HTML page. `text` is the text of its scenario.
 fn signed_paged(
     alloc: Global,
     text: &str,
@@ -66,8 +66,7 @@ fn signed_paged(
     Ok(signed_page_of(alloc, text, Some(schedule), &chronicle)?)
 }
 
-/// Reads a chronicle of the campaign, and returns the HTML page of the chronicle. `text` is the text of the campaign's
-/// scenario.
+/// Reads a chronicle of the campaign, and returns it as an HTML page. `text` is the text of the campaign's scenario.
 ///
 /// # Errors
 ///
@@ -88,7 +87,8 @@ pub fn record_paged(
     }
 }
 
-/// Reads a chronicle of an oral campaign, and returns its page.
+/// Reads a chronicle of an oral campaign, and returns it as an HTML page. `text` is the text of the campaign's
+/// scenario.
 #[tactic(auto, using(crate::proofs::PageLemmas::told_paged))]
 fn oral_record_paged(
     alloc: Global,
@@ -104,7 +104,8 @@ fn oral_record_paged(
     Ok(page_of(alloc, text, None, &chronicle)?)
 }
 
-/// Reads a chronicle of a signed campaign, and returns its page.
+/// Reads a chronicle of a signed campaign, and returns it as an HTML page. `text` is the text of the campaign's
+/// scenario.
 fn signed_record_paged(
     alloc: Global,
     text: &str,
@@ -119,7 +120,8 @@ fn signed_record_paged(
     Ok(signed_page_of(alloc, text, None, &chronicle)?)
 }
 
-/// Returns the page of an oral campaign's chronicle and of the message table that its letters give.
+/// Returns an oral campaign as an HTML page. It shows the scenario's text, the schedule if there is one, the chronicle,
+/// and the message table that the letters in the chronicle give.
 fn page_of(
     alloc: Global,
     scenario_text: &str,
@@ -138,7 +140,8 @@ fn page_of(
     Ok(page_text(alloc, scenario_text, schedule, &table, chronicle)?.into_bytes())
 }
 
-/// Returns the page of a signed campaign's chronicle.
+/// Returns a signed campaign as an HTML page. It shows the scenario's text, the schedule if there is one, and the
+/// chronicle.
 fn signed_page_of(
     alloc: Global,
     scenario_text: &str,

@@ -1,4 +1,5 @@
-//! Assembles and disassembles bytecode that cannot be decoded as a whole (`asm --partial`, `dis --partial`).
+//! Assembles and disassembles bytecode line by line, also if it is not the bytecode of a program (`asm --partial`, `dis
+//! --partial`).
 ghost use Rattle.std.specs.Prelude.{◌≡◌, ℕ, List, IfOk, IfErr, Ok, string_bytes};
 ghost use Rattle.cli_words.specs.declared.tasks.Notation.TheVariants.{Assembly as Texts};
 ghost use Rattle.object.specs.Entry.{entry_of};
@@ -15,8 +16,8 @@ use asm::partial::{assemble, disassemble};
 use cli_words::Notation;
 use std::alloc::Global;
 
-/// Assembles a text line by line, and returns its bytes in lower-case hex on one line. A line may also give a unit as
-/// bytes.
+/// Assembles a text line by line, and returns the bytecode as one line of lower-case hexadecimal digits. A line is an
+/// instruction, or `.unit 0x..` with the 8 bytes of a unit.
 ///
 /// # Errors
 ///
@@ -31,7 +32,8 @@ pub fn assembled_partly(alloc: Global, text: &str) -> Result<String, InputRefusa
     Ok(line)
 }
 
-/// Assembles a text line by line, and returns its bytes. A line may also give a unit as bytes.
+/// Assembles a text line by line, and returns the bytecode. A line is an instruction, or `.unit 0x..` with the 8 bytes
+/// of a unit.
 ///
 /// # Errors
 ///
@@ -43,13 +45,14 @@ pub fn assembled_partly_raw(alloc: Global, text: &str) -> Result<Vec<u8>, InputR
     Ok(assemble(alloc, text)?)
 }
 
-/// Disassembles the code that a file contains in this notation. A unit at which no instruction begins is written as
+/// Disassembles the code in a file, even if it is not the bytecode of a program. `notation` says whether the file is
+/// bytecode, assembly or an ELF object. A unit at which no instruction begins becomes a line `.unit 0x..` with its 8
 /// bytes.
 ///
 /// # Errors
 ///
-/// Fails if the code is not whole units of 8 bytes, if an object has no code for the entry, if a text does not assemble
-/// or is not UTF-8, or if memory runs out.
+/// Fails if the number of bytes of the code is not a multiple of 8, if an object has no code for the entry, if a text
+/// does not assemble or is not UTF-8, or if memory runs out.
 pub fn disassembled_partly(
     alloc: Global,
     notation: &Notation,
@@ -65,7 +68,8 @@ pub fn disassembled_partly(
     }
 }
 
-/// Disassembles code. The resulting text assembles to the same bytes.
+/// Disassembles code, even if it is not the bytecode of a program. The resulting text assembles to the same bytes.
+/// Fails if the number of bytes is not a multiple of 8.
 fn of_code(alloc: Global, bytes: &[u8]) -> Result<String, InputRefusal>
     ensures text { IfOk result (λ text. IsTextOf bytes.now (string_bytes text)) }
     ensures again { IfOk result (λ text. bytes_said (string_bytes text) ≡ Ok bytes.now) }
@@ -74,7 +78,7 @@ fn of_code(alloc: Global, bytes: &[u8]) -> Result<String, InputRefusal>
     Ok(disassemble(alloc, bytes)?)
 }
 
-/// Disassembles the bytes that a text assembles to.
+/// Assembles a text line by line, and disassembles the resulting bytes.
 #[tactic(auto, using(crate::proofs::PartLemmas::cut_said))]
 fn of_text(alloc: Global, text: &str) -> Result<String, InputRefusal>
     ensures text { IfOk result (λ own. DisassemblesPartly Texts text.now (string_bytes own)) }
@@ -84,7 +88,8 @@ fn of_text(alloc: Global, text: &str) -> Result<String, InputRefusal>
     Ok(of_code(alloc, bytes.as_slice())?)
 }
 
-/// Disassembles the code of an object's entry.
+/// Disassembles the code of the function named `entry` in an ELF object or, without a name, of its only global
+/// function.
 fn of_object(alloc: Global, object: &[u8], entry: Option<&str>) -> Result<String, InputRefusal>
     ensures text { IfOk result (λ text. (code : List ℕ) × (entry_of object.now (asked entry.entry) ≡ Ok code)
         × IsTextOf code (string_bytes text) × (bytes_said (string_bytes text) ≡ Ok code)) }

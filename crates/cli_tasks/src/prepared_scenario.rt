@@ -1,4 +1,4 @@
-//! Prepares a scenario that names files: puts the programs in these files in place of their names.
+//! Prepares a scenario that names files: replaces their names by the programs in them.
 ghost use Rattle.std.specs.Prelude.{◌≡◌, ◌++◌, ◌∷◌, [], IfErr, IfOk, OnOk, option_map, string_bytes};
 ghost use Rattle.std.specs.List.{AllZip};
 ghost use Rattle.toml.specs.Parse.{parse_document};
@@ -12,7 +12,7 @@ use cli_words::Task;
 use scenario::{LoadedFile, Reference, asked, resolved};
 use std::alloc::{AllocError, Global};
 
-/// Checks whether the task's first file is a scenario, or may be one.
+/// Checks whether the task's first file is a scenario, or, for `tree`, may be one.
 pub fn reads_scenario(task: &Task) -> bool
     ensures { result ≡ reads_scenario task.now }
 {
@@ -37,10 +37,10 @@ pub fn reads_scenario(task: &Task) -> bool
     }
 }
 
-/// Returns the bytes of a scenario in which the files that it names replace their names, and each traitor has a table
-/// of his own. Returns the same bytes if they are not UTF-8, are not TOML, or name neither files nor generals who share
-/// a table. If `no_files`, no file is read, and the names of files remain, which the reader of scenarios refuses as
-/// unknown keys.
+/// Returns the bytes of a scenario in which each named file is replaced by its content, and each traitor has a table of
+/// his own. Returns the bytes unchanged if they are not UTF-8 or not TOML, or if they name no files and no two traitors
+/// share a table. If `no_files` is set, no file is read and its name stays. The reader of scenarios then rejects this
+/// name as an unknown key.
 ///
 /// # Errors
 ///
@@ -64,8 +64,8 @@ pub fn with_files<D: Folder>(
     }
 }
 
-/// Returns the text in which the named files replace their names, and each traitor has a table of his own. Returns
-/// `None` if nothing is to be replaced.
+/// Returns the text of a scenario in which each named file is replaced by its content, and each traitor has a table of
+/// his own. Returns `None` if nothing has to be replaced.
 fn with_named<D: Folder>(
     alloc: Global,
     text: &str,
@@ -82,7 +82,7 @@ fn with_named<D: Folder>(
     Ok(resolved(alloc, text, files.as_slice())?)
 }
 
-/// Returns the files that are read of those that the text names: none if no file may be named.
+/// Returns the files that are named in a scenario and must be read. There are none if `no_files` is set.
 fn opened(alloc: Global, text: &str, no_files: bool) -> Result<Vec<Reference>, AllocError>
     ensures { IfOk result (λ all. all.items ≡ opened no_files (asked (parse_document text.now))) }
 {
@@ -93,7 +93,7 @@ fn opened(alloc: Global, text: &str, no_files: bool) -> Result<Vec<Reference>, A
     }
 }
 
-/// Reads the named files, in this order.
+/// Reads the named files from the folder, in the order of `named`. Fails with the first file that cannot be used.
 fn read_all<D: Folder>(
     alloc: Global,
     named: &[Reference],
@@ -109,7 +109,7 @@ fn read_all<D: Folder>(
     Ok(files)
 }
 
-/// Appends a file to the list.
+/// Appends a file to the list of files. Fails only if memory runs out.
 fn push(files: &mut Vec<LoadedFile>, file: LoadedFile) -> Result<(), AllocError>
     ensures { OnOk result (files.new.items ≡ files.old.items ++ file ∷ []) }
 {

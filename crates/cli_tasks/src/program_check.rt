@@ -1,4 +1,5 @@
-//! Reads, verifies and runs a program in the bench setting (subcommand `check`).
+//! Reads and verifies a program, and runs it in the bench setting: as the last of 4 generals, in the first round, with
+//! a board of zeros (subcommand `check`).
 ghost use Rattle.std.specs.Prelude.{◌≡◌, Ok, Err, IfOk, IfErr, MatchResult, None, Some, string_bytes};
 ghost use Rattle.asm.specs.Program.{program_of};
 ghost use Rattle.codec.specs.Program.{SpellsProgram};
@@ -22,21 +23,22 @@ use std::alloc::{AllocError, Global};
 use trial::{Setting, first_lines, run_in};
 use verify::{Refused, Verified, verify};
 
-/// The size of an accepted program, and the result of its run in the bench setting.
+/// The size of an accepted program, and the result of its run in the bench setting (general 3 of 4 in the first round).
 #[derive(Clone, Copy)]
 pub struct Checked {
     /// The number of instructions.
     pub instructions: usize,
-    /// The number of units of 64 bits that the program takes.
+    /// The number of 8-byte units of bytecode that the program takes.
     pub units: usize,
-    /// The value with which the program exited.
+    /// The value of register r0 with which the program exited.
     pub r0: u64,
     /// The number of steps that the run took.
     pub steps: u32,
 }
 
-/// Reads a program in this notation, verifies it, and runs it in the bench setting. The program runs with a board of
-/// its own, which opens with zeros.
+/// Reads a program from a file, verifies it, and runs it in the bench setting: as the last of 4 generals, in the first
+/// round, with a board of zeros. `notation` says whether the file is bytecode, assembly or an ELF object. Returns the
+/// verified program, and its size with the result of the run.
 ///
 /// # Errors
 ///
@@ -56,7 +58,8 @@ pub fn check(
     Ok((verified, checked))
 }
 
-/// Reads a program in this notation from the bytes of a file, and verifies it.
+/// Reads a program from the bytes of a file, and verifies it. `notation` says whether the file is bytecode, assembly or
+/// an ELF object.
 ///
 /// # Errors
 ///
@@ -79,7 +82,8 @@ pub fn accepted_in(
     }
 }
 
-/// Reads the program of an object's entry, and verifies it.
+/// Decodes and verifies the program in an ELF object: its function named `entry` or, without a name, its only global
+/// function.
 fn accepted_object(
     alloc: Global,
     object: &[u8],
@@ -126,7 +130,7 @@ pub fn accepted_text(alloc: Global, text: &str) -> Result<Verified, InputRefusal
     accepted_program(alloc, program)
 }
 
-/// Verifies a program, and returns it as verified or why it is rejected.
+/// Verifies a program. Returns it as a verified program, or fails with the reason why it is rejected.
 fn accepted_program(alloc: Global, program: Program) -> Result<Verified, InputRefusal>
     ensures same { IfOk result (λ verified. verified ≡ program) }
     ensures accepted { IfOk result (λ verified. judged verified ≡ None) }
@@ -147,7 +151,8 @@ fn accepted_by(judgement: Result<Verified, Refused>) -> Result<Verified, InputRe
     }
 }
 
-/// Runs a verified program in the bench setting, and returns the result of the run.
+/// Runs a verified program in the bench setting: as the last of 4 generals, in the first round, with a board of zeros.
+/// Returns the size of the program and the result of the run.
 fn run(alloc: Global, verified: &Verified) -> Result<Checked, AllocError>
     requires accepted { judged verified.now ≡ None }
     ensures { IfOk result (IsRun verified.now) }
@@ -162,7 +167,7 @@ fn run(alloc: Global, verified: &Verified) -> Result<Checked, AllocError>
     })
 }
 
-/// Returns the lines that `check` prints of an accepted program's run.
+/// Returns the lines that `check` prints about an accepted program: its size, and the result of its run.
 pub(crate) fn checked_text(alloc: Global, checked: &Checked) -> Result<String, AllocError>
     ensures { IfOk result (λ text. string_bytes text ≡ checked_lines checked.now) }
 {

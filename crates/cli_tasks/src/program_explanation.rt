@@ -1,4 +1,5 @@
-//! Explains a program: what the verifier knows at each instruction, and why it rejects one (`check --explain`).
+//! Explains a program: what the verifier knows at each instruction and, if it rejects the program, why (`check
+//! --explain`).
 ghost use Rattle.std.specs.Prelude.{IfOk, IfErr, option_map, string_bytes};
 ghost use Rattle.cli_tasks.specs.Programs.{Explains, IsBehind, IsWhy};
 ghost use Rattle.cli_tasks.specs.ProgramRefusals.{RefusesNotation};
@@ -11,8 +12,8 @@ use explain::{UnitTexts, explanation_at};
 use insn::Program;
 use std::alloc::{AllocError, Global};
 
-/// Returns the explanation of a program. The program comes from a file with these bytes, in this notation, and the
-/// explanation shows how and where each unit is written there.
+/// Returns the explanation of a program that was read from a file with the bytes `bytes`. For each unit the explanation
+/// shows how and on which line of the file it is written.
 fn told(
     alloc: Global,
     notation: &Notation,
@@ -30,8 +31,8 @@ fn told(
     explanation_at(alloc, program, &written)
 }
 
-/// Appends an empty line and the explanation of an accepted program to its lines. The program comes from a file with
-/// these bytes, in the notation `asked`. Returns the lines unchanged if `asked` is `None`.
+/// Appends an empty line and the explanation of an accepted program to `lines`. `bytes` are the bytes of the program's
+/// file, and `asked` says how it is written. Returns `lines` unchanged if `asked` is `None`.
 pub(crate) fn with_explanation(
     alloc: Global,
     lines: String,
@@ -52,8 +53,8 @@ pub(crate) fn with_explanation(
     Ok(text)
 }
 
-/// Reads a program in this notation from the bytes of a file, and returns its explanation. The verifier need not accept
-/// the program.
+/// Reads a program from the bytes of a file, and returns its explanation, whether or not the verifier accepts it.
+/// `notation` says whether the file is bytecode, assembly or an ELF object.
 ///
 /// # Errors
 ///

@@ -1,4 +1,4 @@
-//! Reads the program that a file contains, as bytecode, assembly or an ELF object. Does not verify it.
+//! Reads the program in a file of bytecode or assembly, or in an ELF object, without verifying it.
 ghost use Rattle.std.specs.Prelude.{◌≡◌, IfOk, IfErr, MatchResult, Ok, Err, Some};
 ghost use Rattle.asm.specs.Program.{program_of};
 ghost use Rattle.codec.specs.Program.{SpellsProgram};
@@ -16,7 +16,8 @@ use insn::Program;
 use object::ObjectFault;
 use std::alloc::Global;
 
-/// Reads a program in this notation from the bytes of a file.
+/// Reads a program from the bytes of a file, without verifying it. `notation` says whether the file is bytecode,
+/// assembly or an ELF object. Fails if the bytes are not a program, or if memory runs out.
 pub(crate) fn program_in(
     alloc: Global,
     notation: &Notation,
@@ -32,7 +33,7 @@ pub(crate) fn program_in(
     }
 }
 
-/// Decodes a program from bytecode.
+/// Decodes a program from bytecode, without verifying it.
 fn of_bytes(alloc: Global, bytes: &[u8]) -> Result<Program, InputRefusal>
     ensures program { IfOk result (λ program. SpellsProgram bytes.now program) }
     ensures refused { IfErr result (RefusesDisassembly bytes.now) }
@@ -40,7 +41,7 @@ fn of_bytes(alloc: Global, bytes: &[u8]) -> Result<Program, InputRefusal>
     Ok(decode(alloc, bytes)?)
 }
 
-/// Assembles a program from text.
+/// Assembles a program from text, without verifying it.
 fn of_text(alloc: Global, text: &str) -> Result<Program, InputRefusal>
     ensures program { IfOk result (λ program. program_of text.now ≡ Some program) }
     ensures refused { IfErr result (RefusesAssembly text.now) }
@@ -48,7 +49,7 @@ fn of_text(alloc: Global, text: &str) -> Result<Program, InputRefusal>
     Ok(assemble(alloc, text)?)
 }
 
-/// Decodes the program of an object's entry.
+/// Decodes the program in an ELF object: its function named `entry` or, without a name, its only global function.
 fn of_object(alloc: Global, object: &[u8], entry: Option<&str>) -> Result<Program, InputRefusal>
     ensures program { IfOk result (λ program. HasEntry (asked entry.entry) object.now program) }
     ensures refused { IfErr result (RefusesObject RefusesDisassembly (asked entry.entry) object.now) }
@@ -59,8 +60,8 @@ fn of_object(alloc: Global, object: &[u8], entry: Option<&str>) -> Result<Progra
     }
 }
 
-/// Returns the code of an object's entry: of the function with the given name, or of the only function if no name is
-/// given.
+/// Returns the code of the function named `entry` in an ELF object or, without a name, the code of its only global
+/// function. Fails with the object's fault if there is no such code.
 pub(crate) fn code_in<'a>(object: &'a [u8], entry: Option<&str>) -> Result<&'a [u8], ObjectFault>
     ensures { MatchResult result (λ code. entry_of object.now (asked entry.entry) ≡ Ok code.now)
         (λ fault. entry_of object.now (asked entry.entry) ≡ Err fault) }

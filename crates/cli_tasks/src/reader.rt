@@ -1,4 +1,4 @@
-//! Reads the files of a task, and no further than their bytes matter.
+//! Reads the files of a task, and of a file that is too long no more than is needed to reject it.
 ghost use Rattle.std.specs.Prelude.{◌≡◌, ◌<◌, ◌*◌, ℕ, List, length, IfOk, IfErr, IsSomeAnd, option_map};
 ghost use Rattle.std.specs.IoError.{error_kind};
 ghost use Rattle.cli_tasks.specs.Faults.{Stops, unread_by};
@@ -18,11 +18,11 @@ use std::io::{self, ErrorKind};
 use streams::{Source, Within};
 use trace::MOST_SCHEDULE_BYTES;
 
-/// The largest number of bytes that a program's bytecode may have.
+/// The most bytes that the bytecode of a program may have: 32,768.
 const MOST_OF_A_PROGRAM: usize = 8 * Program::MOST_UNITS;
 
-/// Reads all bytes of the only or first file. Bytecode that is longer than any program is rejected and is not kept
-/// whole in memory.
+/// Reads all bytes of the task's only or first file. If the file must be bytecode and has more bytes than any program,
+/// it is rejected, and only a part of it is kept in memory.
 pub(crate) fn read_first<'a, R: Source>(
     alloc: Global,
     task: &'a Task,
@@ -47,7 +47,7 @@ pub(crate) fn read_first<'a, R: Source>(
     }
 }
 
-/// Reads all bytes of a file of bytecode. Rejects bytecode that is longer than any program.
+/// Reads all bytes of a file of bytecode. Fails if they are more than 32,768, the most that a program may have.
 fn read_program<'a, R: Source>(
     alloc: Global,
     task: &'a Task,
@@ -68,8 +68,8 @@ fn read_program<'a, R: Source>(
     }
 }
 
-/// Returns the first fault of bytecode with `number` bytes, which are more than a program may have. The fault depends
-/// only on the number.
+/// Returns the first fault of bytecode that is too long for a program: it has `number` bytes, more than 32,768. The
+/// fault is the length if `number` is not a multiple of 8, and otherwise the count of units.
 fn too_long(number: usize) -> CodecError
     requires { 8 * 4096 < number }
     ensures { (bytes : List ℕ) → length bytes ≡ number → RefusesBytes bytes result }
@@ -81,8 +81,8 @@ fn too_long(number: usize) -> CodecError
     }
 }
 
-/// Reads the bytes of a schedule's file. If they are more than a schedule may have, reads a beginning of them that is
-/// longer than this limit.
+/// Reads a file with a schedule. If it has at most 1,048,576 bytes, the result is the whole file. Otherwise the result
+/// is the first bytes of the file, more than 1,048,576 of them.
 pub(crate) fn read_schedule<'a, R: Source>(
     alloc: Global,
     file: &'a str,
@@ -112,7 +112,8 @@ pub(crate) fn read_second<'a, R: Source>(
     }
 }
 
-/// Reads all bytes of the file with this name.
+/// Reads all bytes of the file named `file`. Fails with `Read` if it cannot be read, and with `Memory` if memory runs
+/// out.
 fn read<'a, R: Source>(alloc: Global, file: &'a str, source: R) -> Result<Vec<u8>, TaskFailure<'a>>
     ensures whole { IfOk result (λ all. AreBytes (R.bytes source) all.items) }
     ensures fault { IfErr result (Stops (R.fails source) (λ _ _. ⊥) file.entry.now) }
@@ -123,7 +124,7 @@ fn read<'a, R: Source>(alloc: Global, file: &'a str, source: R) -> Result<Vec<u8
     }
 }
 
-/// Returns the failure for a file of this name that could not be read: `Memory` if memory ran out, and `Read`
+/// Returns the failure of a task that could not read the file named `file`: `Memory` if memory ran out, and `Read`
 /// otherwise.
 fn unread<'a>(error: &io::Error, file: &'a str) -> TaskFailure<'a>
     ensures kind { result ≡ unread_by (error_kind error.now) file.entry }

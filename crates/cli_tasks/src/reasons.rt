@@ -4,7 +4,7 @@ ghost use Rattle.cli_tasks.specs.Reasons.{reason_text};
 
 use std::io::ErrorKind;
 
-/// Returns the sentence that describes an error of this kind.
+/// Returns the sentence that explains why the operating system could not read or write a file.
 pub fn reason(kind: ErrorKind) -> &'static str
     ensures { result.now ≡ reason_text kind }
 {

@@ -1,4 +1,4 @@
-//! Why the input of a task is rejected: one type for the errors of all readers, with conversions into it.
+//! Why the input of a task is rejected: one type for the errors of all readers.
 use asm::AsmError;
 use book::TableError;
 use bounds::RefutationError;
@@ -14,33 +14,35 @@ use trace::TraceError;
 use trial::SettingError;
 use verify::VerifyError;
 
-/// The reason why a task rejects its input. Its text contains the code and the place of the fault, if there are any.
+/// Why a task rejects its input. Its text contains the code of the fault and where the fault is, such as the line, as
+/// far as there are any.
 #[derive(Debug, Drop)]
 pub enum InputRefusal {
     /// The bytes are not the bytecode of a program.
     Codec(CodecError),
-    /// The object has no code for the entry.
+    /// The ELF object has no code for the entry.
     Object(object::ObjectFault),
     /// The verifier rejects the program.
     Verifier(VerifyError),
     /// The text does not assemble.
     Assembly(AsmError),
-    /// The text is not a message table, or there is no table with these numbers.
+    /// The text is not a message table, or the given numbers are not those of a message table.
     Table(TableError),
     /// The text is not a scenario of the kind that the task needs.
     Scenario(ScenarioError),
-    /// The text is not a setting.
+    /// The text is not a setting, in which a program is tried.
     Setting(SettingError),
-    /// The text is not a schedule, or not a chronicle of the scenario.
+    /// The text is not a schedule, or not a chronicle of the campaign.
     Trace(TraceError),
-    /// The threads of a muster gave no chronicle.
+    /// The threads of a muster, which runs a campaign with a thread for each general, made no chronicle.
     Threads(MusterError),
-    /// The text does not list accesses, or a listed access cannot happen.
+    /// The text is not a list of accesses, or a listed access cannot happen.
     Accesses(AccessFault),
-    /// The general is named but is not one of this number of generals, or is the commander where a lieutenant is
+    /// The named general is not one of the generals 0 to `generals - 1`, or is the commander where a lieutenant is
     /// needed.
     Stranger { general: u8, generals: u8 },
-    /// There are enough generals: no message table with at most m traitors breaks the rule.
+    /// There are too many generals for a refutation: with more than 3m generals, no message table with at most m
+    /// traitors breaks the rule.
     Tolerated,
     /// The bytes are not UTF-8 text.
     NotText,

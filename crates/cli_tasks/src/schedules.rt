@@ -11,7 +11,7 @@ use crate::texts::as_text;
 use round::Scenario;
 use std::alloc::Global;
 
-/// Returns a schedule by which the oral campaign has the chronicle whose text these bytes are.
+/// Reads a chronicle of an oral campaign, and returns the text of a schedule by which the campaign has this chronicle.
 ///
 /// # Errors
 ///
@@ -24,12 +24,13 @@ pub fn retraced(alloc: Global, scenario: &Scenario, bytes: &[u8]) -> Result<Vec<
     Ok(campaign_schedules::retraced(alloc, scenario, as_text(bytes)?)?.into_bytes())
 }
 
-/// Reads an oral campaign from these bytes, and returns a schedule by which it has the accesses that the text lists.
+/// Reads an oral campaign from `bytes`, and returns the text of a schedule in which its accesses to the board happen in
+/// the sequence that `list` gives.
 ///
 /// # Errors
 ///
-/// Fails first for a fault of the bytes, then for a fault of the list, and then for the first listed access that cannot
-/// happen. Fails with `Memory` if memory runs out.
+/// Fails first if the bytes are not an oral campaign, then if `list` is not a list of accesses, and then for the first
+/// listed access that cannot happen. Fails with `Memory` if memory runs out.
 #[tactic(auto, using(crate::proofs::ListedLemmas::of_scenario, crate::proofs::ListedLemmas::of_accesses))]
 pub fn arranged(alloc: Global, bytes: &[u8], list: &str) -> Result<String, InputRefusal>
     ensures arranged { IfOk result (λ lines. Arranges list.now bytes.now (string_bytes lines)) }

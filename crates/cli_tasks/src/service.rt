@@ -1,4 +1,4 @@
-//! Runs a subcommand on its files: reads them, computes the answer, and prints the answer or the error.
+//! Runs a subcommand: reads its files, computes the answer, and prints the answer or the error.
 ghost use Rattle.std.specs.Prelude.{◌≡◌, ◌≢◌, ◌⊎◌, [], Ok, Err, IfOk, IfErr, IfSome, IsErrAnd, IsSomeAnd, MatchResult, OnOk, codes, option_map};
 ghost use Rattle.std.specs.Fmt.{with_newline};
 ghost use Rattle.std.specs.Io.KnownBytes.{Appends};
@@ -35,11 +35,11 @@ use streams::{Output, Source};
 use verify::Verified;
 use world::Schedule;
 
-/// Does a task on its files. Prints the answer to `out`, or the error to `fault`, as one line and the lines of its
-/// hint. A task that reads no file is given an empty first file.
+/// Does a task on its files. Prints the answer to `out`, or else the error to `fault`: one line, and then the lines of
+/// its hint. For a task that reads no file, `first` is an empty file.
 ///
-/// The second file is read only if there is one, and only if the first file is accepted. The whole answer is in memory
-/// before any of it is printed. Only a muster starts threads, and `serve` waits for them.
+/// The second file is read only if there is one and the first file is accepted. The whole answer is in memory before
+/// any of it is printed. Only a muster starts threads, and `serve` waits for them.
 ///
 /// Returns the exit status: 0 if the task is done, 3 if memory runs out, and 1 for any other failure, for example if a
 /// file is rejected or the output fails.
@@ -78,7 +78,7 @@ where
     }
 }
 
-/// Prints the error of a task to `fault`, and returns the exit status. If that output fails, nothing more is reported.
+/// Prints the error of a task to `fault`, and returns the exit status. An error while printing is ignored.
 fn ended<F: Output>(failure: &TaskFailure<'_>, fault: &mut F) -> u8
     ensures status { result ≡ status_of failure.now }
     ensures told { F.fails fault.old ⊎ IfSome (with_newline (fault_text failure.now))
@@ -88,8 +88,8 @@ fn ended<F: Output>(failure: &TaskFailure<'_>, fault: &mut F) -> u8
     failure.status()
 }
 
-/// Prints the whole answer, or nothing if there is no answer. If the output fails, at most a beginning of the answer
-/// was printed.
+/// Computes the answer of a task on its files, and prints it to `out`. If there is no answer, nothing is printed. If
+/// the output fails, only the first bytes of the answer may have been printed.
 #[tactic(auto, using(crate::proofs::FilesLemmas::answer_there))]
 fn print<'a, T, R, O>(
     rt: &T,
@@ -117,12 +117,12 @@ where
     }
 }
 
-/// Computes the answer of a task on its files, which `serve` prints. If the task tries a program in the setting of its
-/// second file, the answer includes the relay of the trial.
+/// Computes the answer of a task on its files, without printing it. If the task tries a program in the setting of its
+/// second file, the answer says for which general and round the program ran.
 ///
 /// # Errors
 ///
-/// Fails if a file cannot be read or is rejected, if the threads of a muster give no chronicle, or if memory runs out.
+/// Fails if a file cannot be read or is rejected, if the threads of a muster make no chronicle, or if memory runs out.
 pub fn answered<'a, T, R>(
     rt: &T,
     alloc: Global,
@@ -146,8 +146,8 @@ where
     }
 }
 
-/// Computes the answer of a task that results in `more` on its first file, which has the bytes `first`. `file` is the
-/// name of the task's second file.
+/// Finishes the answer of a task. `more` is its result on its first file, which has the bytes `first`. If `more` is not
+/// yet the whole answer, the second file, which is named `file`, is read.
 fn completed<'a, T, R>(
     rt: &T,
     alloc: Global,
@@ -204,8 +204,8 @@ where
     }
 }
 
-/// Returns the text of a muster, or turns the error of the muster into the task's failure. `file` is the name of the
-/// task's second file.
+/// Returns the text of a muster, or turns the reason why it failed into the failure of the task. The failure reports
+/// more about the reason if `explained` is set. `file` is the name of the task's second file.
 fn mustered_text<'a>(
     alloc: Global,
     text: Result<Vec<u8>, InputRefusal>,
@@ -222,7 +222,8 @@ fn mustered_text<'a>(
     }
 }
 
-/// Tries a program in the setting that the second file describes. Returns what is printed of this trial, and its relay.
+/// Tries a program in the setting that the second file describes. Returns the text that is printed about the trial,
+/// with the general and round for which the program ran.
 fn trial_of<'a, R: Source>(
     alloc: Global,
     task: &Task,
@@ -264,8 +265,8 @@ fn trial_of<'a, R: Source>(
     }
 }
 
-/// Plays the campaign by the schedule in the second file. Returns this account of it, and after it the explanation of
-/// the decisions, if one is asked for.
+/// Plays the campaign by the schedule in the second file. Returns its chronicle or its message table, as `account`
+/// says. If `explained` names lieutenants, the explanation of their decisions follows.
 fn play_by<'a, R: Source>(
     alloc: Global,
     campaign: Campaign,
@@ -289,7 +290,7 @@ fn play_by<'a, R: Source>(
     }
 }
 
-/// Reads the schedule in the second file. Returns the empty schedule if there is no second file.
+/// Reads the schedule in the second file, which is named `file`. Returns the empty schedule if there is no second file.
 pub(crate) fn scheduled<'a, R: Source>(
     alloc: Global,
     reported: bool,
@@ -322,8 +323,8 @@ pub(crate) fn scheduled<'a, R: Source>(
     }
 }
 
-/// Audits the second file as a chronicle of the campaign. Returns the lines of the audit, and after them the
-/// explanation of the decisions, if one is asked for.
+/// Checks that the second file is a chronicle of the campaign. Returns the lines that `audit` prints. If `explained`
+/// names lieutenants, the explanation of their decisions follows.
 fn audit_of<'a, R: Source>(
     alloc: Global,
     campaign: &Campaign,

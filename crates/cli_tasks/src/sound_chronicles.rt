@@ -1,5 +1,5 @@
-//! Reads the chronicle of a campaign from the bytes of a file, and checks that it is sound. Checks whether the bytes
-//! are UTF-8 only if they are not a chronicle.
+//! Reads the chronicle of a campaign from the bytes of a file, and checks that it is sound: the chronicle that the
+//! campaign has with the listed accesses. Bytes that are rejected are checked for UTF-8, so that the error can say so.
 ghost use Rattle.std.specs.Prelude.{◌≡◌, ◌≢◌, IfOk, IfErr, None, false};
 ghost use Rattle.std.specs.Str.{IsUtf8};
 ghost use Rattle.scenario.specs.declared.messages.Campaign.TheVariants.{Oral, Signed};
@@ -17,13 +17,14 @@ use signed::SignedChronicle;
 use std::alloc::Global;
 use world::Chronicle;
 
-/// Reads the chronicle of an oral campaign. The bytes must be the text of a chronicle of this scenario.
+/// Reads the chronicle of an oral campaign, and checks that it is sound: the text is the chronicle that the scenario
+/// has with the accesses listed in it.
 ///
 /// # Errors
 ///
 /// Fails with `NotText` if the bytes are not UTF-8, with `Trace` and the line at fault if they are not a chronicle of
-/// the scenario, and with `Memory` if memory runs out. Bytes that name no version in which the scenario may be written
-/// never lead to `Memory`.
+/// the scenario, and with `Memory` if memory runs out. Never fails with `Memory` if the first line does not name a
+/// version of chronicles that fits the scenario.
 pub fn sound_chronicle(
     alloc: Global,
     scenario: &Scenario,
@@ -44,13 +45,14 @@ pub fn sound_chronicle(
     }
 }
 
-/// Reads the chronicle of a signed campaign. The bytes must be the text of a chronicle of this scenario.
+/// Reads the chronicle of a signed campaign, and checks that it is sound: the text is the chronicle that the scenario
+/// has with the accesses listed in it.
 ///
 /// # Errors
 ///
 /// Fails with `NotText` if the bytes are not UTF-8, with `Trace` and the line at fault if they are not a chronicle of
-/// the scenario, and with `Memory` if memory runs out. Bytes that do not name the version of signed campaigns never
-/// lead to `Memory`.
+/// the scenario, and with `Memory` if memory runs out. Never fails with `Memory` if the first line does not name the
+/// version of signed chronicles.
 pub fn sound_signed_chronicle(
     alloc: Global,
     scenario: &Scenario,

@@ -1,5 +1,5 @@
-//! Describes the run of a program: its steps (`check --trace`), and its calls that put no order (`check --explain` in a
-//! setting).
+//! Describes the run of a program: its steps (`check --trace`), and its calls that should set orders in the outbox but
+//! set none (`check --explain` in a setting).
 ghost use Rattle.std.specs.Prelude.{◌≡◌, ◌++◌, IfOk, option_map, string_bytes};
 ghost use Rattle.cli_tasks.specs.Answers.{AreSlipsBehind, steps_behind};
 
@@ -10,12 +10,12 @@ use std::alloc::{AllocError, Global};
 use trial::Setting;
 use verify::Verified;
 
-/// Appends an empty line and a line for each step of a program's run in this setting to the lines of the run. Returns
-/// the lines unchanged if `traced` is not set.
+/// Appends an empty line and one line for each step of the program's run in this setting to `lines`. Returns `lines`
+/// unchanged if `traced` is not set.
 ///
 /// # Errors
 ///
-/// Fails with `AllocError` if there is no memory for the context, the outbox, an access or the lines.
+/// Fails with `AllocError` if memory runs out.
 pub(crate) fn with_steps(
     alloc: Global,
     lines: String,
@@ -38,13 +38,14 @@ pub(crate) fn with_steps(
     Ok(text)
 }
 
-/// Appends to the text about an accepted program a line for each call that puts no order in its run in this setting.
-/// Such a line names the unit and, if it is known, the place of the unit in the file, which has these bytes. Returns
-/// the text unchanged if `asked`, the notation of the program in the file, is `None`.
+/// Appends a note to the text about an accepted program for each call of its run in this setting that should set orders
+/// in the outbox but sets none. The note names the unit of the call and, if it is known, the line of the file where the
+/// call is written. `file` has the bytes of the program's file, and `asked` says how the program is written in it.
+/// Returns the text unchanged if `asked` is `None`.
 ///
 /// # Errors
 ///
-/// Fails with `AllocError` if there is no memory for the context, the outbox, an access or the lines.
+/// Fails with `AllocError` if memory runs out.
 pub(crate) fn with_slips(
     alloc: Global,
     told: String,

@@ -1,13 +1,13 @@
-//! The story of a scenario, which a page shows: the comments and blank lines at its head.
+//! The story of a scenario: the comments and blank lines before its first key, which a page shows.
 ghost use Rattle.std.specs.Prelude.{◌≡◌, ◌++◌, IfOk, OnOk};
 ghost use Rattle.cli_tasks.specs.Story.{is_blank, is_page, story, story_on, with_story};
 
 use cli_words::Task;
 use std::alloc::{AllocError, Global};
 
-/// Returns the bytes that are read of a scenario. `own` is the scenario's own text, and `bytes` the text in which the
-/// named files replace their names. That text has no story, so for a page the story of `own` is put before it. Nothing
-/// is put before `bytes` if they equal `own`.
+/// Returns the bytes that are read as the scenario. `own` is the scenario as the user wrote it. `bytes` is the same
+/// scenario with the content of the named files in it, and has lost the comments. For a page the comments and blank
+/// lines at the head of `own` are therefore put before `bytes`, unless the two are equal.
 ///
 /// # Errors
 ///
@@ -28,7 +28,7 @@ pub fn with_story(
     Ok(text)
 }
 
-/// Checks whether the task makes a page.
+/// Checks whether the task is `page`.
 fn is_page(task: &Task) -> bool
     ensures { result ≡ is_page task.now }
 {
@@ -42,7 +42,7 @@ fn is_blank(byte: u8) -> bool
     byte == b' ' || byte == b'\t' || byte == b'\r' || byte == b'\n'
 }
 
-/// Returns the comments and blank lines at the head of a scenario.
+/// Returns the comments and blank lines at the head of a scenario's text: all bytes before its first key or table.
 fn story(alloc: Global, bytes: &[u8]) -> Result<Vec<u8>, AllocError>
     ensures { IfOk result (λ text. text.items ≡ story bytes.now) }
 {

@@ -4,14 +4,15 @@ ghost use Rattle.cli_tasks.specs.Strangers.{IsStranger, IsStrangerToTree, strang
 
 use crate::refusal::InputRefusal;
 
-/// Checks whether `general` is not one of `generals` generals, who are numbered from 0.
+/// Checks whether `general` is not one of the generals 0 to `generals - 1`.
 fn is_stranger(generals: u8, general: u8) -> bool
     ensures { result ≡ nat_le generals general }
 {
     general >= generals
 }
 
-/// Returns the first named general who is not one of `generals` generals, or `None` if all are.
+/// Returns the first of the named generals who is not one of the generals 0 to `generals - 1`. Returns `None` if all of
+/// them are.
 fn stranger_among(generals: u8, named: &[u8]) -> Option<u8>
     ensures { result ≡ stranger_among generals named.now }
 {
@@ -23,11 +24,11 @@ fn stranger_among(generals: u8, named: &[u8]) -> Option<u8>
     None
 }
 
-/// Checks that each named general is one of `generals` generals.
+/// Checks that each named general is one of the generals 0 to `generals - 1`.
 ///
 /// # Errors
 ///
-/// Fails with `Stranger` for the first who is not.
+/// Fails with `Stranger` for the first named general who is not.
 pub(crate) fn know_all(generals: u8, named: &[u8]) -> Result<(), InputRefusal>
     ensures known { OnOk result (stranger_among generals named.now ≡ None) }
     ensures refused { IfErr result (IsStranger generals named.now) }
@@ -38,12 +39,12 @@ pub(crate) fn know_all(generals: u8, named: &[u8]) -> Result<(), InputRefusal>
     }
 }
 
-/// Checks that `general` is a lieutenant among `generals` generals under this commander, and that each general named as
-/// a traitor is one of them.
+/// Checks that `general` is a lieutenant: one of the generals 0 to `generals - 1`, but not the commander. Checks also
+/// that each of `traitors` is one of the generals.
 ///
 /// # Errors
 ///
-/// Fails with `Stranger` for `general` if he is not a lieutenant, or else for the first named traitor who is not one of
+/// Fails with `Stranger` for `general` if he is not a lieutenant, or else for the first of `traitors` who is not one of
 /// the generals.
 pub(crate) fn know_tree(
     generals: u8,

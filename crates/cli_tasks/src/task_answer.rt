@@ -1,5 +1,5 @@
-//! Computes what each subcommand results in on its first file: the text to print, or a program or a campaign with which
-//! it goes on.
+//! Computes the result of each subcommand on its first file: the text to print, or a program or a campaign that it
+//! needs for the second file.
 ghost use Rattle.std.specs.Prelude.{IfOk, IfErr, None};
 ghost use Rattle.cli_tasks.specs.TaskAnswers.{ComesTo};
 ghost use Rattle.cli_tasks.specs.TaskRefusals.{Refuses};
@@ -23,12 +23,14 @@ use cli_words::{Accesses, Account, Course, Spelling, Task};
 use show_tree::View;
 use std::alloc::Global;
 
-/// Computes what a task results in on its only or first file, which has these bytes. The result is all that the task
-/// prints, or a program or a campaign with which it goes on. A task that reads no file ignores the bytes.
+/// Computes the result of a task on its only or first file, which has the bytes `bytes`. The result is everything that
+/// the task prints, or a program or a campaign that it needs for the second file. A task that reads no file ignores the
+/// bytes.
 ///
 /// # Errors
 ///
-/// Fails with the reason why the task rejects the file or the words, and with `Memory` if memory runs out.
+/// Fails with the reason why the task rejects the file or a word of the command line, and with `Memory` if memory runs
+/// out.
 pub fn answer(alloc: Global, task: &Task, bytes: &[u8]) -> Result<FirstAnswer, InputRefusal>
     ensures answered { IfOk result (ComesTo task.now bytes.now) }
     ensures refused { IfErr result (Refuses task.now bytes.now) }

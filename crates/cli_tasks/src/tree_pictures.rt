@@ -1,4 +1,4 @@
-//! Draws as a tree what a lieutenant received, by a message table or in a campaign (subcommand `tree`).
+//! Draws a lieutenant's tree: what he received, by a message table or in a campaign (subcommand `tree`).
 ghost use Rattle.std.specs.Prelude.{◌≡◌, ◌++◌, [], true, false, IfErr, IfOk, OnOk, string_bytes};
 ghost use Rattle.show_tree.specs.Drawn.{DrawsTable};
 ghost use Rattle.show_tree.specs.Shown.{ordered};
@@ -22,15 +22,14 @@ use toml::Table;
 use toml::de::Error;
 use world::{Chronicle, Schedule, play};
 
-/// Draws as a tree what a general received by a message table. A text that is TOML describes an oral campaign instead,
-/// which is played by the empty schedule. `view` says how many levels are drawn. The generals in `traitors` are drawn
-/// as traitors, and so are the traitors of the campaign.
+/// Draws what the lieutenant `general` received as a tree. The text is a message table or, if it is TOML, an oral
+/// campaign, which is played by the empty schedule. `view` says how many levels are drawn, and whether equal ones are
+/// folded. The generals in `traitors` are drawn as traitors, and so are the traitors of the campaign.
 ///
 /// # Errors
 ///
 /// Fails with `Table` or `Scenario` for the first fault of the text. Fails with `Stranger` for `general` if he is not a
-/// lieutenant, since the commander receives nothing, or for the first of `traitors` who is not one of the generals.
-/// Fails with `Memory` if memory runs out.
+/// lieutenant, or for the first of `traitors` who is not one of the generals. Fails with `Memory` if memory runs out.
 #[tactic(auto, using(crate::proofs::PicturingLemmas::pictured))]
 pub fn pictured(
     alloc: Global,
@@ -54,7 +53,8 @@ pub fn pictured(
     Ok(campaign_pictured(alloc, scenario, traitors, view, form, general)?)
 }
 
-/// Draws what a general received by a message table.
+/// Draws what the lieutenant `general` received by a message table as a tree. The generals in `traitors` are drawn as
+/// traitors. Fails if the text is not a message table, or if a general is not one of its generals.
 #[tactic(auto, using(crate::proofs::StrangerLemmas::table_known))]
 fn table_pictured(
     alloc: Global,
@@ -91,7 +91,7 @@ fn known_scenario(
     Ok(scenario)
 }
 
-/// Reads an oral campaign from text.
+/// Reads an oral campaign from text. Fails with `Scenario` for its first fault, and with `Memory` if memory runs out.
 fn scenario_in(alloc: Global, text: &str) -> Result<Scenario, InputRefusal>
     ensures told { IfOk result (Tells text.now) }
     ensures refused { IfErr result (RefusesScenario text.now) }
@@ -99,7 +99,8 @@ fn scenario_in(alloc: Global, text: &str) -> Result<Scenario, InputRefusal>
     Ok(scenario::read(alloc, text)?)
 }
 
-/// Returns whether a text is TOML, where `parsed` is the result of parsing it. Fails if the parser ran out of memory.
+/// Returns whether a text is TOML. `parsed` is the parser's result for this text. Fails only if the parser ran out of
+/// memory.
 fn parses(parsed: Result<Table, Error>) -> Result<bool, AllocError>
     ensures { TellsWhetherToml parsed result }
 {
@@ -110,15 +111,15 @@ fn parses(parsed: Result<Table, Error>) -> Result<bool, AllocError>
     }
 }
 
-/// Checks whether the text is TOML.
+/// Checks whether the text is TOML. Fails only if memory runs out.
 fn is_toml(alloc: Global, text: &str) -> Result<bool, AllocError>
     ensures { IfOk result (λ is. is ≡ is_toml text.now) }
 {
     parses(toml::table_from_str(alloc, text))
 }
 
-/// Plays an oral campaign by the empty schedule, and draws what a general received in it. The traitors of the campaign
-/// are drawn as traitors, and so are the generals in `named`.
+/// Plays an oral campaign by the empty schedule, and draws what `general` received in it as a tree. The traitors of the
+/// campaign and the generals in `named` are drawn as traitors.
 #[tactic(auto, using(crate::proofs::PicturingLemmas::played_wholly, crate::proofs::PicturingLemmas::of_same))]
 fn campaign_pictured(
     alloc: Global,
@@ -142,7 +143,8 @@ fn campaign_pictured(
     Ok(chronicle_pictured(alloc, &chronicle, all.as_slice(), view, form, general)?)
 }
 
-/// Draws what a general received in the campaign of a chronicle, by the message table that its letters give.
+/// Draws what `general` received in the campaign of a chronicle as a tree. The orders are those of the message table
+/// that the letters in the chronicle give.
 #[tactic(auto, using(crate::proofs::PicturingLemmas::is_drawn))]
 fn chronicle_pictured(
     alloc: Global,
@@ -161,7 +163,7 @@ fn chronicle_pictured(
     Ok(tree_drawn(alloc, &table, traitors, view, form, general)?)
 }
 
-/// Returns the form of the tree for a drawing.
+/// Returns the form in which a tree is drawn: as lines with box-drawing or ASCII characters, as a graph, or in SVG.
 fn form(drawing: Drawing) -> TreeForm
     ensures { result ≡ form_of drawing }
 {

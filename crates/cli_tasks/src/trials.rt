@@ -1,5 +1,5 @@
-//! Computes what `check` prints of a program: its run in the bench setting, or its trial in the setting of a second
-//! file.
+//! Computes what `check` prints about a program: its run in the bench setting (general 3 of 4 in the first round), or
+//! its trial in the setting of a second file.
 ghost use Rattle.std.specs.Prelude.{IfOk, IfErr, option_map, string_bytes, None};
 ghost use Rattle.cli_tasks.specs.Answers.{IsTriedAt, IsChecked};
 ghost use Rattle.cli_tasks.specs.ProgramRefusals.{RefusesSetting, RefusesCheckIn};
@@ -16,8 +16,9 @@ use std::alloc::Global;
 use trial::{Setting, read, tried};
 use verify::Verified;
 
-/// Computes what `check` prints of the program that a file contains in this notation. The text has the lines of the run
-/// in the bench setting. The steps follow if `traced` is set, and the explanation follows if `explained` is set.
+/// Computes what `check` prints about the program in a file, if no second file gives a setting. `notation` says whether
+/// the file is bytecode, assembly or an ELF object. The text begins with the lines of the program's run as the last of
+/// 4 generals in the first round. The steps follow if `traced` is set, and then the explanation if `explained` is set.
 ///
 /// # Errors
 ///
@@ -39,10 +40,10 @@ pub fn checked_in(
     Ok(with_explanation(alloc, lines, asked, bytes, verified.program())?)
 }
 
-/// Tries a program in the setting that the second file describes. Returns the text of the trial, and its relay. The
-/// text has the lines of the trial, and then its steps if `traced` is set. If an explanation is asked for, `asked` is
-/// the notation of the program in the first file. Then the explanation follows, and a note for each call that puts no
-/// order.
+/// Tries a verified program in the setting that the second file describes. `first` and `second` are the bytes of the
+/// two files. Returns the text of the trial, with the general and round for which the program ran. The steps follow in
+/// the text if `traced` is set. If `asked` says how the program is written in the first file, the explanation follows,
+/// with a note for each call that should set orders in the outbox but sets none.
 ///
 /// # Errors
 ///

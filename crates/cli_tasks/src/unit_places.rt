@@ -1,4 +1,5 @@
-//! Finds where and how the units of a program are written: lines of assembly, or source lines of an ELF object.
+//! Finds where and how the 8-byte units of a program are written: on which line of assembly or, for an ELF object, on
+//! which line of which source file.
 ghost use Rattle.std.specs.Prelude.{◌≡◌, IfOk, map, string_bytes};
 ghost use Rattle.std.specs.Str.{IsUtf8};
 ghost use Rattle.asm.specs.Places.{AreWritten, statements_of};
@@ -12,8 +13,8 @@ use cli_words::Notation;
 use object::entry_places;
 use std::alloc::{AllocError, Global};
 
-/// Returns for each unit of the program in a file where it is written. For assembly this is the line, and for an object
-/// the line of a source file. The list is empty for bytecode.
+/// Returns for each 8-byte unit of the program in a file where it is written: on which line of assembly or, for an ELF
+/// object, on which line of which source file. Returns no entries for bytecode.
 pub(crate) fn written_in(
     alloc: Global,
     notation: &Notation,
@@ -28,8 +29,8 @@ pub(crate) fn written_in(
     }
 }
 
-/// Returns for each unit of an assembled text the line on which it is written. The list is empty if the bytes are not
-/// UTF-8.
+/// Returns for each 8-byte unit that a text assembles to the line on which it is written. Returns no entries if the
+/// bytes are not UTF-8.
 fn in_text(alloc: Global, bytes: &[u8]) -> Result<Vec<String>, AllocError>
     ensures { IfOk result (λ places. IsUtf8 bytes.now →
         AreWritten (read_on nothing 1 (lines_of bytes.now)) (map string_bytes places.items)) }
@@ -40,7 +41,8 @@ fn in_text(alloc: Global, bytes: &[u8]) -> Result<Vec<String>, AllocError>
     }
 }
 
-/// Returns for each unit of an object's entry the line of a source file where it is written.
+/// Returns for each 8-byte unit of a function in an ELF object on which line of which source file it is written. The
+/// function is the one named `entry` or, without a name, the only global one.
 fn in_object(alloc: Global, object: &[u8], entry: Option<&str>) -> Result<Vec<String>, AllocError>
     ensures { IfOk result (λ places. AreEntryPlaces object.now (function_of object.now (asked entry.entry))
         (map string_bytes places.items)) }
@@ -51,8 +53,8 @@ fn in_object(alloc: Global, object: &[u8], entry: Option<&str>) -> Result<Vec<St
     }
 }
 
-/// Returns for each unit of the program in a file how it is written. For assembly this is the statement in the words of
-/// its line. The list is empty for bytecode and objects.
+/// Returns for each 8-byte unit of the program in a file of assembly the statement as it is written on its line.
+/// Returns no entries for bytecode and ELF objects.
 pub(crate) fn statements_in(
     alloc: Global,
     notation: &Notation,
@@ -66,8 +68,8 @@ pub(crate) fn statements_in(
     }
 }
 
-/// Returns for each unit of an assembled text the statement in the words of its line. The list is empty if the bytes
-/// are not UTF-8.
+/// Returns for each 8-byte unit that a text assembles to the statement as it is written on its line. Returns no entries
+/// if the bytes are not UTF-8.
 fn statements_of_text(alloc: Global, bytes: &[u8]) -> Result<Vec<String>, AllocError>
     ensures { IfOk result (λ statements. IsUtf8 bytes.now →
         map string_bytes statements.items ≡ statements_of bytes.now) }

@@ -1,4 +1,4 @@
-//! Makes the report that is printed after the error line of a rejected input if an explanation is asked for.
+//! Makes the report that is printed after the error line of a rejected input if the task must explain its errors.
 ghost use Rattle.std.specs.Prelude.{◌≡◌, ◌++◌, IfOk, IfSome, string_bytes};
 ghost use Rattle.streams.specs.Names.{shown};
 ghost use Rattle.cli_report.specs.Bytecode.{bytecode_told};
@@ -21,7 +21,7 @@ use std::alloc::{AllocError, Global};
 use streams::FileName;
 use trace::{TraceError, signed_told_again, told_again};
 
-/// The role of a file in which a line is at fault: a schedule, a chronicle of this campaign, or any other file.
+/// What the file at fault should be: a schedule, a chronicle of this campaign, or anything else.
 #[derive(Clone, Copy)]
 pub enum FileRole<'a> {
     Schedule,
@@ -29,7 +29,7 @@ pub enum FileRole<'a> {
     Nothing,
 }
 
-/// Checks whether the task must explain why it rejects its input.
+/// Checks whether the task was called with `--explain`, so that it must explain also why it rejects its input.
 pub fn is_explained(task: &Task) -> bool
     ensures { result ≡ is_explained task.now }
 {
@@ -54,14 +54,14 @@ pub fn is_explained(task: &Task) -> bool
     }
 }
 
-/// Returns the name of a file as it is printed.
+/// Returns the name of a file as it is printed: on one line, with control characters escaped.
 fn shown_name(alloc: Global, file: &str) -> Result<String, AllocError>
     ensures { IfOk result (λ name. IfSome (shown file.now) (λ told. string_bytes name ≡ told)) }
 {
     format!(in alloc; "{}", FileName(file))
 }
 
-/// Returns the report on rejected bytecode: what the bytes seem to be, and why they are rejected.
+/// Returns the report on rejected bytecode: what the bytes seem to be instead, and the fault at this unit.
 fn bytecode_told(
     alloc: Global,
     name: &str,
@@ -82,7 +82,8 @@ fn bytecode_told(
     }
 }
 
-/// Returns the text that the chronicle of a campaign should have in place of this one, which is not sound.
+/// Returns the text that `text`, a faulty chronicle of the campaign, should have been. The report shows where the two
+/// differ.
 fn campaign_again(alloc: Global, campaign: &Campaign, text: &[u8]) -> Result<Vec<u8>, AllocError>
     ensures { IfOk result (λ again. again.items ≡ campaign_again campaign.now text.now) }
 {
@@ -92,7 +93,8 @@ fn campaign_again(alloc: Global, campaign: &Campaign, text: &[u8]) -> Result<Vec
     }
 }
 
-/// Returns the report on a rejected line of a schedule or a chronicle. The report is empty for any other file.
+/// Returns the report on a rejected line of a schedule or a chronicle. Returns an empty report if the file is neither,
+/// as `of` says, or if memory ran out.
 fn trace_told(
     alloc: Global,
     of: FileRole<'_>,
@@ -117,8 +119,8 @@ fn trace_told(
     }
 }
 
-/// Returns the report that is printed after the error line of a rejected file with this name and these bytes. The
-/// report is empty for errors that have none.
+/// Returns the report that is printed after the error line of a rejected file. The file has the name `name` and the
+/// bytes `bytes`, and `of` says what it should be. The report is empty for errors that need no report.
 fn told_by(
     alloc: Global,
     of: FileRole<'_>,
@@ -157,7 +159,7 @@ fn told_by(
     }
 }
 
-/// Returns the failure for a rejected file of this name, with this text as its hint.
+/// Returns the failure of a task that rejects the file named `file` for the reason `refusal`, with `text` as the hint.
 fn with_text<'a>(refusal: InputRefusal, file: &'a str, text: String) -> TaskFailure<'a>
     ensures { result ≡ text_fault refusal file.entry text }
 {
@@ -168,7 +170,8 @@ fn with_text<'a>(refusal: InputRefusal, file: &'a str, text: String) -> TaskFail
     }
 }
 
-/// Returns the failure for a rejected file with this name and these bytes, with the report as its hint.
+/// Returns the failure of a task that rejects the file named `file` with the bytes `bytes`, with a report on the fault
+/// as the hint.
 fn told<'a>(
     alloc: Global,
     of: FileRole<'_>,
@@ -187,8 +190,8 @@ fn told<'a>(
     }
 }
 
-/// Checks whether the task reports more about a refusal than the hint that is always printed. It does so if an
-/// explanation is asked for, but never for an object's fault.
+/// Checks whether the task prints a report on this refusal. It does if the task must explain its errors, except for a
+/// fault of an ELF object, which is always explained by its hint.
 fn is_reported(task: &Task, refusal: &InputRefusal) -> bool
     ensures { result ≡ is_reported task.now refusal.now }
 {
@@ -198,9 +201,9 @@ fn is_reported(task: &Task, refusal: &InputRefusal) -> bool
     }
 }
 
-/// Returns the failure of a task that rejects its first file, without the explanation of a program. If a report is
-/// asked for, the hint is the report on `own`, the bytes in which the fault is located. Otherwise the failure is that
-/// of `TaskFailure::of_bytes`.
+/// Returns the failure of a task that rejects its first file, without explaining a program. If the task must explain
+/// its errors, the hint is a report on `own`, the bytes in which the fault is located. Otherwise the hint only says
+/// what the bytes seem to be or why an ELF object is at fault, if either applies.
 pub fn unjudged<'a>(
     alloc: Global,
     task: &Task,
@@ -217,8 +220,8 @@ pub fn unjudged<'a>(
     }
 }
 
-/// Returns the failure for a rejected second file with this name and these bytes. If `explained` is set, the report is
-/// its hint.
+/// Returns the failure of a task that rejects the second file, which has the name `file` and the bytes `bytes`. If
+/// `explained` is set, the hint is a report on the fault. Otherwise there is no hint.
 pub fn later<'a>(
     alloc: Global,
     explained: bool,
