@@ -1,5 +1,5 @@
-//! `--lines --details`: plays the campaigns of a survey and prints a line for each, with its traitors, its order and
-//! the decisions.
+//! `--lines --details`: plays the campaigns of a survey and prints a JSON line for each, with its traitors, its order
+//! and the decisions.
 ghost use Rattle.std.specs.Prelude.{◌≡◌, IfErr, IfOk, OnOk, flat_map, map};
 ghost use Rattle.std.specs.Io.KnownBytes.{Appends};
 ghost use Rattle.surveys.specs.Account.{Account as Told};
@@ -22,12 +22,13 @@ use std::thread::Threads;
 use streams::Output;
 use surveys::{Account, Family, Finding, accounts, accounts_text, failed_in};
 
-/// Plays the campaigns of a family, prints the head and the lines of their accounts, and keeps those that are broken or
-/// all.
+/// Plays the campaigns of a family, and prints a first line that describes the family and then a line for each
+/// campaign, with its traitors, its order and the decisions. If the survey names a folder, writes the broken campaigns
+/// to it, or all campaigns with `--keep-all`.
 ///
 /// # Errors
 ///
-/// A campaign is rejected, the output or a kept file cannot be written, or memory runs out.
+/// Fails if a campaign is rejected, if the output or a campaign's file cannot be written, or if memory runs out.
 #[tactic(auto, using(crate::proofs::FaultLemmas::stopped_printing, crate::proofs::FaultLemmas::stopped_keeping, crate::proofs::FaultLemmas::stopped_by_memory, crate::proofs::FaultLemmas::stopped_campaign))]
 pub fn accounted<T: Threads + Sync, O: Output, K: Keeper>(
     rt: &HostRuntime,
@@ -68,11 +69,12 @@ pub fn accounted<T: Threads + Sync, O: Output, K: Keeper>(
     Ok(())
 }
 
-/// Prints the lines of these accounts.
+/// Prints a line for each of these accounts: one account describes one campaign, with its traitors, its order and the
+/// decisions.
 ///
 /// # Errors
 ///
-/// The output cannot be written, or memory runs out.
+/// Fails if the output cannot be written, or if memory runs out.
 fn put_accounts<O: Output>(
     rt: &HostRuntime,
     out: &mut O,
@@ -84,11 +86,11 @@ fn put_accounts<O: Output>(
     print(out, accounts_text(rt.alloc(), accounts)?.as_str())
 }
 
-/// Returns the results of these accounts.
+/// Returns the result of each campaign from its account, without the traitors, the order and the decisions.
 ///
 /// # Errors
 ///
-/// `AllocError` if memory runs out.
+/// Fails with `AllocError` if memory runs out.
 fn findings_of(alloc: Global, accounts: &[Account]) -> Result<Vec<Finding>, AllocError>
     ensures { IfOk result (λ findings. findings.items ≡ map (λ (a : Told). a.finding) accounts.now) }
 {

@@ -1,4 +1,5 @@
-//! `--break`: searches, for each number of generals and each bound, for the least campaign that breaks agreement.
+//! `--break`: searches for the least campaign that breaks agreement, for each number of generals and each bound on the
+//! traitors.
 ghost use Rattle.std.specs.Prelude.{◌≡◌, ◌≤◌, ◌+◌, ◌-◌, min, Option, IfErr, IfOk, OnOk};
 ghost use Rattle.std.specs.Io.KnownBytes.{Appends};
 ghost use Rattle.surveys.specs.declared.breach.Breaking.{Breaking as Found};
@@ -16,13 +17,13 @@ use std::thread::Threads;
 use streams::Output;
 use surveys::{Breaking, CountRange, Family, breaking, breaking_text};
 
-/// Prints, for each number of generals and each bound that they can have, the least reduced campaign found that breaks
-/// agreement. It is the least over all seeds and all numbers of traitors. If `is_table` is true, only its numbers are
-/// printed, as a row of a table.
+/// Searches for small campaigns that break agreement, and prints the least one found for each number of generals and
+/// each bound that they can have. The search plays each seed's campaign with each number of traitors, and reduces the
+/// broken ones. If `is_table` is true, prints only a row of numbers for each least campaign.
 ///
 /// # Errors
 ///
-/// The family's file or a campaign is rejected, the output cannot be written, or memory runs out.
+/// Fails if the family's file or a campaign is rejected, if the output cannot be written, or if memory runs out.
 #[tactic(auto, using(crate::proofs::FaultLemmas::unended, crate::proofs::FaultLemmas::untaken))]
 pub fn broken<T: Threads + Sync, O: Output>(
     rt: &HostRuntime,
@@ -39,11 +40,12 @@ pub fn broken<T: Threads + Sync, O: Output>(
     put_entries(rt, threads, out, asked, &family, is_table)
 }
 
-/// Prints the header, and an entry for each number of generals and each bound of the family.
+/// Prints the header of the table, if there is one, and the least campaign found for each number of generals and each
+/// bound of the family.
 ///
 /// # Errors
 ///
-/// A campaign is rejected, the output cannot be written, or memory runs out.
+/// Fails if a campaign is rejected, if the output cannot be written, or if memory runs out.
 #[tactic(auto, using(crate::proofs::FaultLemmas::stopped_printing))]
 fn put_entries<T: Threads + Sync, O: Output>(
     rt: &HostRuntime,
@@ -71,14 +73,15 @@ fn put_entries<T: Threads + Sync, O: Output>(
     Ok(())
 }
 
-/// Returns one more than the greatest bound of the span that `generals` generals can have.
+/// Returns one more than the greatest bound to search for `generals` generals. This bound is the least of three
+/// numbers: the upper end of `bound`, 4, and `generals - 2`.
 fn bounds_end(generals: u8, bound: CountRange) -> u8
     ensures { result ≡ min bound.high (min 4 (generals - 2)) + 1 }
 {
     bound.high.min(generals.saturating_sub(2).min(4)) + 1
 }
 
-/// Returns the header of the table, or an empty text if campaigns are printed.
+/// Returns the header line of the table of `--break --table`, or an empty text if campaigns are printed.
 fn break_header(is_table: bool) -> &'static str
     ensures { result.now ≡ break_header is_table }
 {
@@ -89,18 +92,20 @@ fn break_header(is_table: bool) -> &'static str
     }
 }
 
-/// Returns the text before an entry: an empty line before each campaign except the first, and otherwise nothing.
+/// Returns the text that separates a campaign from the one before it: an empty line. Returns no text before the first
+/// campaign and in a table.
 fn gap(is_table: bool, is_first: bool) -> &'static str
     ensures { result.now ≡ gap is_table is_first }
 {
     if is_table || is_first { "" } else { "\n" }
 }
 
-/// Searches and prints the entry for one number of generals and one bound.
+/// Searches for the least campaign with this number of generals and this bound that breaks agreement, and prints it or,
+/// if `is_table` is true, a row of its numbers.
 ///
 /// # Errors
 ///
-/// A campaign is rejected, the output cannot be written, or memory runs out.
+/// Fails if a campaign is rejected, if the output cannot be written, or if memory runs out.
 #[tactic(auto, using(crate::proofs::FaultLemmas::stopped_printing, crate::proofs::FaultLemmas::stopped_by_memory))]
 fn put_entry<T: Threads + Sync, O: Output>(
     rt: &HostRuntime,
@@ -124,12 +129,13 @@ fn put_entry<T: Threads + Sync, O: Output>(
     print(out, text.as_str())
 }
 
-/// Returns the least reduced campaign with this number of generals and this bound that breaks agreement, over all seeds
-/// and all numbers of traitors. Returns `None` if agreement is broken in none of them.
+/// Searches for campaigns with this number of generals and this bound that break agreement, and returns the least
+/// reduced one. The search covers all seeds and all numbers of traitors of the survey. Returns `None` if agreement is
+/// broken in no campaign.
 ///
 /// # Errors
 ///
-/// A campaign is rejected, or memory runs out.
+/// Fails if a campaign is rejected, or if memory runs out.
 #[tactic(auto, using(crate::proofs::FaultLemmas::stopped_campaign))]
 fn searched<T: Threads + Sync>(
     rt: &HostRuntime,
@@ -162,7 +168,7 @@ fn searched<T: Threads + Sync>(
     }
 }
 
-/// Returns a span of traitors with both ends limited to the number of generals.
+/// Limits both ends of a range of numbers of traitors to the number of generals.
 fn cut_to(generals: u8, span: CountRange) -> CountRange
     ensures { result ≡ cut_to generals span }
 {

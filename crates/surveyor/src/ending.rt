@@ -1,5 +1,4 @@
-//! How a call ended: what was asked for, and the exit status. Only functions of this file make a `SurveyEnding`, from
-//! what was done or from words that ask for nothing.
+//! How a call of the program ended: what its command line asked for, and the exit status.
 ghost use Rattle.std.specs.Prelude.{◌≡◌, IfErr, IfOk};
 ghost use Rattle.std.specs.Fmt.{with_newline};
 ghost use Rattle.surveyor.specs.Asked.{IsAsked};
@@ -19,13 +18,13 @@ use std::marker::PhantomData;
 use std::thread::Threads;
 use streams::Output;
 
-/// How a call ended. `O` is the type of its output, `F` that of its standard error, and `K` that of the keeper of its
-/// campaigns.
+/// How a call of the program ended. Only functions of this file make this value, after they did the task. `O` is the
+/// type of standard output, `F` of standard error, and `K` of the keeper, which stores campaigns as files.
 #[derive(Drop)]
 pub struct SurveyEnding<O, F, K> {
-    /// What the words ask for, or why they ask for nothing.
+    /// What the command line asks for, or why it asks for no task.
     asked: Result<Asked, AskedError>,
-    /// The exit status.
+    /// The exit status of the program.
     status: u8,
     output: PhantomData<O>,
     error: PhantomData<F>,
@@ -33,12 +32,12 @@ pub struct SurveyEnding<O, F, K> {
 }
 
 impl<O: Output, F: Output, K: Keeper> SurveyEnding<O, F, K> {
-    /// Does the task in `asked`. If `asked` is an error, reports it on `error`, which is standard error. Returns how the
-    /// call ended, with its output and the keeper of its campaigns.
+    /// Does the task that `asked` describes, and returns how the call ended. If `asked` is an error, reports it on
+    /// `error`, which is standard error. `out` is standard output, and `keeper` stores campaigns as files.
     ///
     /// # Errors
     ///
-    /// The request cannot be finished, help cannot be printed, or memory runs out.
+    /// Fails if the task cannot be finished, if help cannot be printed, or if memory runs out.
     pub fn of<T: Threads + Sync>(
         rt: &HostRuntime,
         threads: &T,
@@ -64,7 +63,7 @@ impl<O: Output, F: Output, K: Keeper> SurveyEnding<O, F, K> {
         })
     }
 
-    /// Returns the exit status.
+    /// Returns the exit status of the program.
     pub fn status(&self) -> u8
         ensures { result ≡ self.now.status }
     {
@@ -72,12 +71,12 @@ impl<O: Output, F: Output, K: Keeper> SurveyEnding<O, F, K> {
     }
 }
 
-/// Does the task in `asked`. If `asked` is an error, reports it on `error`, which is standard error. Returns the exit
-/// status.
+/// Does the task that `asked` describes, and returns the exit status. If `asked` is an error, reports it on `error`,
+/// which is standard error.
 ///
 /// # Errors
 ///
-/// The request cannot be finished, help cannot be printed, or memory runs out.
+/// Fails if the task cannot be finished, if help cannot be printed, or if memory runs out.
 fn done<T: Threads + Sync, O: Output, F: Output, K: Keeper>(
     rt: &HostRuntime,
     threads: &T,
@@ -110,12 +109,12 @@ fn done<T: Threads + Sync, O: Output, F: Output, K: Keeper>(
     }
 }
 
-/// Reports on `error`, which is standard error, why the words give no task, or prints help if they ask for it. Returns
-/// the exit status: 2, or 0 for help.
+/// Reports on `error`, which is standard error, why the command line describes no task, or prints help if it asks for
+/// help. Returns the exit status: 2, or 0 for help.
 ///
 /// # Errors
 ///
-/// Help cannot be printed, or memory ran out.
+/// Fails if help cannot be printed, or if memory ran out.
 fn unasked<F: Output>(
     rt: &HostRuntime,
     error: &mut F,
@@ -136,11 +135,11 @@ fn unasked<F: Output>(
     }
 }
 
-/// Prints why `clap` rejects the words, or the help that they ask for. Returns the exit status: 2, or 0 for help.
+/// Prints why `clap` rejects the command line, or the help that it asks for. Returns the exit status: 2, or 0 for help.
 ///
 /// # Errors
 ///
-/// Help cannot be printed, or memory ran out.
+/// Fails if help cannot be printed, or if memory ran out.
 fn printed(rt: &HostRuntime, refusal: &clap::Error) -> Result<u8, SurveyFailure>
     ensures status { IfOk result (IsRefusedByClap refusal.now) }
     ensures unhelped { IfErr result (IsUnhelpedBy refusal.now) }

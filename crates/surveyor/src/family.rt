@@ -1,5 +1,5 @@
-//! The family of campaigns that a survey asks for. If its traitors' program is in a file of assembly, the file is read,
-//! assembled and verified.
+//! Makes the family of campaigns that a survey plays. If the program of the traitors is in a file of assembly, reads,
+//! assembles and verifies it.
 ghost use Rattle.std.specs.Prelude.{◌≡◌, ℕ, IfErr, IfOk, List, string_bytes};
 ghost use Rattle.surveyor.specs.Asked.{IsSurvey};
 ghost use Rattle.surveyor.specs.Faults.{IsFile, IsRefusedText, IsUnsaid, IsUnsound, IsUntaken};
@@ -14,11 +14,13 @@ use std::alloc::Global;
 use surveys::{Adversary, Family};
 use verify::{VerifyError, verify};
 
-/// Returns the family of a survey. If the survey names a file of assembly, reads that file.
+/// Returns the family of campaigns that a survey plays: the numbers of generals and traitors, the orders, and what the
+/// traitors do. If the survey names a file of assembly as their program, reads this file.
 ///
 /// # Errors
 ///
-/// The file cannot be read, is not UTF-8, or contains no program that the verifier accepts, or memory runs out.
+/// Fails if the file cannot be read, is not UTF-8, or contains no program that the verifier accepts, or if memory runs
+/// out.
 pub fn family_of(rt: &HostRuntime, survey: &Survey) -> Result<Family, SurveyFailure>
     requires { IsSurvey survey.now }
     ensures family { IfOk result (IsFamilyOf survey.now) }
@@ -40,11 +42,12 @@ pub fn family_of(rt: &HostRuntime, survey: &Survey) -> Result<Family, SurveyFail
     ))
 }
 
-/// Returns what the traitors do, given the word that names it.
+/// Returns what the traitors do by the value of `--adversary`: `lies`, `silent`, `collude`, or the name of a file with
+/// their program in assembly.
 ///
 /// # Errors
 ///
-/// The word names a file whose program cannot be read or is rejected, or memory runs out.
+/// Fails if the program in the file cannot be read or is rejected, or if memory runs out.
 fn adversary_of(rt: &HostRuntime, word: &str) -> Result<Adversary, SurveyFailure>
     ensures named { IfOk result (IsNamed word.now) }
     ensures file { IfErr result (λ _. IsFile word.now) }
@@ -58,11 +61,13 @@ fn adversary_of(rt: &HostRuntime, word: &str) -> Result<Adversary, SurveyFailure
     }
 }
 
-/// Reads a file of assembly, or standard input if the name is a hyphen. Returns its bytecode in hexadecimal.
+/// Reads a program from a file of assembly, or from standard input if the name is `-`, and verifies it. Returns its
+/// bytecode in hexadecimal digits.
 ///
 /// # Errors
 ///
-/// The file cannot be read, is not UTF-8, or contains no program that the verifier accepts, or memory runs out.
+/// Fails if the file cannot be read, is not UTF-8, or contains no program that the verifier accepts, or if memory runs
+/// out.
 fn hex_of(rt: &HostRuntime, name: &str) -> Result<String, SurveyFailure>
     ensures program { IfOk result (λ hex. (text : List ℕ) × IsProgramOf text (string_bytes hex)) }
     ensures refused { IfErr result (IsUntaken name.now) }
@@ -75,11 +80,11 @@ fn hex_of(rt: &HostRuntime, name: &str) -> Result<String, SurveyFailure>
     }
 }
 
-/// Assembles a text, and returns its bytecode in hexadecimal if the verifier accepts it.
+/// Assembles and verifies a program, and returns its bytecode in hexadecimal digits.
 ///
 /// # Errors
 ///
-/// The assembler or the verifier rejects the text, or memory runs out.
+/// Fails if the assembler or the verifier rejects the program, or if memory runs out.
 fn program_hex(alloc: Global, text: &str) -> Result<String, SurveyFailure>
     ensures program { IfOk result (λ hex. IsProgramOf text.now (string_bytes hex)) }
     ensures refused { IfErr result (IsRefusedText text.now) }
@@ -95,7 +100,8 @@ fn program_hex(alloc: Global, text: &str) -> Result<String, SurveyFailure>
     }
 }
 
-/// Returns the failure for a text that the assembler rejects.
+/// Returns the failure of a survey whose program the assembler rejects: `Memory` if the assembler ran out of memory,
+/// and otherwise `Refused` with the line to print.
 fn unsaid(alloc: Global, error: AsmError) -> SurveyFailure
     ensures { IsUnsaid error result }
 {
@@ -108,7 +114,8 @@ fn unsaid(alloc: Global, error: AsmError) -> SurveyFailure
     }
 }
 
-/// Returns the failure for a program that the verifier rejects.
+/// Returns the failure of a survey whose program the verifier rejects: `Memory` if the verifier ran out of memory, and
+/// otherwise `Refused` with the line to print.
 fn unsound(alloc: Global, fault: VerifyError) -> SurveyFailure
     ensures { IsUnsound fault result }
 {

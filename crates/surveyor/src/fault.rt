@@ -1,4 +1,4 @@
-//! Why a survey cannot be finished, the line that is reported then, and the exit status.
+//! Why a survey cannot be finished, with the line that is then reported and the exit status.
 ghost use Rattle.std.specs.Prelude.{◌≡◌, ◌⊎◌, IfSome};
 ghost use Rattle.std.specs.Fmt.{with_newline};
 ghost use Rattle.std.specs.Io.KnownBytes.{Appends};
@@ -10,20 +10,21 @@ use std::fmt;
 use std::io::{self, ErrorKind};
 use streams::{FileName, Output};
 
-/// Why a survey cannot be finished.
+/// Why a task of `./byzlab survey` cannot be finished. Its text is the line that is reported.
 #[derive(Drop)]
 pub enum SurveyFailure {
-    /// The file of this name cannot be read.
+    /// The file with this name cannot be read.
     Unread(String),
-    /// The file of this name is not UTF-8.
+    /// The file with this name is not UTF-8 text.
     NotText(String),
-    /// The file of this name cannot be written. Without a name, standard output cannot be written.
+    /// The file with this name cannot be written. If there is no name, standard output cannot be written.
     Unwritten(Option<String>),
-    /// A program, or a line of a file to be summed, is rejected. This line says why.
+    /// A program, or a line of a file that `--sum` reads, is rejected. The text is the line that says why.
     Refused(String),
-    /// The campaign of one of the seeds from the first number to the second is rejected.
+    /// A campaign is rejected with this error. Its seed is one of those from the first number to the second, both
+    /// included.
     Campaign(u64, u64, ScenarioError),
-    /// The words are not UTF-8.
+    /// The command line is not UTF-8.
     Words,
     /// Memory ran out.
     Memory,
@@ -93,7 +94,8 @@ impl From<io::Error> for SurveyFailure {
     }
 }
 
-/// Returns the exit status for a failure: 2 if the words are not UTF-8, 3 if memory ran out, and otherwise 1.
+/// Returns the exit status of the program for a failure: 2 if the command line is not UTF-8, 3 if memory ran out, and
+/// otherwise 1.
 fn status_of(fault: &SurveyFailure) -> u8
     ensures { result ≡ status_of fault.now }
 {
@@ -108,7 +110,7 @@ fn status_of(fault: &SurveyFailure) -> u8
     }
 }
 
-/// Reports the failure on `error`, which is standard error. Returns the exit status.
+/// Reports the failure on `error`, which is standard error. Returns the exit status of the program, 1 to 3.
 pub fn tell<F: Output>(fault: &SurveyFailure, error: &mut F) -> u8
     ensures status { result ≡ status_of fault.now }
     ensures told { F.fails error.old ⊎ IfSome (with_newline (fault_text fault.now))

@@ -1,4 +1,5 @@
-//! `--sum`: sums the lines of several files, and reports the seeds that are missing or occur more than once.
+//! `--sum`: reads the lines of several surveys from files, and prints their common summary. Reports the seeds that are
+//! missing or occur more than once.
 ghost use Rattle.std.specs.Prelude.{◌≡◌, ◌≢◌, [], ◌++◌, IfErr, IfOk, OnOk, flat_map, length, string_bytes};
 ghost use Rattle.surveys.specs.Parts.{AreOf};
 ghost use Rattle.surveyor.specs.Faults.{IsNoPart, IsUnsummed, IsUntold};
@@ -13,12 +14,13 @@ use std::alloc::{AllocError, Global};
 use streams::{FileName, Output};
 use surveys::{Finding, PartError, Parts, Stretch, doubles, holes, read_part};
 
-/// Sums the lines of files, and prints the summary. Reports on `error`, which is standard error, which seeds are missing,
-/// and which occur more than once. Returns the exit status: 1 if there are such seeds, and otherwise 0.
+/// Reads the lines that `--lines` printed into several files, and prints the summary of all their campaigns. Reports on
+/// `error`, which is standard error, which seeds are missing, and which occur more than once. Returns the exit status:
+/// 1 if there are such seeds, and otherwise 0.
 ///
 /// # Errors
 ///
-/// A file cannot be read, a line is rejected, the output cannot be written, or memory runs out.
+/// Fails if a file cannot be read, if a line is rejected, if the output cannot be written, or if memory runs out.
 #[tactic(auto, using(crate::proofs::FaultLemmas::untold_summed, crate::proofs::FaultLemmas::unprinted_summed, crate::proofs::FaultLemmas::unsummed_by_memory))]
 pub fn summed<O: Output, F: Output>(
     rt: &HostRuntime,
@@ -37,11 +39,11 @@ pub fn summed<O: Output, F: Output>(
     covered(alloc, error, asked.seeds, findings)
 }
 
-/// Reads the lines of all files.
+/// Reads the lines of all files that `--sum` names, and returns the results of their campaigns.
 ///
 /// # Errors
 ///
-/// A file cannot be read, a line is rejected, or memory runs out.
+/// Fails if a file cannot be read, if a line is rejected, or if memory runs out.
 #[tactic(auto, using(crate::proofs::FaultLemmas::unread_one, crate::proofs::SumLemmas::none_told, crate::proofs::SumLemmas::told_more, crate::proofs::SumLemmas::no_part_told))]
 fn told(rt: &HostRuntime, asked: &Merge) -> Result<Parts, SurveyFailure>
     ensures told { IfOk result (λ parts. IsTold asked.now parts.head.items parts.findings.items) }
@@ -64,7 +66,8 @@ fn told(rt: &HostRuntime, asked: &Merge) -> Result<Parts, SurveyFailure>
     Ok(parts)
 }
 
-/// Returns the name of the file that begins the survey: `first`, or `name` if no file had lines so far.
+/// Returns the name of the first file that had any lines: `first` if one had lines already, and otherwise `name`, the
+/// file to be read next.
 fn first_name<'a>(parts: &Parts, first: &'a str, name: &'a str) -> &'a str
     ensures none { parts.now.head.items ≡ [] → result.now ≡ name.entry.now }
     ensures some { parts.now.head.items ≢ [] → result.now ≡ first.entry.now }
@@ -72,7 +75,8 @@ fn first_name<'a>(parts: &Parts, first: &'a str, name: &'a str) -> &'a str
     if parts.head.is_empty() { name } else { first }
 }
 
-/// Returns the first and the last seed that may occur: those of `--seeds`, or 0 and 2^64 - 1 if it is not given.
+/// Returns the first and the last seed that the files may contain: the two ends of `--seeds`, or 0 and 2^64 - 1 if the
+/// option is not given.
 fn span_of(seeds: Option<(u64, u64)>) -> (u64, u64)
     ensures { result ≡ span_of seeds }
 {
@@ -82,7 +86,8 @@ fn span_of(seeds: Option<(u64, u64)>) -> (u64, u64)
     }
 }
 
-/// Returns the failure for the file `name`, which is not a part of the survey that the file `first` begins.
+/// Returns the failure for the file `name`, of which a line is rejected. Its family must be the family of `first`, the
+/// first file with lines.
 fn refused(alloc: Global, name: &str, first: &str, error: PartError) -> SurveyFailure
     ensures { IsNoPart name.now first.now error result }
 {
@@ -92,12 +97,12 @@ fn refused(alloc: Global, name: &str, first: &str, error: PartError) -> SurveyFa
     }
 }
 
-/// Returns the failure with the line that says why the file `name` is not a part of the survey that the file `first`
-/// begins.
+/// Returns the failure for the file `name`, of which a line is rejected, with the line that reports this. `first` is
+/// the first file with lines, and sets the family.
 ///
 /// # Errors
 ///
-/// `AllocError` if memory runs out for the line.
+/// Fails with `AllocError` if there is no memory for the line.
 fn refusal(
     alloc: Global,
     name: &str,
@@ -129,7 +134,8 @@ fn refusal(
     }
 }
 
-/// Returns the least span that contains both ends and the seed.
+/// Extends the range of seeds `ends` so that it contains `seed`. If there is no range yet, returns the range of only
+/// this seed.
 fn with_seed(ends: Option<(u64, u64)>, seed: u64) -> Option<(u64, u64)>
     ensures { result ≡ with_seed ends seed }
 {
@@ -150,8 +156,8 @@ fn ends(all: &[Finding]) -> Option<(u64, u64)>
     ends
 }
 
-/// Returns the first and the last seed that should occur: those of `--seeds` or, if it is not given, the least and the
-/// greatest seed of these campaigns.
+/// Returns the first and the last seed that the files should contain: the ends of `--seeds` or, if it is not given, the
+/// least and the greatest seed that they contain. Returns `None` if they contain no campaign.
 fn asked_for(seeds: Option<(u64, u64)>, all: &[Finding]) -> Option<(u64, u64)>
     ensures { IsAskedFor seeds all.now result }
 {
@@ -161,7 +167,8 @@ fn asked_for(seeds: Option<(u64, u64)>, all: &[Finding]) -> Option<(u64, u64)>
     }
 }
 
-/// Returns the exit status: 1 if there are missing seeds (`holes`) or repeated seeds (`doubles`), and otherwise 0.
+/// Returns the exit status of `--sum`: 1 if seeds are missing (`holes`) or occur more than once (`doubles`), and
+/// otherwise 0.
 fn status_of(holes: &[Stretch], doubles: &[Stretch]) -> u8
     ensures well { result ≡ 0 → (length holes.now ≡ 0) × (length doubles.now ≡ 0) }
     ensures none { length holes.now ≡ 0 → length doubles.now ≡ 0 → result ≡ 0 }
@@ -176,12 +183,12 @@ fn status_of(holes: &[Stretch], doubles: &[Stretch]) -> u8
     0
 }
 
-/// Reports on `error` which seeds are missing, and which occur more than once. Returns the exit status: 1 if there are
-/// such seeds, and otherwise 0.
+/// Reports on `error`, which is standard error, which seeds are missing and which occur more than once. Returns the
+/// exit status: 1 if there are such seeds, and otherwise 0.
 ///
 /// # Errors
 ///
-/// Memory ran out.
+/// Fails if memory runs out.
 #[tactic(auto, using(crate::proofs::CoverLemmas::seeds_reported, crate::proofs::CoverLemmas::nothing_reported, crate::proofs::CoverLemmas::put_reported))]
 fn covered<F: Output>(
     alloc: Global,
@@ -207,11 +214,12 @@ fn covered<F: Output>(
     Ok(status)
 }
 
-/// Returns the lines that report missing seeds (`holes`), and then those that report repeated seeds (`doubles`).
+/// Returns the report on missing seeds (`holes`) and then on seeds that occur more than once (`doubles`), with a line
+/// such as `hole 5..7` for each range of seeds.
 ///
 /// # Errors
 ///
-/// `AllocError` if memory runs out.
+/// Fails with `AllocError` if memory runs out.
 fn report_text(alloc: Global, holes: &[Stretch], doubles: &[Stretch]) -> Result<String, AllocError>
     ensures { IfOk result (λ text. string_bytes text ≡ report_text holes.now doubles.now) }
 {
@@ -221,11 +229,11 @@ fn report_text(alloc: Global, holes: &[Stretch], doubles: &[Stretch]) -> Result<
     Ok(out)
 }
 
-/// Appends a line for each of these stretches of seeds, in the form that `--seeds` takes. Each line begins with `name`.
+/// Appends a line for each of these ranges of seeds, such as `hole 5..7`. Each line begins with `name`.
 ///
 /// # Errors
 ///
-/// `AllocError` if memory runs out.
+/// Fails with `AllocError` if memory runs out.
 fn put_stretches(out: &mut String, name: &str, stretches: &[Stretch]) -> Result<(), AllocError>
     ensures { OnOk result
         (string_bytes out.new ≡ string_bytes out.old ++ flat_map (stretch_text name.now) stretches.now) }
@@ -236,11 +244,11 @@ fn put_stretches(out: &mut String, name: &str, stretches: &[Stretch]) -> Result<
     Ok(())
 }
 
-/// Appends the line of a stretch of seeds, which begins with `name`.
+/// Appends the line for a range of seeds, such as `hole 5..7`. The line begins with `name`.
 ///
 /// # Errors
 ///
-/// `AllocError` if memory runs out.
+/// Fails with `AllocError` if memory runs out.
 fn put_stretch(out: &mut String, name: &str, stretch: &Stretch) -> Result<(), AllocError>
     ensures { OnOk result (string_bytes out.new ≡ string_bytes out.old ++ stretch_text name.now stretch.now) }
 {

@@ -1,4 +1,4 @@
-//! The options and switches of `./byzlab survey` with their help texts, as `clap` receives them.
+//! Declares the options of `./byzlab survey` to `clap`, with their help texts.
 ghost use Rattle.std.specs.Prelude.{◌≡◌, IfOk, codes, false, map};
 ghost use Rattle.clap.specs.Words.{app_of, rule_of};
 ghost use Rattle.surveyor.specs.Flags.{bare_app, files, rule_for, survey_app, with_rules};
@@ -7,11 +7,11 @@ use clap::{Arg, ArgAction, Command};
 use combine::Rule;
 use std::alloc::{AllocError, Global};
 
-/// An option or a switch, with its help text.
+/// An option of the command line, with its help text. An option without a value is a switch.
 #[derive(Clone, Copy)]
 struct Flag<'a> {
     name: &'a str,
-    /// The name of its value in the help text. A switch has none.
+    /// What the help text calls the value of the option, such as `N..M`. It is `None` for a switch.
     value: Option<&'a str>,
     help: &'a str,
 }
@@ -74,7 +74,7 @@ const MANNER: &[Flag<'static>] = &[
     },
 ];
 
-/// The options that say what is printed and kept.
+/// The options that say what is printed, and which campaigns are written to files.
 const SHAPES: &[Flag<'static>] = &[
     Flag {
         name: "lines",
@@ -129,7 +129,7 @@ const SHAPES: &[Flag<'static>] = &[
     },
 ];
 
-/// The option `--sum`, which takes one or more files.
+/// The option `--sum`, which takes the names of one or more files.
 const SUM: Flag<'static> = Flag {
     name: "sum",
     value: Some("FILE"),
@@ -137,7 +137,7 @@ const SUM: Flag<'static> = Flag {
 };
 
 impl<'a> Flag<'a> {
-    /// Returns the option or switch as an argument of `clap`.
+    /// Returns the option in the form that `clap` takes.
     #[tactic(auto, unfolding(crate::specs::Flags::rule_for))]
     fn argument(&self, alloc: Global) -> Arg<'a>
         ensures rule { rule_of result ≡ rule_for self.now }
@@ -151,7 +151,7 @@ impl<'a> Flag<'a> {
     }
 }
 
-/// Adds these options and switches to a command.
+/// Adds these options to a command of `clap`.
 fn with_flags<'a>(
     alloc: Global,
     mut command: Command<'a>,
@@ -165,14 +165,14 @@ fn with_flags<'a>(
     Ok(command)
 }
 
-/// Returns the help text of `--rule`, which names all rules.
+/// Returns the help text of `--rule`, which lists all rules for combining orders.
 pub(crate) fn rules(alloc: Global) -> Result<String, AllocError> {
     let names = Rule::names();
     let default = Rule::DEFAULT.name();
     format!(in alloc; "How orders are combined: {names} [default: {default}]")
 }
 
-/// Returns the command without options and switches.
+/// Returns the command `survey` without its options.
 fn bare<'a>(alloc: Global) -> Result<Command<'a>, AllocError>
     ensures { IfOk result (λ c. app_of c ≡ bare_app) }
 {
@@ -182,7 +182,7 @@ fn bare<'a>(alloc: Global) -> Result<Command<'a>, AllocError>
         .bin_name("byzlab survey")
 }
 
-/// Returns `--sum` as an argument of `clap`.
+/// Returns the option `--sum` in the form that `clap` takes. It can be given several times, with several values.
 #[tactic(auto, unfolding(crate::specs::Flags::rule_for))]
 fn sum_argument<'a>(alloc: Global) -> Arg<'a>
     ensures rule { rule_of result ≡ files (codes "sum") }
@@ -191,7 +191,7 @@ fn sum_argument<'a>(alloc: Global) -> Arg<'a>
     SUM.argument(alloc).num_args(1..).action(ArgAction::Append)
 }
 
-/// Returns the command with all options and switches. `rules` is the help text of `--rule`.
+/// Returns the command `survey` with all its options. `rules` is the help text of `--rule`.
 pub(crate) fn command<'a>(alloc: Global, rules: &'a str) -> Result<Command<'a>, AllocError>
     ensures { IfOk result (λ c. app_of c ≡ survey_app) }
 {

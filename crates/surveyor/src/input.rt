@@ -1,4 +1,4 @@
-//! Reads whole files, or standard input.
+//! Reads a whole file, or all of standard input.
 ghost use Rattle.std.specs.Prelude.{IfErr};
 ghost use Rattle.surveyor.specs.Faults.{IsUnread};
 
@@ -6,12 +6,12 @@ use crate::fault::SurveyFailure;
 use std::fs::read;
 use std::io::{self, ErrorKind, Read};
 
-/// Reads all bytes of the file of this name, or of standard input if the name is a hyphen. No contract can say which
-/// bytes these are.
+/// Reads all bytes of the file named `name`, or of standard input if the name is `-`. No contract can say which bytes
+/// these are.
 ///
 /// # Errors
 ///
-/// The file cannot be read, or memory runs out.
+/// Fails with `Unread` if the file cannot be read, and with `Memory` if memory runs out.
 pub fn bytes_of(rt: &HostRuntime, name: &str) -> Result<Vec<u8>, SurveyFailure>
     ensures { IfErr result (IsUnread name.now) }
 {
@@ -22,8 +22,8 @@ pub fn bytes_of(rt: &HostRuntime, name: &str) -> Result<Vec<u8>, SurveyFailure>
     }
 }
 
-/// Reads all bytes of the file of this name, or of standard input if the name is a hyphen. Returns the error of the
-/// operating system if that fails.
+/// Reads all bytes of the file named `name`, or of standard input if the name is `-`. Fails with the error of the
+/// operating system.
 fn taken(rt: &HostRuntime, name: &str) -> io::Result<Vec<u8>> {
     if name != "-" {
         return read(rt, name);

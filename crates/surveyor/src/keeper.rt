@@ -1,10 +1,10 @@
-//! The trait `Keeper`, which stores the files of campaigns, and the file system as a keeper.
+//! The trait `Keeper`, which stores campaigns as files, and its implementation by the file system.
 use crate::fault::SurveyFailure;
 use crate::kept_campaigns::keep;
 use std::fs::File;
 use streams::Filled;
 
-/// A store for the files of campaigns.
+/// A store for campaigns, each in a file of its own.
 pub trait Keeper {
     ghost use Rattle.std.specs.Prelude.{ℕ, List, [], ◌∷◌, Option, IfErr, IfOk, OnOk};
     ghost use Rattle.streams.specs.Filling.{IsFilledBy};
@@ -14,12 +14,12 @@ pub trait Keeper {
     // The names and the bytes of the files that it has stored, if they are known.
     ghost files: { Self → Option (List (List ℕ × List ℕ)) };
 
-    /// Writes the campaign of a seed to FOLDER/SEED.toml.
+    /// Writes `text`, the campaign of a seed, to the file FOLDER/SEED.toml.
     ///
     /// # Errors
     ///
-    /// The file cannot be written, or memory runs out. If the file to which the campaign is written first exists
-    /// already, the error names that file.
+    /// Fails if the file cannot be written, or if memory runs out. The campaign is first written to another file, which
+    /// is then renamed. If this other file exists already, the error names it.
     fn keep<'t>(
         &mut self,
         folder: &str,
@@ -32,7 +32,7 @@ pub trait Keeper {
         ensures unkept { IfErr result (IsUnkept (kept_name folder.now seed) (beside_name folder.now seed)) };
 }
 
-/// The file system, as a keeper.
+/// A keeper that stores campaigns in the file system.
 #[derive(Drop)]
 pub struct Disk<'a> {
     pub rt: &'a HostRuntime,

@@ -1,4 +1,4 @@
-//! Writes campaigns to the folder of `--keep`. No contract can say whether the files are still there later.
+//! Writes campaigns to the folder of `--keep`. No contract can say that the files remain there.
 ghost use Rattle.std.specs.Prelude.{◌≡◌, IfErr, IfOk, string_bytes};
 ghost use Rattle.streams.specs.Filling.{IsFilledBy};
 ghost use Rattle.surveyor.specs.Faults.{IsUnkept, tried_name, unwritten};
@@ -10,19 +10,20 @@ use std::fs::{File, OpenOptions, create_dir, metadata, remove_file, rename};
 use std::io::{self, ErrorKind};
 use streams::{Filled, fill};
 
-/// The name of a file, and the name under which it is written first.
+/// The two names of a file: the name that it gets in the end, and the temporary name under which it is written.
 #[derive(Drop)]
 struct FileNames {
     name: String,
     beside: String,
 }
 
-/// Writes the campaign of a seed to FOLDER/SEED.toml. The text is written to FOLDER/.SEED.toml.new first, which is then
-/// renamed, so FOLDER/SEED.toml is never incomplete. If that fails, the new file is removed.
+/// Writes `text`, the campaign of a seed, to the file FOLDER/SEED.toml. To keep this file from ever being incomplete,
+/// writes FOLDER/.SEED.toml.new first and then renames it. If that fails, removes the temporary file.
 ///
 /// # Errors
 ///
-/// The file cannot be written, or memory runs out. If FOLDER/.SEED.toml.new exists already, the error names it.
+/// Fails if the file cannot be written, or if memory runs out. If FOLDER/.SEED.toml.new exists already, the error names
+/// it.
 pub fn keep<'t>(
     rt: &HostRuntime,
     folder: &str,
@@ -43,11 +44,12 @@ pub fn keep<'t>(
     }
 }
 
-/// Returns the names of the file with the campaign of a seed: FOLDER/SEED.toml and FOLDER/.SEED.toml.new.
+/// Returns the two names of the file for the campaign of a seed: FOLDER/SEED.toml, and FOLDER/.SEED.toml.new while it
+/// is written.
 ///
 /// # Errors
 ///
-/// `AllocError` if memory runs out.
+/// Fails with `AllocError` if memory runs out.
 fn names_of(alloc: Global, folder: &str, seed: u64) -> Result<FileNames, AllocError>
     ensures name { IfOk result (λ names. string_bytes names.name ≡ kept_name folder.now seed) }
     ensures beside { IfOk result (λ names. string_bytes names.beside ≡ beside_name folder.now seed) }
@@ -58,12 +60,13 @@ fn names_of(alloc: Global, folder: &str, seed: u64) -> Result<FileNames, AllocEr
     })
 }
 
-/// Makes the folder of this name unless it exists, and checks that a file can be written to it. `number` is part of the
-/// name of that file, so that calls with other numbers do not use the same one.
+/// Makes the folder named `folder` unless it exists, and checks that files can be written to it by creating and
+/// removing one. `number` is part of the name of this file, so that concurrent surveys with other numbers do not use
+/// the same one.
 ///
 /// # Errors
 ///
-/// The folder cannot be made, no file can be written to it, or memory runs out.
+/// Fails if the folder cannot be made, if no file can be written to it, or if memory runs out.
 pub fn open_folder(rt: &HostRuntime, folder: &str, number: u64) -> Result<(), SurveyFailure>
     ensures { IfErr result (IsUnkept folder.now (tried_name folder.now number)) }
 {
@@ -78,8 +81,8 @@ pub fn open_folder(rt: &HostRuntime, folder: &str, number: u64) -> Result<(), Su
     }
 }
 
-/// Returns the failure for a file that cannot be written, by the kind of the error. It names `beside` if that file
-/// exists already, and `name` otherwise. If memory ran out, it names no file.
+/// Returns the failure for a file that could not be written because of an error of this kind. The failure names the
+/// temporary file if that exists already, and otherwise the file itself. If memory ran out, it is `Memory`.
 fn unwritten(kind: ErrorKind, names: FileNames) -> SurveyFailure
     ensures same { result ≡ unwritten kind names.name names.beside }
     ensures unkept { IsUnkept (string_bytes names.name) (string_bytes names.beside) result }
@@ -91,11 +94,12 @@ fn unwritten(kind: ErrorKind, names: FileNames) -> SurveyFailure
     }
 }
 
-/// Makes the folder unless it exists, creates the file of this name, and removes it again.
+/// Makes the folder unless it exists. Then creates the file named `name` in it and removes it again, which shows that
+/// files can be written to the folder.
 ///
 /// # Errors
 ///
-/// The folder cannot be made, the file cannot be created, or it cannot be removed.
+/// Fails if the folder cannot be made, or if the file cannot be created or removed.
 fn opened(rt: &HostRuntime, folder: &str, name: &str) -> io::Result<()> {
     if metadata(rt, folder).is_err() {
         made(rt, folder)?;
@@ -105,11 +109,11 @@ fn opened(rt: &HostRuntime, folder: &str, name: &str) -> io::Result<()> {
     remove_file(rt, name)
 }
 
-/// Makes the folder. It is no error if another process has just made it.
+/// Makes the folder. Succeeds also if another process has just made it.
 ///
 /// # Errors
 ///
-/// The folder cannot be made.
+/// Fails if the folder cannot be made.
 fn made(rt: &HostRuntime, folder: &str) -> io::Result<()> {
     match create_dir(rt, folder) {
         Err(error) if error.kind() != ErrorKind::AlreadyExists => Err(error),
@@ -117,11 +121,11 @@ fn made(rt: &HostRuntime, folder: &str) -> io::Result<()> {
     }
 }
 
-/// Creates the file of this name.
+/// Creates an empty file with this name.
 ///
 /// # Errors
 ///
-/// The file exists already, or cannot be created.
+/// Fails if the file exists already or cannot be created.
 fn new_file(rt: &HostRuntime, name: &str) -> io::Result<File> {
     OpenOptions::new()
         .write(true)
@@ -129,11 +133,11 @@ fn new_file(rt: &HostRuntime, name: &str) -> io::Result<File> {
         .open(rt, name)
 }
 
-/// Writes `text` to the new file `beside`, and renames it to `name`. If that fails, removes the new file.
+/// Writes `text` to the temporary file, and renames it to its final name. If that fails, removes the temporary file.
 ///
 /// # Errors
 ///
-/// A write or the renaming failed, or memory ran out.
+/// Fails if the file cannot be written or renamed, or if memory ran out.
 fn moved<'t>(
     rt: &HostRuntime,
     file: File,
@@ -149,11 +153,11 @@ fn moved<'t>(
     written
 }
 
-/// Writes `text` to the new file `beside`, and renames it to `name`.
+/// Writes `text` to the temporary file, and renames it to its final name. If that fails, the temporary file remains.
 ///
 /// # Errors
 ///
-/// A write or the renaming failed, or memory ran out.
+/// Fails if the file cannot be written or renamed, or if memory ran out.
 fn named<'t>(
     rt: &HostRuntime,
     mut file: File,

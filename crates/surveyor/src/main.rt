@@ -1,5 +1,4 @@
-//! The program `surveyor`, which runs `./byzlab survey`: plays the campaigns that the seeds of a family give, and
-//! counts their outcomes.
+//! The program `surveyor`, which runs `./byzlab survey`: plays a campaign for each seed, and counts the outcomes.
 #![tactic(auto)]
 
 mod accounts;
@@ -50,12 +49,12 @@ fn main(rt: HostRuntime) -> ExitCode {
     ExitCode::from(status)
 }
 
-/// Reads the command line, and does what it asks for. The result records what was done: only `SurveyEnding::of` makes
-/// it.
+/// Reads the command line, and does what it asks for. Returns how the call ended, a value that only `SurveyEnding::of`
+/// makes.
 ///
 /// # Errors
 ///
-/// The words are not UTF-8, what they ask for cannot be finished, or memory runs out.
+/// Fails if the command line is not UTF-8, if the task cannot be finished, or if memory runs out.
 fn called<'a, T: Threads + Sync>(
     rt: &'a HostRuntime,
     threads: &T,
@@ -73,11 +72,11 @@ fn called<'a, T: Threads + Sync>(
     answered(rt, threads, texts.as_slice())
 }
 
-/// Does what these words ask for, or reports why they ask for nothing.
+/// Does what the words of the command line ask for, or reports why they describe no task.
 ///
 /// # Errors
 ///
-/// What the words ask for cannot be finished.
+/// Fails if the task cannot be finished, if help cannot be printed, or if memory runs out.
 fn answered<'a, T: Threads + Sync>(
     rt: &'a HostRuntime,
     threads: &T,

@@ -1,4 +1,4 @@
-//! `--shrink`: reduces the broken campaigns of a survey, and prints the least of them.
+//! `--shrink`: reduces the broken campaigns of a survey as far as possible, and prints the least result.
 ghost use Rattle.std.specs.Prelude.{◌≡◌, List, ℕ, IfErr, IfOk, OnOk, count_by, flat_map, is_some, length, option_map, string_bytes};
 ghost use Rattle.std.specs.Io.KnownBytes.{Appends};
 ghost use Rattle.surveys.specs.Breaches.{IsRefusedIn};
@@ -20,12 +20,12 @@ use std::thread::Threads;
 use streams::Output;
 use surveys::{Breach, Family, Plot, better, breaches, least, plot_text, statements};
 
-/// Reduces each broken campaign of the seeds, by removing traitors and statements while it stays broken. Prints the
-/// least of the reduced campaigns.
+/// Plays the campaign of each seed. From each broken one removes traitors and statements of theirs, such as an order to
+/// a general, as long as it stays broken. Prints the least of the reduced campaigns.
 ///
 /// # Errors
 ///
-/// A campaign is rejected, the output or a kept file cannot be written, or memory runs out.
+/// Fails if a campaign is rejected, if the output or a campaign's file cannot be written, or if memory runs out.
 #[tactic(auto, using(crate::proofs::FaultLemmas::stopped_printing, crate::proofs::FaultLemmas::stopped_by_memory))]
 pub fn shrunken<T: Threads + Sync, O: Output, K: Keeper>(
     rt: &HostRuntime,
@@ -45,12 +45,12 @@ pub fn shrunken<T: Threads + Sync, O: Output, K: Keeper>(
     print(out, least_text(rt.alloc(), least.as_ref())?.as_str())
 }
 
-/// Reduces each broken campaign of the seeds, writes the reduced campaigns to the folder if one is named, and returns
-/// the least of them. Returns `None` if no campaign is broken.
+/// Plays the campaign of each seed and reduces the broken ones. Writes the reduced campaigns to the survey's folder, if
+/// it has one, and returns the least of them. Returns `None` if no campaign is broken.
 ///
 /// # Errors
 ///
-/// A campaign is rejected, a kept file cannot be written, or memory runs out.
+/// Fails if a campaign is rejected, if a campaign's file cannot be written, or if memory runs out.
 #[tactic(auto, using(crate::proofs::FaultLemmas::stopped_keeping, crate::proofs::FaultLemmas::stopped_by_memory, crate::proofs::FaultLemmas::stopped_campaign))]
 fn least_left<T: Threads + Sync, K: Keeper>(
     rt: &HostRuntime,
@@ -86,18 +86,18 @@ fn least_left<T: Threads + Sync, K: Keeper>(
     Ok(so_far)
 }
 
-/// Returns how many of the campaigns are broken.
+/// Returns how many campaigns are broken. `found` has an entry for each campaign, which is `None` if it is not broken.
 fn count_broken(found: &[Option<Breach>]) -> u64
     ensures { result ≡ count_by is_some found.now }
 {
     found.iter().filter(|breach| breach.is_some()).count() as u64
 }
 
-/// Writes the reduced campaigns to the folder, if one is named.
+/// Writes the reduced campaigns to the folder of `--keep`. Does nothing if the survey has no such folder.
 ///
 /// # Errors
 ///
-/// A file cannot be written, or memory runs out.
+/// Fails if a file cannot be written, or if memory runs out.
 #[tactic(auto, using(crate::proofs::FaultLemmas::kept_where, crate::proofs::KeptLemmas::none_gained))]
 fn keep_all<K: Keeper>(
     rt: &HostRuntime,
@@ -115,11 +115,11 @@ fn keep_all<K: Keeper>(
     }
 }
 
-/// Writes the reduced campaigns to this folder.
+/// Writes the reduced campaigns to the folder named `folder`, each to the file SEED.toml.
 ///
 /// # Errors
 ///
-/// A file cannot be written, or memory runs out.
+/// Fails if a file cannot be written, or if memory runs out.
 fn keep_in<K: Keeper>(
     rt: &HostRuntime,
     keeper: &mut K,
@@ -136,11 +136,12 @@ fn keep_in<K: Keeper>(
     Ok(())
 }
 
-/// Writes a reduced campaign to this folder. Does nothing if the campaign was not broken.
+/// Writes a reduced campaign to the file SEED.toml in the folder named `folder`. Does nothing if there is no such
+/// campaign because the seed's campaign was not broken.
 ///
 /// # Errors
 ///
-/// The file cannot be written, or memory runs out.
+/// Fails if the file cannot be written, or if memory runs out.
 #[tactic(auto, using(crate::proofs::FaultLemmas::unkept_one, crate::proofs::FaultLemmas::unkept_by_memory, crate::proofs::KeptLemmas::none_gained))]
 fn keep_one<K: Keeper>(
     rt: &HostRuntime,
@@ -167,7 +168,7 @@ fn traitors_in(plot: &Plot) -> usize
     plot.traitors.len()
 }
 
-/// Returns the comment line before a reduced campaign: its seed, its number of traitors and its number of statements.
+/// Returns the comment line that is printed before a reduced campaign, such as `# seed 5: 1 traitors, 2 statements`.
 fn least_head(
     alloc: Global,
     seed: u64,
@@ -179,8 +180,8 @@ fn least_head(
     format!(in alloc; "# seed {seed}: {traitors} traitors, {statements} statements\n")
 }
 
-/// Returns the least reduced campaign as a scenario, after a comment line with its numbers. If no campaign is broken,
-/// returns only a comment that says so.
+/// Returns the least reduced campaign as the text of a scenario, after a comment line such as `# seed 5: 1 traitors, 2
+/// statements`. If no campaign is broken, returns only a comment that says so.
 fn least_text(alloc: Global, least: Option<&Breach>) -> Result<String, AllocError>
     ensures { IfOk result (λ text. string_bytes text ≡ least_text (option_map (λ breach. breach.now) least.entry)) }
 {

@@ -1,4 +1,4 @@
-//! Parses the numbers and spans that options take, such as `4` and `4..7`.
+//! Parses the numbers and ranges that options take, such as `4` and `4..7`.
 ghost use Rattle.std.specs.Prelude.{ℕ, ◌≡◌, ◌≤◌, ◌<◌, ◌-◌, ◌^◌, ◌==◌, cond, IfNone, IfSome, None, Some};
 ghost use Rattle.surveyor.specs.Numbers.{AreTold, IsNoSpan, IsTold};
 ghost use Rattle.text.specs.Number.{decimal_of};
@@ -6,10 +6,10 @@ ghost use Rattle.text.specs.Number.{decimal_of};
 use surveys::CountRange;
 use text::decimal;
 
-/// The greatest number of seeds in a survey.
+/// The most seeds that a survey may have.
 const MOST_SEEDS: u64 = 10_000_000;
 
-/// Parses a number below `limit`. Returns `None` for any other word.
+/// Parses a decimal number less than `limit`. Returns `None` for any other word.
 fn below(limit: u128, word: &str) -> Option<u64>
     requires { limit ≤ 2 ^ 64 }
     ensures inside { IfSome result (λ number. number < limit) }
@@ -24,7 +24,8 @@ fn below(limit: u128, word: &str) -> Option<u64>
     }
 }
 
-/// Parses two numbers below `limit`, of which the first is at most the second. Returns `None` for any other words.
+/// Parses the two decimal numbers of a range, both less than `limit`. Returns `None` if a word is not such a number, or
+/// if the first number is greater than the second.
 fn both(limit: u128, low: &str, high: &str) -> Option<(u64, u64)>
     requires { limit ≤ 2 ^ 64 }
     ensures ordered { IfSome result (λ r. r.0 ≤ r.1) }
@@ -37,8 +38,9 @@ fn both(limit: u128, low: &str, high: &str) -> Option<(u64, u64)>
     if low <= high { Some((low, high)) } else { None }
 }
 
-/// Parses the first and the last number of `A..B`, or of `A`, which is both. The first must be at most the last, and
-/// both must be below `limit`. Returns `None` for any other word.
+/// Parses a range such as `4..7`, and returns its first and last number. One number, such as `4`, is the range of only
+/// this number. Returns `None` for any other word, if the first number is greater than the last, or if the last is not
+/// less than `limit`.
 fn ends(limit: u128, word: &str) -> Option<(u64, u64)>
     requires { limit ≤ 2 ^ 64 }
     ensures ordered { IfSome result (λ r. r.0 ≤ r.1) }
@@ -52,7 +54,7 @@ fn ends(limit: u128, word: &str) -> Option<(u64, u64)>
     }
 }
 
-/// Parses a number below `limit`. Returns `None` for any other word.
+/// Parses a decimal number less than `limit`. Returns `None` for any other word.
 pub fn small(limit: u8, word: &str) -> Option<u8>
     ensures inside { IfSome result (λ number. number < limit) }
     ensures told { IfSome result (λ number. decimal_of word.now ≡ Some number) }
@@ -62,7 +64,7 @@ pub fn small(limit: u8, word: &str) -> Option<u8>
     Some(number as u8)
 }
 
-/// Parses a span of numbers from 0 to 13. Returns `None` for any other word.
+/// Parses a range of numbers from 0 to 13, such as `4` or `4..7`. Returns `None` for any other word.
 pub fn span(word: &str) -> Option<CountRange>
     ensures ordered { IfSome result (λ s. s.low ≤ s.high) }
     ensures inside { IfSome result (λ s. s.high < 14) }
@@ -76,7 +78,8 @@ pub fn span(word: &str) -> Option<CountRange>
     })
 }
 
-/// Parses a span of at most 10,000,000 seeds, each below 2^64 - 1. Returns `None` for any other word.
+/// Parses a range of at most 10,000,000 seeds, such as `1..1000`, and returns the first and the last seed. A seed is
+/// less than 2^64 - 1. Returns `None` for any other word.
 pub fn seeds(word: &str) -> Option<(u64, u64)>
     ensures ordered { IfSome result (λ r. r.0 ≤ r.1) }
     ensures inside { IfSome result (λ r. r.1 < 2 ^ 64 - 1) }
@@ -93,7 +96,7 @@ pub fn seeds(word: &str) -> Option<(u64, u64)>
     }
 }
 
-/// Parses orders `0..V`, where V is 1 to 255, and returns V. Returns `None` for any other word.
+/// Parses the range of orders `0..V`, where V is 1 to 255, and returns V. Returns `None` for any other word.
 pub fn orders(word: &str) -> Option<u8>
     ensures told { IfSome result (λ most. IsTold word.now 0 most) }
     ensures some { IfSome result (λ most. 1 ≤ most) }
@@ -103,7 +106,8 @@ pub fn orders(word: &str) -> Option<u8>
     from_zero(least, most)
 }
 
-/// Returns the second number, if the first is 0 and the second is not.
+/// Returns `most` as the greatest order of a range of orders. Returns `None` unless the range begins with 0 and `most`
+/// is greater than 0.
 fn from_zero(least: u64, most: u64) -> Option<u8>
     requires { most < 256 }
     ensures { result ≡ cond (least == 0) (cond (most == 0) None (Some most)) None }
@@ -114,7 +118,7 @@ fn from_zero(least: u64, most: u64) -> Option<u8>
     if most == 0 { None } else { Some(most as u8) }
 }
 
-/// Parses a seed, a number below 2^64 - 1. Returns `None` for any other word.
+/// Parses a seed, which is a decimal number less than 2^64 - 1. Returns `None` for any other word.
 pub fn seed(word: &str) -> Option<u64>
     ensures inside { IfSome result (λ seed. seed < 2 ^ 64 - 1) }
     ensures told { IfSome result (λ seed. decimal_of word.now ≡ Some seed) }
@@ -123,7 +127,8 @@ pub fn seed(word: &str) -> Option<u64>
     below(18_446_744_073_709_551_615, word)
 }
 
-/// Parses how many steps a traitor is waited for, 1 to 4,096. Returns `None` for any other word.
+/// Parses the value of `--patience`: how many steps a traitor's program may take in a round, 1 to 4,096. Returns `None`
+/// for any other word.
 pub fn patience(word: &str) -> Option<u32>
     ensures least { IfSome result (λ steps. 1 ≤ steps) }
     ensures most { IfSome result (λ steps. steps ≤ 4096) }

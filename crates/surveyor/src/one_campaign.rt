@@ -11,12 +11,12 @@ use crate::task::OneCampaign;
 use streams::Output;
 use surveys::campaign_text;
 
-/// Prints the campaign that the seed gives in the family of the survey, as a scenario. It is the text that the survey
-/// judges for this seed.
+/// Prints the campaign that the seed gives in the family of the survey, as the text of a scenario. A survey plays the
+/// same text for this seed.
 ///
 /// # Errors
 ///
-/// The family's file is rejected, the output cannot be written, or memory runs out.
+/// Fails if the family's file is rejected, if the output cannot be written, or if memory runs out.
 #[tactic(auto, using(crate::proofs::FaultLemmas::untaken, crate::proofs::FaultLemmas::unended_printing, crate::proofs::FaultLemmas::unended_by_memory, crate::proofs::PrintLemmas::campaign_printed))]
 pub fn print_campaign<O: Output>(
     rt: &HostRuntime,

@@ -1,4 +1,5 @@
-//! Plays the campaigns of a survey, prints their lines or their summary, and keeps the broken ones or all.
+//! Plays the campaigns of a survey, prints a line for each or a summary of all, and writes campaigns to the folder of
+//! `--keep`.
 ghost use Rattle.std.specs.Prelude.{◌≡◌, ◌≢◌, ◌++◌, IfErr, IfOk, OnOk, Some, is_some, map, true};
 ghost use Rattle.std.specs.Io.KnownBytes.{Appends};
 ghost use Rattle.surveyor.specs.Asked.{IsSurvey};
@@ -25,11 +26,13 @@ use surveys::{
     Family, Finding, campaign_text, failed_in, head, is_sound, lines_text, seeds_in, survey,
 };
 
-/// Plays the campaigns of a survey, and prints what is asked for.
+/// Plays a campaign for each seed of a survey, and prints what the survey asks for, such as a summary, a line for each
+/// campaign, or the least broken campaign.
 ///
 /// # Errors
 ///
-/// The family's file or a campaign is rejected, the output or a kept file cannot be written, or memory runs out.
+/// Fails if the family's file or a campaign is rejected, if the output or a campaign's file cannot be written, or if
+/// memory runs out.
 #[tactic(auto, using(crate::proofs::FaultLemmas::untaken, crate::proofs::FaultLemmas::unopened, crate::proofs::FaultLemmas::unended_least, crate::proofs::FaultLemmas::unended_accounts, crate::proofs::FaultLemmas::unended_drawn))]
 pub fn surveyed<T: Threads + Sync, O: Output, K: Keeper>(
     rt: &HostRuntime,
@@ -56,11 +59,12 @@ pub fn surveyed<T: Threads + Sync, O: Output, K: Keeper>(
     played(rt, threads, out, keeper, asked, &family)
 }
 
-/// Plays the campaigns of a family, keeps those that are broken or all, and prints their lines or their summary.
+/// Plays the campaigns of a family, and prints a line for each or a summary of all. If the survey names a folder,
+/// writes the broken campaigns to it, or all campaigns with `--keep-all`.
 ///
 /// # Errors
 ///
-/// A campaign is rejected, the output or a kept file cannot be written, or memory runs out.
+/// Fails if a campaign is rejected, if the output or a campaign's file cannot be written, or if memory runs out.
 #[tactic(auto, using(crate::proofs::FaultLemmas::stopped_printing, crate::proofs::FaultLemmas::stopped_keeping, crate::proofs::FaultLemmas::stopped_by_memory, crate::proofs::FaultLemmas::stopped_campaign))]
 fn played<T: Threads + Sync, O: Output, K: Keeper>(
     rt: &HostRuntime,
@@ -104,11 +108,12 @@ fn played<T: Threads + Sync, O: Output, K: Keeper>(
     put_summary(alloc, out, asked.shape, told)
 }
 
-/// Returns the seeds of the campaigns that are kept: of all, or of the broken ones.
+/// Returns the seeds of the campaigns that are written to files: of all campaigns if `keeps_all` is set, and otherwise
+/// of the broken ones.
 ///
 /// # Errors
 ///
-/// `AllocError` if memory runs out.
+/// Fails with `AllocError` if memory runs out.
 pub(crate) fn kept_seeds(
     alloc: Global,
     keeps_all: bool,
@@ -123,11 +128,12 @@ pub(crate) fn kept_seeds(
     }
 }
 
-/// Returns the seeds of the broken campaigns: those in which agreement is broken or a loyal commander is disobeyed.
+/// Returns the seeds of the broken campaigns: those in which the loyal lieutenants do not agree, or do not obey a loyal
+/// commander.
 ///
 /// # Errors
 ///
-/// `AllocError` if memory runs out.
+/// Fails with `AllocError` if memory runs out.
 fn broken_seeds(alloc: Global, found: &[Finding]) -> Result<Vec<u64>, AllocError>
     ensures { IfOk result (λ seeds. seeds.items ≡ broken_seeds found.now) }
 {
@@ -140,11 +146,12 @@ fn broken_seeds(alloc: Global, found: &[Finding]) -> Result<Vec<u64>, AllocError
     Ok(seeds)
 }
 
-/// Appends campaigns to those that are summed at the end, unless only lines are printed.
+/// Appends the results of a piece of the survey to the results that are summed at the end. Does nothing if only lines
+/// are printed, since they need no sum.
 ///
 /// # Errors
 ///
-/// Memory ran out.
+/// Fails if memory runs out.
 fn add(shape: ReportKind, all: &mut Vec<Finding>, found: &[Finding]) -> Result<(), SurveyFailure>
     ensures added { OnOk result (all.new.items ≡ all.old.items ++ added shape found.now) }
     ensures memory { IfErr result (λ fault. fault ≡ SurveyFailure.Memory) }
@@ -156,11 +163,12 @@ fn add(shape: ReportKind, all: &mut Vec<Finding>, found: &[Finding]) -> Result<(
     Ok(())
 }
 
-/// Prints the head of the lines, if lines are asked for.
+/// Prints the first line of the output of `--lines`, which describes the family. Prints nothing if another form is
+/// asked for.
 ///
 /// # Errors
 ///
-/// The output cannot be written, or memory runs out.
+/// Fails if the output cannot be written, or if memory runs out.
 pub(crate) fn put_head<O: Output>(
     rt: &HostRuntime,
     out: &mut O,
@@ -176,11 +184,11 @@ pub(crate) fn put_head<O: Output>(
     print(out, head(rt.alloc(), family)?.as_str())
 }
 
-/// Prints the lines of these campaigns, if lines are asked for.
+/// Prints a line for each of these campaigns with `--lines`. Prints nothing if another form is asked for.
 ///
 /// # Errors
 ///
-/// The output cannot be written, or memory runs out.
+/// Fails if the output cannot be written, or if memory runs out.
 fn put_lines<O: Output>(
     rt: &HostRuntime,
     out: &mut O,
@@ -196,11 +204,12 @@ fn put_lines<O: Output>(
     print(out, lines_text(rt.alloc(), found)?.as_str())
 }
 
-/// Writes the campaigns of these seeds to the folder, if one is named.
+/// Writes the campaigns of these seeds to the folder of `--keep` or `--keep-all`. Does nothing if the survey has no
+/// such folder.
 ///
 /// # Errors
 ///
-/// A file cannot be written, or memory runs out.
+/// Fails if a file cannot be written, or if memory runs out.
 #[tactic(auto, using(crate::proofs::FaultLemmas::kept_where, crate::proofs::KeptLemmas::none_gained))]
 pub(crate) fn keep_all<K: Keeper>(
     rt: &HostRuntime,
@@ -219,11 +228,11 @@ pub(crate) fn keep_all<K: Keeper>(
     }
 }
 
-/// Writes the campaigns of these seeds to this folder.
+/// Writes the campaign of each of these seeds to the file SEED.toml in the folder named `folder`.
 ///
 /// # Errors
 ///
-/// A file cannot be written, or memory runs out.
+/// Fails if a file cannot be written, or if memory runs out.
 #[tactic(auto, using(crate::proofs::FaultLemmas::unkept_one, crate::proofs::FaultLemmas::unkept_by_memory))]
 fn keep_in<K: Keeper>(
     rt: &HostRuntime,

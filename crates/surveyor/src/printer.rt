@@ -1,4 +1,4 @@
-//! Prints texts, and the summary of a survey: sums, a table, CSV or a picture.
+//! Prints texts, and the summary of a survey: as sums, as a table, as CSV or as a picture.
 ghost use Rattle.std.specs.Prelude.{◌≡◌, IfErr, IfOk, OnErr, OnOk, string_bytes};
 ghost use Rattle.std.specs.Io.KnownBytes.{Appends};
 ghost use Rattle.streams.specs.Writing.{AppendsFront};
@@ -12,11 +12,12 @@ use std::io::ErrorKind;
 use streams::Output;
 use surveys::{Finding, csv_table, picture, sums_text, table};
 
-/// Prints a text.
+/// Prints a text to `out`, which is standard output. If that fails, only the first bytes of the text may have been
+/// printed.
 ///
 /// # Errors
 ///
-/// The output cannot be written, or memory ran out.
+/// Fails with `Unwritten` if the output cannot be written, and with `Memory` if memory ran out.
 pub fn print<O: Output>(out: &mut O, text: &str) -> Result<(), SurveyFailure>
     ensures written { OnOk result (Appends (O.contents out.old) (O.contents out.new) text.now) }
     ensures begun { OnErr result (AppendsFront (O.contents out.old) (O.contents out.new) text.now) }
@@ -29,7 +30,8 @@ pub fn print<O: Output>(out: &mut O, text: &str) -> Result<(), SurveyFailure>
     }
 }
 
-/// Returns the failure for a standard output that cannot be written, or `Memory` if memory ran out.
+/// Returns the failure for a standard output that cannot be written: `Memory` if memory ran out, and otherwise
+/// `Unwritten`.
 pub fn unprinted(kind: ErrorKind) -> SurveyFailure
     ensures same { result ≡ unprinted kind }
     ensures unprinted { IsUnprinted result }
@@ -40,12 +42,12 @@ pub fn unprinted(kind: ErrorKind) -> SurveyFailure
     }
 }
 
-/// Returns the summary of campaigns in this form. It is empty for `Lines`, `Accounts` and `Least`, which print no
-/// summary.
+/// Returns the summary of campaigns in the form that `shape` names. It is empty for `Lines`, `Accounts` and `Least`,
+/// which have no summary.
 ///
 /// # Errors
 ///
-/// `AllocError` if memory runs out.
+/// Fails with `AllocError` if memory runs out.
 fn summary(alloc: Global, shape: ReportKind, findings: &[Finding]) -> Result<String, AllocError>
     ensures { IfOk result (λ text. string_bytes text ≡ summary_text shape findings.now) }
 {
@@ -58,12 +60,12 @@ fn summary(alloc: Global, shape: ReportKind, findings: &[Finding]) -> Result<Str
     }
 }
 
-/// Prints the summary of campaigns in this form. Nothing is printed for `Lines`,
-/// `Accounts` and `Least`.
+/// Prints the summary of campaigns in the form that `shape` names. Prints nothing for `Lines`, `Accounts` and `Least`,
+/// which have no summary.
 ///
 /// # Errors
 ///
-/// The output cannot be written, or memory runs out.
+/// Fails if the output cannot be written, or if memory runs out.
 pub fn put_summary<O: Output>(
     alloc: Global,
     out: &mut O,

@@ -1,4 +1,4 @@
-//! The progress of a survey, shown on standard error: a bar on a terminal, and otherwise a line each minute. No
+//! Shows the progress of a survey on standard error: as a bar on a terminal, and otherwise as a line each minute. No
 //! contract can say what is shown there, and when.
 ghost use Rattle.std.specs.Prelude.{◌≡◌};
 
@@ -6,26 +6,25 @@ use std::alloc::{AllocError, Global};
 use std::io::{IsTerminal, Write};
 use std::time::Instant;
 
-/// The width of the bar, in characters.
+/// The width of the progress bar, in characters.
 const SIGNS: u64 = 20;
 
-/// The progress of a survey of the seeds from `first` to `last`, shown on standard error. On a terminal it is one line
-/// that is overwritten, and elsewhere a new line once a minute. An interrupted survey can go on with `--seeds` from the
-/// seed after the last one shown.
+/// The progress of a survey of the seeds from `first` to `last`, which is shown on standard error. On a terminal it is
+/// one line that is overwritten. Elsewhere a new line is written once a minute. To continue an interrupted survey, give
+/// `--seeds` from the seed after the last one shown.
 #[derive(Drop)]
 pub struct SurveyProgress<'a> {
     rt: &'a HostRuntime,
     first: u64,
     last: u64,
-    /// When the survey began, or `None` if the clock cannot be read.
+    /// The time at which the survey began, or `None` if the clock cannot be read.
     start: Option<Instant>,
-    /// How many minutes had passed since the start when the clock was last read.
+    /// How many full minutes the survey had taken when the clock was last read.
     minutes: u64,
 }
 
 impl<'a> SurveyProgress<'a> {
-    /// Returns the progress of a survey of the seeds from `first` to `last`, both included. The survey begins now, so 0
-    /// minutes have passed.
+    /// Starts to measure a survey of the seeds from `first` to `last`, both included.
     pub fn of(rt: &'a HostRuntime, first: u64, last: u64) -> SurveyProgress<'a>
         ensures first { result.first ≡ first }
         ensures last { result.last ≡ last }
@@ -40,11 +39,12 @@ impl<'a> SurveyProgress<'a> {
         }
     }
 
-    /// Shows that the campaigns up to that of the seed `done` have been played, and that `broken` of them are broken.
+    /// Shows that the campaigns of all seeds from the first to `done` have been played, and that `broken` of them are
+    /// broken.
     ///
     /// # Errors
     ///
-    /// `AllocError` if memory runs out.
+    /// Fails with `AllocError` if memory runs out.
     pub fn tell(&mut self, done: u64, broken: u64) -> Result<(), AllocError>
         ensures first { self.new.first ≡ self.old.first }
         ensures last { self.new.last ≡ self.old.last }
@@ -74,8 +74,8 @@ impl<'a> SurveyProgress<'a> {
         Ok(())
     }
 
-    /// Returns whether another minute since the start has passed since the clock was last read, and stores the new
-    /// time.
+    /// Reads the clock and stores the time. Returns whether a further full minute has passed since the clock was last
+    /// read.
     fn is_time(&mut self) -> bool
         ensures first { self.new.first ≡ self.old.first }
         ensures last { self.new.last ≡ self.old.last }
@@ -93,11 +93,11 @@ impl<'a> SurveyProgress<'a> {
     }
 }
 
-/// Returns a bar that is filled in proportion to how much of `whole` is done.
+/// Returns the text of a progress bar of 20 characters. The filled share is `done / whole`.
 ///
 /// # Errors
 ///
-/// `AllocError` if memory runs out.
+/// Fails with `AllocError` if memory runs out.
 fn bar(alloc: Global, done: u64, whole: u64) -> Result<String, AllocError> {
     let mut out = String::new(alloc);
     let full = u128::from(done) * u128::from(SIGNS) / u128::from(whole.max(1));

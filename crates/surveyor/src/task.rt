@@ -1,5 +1,5 @@
-//! What the command line of a survey asks for: the request to play, to search, to sum or to print one campaign, and why
-//! there is no request.
+//! The task that the command line of a survey describes: to play campaigns, to print one, to search, or to sum. Also
+//! the reason why it describes none.
 ghost use Rattle.std.specs.Prelude.{◌≡◌, IfErr, IfOk, []};
 ghost use Rattle.clap.specs.Words.{fault_of, matches_of};
 ghost use Rattle.surveyor.specs.Asked.{IsAsked};
@@ -15,66 +15,67 @@ use std::alloc::{AllocError, Global};
 use std::fmt;
 use surveys::{CountRange, Manner};
 
-/// A request of the command line.
+/// The task that the command line describes.
 #[derive(Drop)]
 pub enum Asked {
-    /// Plays the campaigns that the seeds of a survey give.
+    /// Plays a campaign for each seed of a survey.
     Survey(Survey),
     /// Prints the campaign of one seed.
     Campaign(OneCampaign),
-    /// Searches what breaks agreement, for each number of generals and each bound. The flag says whether only a table
-    /// is printed, without the campaigns.
+    /// Searches for the least campaign that breaks agreement, for each number of generals and each bound. The flag says
+    /// whether only a table of numbers is printed, and no campaigns.
     Break(Survey, bool),
-    /// Sums the lines of files.
+    /// Sums the lines of several files.
     Merge(Merge),
 }
 
 /// The form in which the outcomes of campaigns are printed.
 #[derive(Clone, Copy, PartialEq, Eq)]
 pub enum ReportKind {
-    /// How many campaigns there were, and how many had each outcome.
+    /// The number of campaigns, and of those with each outcome.
     Sums,
-    /// A line for each campaign.
+    /// A JSON line for each campaign.
     Lines,
-    /// A line for each campaign, which also has the traitors, the order and the decisions.
+    /// A JSON line for each campaign, which also has the traitors, the order and the decisions.
     Accounts,
-    /// A table of the sums for each number of generals, bound and number of traitors.
+    /// A table with a row of sums for each number of generals, bound and number of traitors.
     Table,
-    /// The table as CSV, with an interval for the share of broken campaigns.
+    /// The table of sums as CSV, with a 95% interval for the share of broken campaigns.
     Csv,
     /// An SVG picture of the share of broken campaigns, for each number of generals, bound and number of traitors.
     Picture,
-    /// The least broken campaign, from which no traitor and no statement can be removed.
+    /// The least broken campaign after reduction: no traitor and no statement can be removed from it.
     Least,
 }
 
-/// A request to print one campaign: that which the seed gives in the family of the survey.
+/// The task to print one campaign: the one that the seed gives in the family of the survey.
 #[derive(Drop)]
 pub struct OneCampaign {
     pub survey: Survey,
     pub seed: u64,
 }
 
-/// A request to sum the lines of files.
+/// The task to sum the lines of the files with these names.
 #[derive(Drop)]
 pub struct Merge {
     pub names: Vec<String>,
-    /// The first and the last seed, if `--seeds` is given.
+    /// The first and the last seed that the files should have, if `--seeds` is given.
     pub seeds: Option<(u64, u64)>,
     pub shape: ReportKind,
 }
 
-/// A request to play campaigns: which ones, and what is printed about them.
+/// The task to play campaigns: which campaigns, and what is printed about them.
 #[derive(Drop)]
 pub struct Survey {
     pub generals: CountRange,
     pub bound: CountRange,
     pub traitors: CountRange,
-    /// The commander of all campaigns.
+    /// The number of the commander, who is the same in all campaigns.
     pub commander: u8,
-    /// The greatest order.
+    /// The greatest order of a commander. The least is 0.
     pub orders: u8,
-    /// Whether seeds go through the ranges in turn.
+    /// Whether the seeds go through the numbers of generals, bounds and traitors in turn, instead of drawing them at
+    /// random.
     pub grid: bool,
     pub manner: Manner,
     pub patience: Option<u32>,
@@ -83,20 +84,20 @@ pub struct Survey {
     pub first: u64,
     pub last: u64,
     pub shape: ReportKind,
-    /// The folder to which campaigns are written, if `--keep` or `--keep-all` is given.
+    /// The folder of `--keep` or `--keep-all`, to which campaigns are written.
     pub keep: Option<String>,
-    /// Whether all campaigns are written to it, and not only the broken ones.
+    /// Whether all campaigns are written to the folder, and not only the broken ones.
     pub keeps_all: bool,
 }
 
-/// Why the words ask for nothing.
+/// Why the command line describes no task.
 #[derive(Drop)]
 pub enum AskedError {
-    /// `clap` rejects the words with this error, or the words ask for help.
+    /// `clap` rejects the command line with this error, or the user asks for help.
     Words(clap::Error),
-    /// The value of an option is wrong, or options exclude each other. This is the message.
+    /// The value of an option is wrong, or two options cannot be used together. The text is the message.
     Value(&'static str),
-    /// The value of `--rule` does not name a rule.
+    /// The value of `--rule` is not the name of a rule.
     Rule,
     /// Memory ran out.
     Memory,
@@ -128,7 +129,8 @@ impl From<AllocError> for AskedError {
     }
 }
 
-/// Returns the error for words that `clap` rejects, or `Memory` if `clap` ran out of memory.
+/// Returns the reason for a command line that `clap` rejects: `Memory` if `clap` ran out of memory, and otherwise
+/// `Words`.
 fn untaken(error: clap::Error) -> AskedError
     ensures { IsByClap error result }
 {
@@ -139,11 +141,11 @@ fn untaken(error: clap::Error) -> AskedError
     }
 }
 
-/// Parses the words after the program's name, and returns what they ask for.
+/// Parses the words of the command line after the program's name, and returns the task that they describe.
 ///
 /// # Errors
 ///
-/// The words ask for nothing, or memory runs out.
+/// Fails if the words describe no task, or if memory runs out.
 pub fn request(alloc: Global, words: &[&str]) -> Result<Asked, AskedError>
     ensures asked { IfOk result IsAsked }
     ensures found { IfOk result (Asks (matches_of survey_app (words_of words.now))) }

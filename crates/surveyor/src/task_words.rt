@@ -1,5 +1,5 @@
-//! Turns the words that `clap` has parsed into the request: to play campaigns, to print one with `--campaign`, to
-//! search with `--break`, or to sum with `--sum`.
+//! Turns the options that `clap` has parsed into a task: to play campaigns, to print one with `--campaign`, to search
+//! with `--break`, or to sum with `--sum`.
 ghost use Rattle.std.specs.Prelude.{IfErr, IfOk};
 ghost use Rattle.clap.specs.Words.{found_of, rows_of};
 ghost use Rattle.surveyor.specs.Asked.{IsAsked};
@@ -24,11 +24,11 @@ use plays::survey_of;
 use std::alloc::Global;
 use sums::merge_of;
 
-/// Returns what the words ask for that `clap` has parsed.
+/// Returns the task that the parsed options describe.
 ///
 /// # Errors
 ///
-/// The words ask for nothing, or memory runs out.
+/// Fails if a value is wrong, if two options cannot be used together, or if memory runs out.
 #[tactic(auto, using(crate::proofs::MeantLemmas::no_merge_asked, crate::proofs::MeantLemmas::no_campaign_asked, crate::proofs::MeantLemmas::no_survey_asked))]
 pub fn meant(alloc: Global, found: &ArgMatches) -> Result<Asked, AskedError>
     ensures asked { IfOk result IsAsked }

@@ -1,4 +1,4 @@
-//! Looks up the values of options and switches among the words that `clap` has parsed.
+//! Looks up the values of options that `clap` has parsed.
 ghost use Rattle.std.specs.Prelude.{◌≡◌, if◌then◌else◌, None, map, option_map, unwrap_or};
 ghost use Rattle.std.specs.List.{list_any};
 ghost use Rattle.clap.specs.Words.{found_of, rows_of};
@@ -8,14 +8,14 @@ ghost use Rattle.surveyor.specs.Meant.{names_in, value};
 use clap::ArgMatches;
 use clap::parser::ValueSource;
 
-/// Returns the value of an option, or `true` for a switch, if it is given on the command line.
+/// Returns the value of an option, or `true` for a switch. Returns `None` if it is not given on the command line.
 pub fn given<'a>(found: &ArgMatches<'a>, name: &str) -> Option<&'a str>
     ensures { option_map (λ t. t.now) result ≡ given name.now (rows_of (found_of found.now)) }
 {
     by_words(found.value_source(name), found.get_str(name))
 }
 
-/// Returns the text if it was given on the command line, and `None` if it is a default.
+/// Returns the value of an option if it was given on the command line, and `None` if it is a default.
 fn by_words<'a>(source: Option<ValueSource>, text: Option<&'a str>) -> Option<&'a str>
     ensures { option_map (λ t. t.now) result ≡ (if is_given source then option_map (λ t. t.now) text.entry else None) }
 {
@@ -25,14 +25,14 @@ fn by_words<'a>(source: Option<ValueSource>, text: Option<&'a str>) -> Option<&'
     }
 }
 
-/// Returns whether an option or a switch is given on the command line.
+/// Checks whether an option or a switch is given on the command line.
 pub fn has(found: &ArgMatches, name: &str) -> bool
     ensures { result ≡ has name.now (rows_of (found_of found.now)) }
 {
     given(found, name).is_some()
 }
 
-/// Returns whether at least one of these options and switches is given.
+/// Checks whether at least one of these options and switches is given on the command line.
 pub fn has_any(found: &ArgMatches, names: &[&str]) -> bool
     ensures { result ≡ list_any (λ name. has name.now (rows_of (found_of found.now))) names.now }
 {

@@ -1,4 +1,4 @@
-//! The request of `--break`, made from the words that `clap` has parsed.
+//! Turns the parsed options into the task of `--break`.
 ghost use Rattle.std.specs.Prelude.{◌≡◌, ◌≢◌, ◌⊎◌, Bool, true, IfErr, IfOk, MatchOption, codes, is_some};
 ghost use Rattle.clap.specs.Words.{found_of, rows_of};
 ghost use Rattle.surveyor.specs.Asked.{IsSurvey};
@@ -17,7 +17,8 @@ const BREAK: &str = "--break can be used with --table, but not with --lines, --s
 
 const KEEP: &str = "--break cannot be used with --keep: redirect its output to a file";
 
-/// Returns whether `--break` prints only a table, or `None` if it cannot print in this form.
+/// Returns whether `--break` prints only a table of numbers. `shape` is the form of output that the other options name.
+/// Returns `None` if `--break` cannot print this form.
 fn is_table(shape: ReportKind) -> Option<bool>
     ensures { MatchOption result ((is_table : Bool) → shape ≢ break_shape is_table) (λ is_table. shape ≡ break_shape is_table) }
 {
@@ -32,11 +33,12 @@ fn is_table(shape: ReportKind) -> Option<bool>
     }
 }
 
-/// Returns whether `--break` prints only a table in this survey.
+/// Checks that `--break` can be used with the other options of this survey, and returns whether it prints only a table
+/// of numbers.
 ///
 /// # Errors
 ///
-/// `--break` cannot print in the survey's form, or the survey has a folder for campaigns.
+/// Fails if `--break` cannot print the survey's form of output, or if the survey has a folder for campaigns.
 fn break_shape(survey: &Survey) -> Result<bool, AskedError>
     ensures told { IfOk result (λ is_table. (survey.now.shape ≡ break_shape is_table) × (survey.now.keep ≡ None)) }
     ensures refused { IfErr result (λ e.
@@ -53,11 +55,11 @@ fn break_shape(survey: &Survey) -> Result<bool, AskedError>
     Ok(is_table)
 }
 
-/// Returns the survey of `--break`, and whether only a table is printed.
+/// Returns the survey that `--break` searches, and whether only a table of numbers is printed.
 ///
 /// # Errors
 ///
-/// The words do not describe such a survey, or memory runs out.
+/// Fails if a value is wrong, if an option cannot be used with `--break`, or if memory runs out.
 pub(super) fn break_of(alloc: Global, found: &ArgMatches) -> Result<(Survey, bool), AskedError>
     requires { has (codes "break") (rows_of (found_of found.now)) ≡ true }
     ensures survey { IfOk result (λ r. IsSurvey r.0) }

@@ -1,4 +1,4 @@
-//! The request of `--campaign`, made from the words that `clap` has parsed.
+//! Turns the parsed options into the task of `--campaign`.
 ghost use Rattle.std.specs.Prelude.{◌≡◌, ◌⊎◌, Some, false, true, IfErr, IfOk, codes};
 ghost use Rattle.clap.specs.Words.{found_of, rows_of};
 ghost use Rattle.surveyor.specs.Asked.{IsSurvey};
@@ -19,7 +19,7 @@ const FAMILY: &str =
 
 const SEED: &str = "--campaign takes a seed below 18446744073709551615";
 
-/// Returns whether an option or switch is given that cannot be combined with `--campaign`.
+/// Checks whether an option is given that cannot be used with `--campaign`.
 fn bars_campaign(found: &ArgMatches) -> bool
     ensures { result ≡ bars_campaign (rows_of (found_of found.now)) }
 {
@@ -32,11 +32,12 @@ fn bars_campaign(found: &ArgMatches) -> bool
     )
 }
 
-/// Returns the seed of `--campaign`, whose value is `word`.
+/// Parses the seed of `--campaign`, whose value is `word`.
 ///
 /// # Errors
 ///
-/// An option or switch is given that cannot be combined with `--campaign`, or the word is not a seed below 2^64 - 1.
+/// Fails if an option is given that cannot be used with `--campaign`, or if the word is not a number less than 2^64 -
+/// 1.
 fn told_seed(found: &ArgMatches, word: &str) -> Result<u64, AskedError>
     ensures told { IfOk result (IsSeed word.now) }
     ensures single { IfOk result (λ _. bars_campaign (rows_of (found_of found.now)) ≡ false) }
@@ -54,12 +55,11 @@ fn told_seed(found: &ArgMatches, word: &str) -> Result<u64, AskedError>
     }
 }
 
-/// Returns the request of `--campaign`, whose value is `word`.
+/// Returns the task of `--campaign`, whose value is `word`.
 ///
 /// # Errors
 ///
-/// The words do not describe a family and a seed, an option or switch is given that cannot be combined with
-/// `--campaign`, or memory runs out.
+/// Fails if a value is wrong, if an option is given that cannot be used with `--campaign`, or if memory runs out.
 #[tactic(auto, using(crate::proofs::MeantLemmas::no_shown_seed, crate::proofs::MeantLemmas::no_shown_survey))]
 pub(super) fn campaign_of(
     alloc: Global,

@@ -1,5 +1,5 @@
-//! The request to play campaigns, made from the words that `clap` has parsed: generals, bound, traitors, seeds,
-//! commander, orders, manner and what is printed.
+//! Turns the parsed options into a survey: the numbers of generals, the bound, the traitors, the seeds, the commander,
+//! the orders, how messages are sent, and what is printed.
 ghost use Rattle.std.specs.Prelude.{true, ◌≡◌, ◌≤◌, IfErr, IfOk, MatchResult, codes, option_map, string_bytes};
 ghost use Rattle.clap.specs.Words.{found_of, rows_of};
 ghost use Rattle.surveyor.specs.Asked.{IsSurvey};
@@ -42,11 +42,11 @@ const KEEP: &str = "--keep-all cannot be used with --keep or --shrink";
 
 const SHAPE: &str = "only one of --lines, --table, --svg, --shrink and --break can be used";
 
-/// Parses one number or a span of numbers, all of them from `least` to `most`.
+/// Parses a range of numbers from `least` to `most`, such as `4` or `4..7`.
 ///
 /// # Errors
 ///
-/// The word is not such a span. The error contains `why`.
+/// Fails with the message `why` if the word is not such a range.
 fn within(word: &str, least: u8, most: u8, why: &'static str) -> Result<CountRange, AskedError>
     requires { most ≤ 13 }
     ensures told { IfOk result (IsWithin least most word.now) }
@@ -58,11 +58,11 @@ fn within(word: &str, least: u8, most: u8, why: &'static str) -> Result<CountRan
     }
 }
 
-/// Parses the commander of campaigns with at least `generals` generals.
+/// Parses the number of the commander. It must be less than `generals`, the least number of generals in a campaign.
 ///
 /// # Errors
 ///
-/// The word is not a number below `generals`.
+/// Fails if the word is not such a number.
 fn told_commander(word: &str, generals: u8) -> Result<u8, AskedError>
     ensures told { IfOk result (IsCommander generals word.now) }
     ensures refused { IfErr result (IsSaid (codes "--commander takes a number below the least of --generals")
@@ -74,11 +74,11 @@ fn told_commander(word: &str, generals: u8) -> Result<u8, AskedError>
     }
 }
 
-/// Parses the orders from 0 on, and returns the greatest.
+/// Parses the range of orders `0..V`, and returns V.
 ///
 /// # Errors
 ///
-/// The word is not 0..V, where V is 1 to 255.
+/// Fails if the word is not `0..V` with V from 1 to 255.
 fn told_orders(word: &str) -> Result<u8, AskedError>
     ensures told { IfOk result (AreOrders word.now) }
     ensures refused { IfErr result (IsSaid (codes "--orders takes 0..1 to 0..255") (AreNoOrders word.now)) }
@@ -89,11 +89,11 @@ fn told_orders(word: &str) -> Result<u8, AskedError>
     }
 }
 
-/// Parses the first and the last seed of a survey.
+/// Parses the range of seeds of a survey, and returns the first and the last seed.
 ///
 /// # Errors
 ///
-/// The word is not a span of at most 10,000,000 seeds below 2^64 - 1.
+/// Fails if the word is not a range of at most 10,000,000 seeds, each less than 2^64 - 1.
 pub(super) fn told_seeds(word: &str) -> Result<(u64, u64), AskedError>
     ensures told { IfOk result (AreSeeds word.now) }
     ensures refused { IfErr result (IsSaid
@@ -106,8 +106,8 @@ pub(super) fn told_seeds(word: &str) -> Result<(u64, u64), AskedError>
     }
 }
 
-/// Returns how messages are sent, given the value of `--rule` and whether `--signed` is given. Returns `None` if both
-/// are given, or if there is no rule of this name.
+/// Returns how messages are sent: signed if `is_signed` is set, and otherwise orally, with the orders combined by
+/// `rule`. Returns `None` if there is no rule with this name, or if a rule is given for signed messages.
 fn manner_named(rule: Option<&str>, is_signed: bool) -> Option<Manner>
     ensures { result ≡ manner_named (option_map (λ word. word.now) rule.entry) is_signed }
 {
@@ -123,7 +123,7 @@ fn manner_named(rule: Option<&str>, is_signed: bool) -> Option<Manner>
     }
 }
 
-/// Returns how messages are sent if no rule is named: signed, or orally with the default rule.
+/// Returns how messages are sent if no rule is given: signed, or orally with the default rule.
 fn plain_manner(is_signed: bool) -> Manner
     ensures { result ≡ plain_manner is_signed }
 {
@@ -134,11 +134,11 @@ fn plain_manner(is_signed: bool) -> Manner
     }
 }
 
-/// Returns how messages are sent, from the words of the command line.
+/// Returns how messages are sent, as the options `--rule` and `--signed` say.
 ///
 /// # Errors
 ///
-/// There is no rule of the given name, or a rule is given for signed messages.
+/// Fails if there is no rule with the given name, or if a rule is given for signed messages.
 fn manner(found: &ArgMatches) -> Result<Manner, AskedError>
     ensures told { let rows = rows_of (found_of found.now) in
         IfOk result (λ manner. manner_named (given (codes "rule") rows) (has (codes "signed") rows) ≡ Some manner) }
@@ -152,7 +152,8 @@ fn manner(found: &ArgMatches) -> Result<Manner, AskedError>
     }
 }
 
-/// Returns what is printed, given which of its four switches are given. Returns `None` if more than one is given.
+/// Returns the form of output that the switches `--lines`, `--table`, `--svg` and `--shrink` select. Returns `None` if
+/// more than one of them is given.
 fn shape_by(lines: bool, table: bool, svg: bool, shrink: bool) -> Option<ReportKind>
     ensures { result ≡ shape_by lines table svg shrink }
 {
@@ -166,8 +167,8 @@ fn shape_by(lines: bool, table: bool, svg: bool, shrink: bool) -> Option<ReportK
     }
 }
 
-/// Returns what is printed, given what is printed without `--details`. Returns `None` if `--details` is given and that
-/// is not a line for each campaign.
+/// Returns the form of output with `--details`, where `shape` is the form without it. Returns `None` if `--details` is
+/// given but `shape` is not a line for each campaign.
 fn detailed(details: bool, shape: Option<ReportKind>) -> Option<ReportKind>
     ensures { result ≡ detailed details shape }
 {
@@ -185,8 +186,8 @@ fn detailed(details: bool, shape: Option<ReportKind>) -> Option<ReportKind>
     }
 }
 
-/// Returns what is printed, given what is printed without `--csv`. Returns `None` if `--csv` is given and that is
-/// neither the sums nor the table.
+/// Returns the form of output with `--csv`, where `shape` is the form without it. Returns `None` if `--csv` is given
+/// but `shape` is neither the sums nor the table.
 fn in_csv(csv: bool, shape: Option<ReportKind>) -> Option<ReportKind>
     ensures { result ≡ in_csv csv shape }
 {
@@ -203,8 +204,8 @@ fn in_csv(csv: bool, shape: Option<ReportKind>) -> Option<ReportKind>
     }
 }
 
-/// Returns the message for words that ask for no form, given the form without `--details` and `--csv`, and that without
-/// `--csv`.
+/// Returns the message about switches that select no form of output. `plain` is the form without `--details` and
+/// `--csv`, and `detailed` the form without `--csv`. Each is `None` if there is no such form.
 fn form_complaint(plain: Option<ReportKind>, detailed: Option<ReportKind>) -> &'static str
     ensures { result.now ≡ form_complaint plain detailed }
 {
@@ -215,11 +216,12 @@ fn form_complaint(plain: Option<ReportKind>, detailed: Option<ReportKind>) -> &'
     }
 }
 
-/// Returns what is printed about campaigns, from the words of the command line.
+/// Returns the form of output that the switches select.
 ///
 /// # Errors
 ///
-/// More than one form is asked for, details of another form than lines, or CSV of another form than a table.
+/// Fails if more than one form is selected, if `--details` is given without `--lines`, or if `--csv` is given with
+/// another form than a table.
 pub(super) fn printed(found: &ArgMatches) -> Result<ReportKind, AskedError>
     ensures { let rows = rows_of (found_of found.now) in
         MatchResult result (λ s. shape_in rows ≡ Some s) (IsSaid (complaint_in rows) (shape_in rows ≡ None)) }
@@ -237,11 +239,12 @@ pub(super) fn printed(found: &ArgMatches) -> Result<ReportKind, AskedError>
     }
 }
 
-/// Returns how many steps a traitor is waited for, or `None` if `--patience` is not given.
+/// Returns the value of `--patience`: how many steps a traitor's program may take in a round. Returns `None` if the
+/// option is not given.
 ///
 /// # Errors
 ///
-/// The value of `--patience` is not a number from 1 to 4,096.
+/// Fails if the value is not a number from 1 to 4,096.
 fn patience_of(found: &ArgMatches) -> Result<Option<u32>, AskedError>
     ensures told { IfOk result (IsPatience (given (codes "patience") (rows_of (found_of found.now)))) }
     ensures refused { IfErr result (IsSaid (codes "--patience takes 1 to 4096")
@@ -256,11 +259,11 @@ fn patience_of(found: &ArgMatches) -> Result<Option<u32>, AskedError>
     }
 }
 
-/// Returns a copy of a text, if there is one.
+/// Returns a copy of a text, or `None` if there is no text.
 ///
 /// # Errors
 ///
-/// `AllocError` if memory runs out.
+/// Fails with `AllocError` if memory runs out.
 fn owned(alloc: Global, text: Option<&str>) -> Result<Option<String>, AllocError>
     ensures { IfOk result (λ copy. option_map string_bytes copy ≡ option_map (λ t. t.now) text.entry) }
 {
@@ -270,7 +273,7 @@ fn owned(alloc: Global, text: Option<&str>) -> Result<Option<String>, AllocError
     }
 }
 
-/// Returns the first of two texts, or the second if there is no first.
+/// Returns `first` or, if it is `None`, `second`.
 fn first_of<'a>(first: Option<&'a str>, second: Option<&'a str>) -> Option<&'a str>
     ensures { option_map (λ t. t.now) result
         ≡ first_of (option_map (λ t. t.now) first.entry) (option_map (λ t. t.now) second.entry) }
@@ -281,25 +284,25 @@ fn first_of<'a>(first: Option<&'a str>, second: Option<&'a str>) -> Option<&'a s
     }
 }
 
-/// Returns the folder to which campaigns are written, if one is named.
+/// Returns the folder of `--keep` or `--keep-all`, or `None` if neither is given.
 fn folder<'a>(found: &ArgMatches<'a>) -> Option<&'a str>
     ensures { option_map (λ t. t.now) result ≡ folder_in (rows_of (found_of found.now)) }
 {
     first_of(given(found, "keep"), given(found, "keep-all"))
 }
 
-/// Returns whether `--keep-all` is given together with `--keep` or `--shrink`.
+/// Checks whether `--keep-all` is given together with `--keep` or `--shrink`.
 fn bars_keeping(found: &ArgMatches) -> bool
     ensures { result ≡ bars_keeping (rows_of (found_of found.now)) }
 {
     has(found, "keep-all") && (has(found, "keep") || has(found, "shrink"))
 }
 
-/// Returns whether all campaigns are kept.
+/// Returns whether all campaigns are written to the folder: whether `--keep-all` is given.
 ///
 /// # Errors
 ///
-/// `--keep-all` is given together with `--keep` or `--shrink`.
+/// Fails if `--keep-all` is given together with `--keep` or `--shrink`.
 fn keeps_all(found: &ArgMatches) -> Result<bool, AskedError>
     ensures told { IfOk result (AreAllKept (rows_of (found_of found.now))) }
     ensures refused { IfErr result (IsSaid (codes "--keep-all cannot be used with --keep or --shrink")
@@ -318,11 +321,11 @@ fn some_traitors(found: &ArgMatches) -> &'static str
     if has(found, "break") { "1..13" } else { "1" }
 }
 
-/// Returns the survey that the words ask for.
+/// Returns the survey that the options describe. An option that is not given has its default.
 ///
 /// # Errors
 ///
-/// A value is wrong, options exclude each other, or memory runs out.
+/// Fails if a value is wrong, if two options cannot be used together, or if memory runs out.
 #[tactic(auto, using(crate::proofs::MeantLemmas::no_generals, crate::proofs::MeantLemmas::no_traitors, crate::proofs::MeantLemmas::no_seeds, crate::proofs::MeantLemmas::no_commander, crate::proofs::MeantLemmas::no_orders, crate::proofs::MeantLemmas::no_manner, crate::proofs::MeantLemmas::no_patience, crate::proofs::MeantLemmas::no_shape, crate::proofs::MeantLemmas::no_keeping))]
 pub(super) fn survey_of(alloc: Global, found: &ArgMatches) -> Result<Survey, AskedError>
     ensures survey { IfOk result IsSurvey }

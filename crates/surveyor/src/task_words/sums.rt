@@ -1,4 +1,4 @@
-//! The request of `--sum`, made from the words that `clap` has parsed.
+//! Turns the parsed options into the task of `--sum`.
 ghost use Rattle.std.specs.Prelude.{◌≡◌, ◌↔◌, ◌⊎◌, false, true, IfErr, IfOk, IsSomeAnd, IsTrue, codes, map, string_bytes};
 ghost use Rattle.clap.specs.Words.{found_of, rows_of};
 ghost use Rattle.surveyor.specs.Flags.{given};
@@ -17,7 +17,7 @@ const MERGE: &str =
 
 const ONCE: &str = "standard input can be read only once";
 
-/// Returns whether an option or switch is given that cannot be combined with `--sum`.
+/// Checks whether an option is given that cannot be used with `--sum`.
 fn bars_sum(found: &ArgMatches) -> bool
     ensures { result ≡ bars_sum (rows_of (found_of found.now)) }
 {
@@ -45,11 +45,11 @@ fn bars_sum(found: &ArgMatches) -> bool
     )
 }
 
-/// Returns copies of the names of files.
+/// Returns copies of the names of the files.
 ///
 /// # Errors
 ///
-/// `AllocError` if memory runs out.
+/// Fails with `AllocError` if memory runs out.
 fn files(alloc: Global, names: &[&str]) -> Result<Vec<String>, AllocError>
     ensures { IfOk result (λ files. map string_bytes files.items ≡ map (λ name. name.now) names.now) }
 {
@@ -60,18 +60,18 @@ fn files(alloc: Global, names: &[&str]) -> Result<Vec<String>, AllocError>
     Ok(files)
 }
 
-/// Returns whether standard input is named more than once.
+/// Checks whether standard input, `-`, is named more than once.
 fn is_read_twice(names: &[&str]) -> bool
     ensures { IsTrue result ↔ AreTwice (map (λ name. name.now) names.now) }
 {
     names.iter().filter(|name| **name == "-").count() > 1
 }
 
-/// Returns the first and the last seed, or `None` if `--seeds` is not given.
+/// Returns the first and the last seed of `--seeds`, or `None` if the option is not given.
 ///
 /// # Errors
 ///
-/// The value of `--seeds` is not a span of at most 10,000,000 seeds below 2^64 - 1.
+/// Fails if its value is not a range of at most 10,000,000 seeds, each less than 2^64 - 1.
 fn said_seeds(found: &ArgMatches) -> Result<Option<(u64, u64)>, AskedError>
     ensures told { IfOk result (AreSaid (given (codes "seeds") (rows_of (found_of found.now)))) }
     ensures refused { let word = given (codes "seeds") (rows_of (found_of found.now)) in IfErr result (IsSaid
@@ -87,11 +87,11 @@ fn said_seeds(found: &ArgMatches) -> Result<Option<(u64, u64)>, AskedError>
     }
 }
 
-/// Checks that these files can be summed.
+/// Checks that `--sum` can read these files and can be used with the other options.
 ///
 /// # Errors
 ///
-/// An option or switch is given that cannot be combined with `--sum`, or standard input is named more than once.
+/// Fails if an option is given that cannot be used with `--sum`, or if standard input, `-`, is named more than once.
 fn summable(found: &ArgMatches, names: &[&str]) -> Result<(), AskedError>
     ensures told { IfOk result (λ _. (bars_sum (rows_of (found_of found.now)) ≡ false)
         × (AreTwice (map (λ name. name.now) names.now) → ⊥)) }
@@ -109,11 +109,12 @@ fn summable(found: &ArgMatches, names: &[&str]) -> Result<(), AskedError>
     Ok(())
 }
 
-/// Returns the request to sum these files.
+/// Returns the task to sum the lines of these files.
 ///
 /// # Errors
 ///
-/// The files cannot be summed, a value is wrong, or memory runs out.
+/// Fails if an option cannot be used with `--sum`, if standard input is named more than once, if a value is wrong, or
+/// if memory runs out.
 #[tactic(auto, using(crate::proofs::MeantLemmas::no_merge_shape, crate::proofs::MeantLemmas::no_merge_seeds, crate::proofs::MeantLemmas::no_merge_sum, crate::proofs::MeantLemmas::once_named))]
 pub(super) fn merge_of(
     alloc: Global,
