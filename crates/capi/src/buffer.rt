@@ -1,9 +1,9 @@
-//! Writes a text into a buffer that the caller provides, and cuts it at the buffer's end.
+//! Writes a text into a buffer of the caller, and cuts the text if the buffer is too short.
 ghost use Rattle.std.specs.Prelude.{◌≡◌, length};
 ghost use Rattle.capi.specs.Texts.{overwritten};
 
-/// Copies the beginning of `text` into `buffer`, as far as there is room, and stores the length of the whole text, in
-/// bytes, in `needed`. The rest of `buffer` is unchanged.
+/// Copies `text` into `buffer`, or as many of its first bytes as there is room for. Stores the length of the whole
+/// text, in bytes, in `needed`. Bytes of `buffer` after the text are unchanged.
 pub fn put_text(text: &[u8], buffer: &mut [u8], needed: &mut usize)
     ensures needed { needed.new ≡ length text.now }
     ensures written { buffer.new ≡ overwritten text.now buffer.old }

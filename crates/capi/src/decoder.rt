@@ -1,4 +1,4 @@
-//! Decodes bytecode, and then verifies, explains or disassembles the program. These functions fail with a
+//! Decodes bytecode, and then verifies, explains or disassembles the program. Rejected bytecode is reported as a
 //! `BytecodeRefusal`.
 ghost use Rattle.std.specs.Prelude.{◌≡◌, ◌≢◌, IfOk, IfErr, MatchResult, List, None, string_bytes};
 ghost use Rattle.insn.specs.declared.insn.Insn.{Insn as InsnValue};
@@ -17,8 +17,8 @@ use insn::Program;
 use std::alloc::Global;
 use verify::{Verified, VerifyError, verify};
 
-/// Returns why the bytes are rejected when decoding has run out of memory. This is their first fault, which is found
-/// without allocating, or `Memory` if the bytes encode a program.
+/// Returns why the bytes are rejected after `decode` has run out of memory. Looks for their first fault without
+/// allocating. Returns `Memory` if the bytes have no fault, and so are the bytecode of a program.
 fn undecoded(bytes: &[u8]) -> BytecodeRefusal
     ensures refused { Refuses bytes.now result }
     ensures unjudged { status_of result ≢ 2 }
@@ -31,7 +31,8 @@ fn undecoded(bytes: &[u8]) -> BytecodeRefusal
     }
 }
 
-/// Decodes the bytes into a program, or returns why they encode none.
+/// Decodes bytecode into a program. Fails with `Misspelt` and the first fault if the bytes are not the bytecode of a
+/// program, and with `Memory` if memory runs out.
 fn spelt(alloc: Global, bytes: &[u8]) -> Result<Program, BytecodeRefusal>
     ensures spelt { IfOk result (λ program. SpellsProgram bytes.now program) }
     ensures refused { IfErr result (λ refusal. Refuses bytes.now refusal) }
@@ -46,12 +47,12 @@ fn spelt(alloc: Global, bytes: &[u8]) -> Result<Program, BytecodeRefusal>
     }
 }
 
-/// Decodes the bytes into a program and verifies it.
+/// Decodes bytecode into a program and verifies it.
 ///
 /// # Errors
 ///
-/// Fails with `Misspelt` if the bytes encode no program, with `Refused` if the verifier rejects the program, and with
-/// `Memory` if memory runs out.
+/// Fails with `Misspelt` if the bytes are not the bytecode of a program, with `Refused` if the verifier rejects the
+/// program, and with `Memory` if memory runs out.
 pub fn accepted(alloc: Global, bytes: &[u8]) -> Result<Verified, BytecodeRefusal>
     ensures spelt { IfOk result (λ v. SpellsProgram bytes.now v) }
     ensures accepted { IfOk result (λ v. judged v ≡ None) }
@@ -72,12 +73,12 @@ pub fn accepted(alloc: Global, bytes: &[u8]) -> Result<Verified, BytecodeRefusal
     }
 }
 
-/// Returns the explanation of the program that the bytes encode: what the verifier knows at each unit, and why it
-/// rejects the program, if it does.
+/// Decodes bytecode into a program and explains it: what the verifier knows at each unit and, if it rejects the
+/// program, why.
 ///
 /// # Errors
 ///
-/// Fails with `Misspelt` if the bytes encode no program, and with `Memory` if memory runs out.
+/// Fails with `Misspelt` if the bytes are not the bytecode of a program, and with `Memory` if memory runs out.
 pub fn explained(alloc: Global, bytes: &[u8]) -> Result<String, BytecodeRefusal>
     ensures text { IfOk result (λ text. IsExplanation bytes.now (string_bytes text)) }
     ensures refused { IfErr result (λ refusal. Refuses bytes.now refusal) }
@@ -94,11 +95,11 @@ pub fn explained(alloc: Global, bytes: &[u8]) -> Result<String, BytecodeRefusal>
     }
 }
 
-/// Returns the assembly text of the program that the bytes encode.
+/// Decodes bytecode into a program, and returns its assembly text.
 ///
 /// # Errors
 ///
-/// Fails with `Misspelt` if the bytes encode no program, and with `Memory` if memory runs out.
+/// Fails with `Misspelt` if the bytes are not the bytecode of a program, and with `Memory` if memory runs out.
 pub fn assembly(alloc: Global, bytes: &[u8]) -> Result<String, BytecodeRefusal>
     ensures text { IfOk result (λ text. IsAssembly bytes.now (string_bytes text)) }
     ensures refused { IfErr result (λ refusal. Refuses bytes.now refusal) }

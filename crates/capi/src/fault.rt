@@ -1,4 +1,4 @@
-//! Numbers the faults of rejected programs for C.
+//! Turns the faults of rejected programs into numbers for C.
 ghost use Rattle.std.specs.Prelude.{◌≡◌, ◌≤◌, ℕ, List};
 ghost use Rattle.capi.specs.Numbers.{fault_number, reason_number};
 ghost use Rattle.capi.specs.Bytes.{IsProgram, IsMisspelt, IsRefused};
@@ -9,8 +9,8 @@ use crate::status::{MEMORY, MISSPELT, REFUSED};
 use codec::CodecFault as Misspelling;
 use verify::Reason;
 
-/// Why a program is rejected: the number of the fault, and the unit at which it is. The numbers 1 to 8 are faults of
-/// the bytes, and 101 to 113 are the verifier's reasons.
+/// Why a program is rejected, for C: the number of the fault, and the number of the unit (8 bytes) at which it is.
+/// Faults 1 to 8 are faults of the bytecode, C1 to C8. Faults 101 to 113 are the verifier's reasons, V1 to V13.
 #[repr(C)]
 #[derive(Clone, Copy, Drop)]
 pub struct NumberedFault {
@@ -18,7 +18,7 @@ pub struct NumberedFault {
     pub unit: usize,
 }
 
-/// Returns the number of a fault in the bytes: 1 to 8 for C1 to C8.
+/// Returns the number of a fault of bytecode for C: 1 to 8 for the faults C1 to C8.
 pub fn fault_number(fault: Misspelling) -> u32
     ensures { result ≡ fault_number fault }
 {
@@ -34,7 +34,7 @@ pub fn fault_number(fault: Misspelling) -> u32
     }
 }
 
-/// Returns the number of a reason why the verifier rejects a program: 101 to 113 for V1 to V13.
+/// Returns the number of a reason of the verifier for C: 101 to 113 for the reasons V1 to V13.
 pub fn reason_number(reason: Reason) -> u32
     ensures { result ≡ reason_number reason }
 {
@@ -55,8 +55,8 @@ pub fn reason_number(reason: Reason) -> u32
     }
 }
 
-/// Writes the number and the unit of a refusal into `fault`, and returns the refusal's status, 1 to 3. If the refusal
-/// is `Memory`, the fault is unchanged.
+/// Stores the number and the unit of a refusal in `fault`, and returns the status of the refusal for C, 1 to 3. For
+/// `Memory`, which has no number, `fault` is unchanged.
 pub fn tell(refusal: BytecodeRefusal, fault: &mut NumberedFault) -> u32
     ensures status { result ≡ status_of refusal }
     ensures least { 1 ≤ result }

@@ -1,4 +1,4 @@
-//! Finds calls of helpers that the host does not allow.
+//! Finds calls of helpers that the C program does not allow.
 ghost use Rattle.std.specs.Prelude.{◌≡◌, ℕ, false, Some, IfSome, IfNone};
 ghost use Rattle.insn.specs.Program.{instruction_at};
 ghost use Rattle.capi.specs.Helpers.{called_by, is_allowed, IsAllowedAt, IsFirstForbidden};
@@ -6,14 +6,16 @@ ghost use Rattle.capi.specs.Helpers.{called_by, is_allowed, IsAllowedAt, IsFirst
 use insn::{Insn, Program};
 use verify::Verified;
 
-/// Checks whether the host allows the helper with this number. Bit n of `mask` is set exactly if it allows helper n.
+/// Checks whether `mask` allows the helper with this number: whether bit `number` of the mask is set. A number above 63
+/// is never allowed.
 fn is_allowed(mask: u64, number: u32) -> bool
     ensures { result ≡ is_allowed mask number }
 {
     number < 64 && (mask >> number) & 1 == 1
 }
 
-/// Returns the number of the helper that the program calls at this unit, if the host does not allow it.
+/// Returns the number of the helper that the program calls at this unit if `mask` does not allow it. Returns `None` if
+/// the helper is allowed or the program calls none there.
 fn forbidden_at(program: &Program, mask: u64, unit: usize) -> Option<u32>
     ensures some { IfSome result
         (λ n. (called_by (instruction_at program.now unit) ≡ Some n) × (is_allowed mask n ≡ false)) }
@@ -32,7 +34,8 @@ fn forbidden_at(program: &Program, mask: u64, unit: usize) -> Option<u32>
     Some(number)
 }
 
-/// Returns the first call of a helper that the host does not allow: the helper's number and the unit.
+/// Returns the first call of a helper that `mask` does not allow: the helper's number and the unit of the call. Returns
+/// `None` if every call is allowed. Bit n of `mask` allows helper n.
 fn first_in(program: &Program, mask: u64) -> Option<(u32, usize)>
     ensures some { IfSome result (λ found. IsFirstForbidden mask program.now found.0 found.1) }
     ensures none { IfNone result ((unit : ℕ) → IsAllowedAt mask program.now unit) }
@@ -45,8 +48,8 @@ fn first_in(program: &Program, mask: u64) -> Option<(u32, usize)>
     None
 }
 
-/// Returns the first call of a helper that the host does not allow in a verified program: the helper's number and the
-/// unit.
+/// Returns the first call in a verified program of a helper that `mask` does not allow: the helper's number and the
+/// unit of the call. Returns `None` if every call is allowed. Bit n of `mask` allows helper n.
 pub fn first_forbidden(verified: &Verified, mask: u64) -> Option<(u32, usize)>
     ensures some { IfSome result (λ found. IsFirstForbidden mask verified.now found.0 found.1) }
     ensures none { IfNone result ((unit : ℕ) → IsAllowedAt mask verified.now unit) }

@@ -1,4 +1,5 @@
-//! Runs one accepted program outside of any campaign, in one context or in many.
+//! Runs an accepted program outside of any campaign, in one context or in many. It runs as general 3 of four in the
+//! first round.
 ghost use Rattle.std.specs.Prelude.{◌≡◌, ◌*◌, List, [], ℕ, IfOk, OnErr, length};
 ghost use Rattle.codec.specs.Program.{SpellsProgram};
 ghost use Rattle.semantics.specs.Outbox.{empty_outbox};
@@ -17,7 +18,8 @@ use outbox::Outbox;
 use std::alloc::{AllocError, Global};
 use verify::Verified;
 
-/// The general in whose place a program runs: the last of four generals in the first round, who relays nothing.
+/// The general as whom a program runs outside of a campaign: the last of four generals, in the first round, in which he
+/// relays nothing.
 const HOST: Shape = Shape {
     generals: 4,
     commander: 0,
@@ -25,7 +27,7 @@ const HOST: Shape = Shape {
     round: 1,
 };
 
-/// Returns an empty outbox of the general `HOST`.
+/// Returns an empty outbox for a program that runs outside of a campaign, as general 3 of four in the first round.
 #[inline(never)]
 pub fn outbox(alloc: Global) -> Result<Outbox, AllocError>
     ensures relay { IfOk result (λ o. o.relay ≡ oral host) }
@@ -35,8 +37,8 @@ pub fn outbox(alloc: Global) -> Result<Outbox, AllocError>
     Outbox::new(alloc, HOST)
 }
 
-/// Runs an accepted program to its exit, in the place of the general `HOST`. A board of these words answers its
-/// requests, and keeps the words that the program leaves.
+/// Runs an accepted program to its exit, as general 3 of four in the first round. `words` are the words of the board:
+/// the program's requests read and change them.
 ///
 /// # Errors
 ///
@@ -54,8 +56,8 @@ pub fn run_hosted(
     run_begun(alloc, verified, context, words, &mut activation)
 }
 
-/// Runs an activation that has just started to its exit, on a board of these words. It is not inlined, so that the
-/// library contains this code once.
+/// Runs an activation that has just started to its exit. `words` are the words of the board: the program's requests
+/// read and change them. The function is not inlined, so that the library contains its code once.
 ///
 /// # Errors
 ///
@@ -88,7 +90,7 @@ pub fn run_begun(
     })
 }
 
-/// Runs an activation that has just started to its exit, with a board of zeros.
+/// Runs an activation that has just started to its exit, with a board on which all words are 0.
 fn run_afresh(
     alloc: Global,
     verified: &Verified,
@@ -105,12 +107,12 @@ fn run_afresh(
     run_begun(alloc, verified, context, &mut words, activation)
 }
 
-/// Runs a program once in each context, each time with a board of zeros, and stores the outcomes in order. A context is
-/// 4,096 bytes. One activation is restarted for each context.
+/// Runs a program once in each of the contexts, which follow one another in `contexts` with 4,096 bytes each. Stores
+/// the outcome of the run in context i in `outcomes[i]`. Each run begins with a board on which all words are 0.
 ///
 /// # Errors
 ///
-/// Fails with `AllocError` if memory runs out. Each outcome is then that of its run, or unchanged.
+/// Fails with `AllocError` if memory runs out. Each outcome is then either that of its run or unchanged.
 pub fn run_each(
     alloc: Global,
     verified: &Verified,

@@ -1,4 +1,4 @@
-//! A verified program together with the memory in which its runs take place.
+//! A verified program together with the memory for its runs, so that it can be run often.
 ghost use Rattle.std.specs.Prelude.{◌≡◌, ◌≤◌, IfOk, OnErr, length};
 ghost use Rattle.capi.specs.Padding.{padded};
 ghost use Rattle.capi.specs.Runs.{Exits};
@@ -12,8 +12,8 @@ use std::alloc::{AllocError, Global};
 use std::marker::Model;
 use verify::Verified;
 
-/// A verified program, the activation that is restarted for each run, and a buffer for short contexts. Contracts see it
-/// as the program.
+/// A verified program, the activation that is restarted for each run, and a buffer for contexts shorter than 4,096
+/// bytes. Contracts see this value as the program.
 #[derive(Drop)]
 pub struct Kept {
     verified: Verified,
@@ -31,7 +31,7 @@ impl Model for Kept {
 }
 
 impl Kept {
-    /// Keeps a verified program.
+    /// Makes the memory for runs of a verified program, and stores both.
     ///
     /// # Errors
     ///
@@ -48,8 +48,8 @@ impl Kept {
         })
     }
 
-    /// Runs the program to its exit in the context that begins with `start`, at most 4,096 bytes, and continues with
-    /// zeros. A board of these words answers its requests, and keeps the words that the program leaves.
+    /// Runs the program to its exit. The context begins with `start`, at most 4,096 bytes, and continues with zeros up
+    /// to 4,096 bytes. `words` are the words of the board: the program's requests read and change them.
     ///
     /// # Errors
     ///
@@ -77,7 +77,7 @@ impl Kept {
     }
 }
 
-/// Runs the program in a context that the caller gives as a whole.
+/// Runs the program in a context that the caller gives in full, with 4,096 bytes.
 fn run_whole(
     alloc: Global,
     verified: &Verified,
@@ -93,7 +93,8 @@ fn run_whole(
     run_again(alloc, verified, &context, words, activation)
 }
 
-/// Runs the program in the context that begins with `start` and continues with zeros. The context is made in `buffer`.
+/// Runs the program in a context that begins with `start` and continues with zeros up to 4,096 bytes. The context is
+/// put together in `buffer`.
 fn run_padded(
     alloc: Global,
     verified: &Verified,
@@ -111,7 +112,7 @@ fn run_padded(
     run_again(alloc, verified, &context, words, activation)
 }
 
-/// Restarts the activation in this context, and runs it to its exit.
+/// Restarts the activation in this context, and runs the program to its exit.
 fn run_again(
     alloc: Global,
     verified: &Verified,

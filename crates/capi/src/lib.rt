@@ -1,5 +1,6 @@
-//! The functions that a C program calls: the verifier, the machine, explanations and assembly. share/byzlab_sandbox.h
-//! declares these exports. The contract of each export repeats what the functions that it calls promise.
+//! The functions that a C program can call: the verifier, the machine, explanations and assembly. The header
+//! share/byzlab_sandbox.h declares them. The contract of each states the whole result, also what the functions that it
+//! calls promise.
 #![tactic(auto)]
 
 mod buffer;

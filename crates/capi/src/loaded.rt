@@ -1,4 +1,4 @@
-//! A loaded program, as C holds it.
+//! A loaded program in the form in which a C program stores it.
 ghost use Rattle.std.specs.Prelude.{◌≡◌, true, false, None, Some, option_map};
 ghost use Rattle.std.specs.Option.{ForSome, ForNone};
 
@@ -9,19 +9,19 @@ use std::alloc::Global;
 use std::mem::replace;
 use std::ptr::null_mut;
 
-/// A loaded program in memory of its own, or none. If all bytes are 0 there is none.
+/// A loaded program, which has memory of its own, or no program. A value of which all bytes are 0 has no program.
 #[repr(C)]
 #[derive(Drop)]
 pub struct Loaded {
     full: bool,
     pub place: Place,
-    /// `full` says whether there is a program.
+    /// `full` is true exactly if there is a program.
     ghost some: { ForSome place.program (λ _. full ≡ true) },
     ghost none: { ForNone place.program (full ≡ false) },
 }
 
 impl Loaded {
-    /// Takes the program out, if there is one.
+    /// Removes the loaded program and returns it. Returns `None` if no program is loaded.
     pub fn take(&mut self, alloc: Global) -> Option<Box<Kept>>
         ensures room { self.new.place.program ≡ None }
         ensures program { option_map (λ b. b.value) result ≡ self.old.place.program }
@@ -34,7 +34,7 @@ impl Loaded {
         Some(place.into_parts(alloc).into_box())
     }
 
-    /// Puts a program in, and drops the one that was there.
+    /// Stores a program as the loaded one. Frees the program that was loaded before.
     pub fn put(&mut self, alloc: Global, kept: Box<Kept>)
         ensures { self.new.place.program ≡ Some kept.value }
     {
@@ -50,10 +50,10 @@ fn nowhere() -> *mut u8 {
     null_mut()
 }
 
-/// Does nothing. It can only be called with what may be passed to another thread.
+/// Does nothing. Only values that may be sent to another thread can be passed to it.
 fn crosses<T: Send>(_value: &T) {}
 
-/// Does nothing. It shows that a loaded program may be passed to another thread.
+/// Does nothing. It compiles only because a loaded program may be sent to another thread.
 pub fn loaded_crosses(loaded: &Loaded) {
     crosses(loaded);
 }

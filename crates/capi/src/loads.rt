@@ -1,4 +1,4 @@
-//! The exports that load a program once and run it often: `byzlab_load`, `byzlab_run_loaded` and `byzlab_unload`.
+//! The C functions that load a program once and run it often: `byzlab_load`, `byzlab_run_loaded` and `byzlab_unload`.
 ghost use Rattle.std.specs.Prelude.{◌≡◌, ◌≤◌, ◌<◌, ◌⊎◌, ℕ, List, None, length};
 ghost use Rattle.capi.specs.Bytes.{IsProgram, IsAccepted, IsMisspelt, IsRefused};
 ghost use Rattle.capi.specs.Helpers.{IsAllowed, IsForbidden};
@@ -16,8 +16,9 @@ use crate::status::{DONE, FORBIDDEN, LENGTH, MEMORY, UNLOADED};
 use mem::Context;
 use std::alloc::Global;
 
-/// Verifies a program and loads it, in place of one that is loaded there. The program may call helper n only if bit n of
-/// `helpers` is set. The result is the status: 0 to 3, or 6.
+/// Verifies a program and stores it in `loaded`, in place of the program that was loaded there. The program may call
+/// helper n only if bit n of `helpers` is set. Returns the status: 0 if it is loaded, 1 or 2 if it is rejected, 3 if
+/// memory ran out, and 6 if it calls a helper that is not allowed.
 #[unsafe(no_mangle)]
 pub extern "C" fn byzlab_load(
     alloc: Global,
@@ -28,8 +29,8 @@ pub extern "C" fn byzlab_load(
 ) -> u32
     ensures known { (result ≤ 3) ⊎ (result ≡ 6) }
 
-    // The status is 0 only if the program is accepted and calls only helpers that are allowed, and it is then loaded. If
-    // the program is accepted, the status is 0, 3 or 6.
+    // The status is 0 only if the program is accepted and calls only allowed helpers, and it is then loaded. If the
+    // program is accepted, the status is 0, 3 or 6.
     ensures accepted { result ≡ 0 → IsAccepted program.now }
     ensures only { IsAccepted program.now → (result ≡ 0) ⊎ (result ≡ 3) ⊎ (result ≡ 6) }
     ensures allowed { result ≡ 0 → IsAllowed program.now helpers }
@@ -70,9 +71,9 @@ pub extern "C" fn byzlab_load(
     }
 }
 
-/// Runs the loaded program in the context that begins with these bytes, at most 4,096, and continues with zeros. The
-/// board holds the words that the program finds, and after the run the words that it leaves. The result is the status:
-/// 0, 3, 4 or 5.
+/// Runs the loaded program. The context begins with the bytes in `context`, at most 4,096, and continues with zeros up
+/// to 4,096 bytes. `board` has the words of the board, which the program reads and changes. Returns the status: 0 if
+/// the program has run, 3 if memory ran out, 4 if the context is too long, and 5 if no program is loaded.
 #[tactic(auto, using(crate::proofs::LoadedRuns::runs_loaded))]
 #[unsafe(no_mangle)]
 pub extern "C" fn byzlab_run_loaded(
@@ -116,7 +117,7 @@ pub extern "C" fn byzlab_run_loaded(
     status
 }
 
-/// Frees the memory of the loaded program, if there is one. None is loaded then.
+/// Frees the memory of the loaded program, if there is one. Then no program is loaded.
 #[unsafe(no_mangle)]
 pub extern "C" fn byzlab_unload(alloc: Global, loaded: &mut Loaded)
     ensures { loaded.new.place.program ≡ None }

@@ -1,4 +1,4 @@
-//! The sentences that describe statuses and faults, and the export that writes them: `byzlab_message`.
+//! The sentences that describe statuses and faults, and the C function that writes them: `byzlab_message`.
 ghost use Rattle.std.specs.Prelude.{◌≡◌, [], length, map, slice_index_or};
 ghost use Rattle.capi.specs.Messages.{message, misspellings, rejections, statuses};
 ghost use Rattle.capi.specs.Texts.{overwritten};
@@ -6,7 +6,7 @@ ghost use Rattle.capi.specs.Texts.{overwritten};
 use crate::buffer::put_text;
 use crate::status::{MISSPELT, REFUSED};
 
-/// The sentence of each status.
+/// The sentence for each status, by its number.
 const STATUSES: &[&str] = &[
     "the call has done its work",
     "the bytes spell no program",
@@ -17,7 +17,7 @@ const STATUSES: &[&str] = &[
     "a helper is called that is not allowed",
 ];
 
-/// The sentence of each fault in the bytes, by its number.
+/// The sentence for each fault of bytecode, by its number.
 const MISSPELLINGS: &[&str] = &[
     "",
     "the length is not a multiple of 8",
@@ -30,7 +30,8 @@ const MISSPELLINGS: &[&str] = &[
     "a program has 1 to 4,096 units",
 ];
 
-/// The sentence of each reason why the verifier rejects a program, by its number less 100.
+/// The sentence for each reason why the verifier rejects a program. Reason V1, which has number 101 in C, is at index
+/// 1.
 const REJECTIONS: &[&str] = &[
     "",
     "a jump leads to its own unit or backward",
@@ -48,28 +49,29 @@ const REJECTIONS: &[&str] = &[
     "the program ends with a pointer in r0",
 ];
 
-/// Returns the sentence of each status.
+/// Returns the sentence for each status, by its number.
 fn statuses() -> &'static [&'static str]
     ensures { map (λ m. m.now) result.now ≡ statuses }
 {
     STATUSES
 }
 
-/// Returns the sentence of each fault in the bytes, by its number.
+/// Returns the sentence for each fault of bytecode, by its number, 1 to 8.
 fn misspellings() -> &'static [&'static str]
     ensures { map (λ m. m.now) result.now ≡ misspellings }
 {
     MISSPELLINGS
 }
 
-/// Returns the sentence of each reason why the verifier rejects a program, by its number less 100.
+/// Returns the sentence for each reason why the verifier rejects a program. Reason V1, which has number 101 in C, is at
+/// index 1.
 fn rejections() -> &'static [&'static str]
     ensures { map (λ m. m.now) result.now ≡ rejections }
 {
     REJECTIONS
 }
 
-/// Returns the sentence with this index, or an empty one if there is none.
+/// Returns the sentence with this index, or an empty text if there are not so many.
 #[tactic(auto, using(crate::proofs::Sentences::sentence_read, crate::proofs::Sentences::no_sentence))]
 fn sentence_at(sentences: &'static [&'static str], index: usize) -> &'static str
     ensures { result.now ≡ slice_index_or (map (λ m. m.now) sentences.now) index [] }
@@ -81,8 +83,8 @@ fn sentence_at(sentences: &'static [&'static str], index: usize) -> &'static str
     }
 }
 
-/// Returns the sentence that describes a status or, at status 1 and 2, the fault with this number. It is empty if there
-/// is no such status or fault.
+/// Returns the sentence that describes a status. For status 1 and 2, a rejected program, it describes instead the fault
+/// with this number. Returns an empty text if there is no such status or fault.
 fn message(status: u32, number: u32) -> &'static str
     ensures { result.now ≡ message status number }
 {
@@ -95,8 +97,9 @@ fn message(status: u32, number: u32) -> &'static str
     sentence_at(statuses(), status as usize)
 }
 
-/// Writes the sentence that describes a status or, at status 1 and 2, the fault with this number. The text is cut at the
-/// end of `text`, and `needed` receives the length of the whole text in bytes: 0 if there is no such status or fault.
+/// Writes the sentence that describes a status into `text`. For status 1 and 2, a rejected program, it describes
+/// instead the fault with this number. The sentence is cut if `text` is too short. `needed` receives its whole length
+/// in bytes, which is 0 if there is no such status or fault.
 #[unsafe(no_mangle)]
 pub extern "C" fn byzlab_message(status: u32, number: u32, text: &mut [u8], needed: &mut usize)
     ensures text { text.new ≡ overwritten (message status number) text.old }

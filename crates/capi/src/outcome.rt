@@ -1,10 +1,10 @@
-//! The outcome of a run, as C sees it.
-/// How a run has ended.
+//! The outcome of a run, in the form that C receives.
+/// The outcome of a program's run.
 #[repr(C)]
 #[derive(Clone, Copy, Drop)]
 pub struct RunOutcome {
-    /// The value of register r0 at the exit.
+    /// The value of register r0 with which the program exited.
     pub r0: u64,
-    /// The number of steps that the run took. It is at most the number of the program's instructions.
+    /// How many steps the run took. There are at most as many as the program has instructions.
     pub steps: u32,
 }

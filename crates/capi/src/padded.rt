@@ -1,4 +1,4 @@
-//! A buffer for contexts that have fewer than 4,096 bytes.
+//! A buffer that fills contexts of fewer than 4,096 bytes up with zeros.
 ghost use Rattle.std.specs.Prelude.{◌≡◌, ◌≤◌, ◌-◌, ◌++◌, length, take, drop, replicate};
 ghost use Rattle.semantics.specs.Run.{IsContext};
 ghost use Rattle.capi.specs.Padding.{padded};
@@ -6,11 +6,12 @@ ghost use Rattle.capi.specs.Padding.{padded};
 use mem::Context;
 use std::marker::Model;
 
-/// A context of 4,096 bytes, of which the caller gives the first. Contracts see it as the list of its bytes.
+/// A context of 4,096 bytes: first the bytes that the caller gave, and then zeros. Contracts see this value as the list
+/// of all 4,096 bytes.
 #[derive(Drop)]
 pub struct PaddedContext {
     bytes: [u8; 4096],
-    /// How many bytes the caller has given. All bytes after them are 0.
+    /// How many bytes the caller gave. All bytes after them are 0.
     filled: usize,
 }
 
@@ -26,7 +27,7 @@ impl Model for PaddedContext {
 }
 
 impl PaddedContext {
-    /// Creates a context of zeros.
+    /// Creates a context with 4,096 zeros.
     #[tactic(auto, using(crate::proofs::Padding::blank))]
     pub fn new() -> PaddedContext
         ensures { result ≡ replicate 4096 0 }
@@ -37,8 +38,8 @@ impl PaddedContext {
         }
     }
 
-    /// Replaces the context by the one that begins with these bytes, at most 4,096. Zeros are written only where an
-    /// earlier context had other bytes.
+    /// Replaces the context by `start`, at most 4,096 bytes, and zeros after it. To save time, zeros are written only
+    /// over the bytes of the previous `start`.
     #[tactic(auto, using(crate::proofs::Padding::zeros_in, crate::proofs::Padding::refilled, crate::proofs::Padding::filled_again))]
     pub fn fill(&mut self, start: &[u8])
         requires { length start.now ≤ 4096 }
@@ -48,7 +49,7 @@ impl PaddedContext {
         self.filled = start.len();
     }
 
-    /// Returns the bytes, as many as a context has.
+    /// Returns all 4,096 bytes of the context.
     pub fn bytes(&self) -> &[u8]
         ensures same { result.now ≡ self.now }
         ensures long { length self.now ≡ 4096 }
@@ -58,7 +59,8 @@ impl PaddedContext {
     }
 }
 
-/// Writes `start` over the beginning of `room`, and zeros after it. From index `filled` on, `room` has only zeros.
+/// Copies `start` to the beginning of `room`, and makes all later bytes 0. The caller promises that `room` is 0 from
+/// index `filled` on, so only earlier bytes are cleared.
 #[tactic(auto, using(crate::proofs::Padding::covered, crate::proofs::Padding::cleared))]
 fn overlay(room: &mut [u8], start: &[u8], filled: usize)
     requires fits { length start.now ≤ length room.old }
@@ -74,7 +76,7 @@ fn overlay(room: &mut [u8], start: &[u8], filled: usize)
     clear(room, count, filled);
 }
 
-/// Writes `start` over the beginning of `room`.
+/// Copies `start` to the beginning of `room`. Later bytes are unchanged.
 fn put_start(room: &mut [u8], start: &[u8])
     requires { length start.now ≤ length room.old }
     ensures { room.new ≡ start.now ++ drop (length start.now) room.old }
@@ -82,7 +84,7 @@ fn put_start(room: &mut [u8], start: &[u8])
     room[..start.len()].copy_from_slice(start);
 }
 
-/// Writes zeros into `room` from index `from` up to index `to`.
+/// Sets the bytes of `room` from index `from` to index `to - 1` to 0.
 fn clear(room: &mut [u8], from: usize, to: usize)
     requires { (from ≤ to) × (to ≤ length room.old) }
     ensures { room.new ≡ take from room.old ++ (replicate (to - from) 0 ++ drop to room.old) }

@@ -1,4 +1,4 @@
-//! The place of a loaded program in memory, as C holds it.
+//! The address of a loaded program, in the form in which a C program stores it.
 ghost use Rattle.std.specs.Prelude.{◌≡◌, ◌≢◌, List, Option, None, Some};
 ghost use Rattle.insn.specs.declared.insn.Insn.{Insn};
 
@@ -7,7 +7,8 @@ use crate::parts::Parts;
 use std::alloc::Global;
 use std::marker::Model;
 
-/// The address of a loaded program, which the place owns, or any address if there is no program. C does not use it.
+/// The address of a loaded program, which this value owns. If there is no program, the address can be anything. C code
+/// only stores it.
 #[repr(C)]
 #[derive(Drop)]
 pub struct Place {
@@ -25,14 +26,14 @@ impl Model for Place {
 }
 
 impl Place {
-    /// Creates the place of no program.
+    /// Creates a place without a program.
     pub fn none(at: *mut u8) -> Place
         ensures { result.program ≡ None }
     {
         Place { at }
     }
 
-    /// Creates the place of the program that the parts own.
+    /// Creates the place of the program that `parts` own.
     pub fn of(parts: Parts<Kept, Global>) -> Place
         ensures { result.program ≡ Some parts.value }
     {
@@ -40,7 +41,7 @@ impl Place {
         Place { at: ptr as *mut u8 }
     }
 
-    /// Returns the program, which the result then owns. There must be one.
+    /// Returns the program as the parts of a box, which then own it. The place must have a program.
     pub fn into_parts(self, alloc: Global) -> Parts<Kept, Global>
         requires { self.program ≢ None }
         ensures { Some result.value ≡ self.program }

@@ -1,4 +1,4 @@
-//! Runs an activation to its exit on the caller's board.
+//! Runs an activation to its exit, with the board of a C program.
 ghost use Rattle.std.specs.Prelude.{◌≡◌, Some, IfOk};
 ghost use Rattle.semantics.specs.Relay.{oral};
 ghost use Rattle.semantics.specs.State.{entry};
@@ -13,13 +13,13 @@ use mem::Context;
 use std::alloc::{AllocError, Global};
 use verify::Verified;
 
-/// Runs an activation that has just started to its exit, and returns the value with which it exits. A board of these
-/// words answers its requests, and keeps the words that it leaves.
+/// Runs an activation that has just started to its exit, and returns the value of r0. `words` are the words of the
+/// board: the program's requests read and change them.
 ///
 /// # Errors
 ///
-/// Fails with `AllocError` if there is no memory for the words of a copy. The board then has the words that the run
-/// left so far.
+/// Fails with `AllocError` if there is no memory for the answer to a request. The words then have the changes up to
+/// this request.
 #[tactic(auto, using(crate::proofs::Bare::starts))]
 pub fn run_over(
     alloc: Global,

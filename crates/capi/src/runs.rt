@@ -1,4 +1,4 @@
-//! The exports that run programs: `byzlab_run` and `byzlab_run_many`.
+//! The C functions that verify and run a program: `byzlab_run` and `byzlab_run_many`.
 ghost use Rattle.std.specs.Prelude.{◌≡◌, ◌≤◌, ◌≢◌, ◌*◌, ◌⊎◌, length};
 ghost use Rattle.capi.specs.Bytes.{IsProgram, IsAccepted, IsMisspelt, IsRefused};
 ghost use Rattle.capi.specs.Runs.{IsRun};
@@ -12,8 +12,9 @@ use crate::status::{DONE, LENGTH, MEMORY};
 use mem::Context;
 use std::alloc::Global;
 
-/// Verifies a program and runs it once in the context. The board holds the words that the program finds, and after the
-/// run the words that it leaves. The result is the status, 0 to 4.
+/// Verifies a program and runs it once in the context, which must have 4,096 bytes. `board` has the words of the board,
+/// which the program reads and changes. Returns the status: 0 if the program has run, 1 or 2 if it is rejected, 3 if
+/// memory ran out, and 4 if the context has another length.
 #[unsafe(no_mangle)]
 pub extern "C" fn byzlab_run(
     alloc: Global,
@@ -62,8 +63,9 @@ pub extern "C" fn byzlab_run(
     }
 }
 
-/// Verifies a program once, and runs it in each context, each time with a board of zeros. The contexts follow one
-/// another, 4,096 bytes for each outcome. The result is the status, 0 to 4.
+/// Verifies a program and runs it once in each context, each time with a board on which all words are 0. The contexts
+/// follow one another, with 4,096 bytes for each entry of `outcomes`. Returns the status: 0 if the program has run in
+/// all, 1 or 2 if it is rejected, 3 if memory ran out, and 4 if the contexts have another length.
 #[unsafe(no_mangle)]
 pub extern "C" fn byzlab_run_many(
     alloc: Global,

@@ -1,4 +1,4 @@
-//! Serves a program's requests on the caller's board. No ledger is kept.
+//! Answers a program's requests with the board of a C program. No ledger is written.
 ghost use Rattle.std.specs.Prelude.{◌≡◌, true, IfOk, OnOk, OnErr};
 ghost use Rattle.semantics.specs.Call.{fits};
 ghost use Rattle.semantics.specs.Replies.{words_in};
@@ -9,8 +9,8 @@ use board::recall_board;
 use semantics::{Reply, Request};
 use std::alloc::{AllocError, Global};
 
-/// Serves a request on a board of these words. Fails with `AllocError` if memory runs out, and then leaves the words as
-/// they were.
+/// Answers a request with a board that has these words, and changes the words as the request asks. Fails with
+/// `AllocError` if memory runs out, and then leaves the words unchanged.
 pub fn serve(alloc: Global, words: &mut [u64; 64], request: Request) -> Result<Reply, AllocError>
     ensures answer { IfOk result (λ r. words_in r ≡ reply words.old request) }
     ensures fits { IfOk result (λ r. fits request (words_in r) ≡ true) }

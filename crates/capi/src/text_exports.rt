@@ -1,4 +1,4 @@
-//! The exports that write text about a program: `byzlab_explain` and `byzlab_disassemble`.
+//! The C functions that write text about a program: `byzlab_explain` and `byzlab_disassemble`.
 ghost use Rattle.std.specs.Prelude.{◌≡◌, ◌≢◌, ◌≤◌, ◌⊎◌};
 ghost use Rattle.capi.specs.Bytes.{IsProgram, IsAccepted, IsMisspelt, IsRefused};
 ghost use Rattle.capi.specs.Texts.{GivesExplanation, GivesAssembly};
@@ -10,9 +10,9 @@ use crate::status::{DONE, REFUSED};
 use crate::verdict::byzlab_verify;
 use std::alloc::Global;
 
-/// Verifies a program and explains it. It returns the same status as `byzlab_verify`. It writes what the verifier knows
-/// at each unit, and why it rejects the program, if it does. The text is cut at the end of `text`, and `needed`
-/// receives the length of the whole text in bytes.
+/// Verifies a program and explains it in `text`: what the verifier knows at each unit and, if it rejects the program,
+/// why. The explanation is cut if `text` is too short. `needed` receives its whole length in bytes. Returns the status,
+/// as `byzlab_verify` does: 0 if the program is accepted, 1 or 2 if it is rejected, and 3 if memory ran out.
 #[unsafe(no_mangle)]
 pub extern "C" fn byzlab_explain(
     alloc: Global,
@@ -52,9 +52,9 @@ pub extern "C" fn byzlab_explain(
     status
 }
 
-/// Writes the assembly text of the program that the bytes encode, whether the verifier accepts it or not. The text is
-/// cut at the end of `text`, and `needed` receives the length of the whole text in bytes. The result is the status: 0,
-/// 1 or 3.
+/// Disassembles a program into `text`, whether or not the verifier accepts it. The assembly is cut if `text` is too
+/// short. `needed` receives its whole length in bytes. Returns the status: 0 if the text is written, 1 if the bytes are
+/// not the bytecode of a program, and 3 if memory ran out.
 #[unsafe(no_mangle)]
 pub extern "C" fn byzlab_disassemble(
     alloc: Global,

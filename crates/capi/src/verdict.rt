@@ -1,4 +1,4 @@
-//! The export that verifies a program: `byzlab_verify`.
+//! The C function that verifies a program: `byzlab_verify`.
 ghost use Rattle.std.specs.Prelude.{◌≡◌, ◌≤◌, ◌⊎◌};
 ghost use Rattle.capi.specs.Bytes.{IsProgram, IsAccepted, IsSoundProgram, IsMisspelt, IsRefused};
 
@@ -7,7 +7,8 @@ use crate::fault::{NumberedFault, tell};
 use crate::status::DONE;
 use std::alloc::Global;
 
-/// Checks whether the bytes encode a program that the verifier accepts. The result is the status, 0 to 3.
+/// Verifies a program. Returns the status: 0 if it is accepted, 1 if the bytes are not the bytecode of a program, 2 if
+/// the verifier rejects it, and 3 if memory ran out. For 1 and 2, `fault` receives the fault.
 #[unsafe(no_mangle)]
 pub extern "C" fn byzlab_verify(alloc: Global, program: &[u8], fault: &mut NumberedFault) -> u32
     ensures known { result ≤ 3 }

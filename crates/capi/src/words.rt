@@ -1,4 +1,4 @@
-//! The effect of a request on the caller's board: the reply, and the words after it.
+//! Computes a board's reply to a request, and changes the words of the board.
 ghost use Rattle.std.specs.Prelude.{◌≡◌, ◌+◌, ◌≤◌, IfOk, take, drop};
 ghost use Rattle.semantics.specs.Replies.{words_in};
 ghost use Rattle.board.specs.Board.{reply, next};
@@ -7,7 +7,8 @@ ghost use Rattle.board.specs.Requests.{IsReplyTo};
 use semantics::{Copied, Reply, Request};
 use std::alloc::{AllocError, Global};
 
-/// Computes the board's reply to a request. Fails with `AllocError` if memory runs out.
+/// Returns the reply of a board with these words to a request, without changing the words. Fails with `AllocError` if
+/// memory runs out.
 pub fn answer(alloc: Global, words: &[u64; 64], request: Request) -> Result<Reply, AllocError>
     ensures words { IfOk result (λ r. words_in r ≡ reply words.now request) }
     ensures form { IfOk result (λ r. IsReplyTo request r) }
@@ -26,7 +27,8 @@ pub fn answer(alloc: Global, words: &[u64; 64], request: Request) -> Result<Repl
     }
 }
 
-/// Returns `count` words of the board from word `slot` on. Fails with `AllocError` if memory runs out.
+/// Returns a copy of `count` words of the board, from the word with number `slot` on. Fails with `AllocError` if memory
+/// runs out.
 fn copied(alloc: Global, words: &[u64; 64], slot: usize, count: usize) -> Result<Copied, AllocError>
     requires { slot + count ≤ 64 }
     ensures { IfOk result (λ c. c ≡ take count (drop slot words.now)) }
@@ -38,7 +40,7 @@ fn copied(alloc: Global, words: &[u64; 64], slot: usize, count: usize) -> Result
     Ok(copy)
 }
 
-/// Changes the board's words as the request asks.
+/// Changes the words of the board as the request asks. Reading and copying change nothing.
 pub fn change(words: &mut [u64; 64], request: Request)
     ensures { words.new ≡ next words.old request }
 {
