@@ -1,4 +1,4 @@
-//! Displays texts of users without the control characters that a terminal would obey.
+//! Displays untrusted text without the control characters that a terminal would obey.
 ghost use Rattle.std.specs.Prelude.{◌≡◌, ◌<◌, Some, true};
 ghost use Rattle.std.specs.Char.{digit_char, is_control};
 ghost use Rattle.std.specs.Fmt.{DisplaysOnOk};
@@ -8,19 +8,19 @@ ghost use Rattle.streams.specs.Escapes.{displayed, escape, escaped, is_escaped, 
 use crate::name::has_control;
 use std::fmt;
 
-/// The control character that a displayed text keeps.
+/// Which control character is displayed unchanged.
 #[derive(Clone, Copy)]
 pub enum Kept {
-    /// None: the text is part of a line.
+    /// No control character, because the text is part of a line.
     Nothing,
-    /// The tab: the text is a line of a file.
+    /// The tab, because the text is a line of a file.
     Tab,
-    /// The line feed: the text has several lines.
+    /// The line feed, because the text has several lines.
     LineFeed,
 }
 
-/// A text as it is displayed. Each control character is escaped as in JSON (`\u001b`), except the one that is kept. Any
-/// other character is displayed unchanged.
+/// A text for display on a terminal. A control character is displayed as an escape, such as `\u001b`, as in JSON. Only
+/// the character that `kept` names, and characters that are not controls, are displayed unchanged.
 #[derive(Clone, Copy)]
 pub struct Escaped<'a> {
     pub text: &'a str,
@@ -38,7 +38,8 @@ impl fmt::Display for Escaped<'_> {
     }
 }
 
-/// Writes a text as it is displayed. A text without control characters is written at once.
+/// Writes a text with its control characters escaped, except the one that `kept` names. A text without control
+/// characters is written with one call.
 fn put_text<W: fmt::Write>(f: &mut fmt::Formatter<W>, kept: Kept, text: &str) -> fmt::Result
     ensures { DisplaysOnOk W.write_str_gives f.old result (Some (escaped kept text.now)) f.new }
 {
@@ -51,7 +52,8 @@ fn put_text<W: fmt::Write>(f: &mut fmt::Formatter<W>, kept: Kept, text: &str) ->
     Ok(())
 }
 
-/// Writes a character as it is displayed.
+/// Writes a character: as an escape such as `\u001b` if it is a control character that `kept` does not name, and
+/// otherwise unchanged.
 fn put<W: fmt::Write>(f: &mut fmt::Formatter<W>, kept: Kept, character: char) -> fmt::Result
     ensures { DisplaysOnOk W.write_str_gives f.old result (Some (encode_utf8_all (displayed kept character))) f.new }
 {
@@ -62,7 +64,7 @@ fn put<W: fmt::Write>(f: &mut fmt::Formatter<W>, kept: Kept, character: char) ->
     }
 }
 
-/// Writes the escape of a control character.
+/// Writes a control character as an escape, such as `\u001b`.
 fn put_escape<W: fmt::Write>(f: &mut fmt::Formatter<W>, control: char) -> fmt::Result
     requires { is_control control ≡ true }
     ensures { DisplaysOnOk W.write_str_gives f.old result (Some (encode_utf8_all (escape control))) f.new }
@@ -73,7 +75,7 @@ fn put_escape<W: fmt::Write>(f: &mut fmt::Formatter<W>, control: char) -> fmt::R
     f.write_char(digit(number % 16))
 }
 
-/// Returns the hexadecimal digit of a number below 16.
+/// Returns the lower-case hexadecimal digit for a number below 16.
 fn digit(number: u32) -> char
     requires { number < 16 }
     ensures { result ≡ digit_char number }
@@ -85,14 +87,14 @@ fn digit(number: u32) -> char
     }
 }
 
-/// Checks whether a character is escaped: it is a control character, and is not kept.
+/// Checks whether a character must be escaped: whether it is a control character that `kept` does not name.
 fn is_escaped(kept: Kept, character: char) -> bool
     ensures { result ≡ is_escaped kept character }
 {
     character.is_control() && !is_kept(kept, character)
 }
 
-/// Checks whether a control character is kept.
+/// Checks whether `kept` names this control character.
 fn is_kept(kept: Kept, character: char) -> bool
     ensures { result ≡ is_kept kept character }
 {

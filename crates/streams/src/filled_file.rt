@@ -1,4 +1,4 @@
-//! Writes a file whole, and keeps a record that it was written.
+//! Writes all bytes of a file, and returns a record that proves it.
 ghost use Rattle.std.specs.Prelude.{IfOk, OnErr, OnOk};
 ghost use Rattle.std.specs.Io.KnownBytes.{Appends};
 ghost use Rattle.streams.specs.Filling.{IsFilledBy};
@@ -9,8 +9,8 @@ use std::alloc::Global;
 use std::io;
 use std::marker::PhantomData;
 
-/// A record that bytes were written whole to a stream of type `O`, for the file of this name. Only `fill` makes this
-/// value.
+/// A record that all of `bytes` were written to a stream of type `O`, as the file with this name. Only `fill` makes
+/// such a record.
 #[derive(Drop)]
 pub struct Filled<'a, O> {
     name: String,
@@ -18,11 +18,11 @@ pub struct Filled<'a, O> {
     stream: PhantomData<O>,
 }
 
-/// Writes `bytes` whole to `file`, and returns the record for the file of this name.
+/// Writes all of `bytes` to `file`, and returns a record that the file with this name was written.
 ///
 /// # Errors
 ///
-/// A write failed, or memory ran out.
+/// Fails if a write fails or if memory runs out.
 pub fn fill<'a, O: Output>(
     alloc: Global,
     file: &mut O,

@@ -1,10 +1,10 @@
-//! Recognizes reads and writes that were interrupted and should be tried again.
+//! Recognizes reads and writes that a signal interrupted and that should be tried again.
 ghost use Rattle.std.specs.Prelude.{◌≡◌, ◌↔◌, IsTrue};
 ghost use Rattle.std.specs.IoError.{error_kind};
 
 use std::io::{self, ErrorKind};
 
-/// Returns whether a call failed because it was interrupted. Such a call should be tried again.
+/// Checks whether a read or write failed only because it was interrupted. It should then be tried again.
 pub(crate) fn is_interrupted(error: &io::Error) -> bool
     ensures { IsTrue result ↔ (error_kind error.now ≡ ErrorKind.Interrupted) }
 {

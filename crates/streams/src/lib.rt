@@ -1,5 +1,5 @@
-//! Reads files with or without a limit, writes whole texts to streams, shows file names on one line, and displays texts
-//! without control characters.
+//! Reads whole files, with or without a limit, writes whole texts to streams, and displays file names and untrusted
+//! text without control characters.
 #![tactic(auto)]
 
 mod bounded_read;

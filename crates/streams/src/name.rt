@@ -1,11 +1,11 @@
-//! Shows a file's name on one line, also if it contains control characters.
+//! Displays the name of a file on one line, even if it contains control characters.
 ghost use Rattle.std.specs.Prelude.{◌≡◌};
 ghost use Rattle.streams.specs.Names.{has_control};
 
 use std::fmt;
 
-/// A file's name as it is displayed, on one line. A name that contains a control character (a line feed, an escape) is
-/// quoted, with such characters escaped as in a Rust string. Any other name is displayed unchanged.
+/// The name of a file, for display on one line. A name with a control character, such as a line feed, is displayed in
+/// quotation marks with escapes, as a string in Rust. Any other name is displayed unchanged.
 #[derive(Clone, Copy)]
 pub struct FileName<'a>(pub &'a str);
 
@@ -24,7 +24,7 @@ impl fmt::Display for FileName<'_> {
     }
 }
 
-/// Returns whether the name contains a control character.
+/// Checks whether a text, such as the name of a file, contains a control character.
 pub(crate) fn has_control(name: &str) -> bool
     ensures { result ≡ has_control name.now }
 {

@@ -1,5 +1,5 @@
-//! The trait `Output`, a stream for a task's texts. Every writer is an `Output`. Its contracts can state that a call
-//! failed, and those of `Write` cannot.
+//! The trait `Output`: a stream to which a task writes its answer or its error. Every writer is an `Output`. A contract
+//! of `Output` can state that a call failed, which a contract of `Write` cannot.
 
 use crate::writer::write_whole;
 use std::fmt::Display;
@@ -18,21 +18,23 @@ pub trait Output {
     // What a failed write proves about the stream.
     ghost fails: { Self → Type 0 };
 
-    /// Writes the whole text, and flushes the stream. If that fails, at most a beginning of the text has been written.
+    /// Writes the whole text, and flushes the stream. If that fails, only the first bytes of the text may have been
+    /// written.
     ///
     /// # Errors
     ///
-    /// A write or the flush failed.
+    /// Fails if a write or the flush fails.
     fn put(&mut self, text: &[u8]) -> io::Result<()>
         ensures put { OnOk result (Appends (contents self.old) (contents self.new) text.now) }
         ensures begun { OnErr result (AppendsFront (contents self.old) (contents self.new) text.now) }
         ensures failed { OnErr result (fails self.old) };
 
-    /// Writes a line. If that fails, it is not known how much of the line has been written.
+    /// Writes a value as a line, with a line feed at its end. If that fails, any part of the line may have been
+    /// written.
     ///
     /// # Errors
     ///
-    /// A write failed.
+    /// Fails if a write fails.
     fn tell<D: Display + Drop>(&mut self, line: D) -> io::Result<()>
         ensures told { OnOk result (IfSome (with_newline (D.output line))
             (Appends (contents self.old) (contents self.new))) }

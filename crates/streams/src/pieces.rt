@@ -1,4 +1,4 @@
-//! Reads a stream in pieces of 8,192 bytes, up to its end or beyond a limit.
+//! Reads a stream piece by piece, with at most 8,192 bytes in each, to its end or until a limit is exceeded.
 ghost use Rattle.std.specs.Prelude.{◌≡◌, ◌≢◌, ◌≤◌, ◌+◌, IfOk, IfErr, take, vec_len};
 ghost use Rattle.std.specs.Io.KnownBytes.{Consumes, IsAtEnd};
 ghost use Rattle.std.specs.IoError.{error_kind};
@@ -10,12 +10,12 @@ use std::io::{self, ErrorKind, Read};
 /// The greatest number of bytes that is read at a time.
 const PIECE: usize = 8192;
 
-/// Reads once into `piece`, and tries again after an interruption. Returns how many bytes were read, which is 0 only at
-/// the end.
+/// Reads the next bytes of a stream into `piece`. A read that is interrupted is tried again. Returns how many bytes
+/// were read, which is 0 only at the end of the stream.
 ///
 /// # Errors
 ///
-/// The read failed for a reason other than an interruption.
+/// Fails if the read fails for a reason other than an interruption.
 #[tactic(auto, using(crate::proofs::ReadLemmas::begun_again))]
 fn read_piece<R: Read>(reader: &mut R, piece: &mut [u8; PIECE]) -> io::Result<usize>
     ensures inside { IfOk result (λ n. n ≤ 8192) }
@@ -33,12 +33,12 @@ fn read_piece<R: Read>(reader: &mut R, piece: &mut [u8; PIECE]) -> io::Result<us
     Err(io::Error::from(ErrorKind::Other))
 }
 
-/// Reads to the end, or until more than `most` bytes have been read. In the second case nothing more is read, and the
-/// result has at most `most` + 8,192 bytes.
+/// Reads a stream to its end, but stops as soon as more than `most` bytes have been read. Returns the bytes that were
+/// read, at most `most` + 8,192.
 ///
 /// # Errors
 ///
-/// A read failed, or memory ran out.
+/// Fails if a read fails or if memory runs out.
 #[tactic(auto, using(crate::proofs::ReadLemmas::consumes_none, crate::proofs::ReadLemmas::consumes_more))]
 pub(crate) fn read_front<R: Read>(reader: &mut R, alloc: Global, most: usize) -> io::Result<Vec<u8>>
     ensures bytes { IfOk result (λ front. Consumes (R.remaining reader.old) (R.remaining reader.new) front.items) }

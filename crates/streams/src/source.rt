@@ -1,12 +1,12 @@
-//! The trait `Source`, a file from which a task reads. Every reader is a `Source`. Its contracts can state that a call
-//! failed, and those of `Read` cannot.
+//! The trait `Source`: a file that a task reads. Every reader is a `Source`. A contract of `Source` can state that a
+//! call failed, which a contract of `Read` cannot.
 
 use crate::bounded_read::Within;
 use crate::pieces::read_front;
 use std::alloc::Global;
 use std::io::{self, ErrorKind, Read};
 
-/// A file from which a task reads.
+/// A file that a task reads once.
 pub trait Source: Drop {
     ghost use Rattle.std.specs.Prelude.{◌≡◌, ◌≤◌, ◌+◌, ℕ, List, Option, IfOk, IfSome, OnErr, length};
     ghost use Rattle.streams.specs.Reading.{HasAtMost, IsFront, IsWithin};
@@ -17,32 +17,32 @@ pub trait Source: Drop {
     // What a failed read proves about the file.
     ghost fails: { Self → Type 0 };
 
-    /// Reads all bytes.
+    /// Reads all bytes of the file.
     ///
     /// # Errors
     ///
-    /// A read failed, or memory ran out.
+    /// Fails if a read fails or if memory runs out.
     fn read_all(self, alloc: Global) -> io::Result<Vec<u8>>
         ensures whole { IfOk result (λ all. IfSome (bytes self) (λ known. all.items ≡ known)) }
         ensures failed { OnErr result (fails self) };
 
-    /// Reads the whole file if it has at most `most` bytes. For a longer file, counts the bytes to the end, and keeps
-    /// only a beginning of at most `most` + 8,192 bytes.
+    /// Reads the whole file if it has at most `most` bytes. Reads a longer file to its end too, but only to count its
+    /// bytes: then the result has this number and at most `most` + 8,192 of the first bytes.
     ///
     /// # Errors
     ///
-    /// A read failed, or memory ran out.
+    /// Fails if a read fails or if memory runs out.
     fn read_within(self, alloc: Global, most: usize) -> io::Result<Within>
         ensures within { IfOk result (IsWithin most (bytes self)) }
         ensures few { IfOk result (HasAtMost (most + 8192)) }
         ensures failed { OnErr result (fails self) };
 
-    /// Reads the whole file if it has at most `most` bytes. For a longer file, returns a beginning with more than
-    /// `most` bytes and at most `most` + 8,192.
+    /// Reads the whole file if it has at most `most` bytes. From a longer file reads only the first bytes: more than
+    /// `most`, and at most `most` + 8,192.
     ///
     /// # Errors
     ///
-    /// A read failed, or memory ran out.
+    /// Fails if a read fails or if memory runs out.
     fn read_front(self, alloc: Global, most: usize) -> io::Result<Vec<u8>>
         ensures front { IfOk result (λ front. IsFront most (bytes self) front.items) }
         ensures few { IfOk result (λ front. length front.items ≤ most + 8192) }

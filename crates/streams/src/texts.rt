@@ -3,7 +3,8 @@ ghost use Rattle.std.specs.Prelude.{◌↔◌, ◌++◌, ℕ, List, IsTrue, IsFa
 ghost use Rattle.std.specs.Str.{IsUtf8};
 ghost use Rattle.streams.specs.Reading.{MayBeginText};
 
-/// Returns whether a UTF-8 text can begin with these bytes: they are valid UTF-8, or they end inside a character.
+/// Checks whether a UTF-8 text can begin with these bytes: whether they are valid UTF-8, except that the last character
+/// may be cut.
 pub fn may_begin_text(front: &[u8]) -> bool
     ensures begins { IsTrue result ↔ MayBeginText front.now }
     ensures no_text { IsFalse result → (rest : List ℕ) → IsUtf8 (front.now ++ rest) → ⊥ }

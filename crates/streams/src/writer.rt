@@ -1,4 +1,4 @@
-//! Writes a whole text to a writer, also if it takes several writes or is interrupted.
+//! Writes a whole text to a writer, even if this takes several writes or a write is interrupted.
 ghost use Rattle.std.specs.Prelude.{◌≢◌, IfErr, OnErr, OnOk};
 ghost use Rattle.std.specs.Io.KnownBytes.{Appends};
 ghost use Rattle.std.specs.IoError.{error_kind};
@@ -8,12 +8,12 @@ use crate::interruption::is_interrupted;
 use crate::pending_flush::Unflushed;
 use std::io::{self, ErrorKind, Write};
 
-/// Writes the whole text, and returns a token that the writer must be flushed. If that fails, at most a beginning of
-/// the text has been written.
+/// Writes the whole text, and returns a token that says that the writer must still be flushed. If a write fails, only
+/// the first bytes of the text may have been written.
 ///
 /// # Errors
 ///
-/// A write failed, or took no bytes.
+/// Fails if a write fails for a reason other than an interruption, or if it takes no bytes.
 #[tactic(auto, using(crate::proofs::WriteLemmas::writes))]
 pub(crate) fn write_whole<W: Write>(writer: &mut W, text: &[u8]) -> io::Result<Unflushed<W>>
     ensures whole { OnOk result (Appends (W.contents writer.old) (W.contents writer.new) text.now) }
