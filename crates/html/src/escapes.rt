@@ -1,12 +1,12 @@
-//! Escapes untrusted text for XML and HTML, so that an XML reader never takes any of it for markup.
+//! Escapes untrusted text for XML and HTML, so that no character of it is read as markup.
 ghost use Rattle.std.specs.Prelude.{◌≡◌, ◌++◌, string_bytes, OnOk, option_map};
 ghost use Rattle.std.specs.Str.{encode_utf8_all};
 ghost use Rattle.html.specs.Escaped.{is_character, reference, shown, written};
 
 use std::alloc::AllocError;
 
-/// Appends a character in escaped form. The result may be written between tags, and inside the quotation marks of an
-/// attribute value.
+/// Appends a character so that it can be neither read as markup nor forbidden in XML. For example, `<` becomes `&lt;`.
+/// The result may be written between tags and in a quoted attribute value.
 ///
 /// # Errors
 ///
@@ -20,8 +20,8 @@ pub fn put_character(out: &mut String, character: char) -> Result<(), AllocError
     }
 }
 
-/// Returns the reference for a character that is markup, or for white space that an XML reader may change. Returns
-/// `None` for any other character.
+/// Returns the XML reference for a character, such as `&lt;` for `<`. Only markup characters have one, and white space
+/// that an XML reader may change. Returns `None` for any other character.
 fn reference(character: char) -> Option<&'static str>
     ensures { option_map (λ r. r.now) result ≡ reference character }
 {
@@ -38,8 +38,7 @@ fn reference(character: char) -> Option<&'static str>
     }
 }
 
-/// Returns the character to show: the character itself, or the replacement character U+FFFD if XML does not allow it in
-/// a document.
+/// Returns the character itself if XML allows it in a document, and otherwise the replacement character U+FFFD.
 fn shown(character: char) -> char
     ensures { result ≡ shown character }
 {

@@ -1,5 +1,5 @@
-//! Escaped text for XML, SVG and XHTML, with a grammar of attributes, tags and elements. Also HTML pages that show
-//! untrusted text: each page is one file that loads nothing and runs no script.
+//! Writes HTML pages that show untrusted text. Each page is one file that loads nothing and runs no script. Also
+//! escapes text for XML and SVG, and defines the grammar of attributes, tags and elements.
 #![tactic(auto)]
 
 mod escapes;

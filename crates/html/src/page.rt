@@ -1,12 +1,13 @@
-//! The start and the end of an HTML page: its head, its style sheet and its title. Every function here that returns a
-//! `Result` fails only if memory runs out.
+//! Writes the start and the end of an HTML page: its title and its style sheet. A function that returns a `Result`
+//! fails only if memory runs out.
 ghost use Rattle.std.specs.Prelude.{◌≡◌, ◌++◌, string_bytes, IfOk, OnOk};
 ghost use Rattle.html.specs.Page.{head_end, head_middle, look, look_end, page_end, page_start, preamble, shown};
 
 use crate::visible_text::put_shown;
 use std::alloc::{AllocError, Global};
 
-/// Returns the start of a page with the given title. The parts of the page come after it.
+/// Returns the start of an HTML page with the given title, up to the title on the page. The caller appends the content,
+/// and then the end with `finish`.
 ///
 /// # Errors
 ///
@@ -24,15 +25,15 @@ pub fn start(alloc: Global, title: &str) -> Result<String, AllocError>
     Ok(out)
 }
 
-/// Appends the end of a page.
+/// Appends the end of an HTML page, after its content.
 pub fn finish(out: &mut String) -> Result<(), AllocError>
     ensures { OnOk result (string_bytes out.new ≡ string_bytes out.old ++ page_end) }
 {
     out.push_str("</main>\n</body>\n</html>\n")
 }
 
-/// Returns the text before the style sheet. It says that the page is HTML in English, and allows only its own style and
-/// embedded pictures.
+/// Returns the text of a page before its style sheet. It says that the page is in English, and allows only the page's
+/// own styles and embedded pictures.
 #[tactic(auto, unfolding(crate::specs::Page::preamble))]
 fn preamble() -> &'static str
     ensures { result.now ≡ preamble }
@@ -43,8 +44,8 @@ fn preamble() -> &'static str
      <meta name=\"viewport\" content=\"width=device-width, initial-scale=1\"/>\n<style>"
 }
 
-/// Returns the style sheet of a page. It covers light and dark backgrounds, narrow screens, and paper, on which folds
-/// are open.
+/// Returns the style sheet of a page. It adapts the page to dark backgrounds and narrow screens. On paper it shows all
+/// folded content.
 #[tactic(auto, unfolding(crate::specs::Page::look))]
 fn look() -> &'static str
     ensures { result.now ≡ look }
@@ -68,21 +69,21 @@ fn look() -> &'static str
      details::details-content{content-visibility:visible;block-size:auto}}"
 }
 
-/// Returns the text between the style sheet and the title of the window.
+/// Returns the text of a page between its style sheet and the title of the window.
 fn look_end() -> &'static str
     ensures { result.now ≡ look_end }
 {
     "</style>\n<title>"
 }
 
-/// Returns the text between the title of the window and the title on the page.
+/// Returns the text of a page between the title of the window and the title on the page.
 fn head_middle() -> &'static str
     ensures { result.now ≡ head_middle }
 {
     "</title>\n</head>\n<body>\n<main>\n<h1>"
 }
 
-/// Returns the text after the title on the page.
+/// Returns the text that ends the title on a page.
 fn head_end() -> &'static str
     ensures { result.now ≡ head_end }
 {

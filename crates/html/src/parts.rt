@@ -1,12 +1,12 @@
-//! The parts of an HTML page: headings, paragraphs, preformatted lines, folds, pictures, lists and tables. Every
-//! function here that returns a `Result` fails only if memory runs out.
+//! Writes the parts of an HTML page: headings, paragraphs, preformatted lines, folds, pictures, lists and tables. A
+//! function that returns a `Result` fails only if memory runs out.
 ghost use Rattle.std.specs.Prelude.{◌≡◌, ◌++◌, string_bytes, OnOk};
 ghost use Rattle.html.specs.Page.{begun_lines, cell, fold_end, fold_start, head, head_start, heading, item_end, item_start, lines, list_end, list_start, paragraph, picture, picture_end, picture_start, picture_tag, row_end, row_start, table_end, table_start, text_item};
 
 use crate::visible_text::put_shown;
 use std::alloc::AllocError;
 
-/// Appends a heading.
+/// Appends a heading of the second level with this text.
 ///
 /// # Errors
 ///
@@ -19,7 +19,7 @@ pub fn put_heading(out: &mut String, text: &str) -> Result<(), AllocError>
     out.push_str("</h2>\n")
 }
 
-/// Appends a paragraph. A browser joins its lines and breaks them where they fit.
+/// Appends a paragraph with this text. A browser may break its lines elsewhere.
 pub fn put_paragraph(out: &mut String, text: &str) -> Result<(), AllocError>
     ensures { OnOk result (string_bytes out.new ≡ string_bytes out.old ++ paragraph text.now) }
 {
@@ -28,7 +28,7 @@ pub fn put_paragraph(out: &mut String, text: &str) -> Result<(), AllocError>
     out.push_str("</p>\n")
 }
 
-/// Appends a preformatted text, which keeps its lines.
+/// Appends a preformatted text, in which a browser keeps the lines.
 pub fn put_lines(out: &mut String, text: &str) -> Result<(), AllocError>
     ensures { OnOk result (string_bytes out.new ≡ string_bytes out.old ++ lines text.now) }
 {
@@ -37,7 +37,7 @@ pub fn put_lines(out: &mut String, text: &str) -> Result<(), AllocError>
     out.push_str("</pre>\n")
 }
 
-/// Appends a preformatted text in which each line begins with a line feed. A browser does not show the first line feed.
+/// Appends a preformatted text in which each line begins with a line feed. A browser drops the first line feed.
 pub fn put_begun_lines(out: &mut String, text: &str) -> Result<(), AllocError>
     ensures { OnOk result (string_bytes out.new ≡ string_bytes out.old ++ begun_lines text.now) }
 {
@@ -46,8 +46,8 @@ pub fn put_begun_lines(out: &mut String, text: &str) -> Result<(), AllocError>
     out.push_str("</pre>\n")
 }
 
-/// Appends the start of a fold with its summary. The summary is always shown; the parts up to the end of the fold are
-/// shown only if the reader opens it.
+/// Appends the start of a fold: content that the reader can open and close. The summary is always shown. Everything up
+/// to the end of the fold is shown only if it is open.
 pub fn put_fold_start(out: &mut String, summary: &str) -> Result<(), AllocError>
     ensures { OnOk result (string_bytes out.new ≡ string_bytes out.old ++ fold_start summary.now) }
 {
@@ -56,15 +56,15 @@ pub fn put_fold_start(out: &mut String, summary: &str) -> Result<(), AllocError>
     out.push_str("</summary>\n")
 }
 
-/// Appends the end of a fold.
+/// Appends the end of a fold, which the reader can open and close.
 pub fn put_fold_end(out: &mut String) -> Result<(), AllocError>
     ensures { OnOk result (string_bytes out.new ≡ string_bytes out.old ++ fold_end) }
 {
     out.push_str("</details>\n")
 }
 
-/// Appends a picture in SVG, unchanged, with an accessible name. A picture that is too wide for its window can be
-/// scrolled by keyboard. If `is_wide`, it gets a sheet of its own on paper.
+/// Appends a picture, which is SVG and is not changed, with a name for screen readers. If the picture is wider than the
+/// window, it can be scrolled by keyboard. If `is_wide` is set, it is printed on a sheet of its own.
 pub fn put_picture(out: &mut String, is_wide: bool, name: &str, svg: &str) -> Result<(), AllocError>
     ensures { OnOk result (string_bytes out.new ≡ string_bytes out.old ++ picture is_wide name.now svg.now) }
 {
@@ -73,7 +73,7 @@ pub fn put_picture(out: &mut String, is_wide: bool, name: &str, svg: &str) -> Re
     put_picture_end(out)
 }
 
-/// Appends the start of a picture, with its accessible name.
+/// Appends the start of a picture, with its name for screen readers.
 fn put_picture_start(out: &mut String, is_wide: bool, name: &str) -> Result<(), AllocError>
     ensures { OnOk result (string_bytes out.new ≡ string_bytes out.old ++ picture_start is_wide name.now) }
 {
@@ -82,7 +82,7 @@ fn put_picture_start(out: &mut String, is_wide: bool, name: &str) -> Result<(), 
     out.push_str("\">\n")
 }
 
-/// Returns the part of a picture's tag that comes before its name.
+/// Returns the start tag of a picture up to its name. A wide picture is printed on a sheet of its own.
 #[tactic(auto, unfolding(crate::specs::Page::picture_tag))]
 fn picture_tag(is_wide: bool) -> &'static str
     ensures { result.now ≡ picture_tag is_wide }
@@ -101,21 +101,21 @@ fn put_picture_end(out: &mut String) -> Result<(), AllocError>
     out.push_str("</figure>\n")
 }
 
-/// Appends the start of a list of items.
+/// Appends the start of an HTML list.
 pub fn put_list_start(out: &mut String) -> Result<(), AllocError>
     ensures { OnOk result (string_bytes out.new ≡ string_bytes out.old ++ list_start) }
 {
     out.push_str("<ul>\n")
 }
 
-/// Appends the end of a list of items.
+/// Appends the end of an HTML list.
 pub fn put_list_end(out: &mut String) -> Result<(), AllocError>
     ensures { OnOk result (string_bytes out.new ≡ string_bytes out.old ++ list_end) }
 {
     out.push_str("</ul>\n")
 }
 
-/// Appends a list item that consists of a text.
+/// Appends a list item with this text.
 pub fn put_text_item(out: &mut String, text: &str) -> Result<(), AllocError>
     ensures { OnOk result (string_bytes out.new ≡ string_bytes out.old ++ text_item text.now) }
 {
@@ -124,14 +124,14 @@ pub fn put_text_item(out: &mut String, text: &str) -> Result<(), AllocError>
     out.push_str("</li>\n")
 }
 
-/// Appends the start of a list item that contains parts.
+/// Appends the start of a list item that contains other parts, such as a fold.
 pub fn put_item_start(out: &mut String) -> Result<(), AllocError>
     ensures { OnOk result (string_bytes out.new ≡ string_bytes out.old ++ item_start) }
 {
     out.push_str("<li>\n")
 }
 
-/// Appends the end of a list item that contains parts.
+/// Appends the end of a list item that contains other parts, such as a fold.
 pub fn put_item_end(out: &mut String) -> Result<(), AllocError>
     ensures { OnOk result (string_bytes out.new ≡ string_bytes out.old ++ item_end) }
 {
@@ -166,7 +166,7 @@ pub fn put_row_end(out: &mut String) -> Result<(), AllocError>
     out.push_str("</tr>\n")
 }
 
-/// Appends the header cell of a column.
+/// Appends a header cell of a table, for a column with this name.
 pub fn put_head(out: &mut String, text: &str) -> Result<(), AllocError>
     ensures { OnOk result (string_bytes out.new ≡ string_bytes out.old ++ head text.now) }
 {
@@ -175,7 +175,7 @@ pub fn put_head(out: &mut String, text: &str) -> Result<(), AllocError>
     out.push_str("</th>")
 }
 
-/// Returns the start tag of a column's header cell.
+/// Returns the start tag of a header cell, which names a column of a table.
 #[tactic(auto, unfolding(crate::specs::Page::head_start))]
 fn head_start() -> &'static str
     ensures { result.now ≡ head_start }
@@ -183,7 +183,7 @@ fn head_start() -> &'static str
     "<th scope=\"col\">"
 }
 
-/// Appends a table cell.
+/// Appends a table cell with this text.
 pub fn put_cell(out: &mut String, text: &str) -> Result<(), AllocError>
     ensures { OnOk result (string_bytes out.new ≡ string_bytes out.old ++ cell text.now) }
 {

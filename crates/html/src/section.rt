@@ -1,19 +1,19 @@
-//! A section of an HTML page, with a limit on its length.
+//! A section of an HTML page, which has a shorter replacement if the page has no room for it.
 ghost use Rattle.std.specs.Prelude.{◌≡◌, length};
 ghost use Rattle.html.specs.Sections.{more, sure};
 
 use std::marker::Model;
 
-/// A section: what a page shows under a heading if there is room for it.
+/// A section of an HTML page: a heading, the HTML below it, and a shorter replacement if the page has no room for it.
 #[derive(Drop)]
 pub struct Section {
     /// The heading of the section.
     pub title: &'static str,
-    /// The parts below the heading. If there are none, the section has no heading.
+    /// The HTML below the heading. If it is empty, the section is left out with its heading.
     pub told: String,
-    /// The number of bytes for which there is always room.
+    /// The number of bytes for which the page always has room.
     pub room: usize,
-    /// The parts that replace `told` if there is no room for it.
+    /// The HTML that is written in place of `told` if the page has no room for it.
     pub instead: String,
 }
 
@@ -32,7 +32,8 @@ impl Model for Section {
 }
 
 impl Section {
-    /// Returns how many bytes of the section are written in any case, without its heading.
+    /// Returns how many bytes are reserved for the section, without its heading: the length of its text if this fits
+    /// into the section's own room, and otherwise the length of its replacement.
     pub(crate) fn sure(&self) -> usize
         ensures { result ≡ length (sure self.now) }
     {
@@ -43,7 +44,7 @@ impl Section {
         }
     }
 
-    /// Returns how many more bytes the section takes if it is written in full.
+    /// Returns how many bytes more than the reserved ones the section takes if it is written in full.
     pub(crate) fn more(&self) -> usize
         ensures { result ≡ more self.now }
     {

@@ -1,5 +1,5 @@
-//! Writes the sections of an HTML page one after another, and decides which of them fit into its room. Every function
-//! here that returns a `Result` fails only if memory runs out.
+//! Writes the sections of an HTML page one after another, and decides which of them are replaced because the page has
+//! no room for them. A function that returns a `Result` fails only if memory runs out.
 ghost use Rattle.std.specs.Prelude.{◌≡◌, ◌++◌, string_bytes, OnOk};
 ghost use Rattle.html.specs.Sections.{fitted_sections, left_by, section, sections_in};
 
@@ -7,7 +7,8 @@ use crate::parts::put_heading;
 use crate::section::Section;
 use std::alloc::AllocError;
 
-/// Appends sections, which share `room` bytes. Their headings do not count.
+/// Appends sections that together should take at most `room` bytes, not counting their headings. A section for which
+/// there is no room is replaced by its shorter text.
 ///
 /// # Errors
 ///
@@ -18,7 +19,8 @@ pub fn put_sections(out: &mut String, room: usize, sections: &[Section]) -> Resu
     put_fitted(out, left_by(room, sections), sections)
 }
 
-/// Returns how many of `room` bytes are left if each section takes only the bytes that it needs in any case.
+/// Returns how many of `room` bytes remain after the bytes that are reserved for the sections. Returns 0 if `room` is
+/// too small for them.
 fn left_by(room: usize, sections: &[Section]) -> usize
     ensures { result ≡ left_by room sections.now }
 {
@@ -29,8 +31,9 @@ fn left_by(room: usize, sections: &[Section]) -> usize
     left
 }
 
-/// Appends sections, of which the longer ones share the `left` bytes that remain. The first section that needs more
-/// bytes gets them first.
+/// Appends sections in full or as their replacements. `left` is how many bytes remain after those that are reserved for
+/// the sections. A section that is longer than its reserved bytes gets more of them, in order, if they suffice for its
+/// full text.
 fn put_fitted(out: &mut String, left: usize, sections: &[Section]) -> Result<(), AllocError>
     ensures { OnOk result (string_bytes out.new ≡ string_bytes out.old ++ fitted_sections left sections.now) }
 {
@@ -47,7 +50,7 @@ fn put_fitted(out: &mut String, left: usize, sections: &[Section]) -> Result<(),
     Ok(())
 }
 
-/// Appends a section with its heading, or nothing if its text is empty.
+/// Appends a section: its heading, and the HTML below it. Appends nothing if this HTML is empty.
 fn put_section(out: &mut String, title: &str, told: &str) -> Result<(), AllocError>
     ensures { OnOk result (string_bytes out.new ≡ string_bytes out.old ++ section title.now told.now) }
 {

@@ -1,4 +1,4 @@
-//! Makes hidden characters of untrusted text visible, so that a reader sees every character.
+//! Shows the hidden characters of untrusted text as numbers such as `[U+200B]`, so that a reader sees every character.
 ghost use Rattle.std.specs.Prelude.{◌≡◌, ◌<◌, ◌++◌, string_bytes, OnOk};
 ghost use Rattle.std.specs.Str.{encode_utf8_all};
 ghost use Rattle.html.specs.Escaped.{escaped};
@@ -8,8 +8,8 @@ ghost use Rattle.html.specs.Visible.{digit, fifth, is_control, is_hidden, is_ign
 use crate::escapes::put_character;
 use std::alloc::AllocError;
 
-/// Appends a text in escaped form. A character that is invisible, or that changes the order of other characters, is
-/// replaced by its number.
+/// Appends a text with its markup escaped. A character that is invisible, or that changes the order of other
+/// characters, is shown as its number, such as `[U+200B]`.
 ///
 /// # Errors
 ///
@@ -23,8 +23,8 @@ pub(crate) fn put_shown(out: &mut String, text: &str) -> Result<(), AllocError>
     Ok(())
 }
 
-/// Appends a character in escaped form, or its number if it is hidden. Plain characters, which are the most frequent,
-/// are recognized first.
+/// Appends a character, escaped if it is markup, or as its number if it is hidden. Checks first for plain characters,
+/// which are the most frequent.
 #[tactic(auto, using(crate::proofs::PlainLemmas::plain_written))]
 fn put_visible(out: &mut String, character: char) -> Result<(), AllocError>
     ensures { OnOk result (string_bytes out.new ≡ string_bytes out.old
@@ -40,7 +40,7 @@ fn put_visible(out: &mut String, character: char) -> Result<(), AllocError>
     }
 }
 
-/// Appends the Unicode number of a character in brackets, such as `[U+200B]`.
+/// Appends the Unicode number of a character in brackets, such as `[U+200B]`, with at least four hexadecimal digits.
 #[tactic(auto, using(crate::proofs::NumberLemmas::number_written))]
 fn put_number(out: &mut String, number: u32) -> Result<(), AllocError>
     ensures { OnOk result (string_bytes out.new ≡ string_bytes out.old ++ encode_utf8_all (escaped (numbered number))) }
@@ -54,7 +54,8 @@ fn put_number(out: &mut String, number: u32) -> Result<(), AllocError>
     out.push_str("]")
 }
 
-/// Appends the fifth hexadecimal digit of a number, if it is at least 0x10000.
+/// Appends the fifth hexadecimal digit of a number, counted from the right. Appends nothing if the number is below
+/// 0x10000.
 #[tactic(auto, using(crate::proofs::NumberLemmas::one_written))]
 fn put_fifth(out: &mut String, number: u32) -> Result<(), AllocError>
     ensures { OnOk result (string_bytes out.new ≡ string_bytes out.old ++ encode_utf8_all (escaped (fifth number))) }
@@ -65,7 +66,7 @@ fn put_fifth(out: &mut String, number: u32) -> Result<(), AllocError>
     put_character(out, digit(number / 65536 % 16))
 }
 
-/// Returns the hexadecimal digit for a value below 16.
+/// Returns the upper-case hexadecimal digit for a value below 16.
 fn digit(value: u32) -> char
     requires { value < 16 }
     ensures { result ≡ digit value }
@@ -77,7 +78,7 @@ fn digit(value: u32) -> char
     }
 }
 
-/// Checks whether a character is written unchanged: printable ASCII except markup.
+/// Checks whether a character is written unchanged: whether it is printable ASCII and not markup.
 #[inline(always)]
 fn is_plain(character: char) -> bool
     ensures { result ≡ is_plain character }
@@ -85,7 +86,7 @@ fn is_plain(character: char) -> bool
     matches!(character, ' '..='!' | '#'..='%' | '('..=';' | '=' | '?'..='~')
 }
 
-/// Checks whether a character is invisible, or changes the order of other characters.
+/// Checks whether a character is hidden: whether it is invisible or changes the order of other characters.
 fn is_hidden(character: char) -> bool
     ensures { result ≡ is_hidden character }
 {
@@ -95,7 +96,7 @@ fn is_hidden(character: char) -> bool
         || is_ignored_above(character)
 }
 
-/// Checks whether a character is a control other than the tab, the line feed and the carriage return.
+/// Checks whether a character is a control character other than the tab, the line feed and the carriage return.
 fn is_control(character: char) -> bool
     ensures { result ≡ is_control character }
 {
@@ -105,7 +106,8 @@ fn is_control(character: char) -> bool
     )
 }
 
-/// Checks whether a character below U+2000 is invisible or changes the order of others, controls aside.
+/// Checks whether a character below U+2000 is hidden: whether it is invisible or changes the order of other characters.
+/// Control characters are not counted.
 fn is_ignored_below(character: char) -> bool
     ensures { result ≡ is_ignored_below character }
 {
@@ -120,7 +122,8 @@ fn is_ignored_below(character: char) -> bool
     )
 }
 
-/// Checks whether a character from U+2000 to U+FFFF is invisible or changes the order of others.
+/// Checks whether a character from U+2000 to U+FFFF is hidden: whether it is invisible or changes the order of other
+/// characters.
 fn is_ignored(character: char) -> bool
     ensures { result ≡ is_ignored character }
 {
@@ -137,7 +140,7 @@ fn is_ignored(character: char) -> bool
     )
 }
 
-/// Checks whether a character from U+10000 on is invisible.
+/// Checks whether a character from U+10000 on is hidden, which means invisible.
 fn is_ignored_above(character: char) -> bool
     ensures { result ≡ is_ignored_above character }
 {
