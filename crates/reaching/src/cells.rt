@@ -1,4 +1,4 @@
-//! Cells of an abstract stack: what is known of each one.
+//! Finds what the verifier knows of one cell, which is one of the 512 bytes of the stack.
 ghost use Rattle.std.specs.Prelude.{◌≡◌, ◌≤◌, ◌+◌, IfSome};
 ghost use Rattle.semantics.specs.Memory.{is_same_region};
 ghost use Rattle.reaching.specs.Contents.{pointer_from, pointer_over, content_in, held_at, same_content};
@@ -7,18 +7,20 @@ use absmem::AbsStack;
 use absval::Offset;
 use semantics::Region;
 
-/// What is known of a cell of the stack.
+/// What the verifier knows of a cell, which is one of the 512 bytes of the stack.
 #[derive(Clone, Copy)]
 pub enum CellContent {
-    /// Nothing is known. The cell may be unset, or hold different things on different paths.
+    /// Nothing. The cell may be unset, or have different contents on different paths.
     Unset,
-    /// The cell holds a byte.
+    /// The cell contains a byte of a number.
     Byte,
-    /// The cell holds a piece of a pointer that is stored whole. The region and the offset are those of the pointer.
+    /// The cell contains one of the eight pieces of a pointer that is stored as a whole. The fields are the pointer's
+    /// region and offset.
     Piece(Region, i32),
 }
 
-/// Returns the whole pointer that is known to begin at a place.
+/// Returns the pointer that is known to be stored in the eight cells from cell `place` on. Returns `None` if no whole
+/// pointer is known to be there.
 fn pointer_from(stack: &AbsStack, place: usize) -> Option<(Region, Offset)>
     ensures { result ≡ pointer_from stack.now place }
 {
@@ -28,8 +30,8 @@ fn pointer_from(stack: &AbsStack, place: usize) -> Option<(Region, Offset)>
     stack.pointer_at(place)
 }
 
-/// Returns the first pointer that begins at a place or before it. The search goes down from the place over `tries`
-/// places.
+/// Returns the first pointer that is known to be stored from cell `place` on, or from one of the cells below it. The
+/// search goes down from `place` over `tries` cells. Returns `None` if it finds no pointer.
 fn pointer_over(stack: &AbsStack, place: usize, tries: usize) -> Option<(Region, Offset)>
     ensures { result ≡ pointer_over stack.now place tries }
 {
@@ -42,7 +44,7 @@ fn pointer_over(stack: &AbsStack, place: usize, tries: usize) -> Option<(Region,
     pointer_over(stack, place.saturating_sub(1), tries - 1)
 }
 
-/// Returns what is known of a cell within the stack.
+/// Returns what the verifier knows of cell `place` of the stack. The caller promises that there is such a cell.
 fn content_in(stack: &AbsStack, place: usize) -> CellContent
     requires { place + 1 ≤ 512 }
     ensures { result ≡ content_in stack.now place }
@@ -56,7 +58,8 @@ fn content_in(stack: &AbsStack, place: usize) -> CellContent
     }
 }
 
-/// Returns what is known of a cell. Nothing is known of cells outside the stack.
+/// Returns what the verifier knows of cell `place` of the stack. Returns `Unset` if there is no such cell, because
+/// `place` is 512 or more.
 #[inline(never)]
 pub fn held_at(stack: &AbsStack, place: usize) -> CellContent
     ensures { result ≡ held_at stack.now place }
@@ -78,7 +81,7 @@ fn is_same_region(a: Region, b: Region) -> bool
 }
 
 impl CellContent {
-    /// Checks whether both contents are equal.
+    /// Checks whether the same is known of two cells.
     pub fn is_same(self, other: CellContent) -> bool
         ensures { result ≡ same_content self other }
     {

@@ -1,4 +1,4 @@
-//! Changes of the stack: for each cell, the units that set it.
+//! Finds for each cell of the stack which units of a program set it.
 ghost use Rattle.std.specs.Prelude.{◌≡◌, ◌<◌, length, slice_get, option_map, IfOk};
 ghost use Rattle.insn.specs.Program.{slots_of, instruction_at};
 ghost use Rattle.reaching.specs.declared.subject.Subject.TheVariants.{Cell};
@@ -13,14 +13,14 @@ use insn::{Insn, Program};
 use std::alloc::{AllocError, Global};
 use verify::AbsState;
 
-/// For one cell of the stack, whether the instruction of each unit sets it.
+/// For one cell of the stack, a flag for each unit of a program: whether the instruction at this unit sets the cell.
 #[derive(Drop)]
 pub struct Column {
     pub changed: Vec<bool>,
 }
 
 impl Column {
-    /// Checks whether a unit sets the cell.
+    /// Checks whether the instruction at a unit sets the cell. Returns `false` if the program has no such unit.
     pub(crate) fn is_set_by(&self, unit: usize) -> bool
         ensures { result ≡ flag_at (slice_get self.now.changed.items unit) }
     {
@@ -31,8 +31,8 @@ impl Column {
     }
 }
 
-/// Returns the abstract stack after a store or a call. Returns `None` for other instructions, and if no path leads to
-/// the unit.
+/// Returns the abstract stack after a store or a call. Returns `None` for any other instruction, and if `state` is
+/// `None` because no path leads to the instruction.
 fn stack_behind(insn: Option<Insn>, state: Option<&AbsState>) -> Option<AbsStack>
     ensures { result ≡ stack_behind insn (option_map (λ a. a.now) state.entry) }
 {
@@ -48,7 +48,8 @@ fn stack_behind(insn: Option<Insn>, state: Option<&AbsState>) -> Option<AbsStack
     }
 }
 
-/// Returns for each unit the abstract stack after its instruction, if that is a store or a call.
+/// Returns an entry for each unit: the abstract stack after its instruction. An entry is `None` if the instruction is
+/// neither a store nor a call, or if no path leads to it. Fails if memory runs out.
 fn stacks_behind(
     alloc: Global,
     program: &Program,
@@ -64,14 +65,15 @@ fn stacks_behind(
     Ok(stacks)
 }
 
-/// Returns the abstract stack after the instruction of a unit, if there is one.
+/// Returns the abstract stack after the instruction at a unit. Returns `None` if the list has none for this unit.
 fn stack_at(stacks: &[Option<AbsStack>], unit: usize) -> Option<&AbsStack>
     ensures { option_map (λ s. s.now) result ≡ stack_at (slice_get stacks.now unit) }
 {
     stacks.get(unit)?.as_ref()
 }
 
-/// Checks whether a cell of the stack holds something else after an instruction than before it.
+/// Checks whether an instruction changes what is known of a cell. `state` is known before the instruction, and `behind`
+/// is the abstract stack after it. Returns `false` if one of them is `None`.
 fn changed_in(cell: u16, state: Option<&AbsState>, behind: Option<&AbsStack>) -> bool
     ensures { result ≡ changed_in cell (option_map (λ a. a.now) state.entry) (option_map (λ s. s.now) behind.entry) }
 {
@@ -85,7 +87,8 @@ fn changed_in(cell: u16, state: Option<&AbsState>, behind: Option<&AbsStack>) ->
     !held_at(&state.stack, place).is_same(held_at(behind, place))
 }
 
-/// Checks whether a unit sets a cell. `stacks` has the stack after each unit.
+/// Checks whether the instruction at a unit sets a cell. `stacks` has an entry for each unit: the abstract stack after
+/// its instruction.
 fn sets_cell(
     program: &Program,
     states: &[Option<AbsState>],
@@ -100,7 +103,8 @@ fn sets_cell(
     changed_in(cell, known_by(states, unit), stack_at(stacks, unit))
 }
 
-/// Returns for each unit whether it sets a cell.
+/// Returns for each unit whether its instruction sets a cell. `stacks` has an entry for each unit: the abstract stack
+/// after its instruction. Fails if memory runs out.
 fn flags_of(
     alloc: Global,
     program: &Program,
@@ -119,8 +123,8 @@ fn flags_of(
     Ok(changed)
 }
 
-/// Returns a column for each of the 512 cells of the stack, in their order. A column says for each unit of the program
-/// whether the instruction there sets the cell. Fails if memory runs out.
+/// Returns a column for each of the 512 cells of the stack, from the lowest on. It says for each unit of the program
+/// whether its instruction sets the cell. `states` has what is known before each unit. Fails if memory runs out.
 pub fn columns(
     alloc: Global,
     program: &Program,

@@ -1,4 +1,5 @@
-//! Edits of programs at one instruction, and how far the verifier comes in the edited program.
+//! Tries small changes of a rejected program: makes the change at one instruction, and asks the verifier how far it now
+//! comes.
 ghost use Rattle.std.specs.Prelude.{◌≡◌, ◌≤◌, ◌<◌, ◌+◌, ◌++◌, ◌∷◌, [], ◌&&◌, ◌+ℤ◌, ◌<ℤ◌, pos, int_lt, length, IfOk, OnOk, IsTrue};
 ghost use Rattle.insn.specs.Program.{slots_of, most_units};
 ghost use Rattle.verify.specs.Judgement.{judged};
@@ -9,7 +10,7 @@ use std::alloc::{AllocError, Global};
 use verify::{VerifyError, verify};
 use word::{Operation, Width};
 
-/// A change of a program at one instruction.
+/// A change of a program at one instruction, which may make the verifier accept it.
 #[derive(Clone, Copy)]
 pub enum Edit {
     /// A 64-bit operation is inserted before the instruction.
@@ -17,22 +18,23 @@ pub enum Edit {
     /// A 64-bit operation replaces the instruction.
     Instead(Operation, Reg, Operand),
     /// A number is added to a pointer in the pointer's register, and then the number's register gets a copy of the
-    /// pointer. If there is a mask, it is first applied to the number. These instructions replace the original one.
+    /// pointer. These instructions replace the original one. If there is a mask, the number is masked first. The fields
+    /// are the mask, the number's register and the pointer's.
     Moved(Option<i32>, Reg, Reg),
 }
 
-/// How far the verifier comes in an edited program. The unit in question is the one at which it rejects the original.
+/// How far the verifier comes in a changed program, compared with the unit at which it rejected the original.
 #[derive(Clone, Copy, PartialEq, Eq)]
 pub enum Trial {
-    /// The verifier rejects the edited program at the unit in question or before it.
+    /// The verifier rejects the changed program at this unit or an earlier one.
     Refused,
-    /// The verifier rejects the edited program after the unit in question.
+    /// The verifier rejects the changed program, but at a later unit.
     Passes,
-    /// The verifier accepts the edited program.
+    /// The verifier accepts the changed program.
     Accepted,
 }
 
-/// Checks whether a jump at a unit leads over a place, with a distance of less than 4,096 units.
+/// Checks whether a jump at `unit` leads to a unit after `place`, with a distance of less than 4,096 units.
 fn is_over(place: usize, unit: usize, distance: i32) -> bool
     requires unit { unit < 4096 }
     requires place { place < 4096 }
@@ -43,7 +45,8 @@ fn is_over(place: usize, unit: usize, distance: i32) -> bool
     to > place as i64 && distance < 4096
 }
 
-/// Returns the distance of a jump at a unit, increased by `more` if the jump leads over a place.
+/// Returns the new distance of a jump at `unit` after `more` units are inserted at `place`: greater by `more` if the
+/// jump leads over `place`, and otherwise `distance`.
 fn longer(more: u8, place: usize, unit: usize, distance: i16) -> i16
     requires more { more ≤ 2 }
     requires unit { unit < 4096 }
@@ -57,7 +60,8 @@ fn longer(more: u8, place: usize, unit: usize, distance: i16) -> i16
     }
 }
 
-/// Returns the distance of a long jump at a unit, increased by `more` if the jump leads over a place.
+/// Returns the new distance of a long jump at `unit` after `more` units are inserted at `place`: greater by `more` if
+/// the jump leads over `place`, and otherwise `distance`.
 fn longer_wide(more: u8, place: usize, unit: usize, distance: i32) -> i32
     requires more { more ≤ 2 }
     requires unit { unit < 4096 }
@@ -71,8 +75,8 @@ fn longer_wide(more: u8, place: usize, unit: usize, distance: i32) -> i32
     }
 }
 
-/// Returns an instruction of a program in which `more` units are inserted at a place. Jumps over the place become
-/// longer.
+/// Returns the instruction at `unit` after `more` units are inserted at `place`. If it is a jump over `place`, its
+/// distance is greater by `more`.
 fn stretched(more: u8, place: usize, unit: usize, insn: Insn) -> Insn
     requires more { more ≤ 2 }
     requires unit { unit < 4096 }
@@ -103,7 +107,7 @@ fn stretched(more: u8, place: usize, unit: usize, insn: Insn) -> Insn
     }
 }
 
-/// Returns a 64-bit operation as an instruction.
+/// Returns the instruction for a 64-bit operation on a register and an operand.
 pub fn operation_of(operation: Operation, dst: Reg, operand: Operand) -> Insn
     ensures { result ≡ wide operation dst operand }
 {
@@ -129,7 +133,7 @@ impl Edit {
     }
 }
 
-/// Appends an instruction.
+/// Appends an instruction to a list of instructions. Fails only if memory runs out.
 fn push_one(insns: &mut Vec<Insn>, insn: Insn) -> Result<(), AllocError>
     ensures { OnOk result (insns.new.items ≡ insns.old.items ++ insn ∷ []) }
 {
@@ -137,7 +141,7 @@ fn push_one(insns: &mut Vec<Insn>, insn: Insn) -> Result<(), AllocError>
     Ok(())
 }
 
-/// Appends an instruction that masks a number, if there is a mask.
+/// Appends the instruction that applies a mask to the number in a register. Appends nothing if there is no mask.
 fn push_mask(insns: &mut Vec<Insn>, mask: Option<i32>, number: Reg) -> Result<(), AllocError>
     ensures { OnOk result (insns.new.items ≡ insns.old.items ++ masked mask number) }
 {
@@ -150,8 +154,8 @@ fn push_mask(insns: &mut Vec<Insn>, mask: Option<i32>, number: Reg) -> Result<()
     )
 }
 
-/// Appends the addition of a number to a pointer, with a mask if there is one, and a copy of the sum to the number's
-/// register.
+/// Appends the instructions that add a number to a pointer and copy the sum to the number's register. If there is a
+/// mask, it is applied to the number first.
 fn push_moved(
     insns: &mut Vec<Insn>,
     mask: Option<i32>,
@@ -172,7 +176,7 @@ fn push_moved(
     )
 }
 
-/// Appends the instructions that an edit puts in the place of its instruction.
+/// Appends the instructions that replace `insn` when a program is changed at this instruction.
 fn push_at(insns: &mut Vec<Insn>, edit: &Edit, insn: &Insn) -> Result<(), AllocError>
     ensures { OnOk result (insns.new.items ≡ insns.old.items ++ put_at edit.now insn.now) }
 {
@@ -188,7 +192,8 @@ fn push_at(insns: &mut Vec<Insn>, edit: &Edit, insn: &Insn) -> Result<(), AllocE
     }
 }
 
-/// Returns an instruction at another place than that of the edit. Jumps over the place of the edit become longer.
+/// Returns the instruction at `unit` in a program that is changed at another unit, `place`. A jump over `place` becomes
+/// longer by the units that the change inserts.
 fn passed(edit: &Edit, place: usize, unit: usize, insn: Insn) -> Insn
     requires unit { unit < 4096 }
     requires place { place < 4096 }
@@ -201,7 +206,7 @@ fn passed(edit: &Edit, place: usize, unit: usize, insn: Insn) -> Insn
     }
 }
 
-/// Appends what an instruction of a program becomes with an edit.
+/// Appends the instructions that replace `insn`, the instruction at `unit`, when a program is changed at `place`.
 fn push_edited(
     insns: &mut Vec<Insn>,
     edit: &Edit,
@@ -220,7 +225,7 @@ fn push_edited(
     }
 }
 
-/// Returns the instructions of a program with an edit.
+/// Returns the instructions of a program after a change at unit `place`. Fails if memory runs out.
 fn mended(alloc: Global, insns: &[Insn], edit: &Edit, place: usize) -> Result<Vec<Insn>, AllocError>
     requires place { place < 4096 }
     requires units { length (slots_of insns.now) ≤ 4096 }
@@ -236,7 +241,7 @@ fn mended(alloc: Global, insns: &[Insn], edit: &Edit, place: usize) -> Result<Ve
     Ok(out)
 }
 
-/// Returns the number of units that instructions take.
+/// Returns how many units the instructions take. A unit has 8 bytes.
 fn units_of(insns: &[Insn]) -> usize
     requires { length insns.now ≤ 12288 }
     ensures { result ≡ length (slots_of insns.now) }
@@ -248,7 +253,8 @@ fn units_of(insns: &[Insn]) -> usize
     units
 }
 
-/// Returns how far the verifier comes in a program that it rejects with this error. Fails if it ran out of memory.
+/// Returns how far the verifier comes, compared with `unit`, in a program that it rejects with this error. Fails if the
+/// verifier ran out of memory.
 fn come_by(fault: VerifyError, unit: usize) -> Result<Trial, AllocError>
     ensures { ComesBy unit fault result }
 {
@@ -259,7 +265,7 @@ fn come_by(fault: VerifyError, unit: usize) -> Result<Trial, AllocError>
     }
 }
 
-/// Returns how far the verifier comes in a program.
+/// Verifies a program, and returns how far the verifier comes, compared with `unit`. Fails if memory runs out.
 #[tactic(auto, using(crate::proofs::ComingLemmas::came))]
 fn come(alloc: Global, program: Program, unit: usize) -> Result<Trial, AllocError>
     ensures { IfOk result (λ trial. trial ≡ comes unit (judged program)) }
@@ -270,7 +276,9 @@ fn come(alloc: Global, program: Program, unit: usize) -> Result<Trial, AllocErro
     }
 }
 
-/// Returns how far the verifier comes in a program with an edit at a place: not past a unit, past it, or to the end.
+/// Changes a program at unit `place`, verifies it, and returns whether the verifier rejects it at `unit` or earlier,
+/// rejects it later, or accepts it. A changed program without units, or with more than 4,096, counts as rejected at
+/// `unit`. Fails if memory runs out.
 pub fn tried(
     alloc: Global,
     program: &Program,

@@ -1,7 +1,7 @@
-//! The law of transfers. The function does nothing, and its contract is the law.
+//! A law about what is known after an instruction. The function does nothing, and its contract is the law.
 ghost use Rattle.reaching.specs.Laws.{LeftIsTransfer};
 
-/// States that `left` and the verifier's transfer agree for every instruction that may run.
+/// States that `left`, which explanations use, gives for every instruction that may run the same state as the verifier.
 pub fn left_is_the_transfer()
     ensures { LeftIsTransfer }
 {}

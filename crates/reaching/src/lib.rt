@@ -1,5 +1,5 @@
-//! Reaching definitions: for explanations, finds which units last set a register or a cell, what a cell holds, and what
-//! is known after each instruction.
+//! Reaching definitions, which explanations need: finds the units that last set a register or a cell of the stack, what
+//! a cell contains, and what is known after each instruction.
 #![tactic(auto)]
 
 mod cells;

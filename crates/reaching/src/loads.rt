@@ -1,4 +1,4 @@
-//! Loads: the abstract value that a load results in, if it may run.
+//! Loads: computes what is known of the loaded value, for a load that may run.
 ghost use Rattle.std.specs.Prelude.{◌≡◌, ◌+◌, ◌≤◌, IfSome};
 ghost use Rattle.std.specs.Result.{result_ok};
 ghost use Rattle.semantics.specs.declared.value.Region.{Region};
@@ -13,7 +13,7 @@ use insn::{Size, bytes_of_part};
 use semantics::Region;
 use word::Narrow;
 
-/// Checks whether each cell of a window is known to be a byte.
+/// Checks whether each cell of a window of the stack is known to contain a byte of a number.
 fn has_all(stack: &AbsStack, window: Window) -> bool
     requires { window.place + window.size ≤ 512 }
     ensures { result ≡ all_bytes stack.now.bytes window.place window.size }
@@ -21,7 +21,8 @@ fn has_all(stack: &AbsStack, window: Window) -> bool
     stack.has_bytes(window.place, window.size)
 }
 
-/// Returns the pointer that a load of eight bytes at one address finds.
+/// Returns the pointer that a load finds in the stack. Returns `None` unless the load has eight bytes, its address is
+/// known exactly, and a whole pointer is known to be stored there.
 fn stored_pointer(stack: &AbsStack, size: Size, window: Window) -> Option<AbsVal>
     requires { window.place + window.size ≤ 512 }
     ensures { result ≡ spilled stack.now size window }
@@ -36,7 +37,8 @@ fn stored_pointer(stack: &AbsStack, size: Size, window: Window) -> Option<AbsVal
     Some(AbsVal::Pointer(region, Offsets::exactly(offset)))
 }
 
-/// Returns the number that a load from a window of the stack results in, or `None` if a cell may not be a byte.
+/// Returns what is known of a number that is loaded from somewhere in a window of the stack. Returns `None` if a cell
+/// of the window may contain something other than a byte.
 fn number_given(stack: &AbsStack, size: Size, window: Window) -> Option<AbsVal>
     requires { window.place + window.size ≤ 512 }
     ensures { result ≡ result_ok (unless (unset_in stack.now Region.Stack window) (loaded_known size)) }
@@ -47,7 +49,8 @@ fn number_given(stack: &AbsStack, size: Size, window: Window) -> Option<AbsVal>
     Some(loaded(size))
 }
 
-/// Returns the result of a load from the stack.
+/// Returns what is known of a value that is loaded from somewhere in a window of the stack: a pointer or a number.
+/// Returns `None` if the load may not run.
 fn stack_given(stack: &AbsStack, size: Size, window: Window) -> Option<AbsVal>
     requires { window.place + window.size ≤ 512 }
     ensures { result ≡ result_ok (stack_given stack.now size window) }
@@ -58,7 +61,8 @@ fn stack_given(stack: &AbsStack, size: Size, window: Window) -> Option<AbsVal>
     number_given(stack, size, window)
 }
 
-/// Returns the result of a load from a window of a region.
+/// Returns what is known of a value that is loaded from somewhere in a window of the stack or the context. Returns
+/// `None` if there is no window, or if the load may not run.
 fn load_from(stack: &AbsStack, size: Size, region: Region, window: Option<Window>) -> Option<AbsVal>
     requires { IfSome window (λ w. w.place + w.size ≤ room_of region) }
     ensures { result ≡ result_ok (load_from stack.now size region window) }
@@ -70,7 +74,8 @@ fn load_from(stack: &AbsStack, size: Size, region: Region, window: Option<Window
     }
 }
 
-/// Returns the result of a load, or `None` if the load may not run.
+/// Returns what is known of a value that is loaded from the address `base` plus `distance`. Returns `None` if the load
+/// may not run.
 pub(crate) fn load(stack: &AbsStack, size: Size, base: AbsVal, distance: i16) -> Option<AbsVal>
     ensures { result ≡ result_ok (load_given stack.now size base distance) }
 {
@@ -85,7 +90,8 @@ pub(crate) fn load(stack: &AbsStack, size: Size, base: AbsVal, distance: i16) ->
     )
 }
 
-/// Returns the result of a load from a window of a region that is sign-extended.
+/// Returns what is known of a value that is loaded from somewhere in a window and sign-extended: it may be any number.
+/// Returns `None` if there is no window, or if the load may not run.
 fn signed_from(stack: &AbsStack, region: Region, window: Option<Window>) -> Option<AbsVal>
     requires { IfSome window (λ w. w.place + w.size ≤ room_of region) }
     ensures { result ≡ result_ok (signed_from stack.now region window) }
@@ -98,7 +104,8 @@ fn signed_from(stack: &AbsStack, region: Region, window: Option<Window>) -> Opti
     }
 }
 
-/// Returns the result of a load that is sign-extended, or `None` if the load may not run.
+/// Returns what is known of a value that is loaded from the address `base` plus `distance` and sign-extended. Returns
+/// `None` if the load may not run.
 pub(crate) fn load_signed(
     stack: &AbsStack,
     part: Narrow,

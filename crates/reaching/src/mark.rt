@@ -1,13 +1,15 @@
-//! Marks of units, for the question which units last set a register or a cell.
+//! Marks that say which units last set a register or a cell of the stack before a given unit.
 
-/// How a unit relates to the unit in question.
+/// What a unit does to a register or cell on its way to a given unit, for which the last setters are searched.
 #[derive(Clone, Copy, PartialEq, Eq)]
 pub enum UnitMark {
-    /// No path leads from the unit to the unit in question on which the register or cell keeps its value.
+    /// The value after this unit does not reach the given unit: on every path the register or cell is set again, or no
+    /// path leads there.
     Closed,
-    /// A path leads from the unit to the unit in question on which the register or cell keeps its value.
+    /// The value before this unit can reach the given unit: the instruction keeps it, and a path leads there on which
+    /// it is kept.
     Open,
-    /// The instruction of the unit sets the register or cell, and after it a path leads to the unit in question on
-    /// which the value is kept.
+    /// The instruction of this unit sets the register or cell, and a path leads to the given unit on which this value
+    /// is kept.
     Sets,
 }

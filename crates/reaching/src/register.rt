@@ -1,4 +1,4 @@
-//! Registers by number, and the register that an instruction's result is written to.
+//! Finds registers by their numbers, and the register to which an instruction writes its result.
 ghost use Rattle.std.specs.Prelude.{◌≡◌, ◌<◌};
 ghost use Rattle.verify.specs.Registers.{known_at};
 ghost use Rattle.reaching.specs.Left.{result_of};
@@ -7,7 +7,7 @@ use absval::AbsVal;
 use helper::reads::numbered;
 use insn::{Insn, Reg};
 
-/// Returns what is known of the register with a number.
+/// Returns what is known of the register with this number, 0 to 10.
 pub(crate) fn known_at(registers: &[AbsVal; 11], number: usize) -> AbsVal
     requires { number < 11 }
     ensures { result ≡ known_at registers.now number }
@@ -15,7 +15,8 @@ pub(crate) fn known_at(registers: &[AbsVal; 11], number: usize) -> AbsVal
     registers[number]
 }
 
-/// Returns the register that the result of an instruction is written to, if there is one.
+/// Returns the register to which an instruction writes its result, which is r0 for a call. Returns `None` for jumps,
+/// stores and the exit.
 pub fn result_of(insn: &Insn) -> Option<Reg>
     ensures { result ≡ result_of insn.now }
 {

@@ -1,4 +1,4 @@
-//! Stack transfers: what an instruction that writes the stack does to what is known of it.
+//! Computes what is known of the stack after a store or a call.
 ghost use Rattle.std.specs.Prelude.{◌≡◌, ◌+◌, ◌≤◌, IfSome};
 ghost use Rattle.absval.specs.Windows.{window_known};
 ghost use Rattle.semantics.specs.Call.{helper_of};
@@ -12,7 +12,8 @@ use helper::{BOARD_WORDS, Helper};
 use insn::Size;
 use semantics::Region;
 
-/// Records a store of a number of `size` bytes somewhere in a window.
+/// Records that a number of `size` bytes is stored somewhere in a window of the stack. A window of exactly `size` bytes
+/// means that the address is known. Nothing changes if there is no window.
 fn put_number(stack: &mut AbsStack, size: usize, window: Option<Window>)
     requires { IfSome window (λ w. w.place + w.size ≤ 512) }
     ensures { stack.new ≡ number_stored size window stack.old }
@@ -27,7 +28,8 @@ fn put_number(stack: &mut AbsStack, size: usize, window: Option<Window>)
     }
 }
 
-/// Records a store of a pointer at the beginning of a window.
+/// Records that a pointer is stored in the first eight cells of a window of the stack. Nothing changes if there is no
+/// window.
 fn put_pointer(stack: &mut AbsStack, region: Region, offset: Offset, window: Option<Window>)
     requires { IfSome window (λ w. w.place + 8 ≤ 512) }
     ensures { stack.new ≡ pointer_stored region offset window stack.old }
@@ -38,7 +40,8 @@ fn put_pointer(stack: &mut AbsStack, region: Region, offset: Offset, window: Opt
     stack.put_pointer(place, region, offset);
 }
 
-/// Returns the cells of the stack that eight bytes may take, at a distance from the offsets.
+/// Returns the window of the stack in which eight bytes lie that are stored at one of these offsets plus `distance`.
+/// Returns `None` if they may lie outside the stack.
 fn eight_cells(offsets: Offsets, distance: i16) -> Option<Window>
     ensures exact { result ≡ window_known Region.Stack offsets.0 offsets.1 distance 8 }
     ensures fits { IfSome result (λ w. w.place + 8 ≤ 512) }
@@ -46,7 +49,8 @@ fn eight_cells(offsets: Offsets, distance: i16) -> Option<Window>
     window_of(Region::Stack, offsets, distance, 8)
 }
 
-/// Records what a store does to the stack.
+/// Records in the stack that a value of this size is stored at the address `base` plus `distance`. Nothing changes if
+/// the address is not in the stack.
 pub(crate) fn store(stack: &mut AbsStack, size: Size, base: AbsVal, distance: i16, value: AbsVal)
     ensures { stack.new ≡ stored_in_stack size base distance value stack.old }
 {
@@ -70,7 +74,8 @@ pub(crate) fn store(stack: &mut AbsStack, size: Size, base: AbsVal, distance: i1
     }
 }
 
-/// Records a write of words, to one place if it is certain, otherwise somewhere in a window.
+/// Records that words are written to the stack: to the whole window if `certain` is set, and otherwise somewhere in it.
+/// Nothing changes if there is no window.
 fn write_words(stack: &mut AbsStack, certain: bool, window: Option<Window>)
     requires { IfSome window (λ w. w.place + w.size ≤ 512) }
     ensures { stack.new ≡ written certain window stack.old }
@@ -85,14 +90,16 @@ fn write_words(stack: &mut AbsStack, certain: bool, window: Option<Window>)
     }
 }
 
-/// Checks whether words are written to exactly one place: the pointer has one offset, and the count is one number.
+/// Checks whether it is known exactly which cells a copy of words sets: whether the pointer has only one possible
+/// offset, and the count only one possible value.
 fn is_certain(offsets: Offsets, counts: NumberSet) -> bool
     ensures { result ≡ is_certain offsets counts }
 {
     offsets.is_one() && counts.is_one()
 }
 
-/// Records what a copy of words of the board does to the stack.
+/// Records in the stack that words of the board are copied to the address `target`. `counts` is what is known of how
+/// many words. Nothing changes if the address is not in the stack, or if there may be more words than the board has.
 fn copy(stack: &mut AbsStack, target: AbsVal, counts: AbsVal)
     ensures { stack.new ≡ copied_to_stack target counts stack.old }
 {
@@ -112,8 +119,8 @@ fn copy(stack: &mut AbsStack, target: AbsVal, counts: AbsVal)
     write_words(stack, is_certain(at, counts), window);
 }
 
-/// Records what a call does to the stack. `target` is what is known of r2, where words are written, and `counts` of r3,
-/// their number.
+/// Records what a call of a helper does to the stack: only `board_copy` writes to it. `target` is what is known of r2,
+/// the address of the copy, and `counts` of r3, the number of words.
 pub(crate) fn call(stack: &mut AbsStack, helper: Option<Helper>, target: AbsVal, counts: AbsVal)
     ensures { stack.new ≡ behind_call helper target counts stack.old }
 {

@@ -1,4 +1,4 @@
-//! Subjects of a question, registers and cells, and whether an instruction sets one.
+//! Registers and cells of the stack, and whether an instruction sets one of them.
 ghost use Rattle.std.specs.Prelude.{◌≡◌};
 ghost use Rattle.reaching.specs.Setting.{writes, sets};
 
@@ -8,7 +8,8 @@ use crate::transfer::left_by;
 use insn::{Insn, Reg};
 use verify::AbsState;
 
-/// A register, or a cell of the stack. Cells are numbered from the lowest one.
+/// A register, or a cell of the stack, of which explanations say where it was set. Cells are numbered from 0, the
+/// lowest one.
 #[derive(Clone, Copy)]
 pub enum Subject {
     Register(Reg),
@@ -28,7 +29,7 @@ fn writes(insn: &Insn, r: Reg) -> bool
     }
 }
 
-/// Checks whether a cell holds something else after an instruction than was known of it before.
+/// Checks whether an instruction changes what is known of a cell of the stack. `state` is known before the instruction.
 fn changes(insn: &Insn, cell: u16, state: &AbsState) -> bool
     ensures { result ≡ sets (Subject.Cell cell) insn.now state.now }
 {
@@ -38,7 +39,7 @@ fn changes(insn: &Insn, cell: u16, state: &AbsState) -> bool
 }
 
 impl Subject {
-    /// Checks whether an instruction sets the register or cell.
+    /// Checks whether an instruction sets the register or cell. `state` is known before the instruction.
     pub fn is_set_by(&self, insn: &Insn, state: &AbsState) -> bool
         ensures { result ≡ sets self.now insn.now state.now }
     {

@@ -1,4 +1,4 @@
-//! Transfers: what is known after an instruction.
+//! Computes what is known after an instruction, from what is known before it.
 ghost use Rattle.std.specs.Prelude.{◌≡◌, slice_set};
 ghost use Rattle.insn.specs.declared.insn.Insn.{Insn};
 ghost use Rattle.absval.specs.NumberSets.{within};
@@ -15,14 +15,14 @@ use range::Range;
 use verify::AbsState;
 use word::{Operation, Width};
 
-/// Replaces what is known of a register.
+/// Replaces what is known of register `r` by `value`.
 fn write(registers: &mut [AbsVal; 11], r: Reg, value: AbsVal)
     ensures { registers.new ≡ slice_set registers.old r value }
 {
     registers[r.number() as usize] = value;
 }
 
-/// Returns the state after a register is set to a value, or an equal state if there is no value.
+/// Returns the state after register `dst` is set to a value. Returns a copy of the state if there is no value.
 fn assigned(state: &AbsState, dst: Reg, value: Option<AbsVal>) -> AbsState
     ensures { result ≡ assigned state.now dst value }
 {
@@ -33,8 +33,8 @@ fn assigned(state: &AbsState, dst: Reg, value: Option<AbsVal>) -> AbsState
     left
 }
 
-/// Returns what is known of the value that an operation reads from `dst`. A move does not read it, so the number 0 is
-/// used.
+/// Returns what is known of register `dst` before an operation reads it. A move does not read it, and so gets the
+/// number 0.
 fn read_first(state: &AbsState, operation: Operation, dst: Reg) -> AbsVal
     ensures { result ≡ first_known state.now.registers operation dst }
 {
@@ -44,7 +44,7 @@ fn read_first(state: &AbsState, operation: Operation, dst: Reg) -> AbsVal
     }
 }
 
-/// Returns the state after an operation.
+/// Returns the state after an arithmetic operation.
 fn computed(
     state: &AbsState,
     width: Width,
@@ -59,7 +59,7 @@ fn computed(
     assigned(state, dst, made)
 }
 
-/// Returns the state after a store.
+/// Returns the state after a store of `source` at the address `base` plus `offset`.
 fn stored(state: &AbsState, size: Size, base: Reg, offset: i16, source: Operand) -> AbsState
     ensures { result ≡ left (Insn.Store size base offset source) state.now }
 {
@@ -74,7 +74,7 @@ fn stored(state: &AbsState, size: Size, base: Reg, offset: i16, source: Operand)
     left
 }
 
-/// Records the registers after a call: r0 holds a number of the range, and r1 to r5 are unset.
+/// Records what is known of the registers after a call: r0 contains a number of the range, and r1 to r5 are unset.
 fn put_result(registers: &mut [AbsVal; 11], range: Range)
     ensures { registers.new ≡ known_behind (within range) registers.old }
 {
@@ -84,7 +84,7 @@ fn put_result(registers: &mut [AbsVal; 11], range: Range)
     }
 }
 
-/// Returns the state after a call.
+/// Returns the state after a call of the helper with this number.
 fn called(state: &AbsState, number: i32) -> AbsState
     ensures { result ≡ left (Insn.Call number) state.now }
 {
@@ -103,7 +103,8 @@ fn called(state: &AbsState, number: i32) -> AbsState
     left
 }
 
-/// Returns what is known after an instruction, if it may run.
+/// Returns the state after an instruction, for an instruction that may run. A jump and the exit leave the state
+/// unchanged.
 pub fn left_by(insn: &Insn, state: &AbsState) -> AbsState
     ensures { result ≡ left insn.now state.now }
 {

@@ -1,4 +1,4 @@
-//! Reaching definitions: which units last set a register or a cell before a unit.
+//! Finds which units last set a register or a cell of the stack before a given unit (reaching definitions).
 ghost use Rattle.std.specs.Prelude.{◌≡◌, ◌<◌, length, replicate, slice_get, option_map, IfOk};
 ghost use Rattle.insn.specs.Program.{slots_of, instruction_at};
 ghost use Rattle.reaching.specs.declared.subject.Subject.TheVariants.{Cell};
@@ -13,14 +13,14 @@ use insn::Program;
 use std::alloc::{AllocError, Global};
 use verify::AbsState;
 
-/// Returns what is known at a unit, if anything is.
+/// Returns what is known before a unit. Returns `None` if no path leads to it, or if the list has no such unit.
 pub fn known_by(states: &[Option<AbsState>], unit: usize) -> Option<&AbsState>
     ensures { option_map (λ a. a.now) result ≡ known_by (slice_get states.now unit) }
 {
     states.get(unit)?.as_ref()
 }
 
-/// Returns the marks of `units` units, all closed.
+/// Returns a list of `units` marks, all of them `Closed`. Fails if memory runs out.
 #[inline(never)]
 fn closed(alloc: Global, units: usize) -> Result<Vec<UnitMark>, AllocError>
     ensures { IfOk result (λ marks. marks.items ≡ replicate units UnitMark.Closed) }
@@ -28,7 +28,8 @@ fn closed(alloc: Global, units: usize) -> Result<Vec<UnitMark>, AllocError>
     vec![in alloc; UnitMark::Closed; units]
 }
 
-/// Returns the mark of a unit, given the marks of the units after it.
+/// Returns the mark of a unit, which says what its instruction does to the register or cell. `behind` has the marks of
+/// all later units.
 fn mark_of(
     subject: &Subject,
     behind: &[UnitMark],
@@ -55,8 +56,8 @@ fn mark_of(
     }
 }
 
-/// Returns the marks of a program's units for a register or cell, as it is at one of them. `states` has what is known
-/// at each unit.
+/// Returns a mark for each unit of a program. The units with the mark `Sets` are those that last set the register or
+/// cell before the unit `unit`. `states` has what is known before each unit. Fails if memory runs out.
 pub fn marks(
     alloc: Global,
     program: &Program,
@@ -77,7 +78,8 @@ pub fn marks(
     Ok(marks)
 }
 
-/// Returns the mark of a unit for a cell of the stack. `changed` says whether the unit sets the cell.
+/// Returns the mark of a unit, which says what its instruction does to a cell of the stack. `changed` says whether it
+/// sets the cell, and `behind` has the marks of all later units.
 fn cell_mark_of(
     cell: u16,
     changed: bool,
@@ -106,8 +108,8 @@ fn cell_mark_of(
     }
 }
 
-/// Returns the marks of a program's units for a cell of the stack, as it is at one of them. `column` says which units
-/// set the cell.
+/// Returns a mark for each unit of a program. The units with the mark `Sets` are those that last set the cell before
+/// the unit `unit`. `column` says which units set the cell at all. Fails if memory runs out.
 pub fn cell_marks(
     alloc: Global,
     program: &Program,

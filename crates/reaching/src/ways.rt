@@ -1,4 +1,4 @@
-//! Units that an instruction may lead to, and whether one of them is open.
+//! Finds the units to which an instruction may lead, and whether one of them has the mark `Open`.
 ghost use Rattle.std.specs.Prelude.{◌≡◌, ◌≢◌, ◌<◌, ◌+◌, ◌+ℤ◌, pos, ℕ, IfSome, IfNone, slice_get};
 ghost use Rattle.semantics.specs.Plain.{leads_to};
 ghost use Rattle.reaching.specs.Marks.{is_open, open_at, leads_open};
@@ -6,7 +6,7 @@ ghost use Rattle.reaching.specs.Marks.{is_open, open_at, leads_open};
 use crate::mark::UnitMark;
 use insn::Insn;
 
-/// Checks whether the mark of a unit is open.
+/// Checks whether a unit has the mark `Open`. Returns `false` if there is no such unit.
 fn is_open(marks: &[UnitMark], unit: usize) -> bool
     ensures { result ≡ is_open (slice_get marks.now unit) }
 {
@@ -16,7 +16,8 @@ fn is_open(marks: &[UnitMark], unit: usize) -> bool
     }
 }
 
-/// Returns the unit at a distance from the following unit, or `None` if it is negative.
+/// Returns the unit to which a jump at `unit` with this distance leads: `unit + 1 + distance`. Returns `None` if this
+/// is negative.
 fn target(unit: usize, distance: i32) -> Option<usize>
     requires { unit < 4096 }
     ensures there { IfSome result (λ n. pos n ≡ pos (unit + 1) +ℤ distance) }
@@ -29,7 +30,7 @@ fn target(unit: usize, distance: i32) -> Option<usize>
     Some(to as usize)
 }
 
-/// Checks whether the unit at a distance from the following unit is open.
+/// Checks whether a jump at `unit` with this distance leads to a unit with the mark `Open`.
 fn is_open_to(marks: &[UnitMark], unit: usize, distance: i32) -> bool
     requires { unit < 4096 }
     ensures { result ≡ open_at marks.now (pos (unit + 1) +ℤ distance) }
@@ -40,7 +41,8 @@ fn is_open_to(marks: &[UnitMark], unit: usize, distance: i32) -> bool
     }
 }
 
-/// Checks whether an instruction may lead to an open unit.
+/// Checks whether the instruction at `unit` may lead to a unit with the mark `Open`: the next one, or the target of a
+/// jump.
 #[inline(never)]
 pub(crate) fn leads_open(marks: &[UnitMark], insn: &Insn, unit: usize) -> bool
     requires { unit < 4096 }
