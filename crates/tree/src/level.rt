@@ -1,4 +1,4 @@
-//! A level of a tree: the values of all labels of one length.
+//! A level of a lieutenant's tree: the orders that he received for the labels of one length.
 ghost use Rattle.std.specs.Prelude.{◌≡◌, ◌<◌, ◌≤◌, ◌+◌, ℕ, Bool, List, Option, Some, None, IfOk, is_some, length, map, replicate, slice_get, slice_set};
 ghost use Rattle.label.specs.Oral.{order_of};
 ghost use Rattle.tree.specs.LieutenantTree.{AreAnswers, run_written};
@@ -6,10 +6,11 @@ ghost use Rattle.tree.specs.LieutenantTree.{AreAnswers, run_written};
 use std::alloc::{AllocError, Global};
 use std::marker::Model;
 
-/// A level: the messages received about the labels of one length, by rank. Each is an order, or nothing.
+/// A level of a lieutenant's tree: the orders that he received for the labels of one length. The entry at index r is
+/// the order for the label of rank r, or nothing.
 ///
-/// The orders are in one array, with RETREAT, which is 0, where nothing was received. A second array has a flag for
-/// each label, which is set if something was received.
+/// The orders are in one array, with RETREAT (0) where nothing was received. A second array has a flag for each label,
+/// which is set if something was received.
 #[derive(Drop)]
 pub(crate) struct Level {
     orders: Vec<u32>,
@@ -29,11 +30,11 @@ impl Model for Level {
 }
 
 impl Level {
-    /// Makes a level of `places` labels, about which nothing was received.
+    /// Makes a level for `places` labels, for which nothing was received.
     ///
     /// # Errors
     ///
-    /// `AllocError` if there is not enough memory for one of the two arrays.
+    /// Fails with `AllocError` if there is not enough memory for one of the two arrays.
     pub(crate) fn new(alloc: Global, places: u32) -> Result<Level, AllocError>
         ensures { IfOk result (λ l. l ≡ replicate places None) }
     {
@@ -42,14 +43,14 @@ impl Level {
         Ok(Level { orders, told })
     }
 
-    /// Returns the orders by rank, with RETREAT, which is 0, where nothing was received.
+    /// Returns the orders of the level, by the rank of their labels. An order is RETREAT (0) if nothing was received.
     pub(crate) fn orders(&self) -> &[u32]
         ensures { result.now ≡ map order_of self.now }
     {
         self.orders.as_slice()
     }
 
-    /// Returns the message at this index, or `None` if nothing was received.
+    /// Returns the order for the label of rank `place`, or `None` if nothing was received.
     pub(crate) fn value(&self, place: usize) -> Option<u32>
         requires { place < length self.now }
         ensures { slice_get self.now place ≡ Some result }
@@ -61,7 +62,7 @@ impl Level {
         }
     }
 
-    /// Writes the message at this index, in place of the previous one.
+    /// Stores the order for the label of rank `place`, or that nothing was received. Replaces what was stored there.
     pub(crate) fn put(&mut self, place: usize, value: Option<u32>)
         requires { place < length self.old }
         ensures { self.new ≡ slice_set self.old place value }
@@ -70,7 +71,8 @@ impl Level {
         self.told[place] = value.is_some();
     }
 
-    /// Writes `count` messages from the index `first` on. The message at `first + i` is `value(i)`.
+    /// Stores the orders for `count` labels, from the label of rank `first` on. The order for rank `first + i` is
+    /// `value(i)`, or nothing if this is `None`.
     pub(crate) fn put_run<F: Fn(usize) -> Option<u32>>(
         &mut self,
         first: usize,
@@ -91,7 +93,7 @@ impl Level {
         );
     }
 
-    /// Removes every message from the level.
+    /// Removes all orders from the level: nothing was received for any label.
     pub(crate) fn clear(&mut self)
         ensures { self.new ≡ replicate (length self.old) None }
     {
@@ -100,7 +102,8 @@ impl Level {
     }
 }
 
-/// Writes `count` messages, as orders and flags, from the index `first` on. The message at `first + i` is `value(i)`.
+/// Stores `count` orders in the two arrays of a level, from index `first` on. The order at `first + i` is `value(i)`.
+/// If this is `None`, it is RETREAT (0) and its flag in `told` is not set.
 fn write_run<F: Fn(usize) -> Option<u32>>(
     orders: &mut [u32],
     told: &mut [bool],

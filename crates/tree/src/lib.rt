@@ -1,5 +1,5 @@
-//! A lieutenant's tree of messages (Lynch, Distributed Algorithms, section 6.2). It has flat arrays for each length of
-//! labels, indexed by rank.
+//! A lieutenant's tree of the orders that he received (Lynch, Distributed Algorithms, section 6.2). For each length of
+//! labels it has flat arrays, indexed by the rank of the label.
 #![tactic(auto)]
 
 mod level;

@@ -1,4 +1,4 @@
-//! The tree of messages that one lieutenant received: makes, fills, reads and clears it.
+//! The tree of the orders that one lieutenant received. It can be made, filled, read and cleared.
 ghost use Rattle.std.specs.Prelude.{◌≡◌, ◌<◌, ◌≤◌, ◌≢◌, ◌+◌, ℕ, List, Option, Some, None, IfOk, drop, length, map, slice_get};
 ghost use Rattle.label.specs.Labels.{labels};
 ghost use Rattle.label.specs.Oral.{Messages, order_of};
@@ -9,10 +9,10 @@ use label::{Label, Space, count, rank};
 use std::alloc::{AllocError, Global};
 use std::marker::Model;
 
-/// A lieutenant's tree: for each label that lacks him, the order that he received, or nothing.
+/// A lieutenant's tree: for each label without himself the order that he received, or nothing.
 ///
-/// The labels have 1 to `bound + 1` generals. The values of one length are in one array, and the value of a label is at
-/// its rank. Only `new` allocates memory.
+/// The labels have 1 to `bound + 1` generals. The orders for all labels of one length are in one array, at the ranks of
+/// their labels. Only `new` allocates memory.
 #[derive(Drop)]
 pub struct Tree {
     space: Space,
@@ -33,12 +33,12 @@ impl Model for Tree {
 }
 
 impl Tree {
-    /// Makes a tree in which nothing was received. The campaign has 2 to 13 generals, this commander and this bound on
-    /// the traitors, and the tree is that of the lieutenant `general`.
+    /// Makes the tree of the lieutenant `general`, in which nothing was received. The campaign has 2 to 13 generals,
+    /// this commander, and this bound on the traitors.
     ///
     /// # Errors
     ///
-    /// `AllocError` if there is not enough memory for one of the arrays.
+    /// Fails with `AllocError` if there is not enough memory for one of the arrays.
     pub fn new(
         alloc: Global,
         generals: u8,
@@ -71,8 +71,8 @@ impl Tree {
         })
     }
 
-    /// Returns the space of labels that have values in the tree: those of its campaign that lack its lieutenant. The
-    /// contract also states that every tree holds the messages of some function.
+    /// Returns the space of the tree's labels: the numbers of the campaign, and the lieutenant, who is on none of the
+    /// labels. The contract also states that every tree holds the orders of some message function.
     pub fn space(&self) -> Space
         ensures generals { result.generals ≡ self.now.generals }
         ensures commander { result.commander ≡ self.now.commander }
@@ -83,15 +83,15 @@ impl Tree {
         self.space
     }
 
-    /// Returns the bound on the traitors, 0 to 12. The labels of the tree have up to `bound + 1` generals.
+    /// Returns the bound on the traitors, 0 to 12. The labels of the tree have 1 to `bound + 1` generals.
     pub fn bound(&self) -> u8
         ensures { result ≡ self.now.bound }
     {
         self.bound
     }
 
-    /// Returns the value stored for the label. It returns `None` if nothing was received, and if the label has no place
-    /// in the tree.
+    /// Returns the order that was received for the label. Returns `None` if nothing was received, or if the tree has no
+    /// such label.
     pub fn value(&self, label: &Label) -> Option<u32>
         ensures told { (M : Messages) → IsFilled self.now M → IsPlace self.now label.now →
             result ≡ M label.now self.now.general }
@@ -107,8 +107,8 @@ impl Tree {
         }
     }
 
-    /// Returns the orders received about the labels of length `size`, 1 to `bound + 1`, by rank. An order is RETREAT,
-    /// which is 0, if nothing was received.
+    /// Returns the orders that were received for all labels of `size` generals, by rank. `size` is 1 to `bound + 1`. An
+    /// order is RETREAT (0) if nothing was received.
     pub fn level(&self, size: u8) -> &[u32]
         requires some { 0 < size }
         requires short { size ≤ self.now.bound + 1 }
@@ -121,8 +121,8 @@ impl Tree {
         self.levels[(size - 1) as usize].orders()
     }
 
-    /// Stores the value of a label, in place of the previous one. If the label has no place in the tree, nothing
-    /// changes.
+    /// Stores the order that was received for the label, or that nothing was. Does nothing if the tree has no such
+    /// label.
     pub fn fill(&mut self, label: &Label, value: Option<u32>)
         ensures filled { (M : Messages) → IsFilled self.old M → IsFilled self.new (told_also M label.now value) }
         ensures same { SameCampaign self.old self.new }
@@ -136,7 +136,8 @@ impl Tree {
         }
     }
 
-    /// Stores the value of the label of length `size`, 1 to `bound + 1`, at this rank.
+    /// Stores the order that was received for the label of `size` generals with this rank, or that nothing was. `size`
+    /// is 1 to `bound + 1`.
     pub fn set(&mut self, size: u8, rank: u32, value: Option<u32>)
         requires some { 0 < size }
         requires short { size ≤ self.old.bound + 1 }
@@ -149,8 +150,8 @@ impl Tree {
         self.levels[(size - 1) as usize].put(rank as usize, value);
     }
 
-    /// Stores the values of `count` labels of length `size`, 1 to `bound + 1`, from the rank `first` on. The value at
-    /// `first + i` is `value(i)`.
+    /// Stores the orders that were received for `count` labels of `size` generals, from rank `first` on. `size` is 1 to
+    /// `bound + 1`. The order for rank `first + i` is `value(i)`, or nothing if this is `None`.
     pub fn set_run<F: Fn(usize) -> Option<u32>>(
         &mut self,
         size: u8,
@@ -171,7 +172,7 @@ impl Tree {
         self.levels[(size - 1) as usize].put_run(first as usize, count, value);
     }
 
-    /// Removes the values of all labels of length `size`. If the tree has no such labels, nothing changes.
+    /// Removes the orders for all labels of `size` generals. Does nothing if the tree has no such labels.
     pub fn clear(&mut self, size: u8)
         ensures filled { (M : Messages) → IsFilled self.old M → IsFilled self.new (blank M size) }
         ensures same { SameCampaign self.old self.new }
