@@ -1,4 +1,4 @@
-//! The bases of written numbers: ten and sixteen.
+//! The bases in which numbers are written: ten and sixteen.
 ghost use Rattle.std.specs.Prelude.{◌≡◌, ◌≤◌};
 ghost use Rattle.text.specs.Base.{radix_of};
 

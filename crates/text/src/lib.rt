@@ -1,4 +1,5 @@
-//! Texts as bytes: stops, cuts, pieces, lines, and numbers as they are written.
+//! Cuts texts at a given kind of byte, splits them into pieces and lines, and reads written numbers. A text is a list
+//! of bytes.
 #![tactic(auto)]
 
 mod base;

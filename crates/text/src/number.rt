@@ -5,8 +5,8 @@ ghost use Rattle.text.specs.Base.{radix_of};
 
 use crate::base::Base;
 
-/// Returns the value of a digit, or `None` if the byte is not a digit of the base. Hexadecimal digits may be of either
-/// case.
+/// Returns the value of a digit, 0 to 15. Returns `None` if the byte is not a digit of the base. Hexadecimal digits may
+/// be upper or lower case.
 pub fn digit(base: Base, byte: u8) -> Option<u8>
     ensures value { result ≡ digit_in (radix_of base) byte }
     ensures bound { IfSome result (λ d. d ≤ 15) }
@@ -19,7 +19,8 @@ pub fn digit(base: Base, byte: u8) -> Option<u8>
     }
 }
 
-/// Appends a digit to a number, and returns 2^64 if the result is greater.
+/// Returns the number with one more digit at its end: `number` times the base plus `digit`. Returns 2^64 if this is
+/// greater.
 fn put_digit(base: Base, number: u128, digit: u8) -> u128
     requires { number ≤ 2 ^ 64 }
     ensures value { result ≡ capped (number * radix_of base + digit) }
@@ -33,8 +34,8 @@ fn put_digit(base: Base, number: u128, digit: u8) -> u128
     }
 }
 
-/// Reads a string of digits. It returns 2^64 for every greater number, 0 for an empty string, and `None` if a byte is
-/// not a digit of the base.
+/// Reads a number that is written in digits of the base, possibly with leading zeros. Returns 2^64 if the number is
+/// greater, 0 if there are no digits, and `None` if a byte is not a digit of the base.
 pub fn digits(base: Base, bytes: &[u8]) -> Option<u128>
     ensures value { result ≡ digits_on (radix_of base) 0 bytes.now }
     ensures bound { IfSome result (λ n. n ≤ 2 ^ 64) }
@@ -49,8 +50,8 @@ pub fn digits(base: Base, bytes: &[u8]) -> Option<u128>
     Some(number)
 }
 
-/// Reads a decimal number without leading zeros. It returns 2^64 for every greater number, and `None` if the bytes are
-/// not such a number.
+/// Reads a decimal number without leading zeros. Returns 2^64 if the number is greater. Returns `None` if the bytes are
+/// not such a number, for example if there are none.
 #[tactic(auto, unfolding(crate::specs::Number::decimal_of))]
 pub fn decimal(bytes: &[u8]) -> Option<u128>
     ensures value { result ≡ decimal_of bytes.now }
@@ -63,8 +64,9 @@ pub fn decimal(bytes: &[u8]) -> Option<u128>
     }
 }
 
-/// Reads a decimal number, or `0x` and hexadecimal digits, with or without leading zeros. It returns 2^64 for every
-/// greater number, and `None` if the bytes are not such a number.
+/// Reads a number that is written in decimal digits, or as `0x` and hexadecimal digits. Leading zeros are allowed.
+/// Returns 2^64 if the number is greater. Returns `None` if the bytes are not such a number, for example if there are
+/// none.
 #[tactic(auto, unfolding(crate::specs::Number::magnitude_of))]
 pub fn magnitude(bytes: &[u8]) -> Option<u128>
     ensures value { result ≡ magnitude_of bytes.now }

@@ -1,8 +1,8 @@
-//! Stops: the bytes at which a part of a text ends.
+//! Stops: the kinds of bytes at which texts are cut.
 ghost use Rattle.std.specs.Prelude.{◌≡◌};
 ghost use Rattle.text.specs.Stop.{is_stop};
 
-/// The kind of byte at which a part of a text ends.
+/// A kind of byte at which a text is cut.
 #[derive(Clone, Copy)]
 pub enum Stop {
     /// Exactly this byte.
@@ -24,7 +24,7 @@ pub const FEED: Stop = Stop::Byte(b'\n');
 /// The dot, which separates numbers.
 pub const DOT: Stop = Stop::Byte(b'.');
 
-/// Returns whether a part of a text ends at the byte.
+/// Checks whether a byte is of the kind that `stop` names, so that a text is cut there.
 pub fn stops(stop: Stop, byte: u8) -> bool
     ensures { result ≡ is_stop stop byte }
 {
