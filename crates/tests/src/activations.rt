@@ -1,4 +1,5 @@
-//! Tests of typed activations, which answer or cancel each request once.
+//! Tests of activations: one run of a traitor's program, in which each request to the board is either answered once or
+//! cancelled.
 ghost use Rattle.std.specs.Prelude.{IfSome};
 ghost use Rattle.machine.specs.Advance.{IsAskOfRun, IsOfRun};
 
@@ -11,7 +12,8 @@ use semantics::Request;
 use std::alloc::Global;
 use verify::{Verified, verify};
 
-/// General 3 of 4 under commander 0 in round 2, who relays label 0 to generals 1 and 2.
+/// The general as whom the program runs: general 3 of 4 under commander 0 in round 2. He relays label 0 to generals 1
+/// and 2.
 const SHAPE: Shape = Shape {
     generals: 4,
     commander: 0,
@@ -19,12 +21,12 @@ const SHAPE: Shape = Shape {
     round: 2,
 };
 
-/// A program of eight instructions. The third sends the order 7 to general 1. The sixth asks the board to swap word 9
-/// for 5. The seventh adds 1 to the reply, and the program exits with the sum.
+/// A program of eight instructions. Instruction 3 sends the order 7 to general 1. Instruction 6 asks the board to
+/// replace word 9 by 5. Instruction 7 adds 1 to the old word, and the program exits with the sum.
 const SWAPPING: &str =
     "mov r1, 1\nmov r2, 7\ncall sway\nmov r1, 9\nmov r2, 5\ncall board_swap\nadd r0, 1\nexit\n";
 
-/// Assembles and verifies the program, or returns `None` if it is rejected or out of memory.
+/// Assembles and verifies the program `SWAPPING`. Returns `None` if it is rejected or if memory runs out.
 fn accepted(alloc: Global) -> Option<Verified> {
     let Ok(program) = assemble(alloc, SWAPPING) else {
         return None;
@@ -35,7 +37,7 @@ fn accepted(alloc: Global) -> Option<Verified> {
     }
 }
 
-/// Starts the program with an empty outbox, or returns `None` when out of memory.
+/// Starts the program with an empty outbox. Returns `None` if memory runs out.
 fn started(alloc: Global, verified: &Verified, context: &Context) -> Option<Activation>
     ensures { IfSome result (λ activation. IsOfRun verified.now context.now activation) }
 {
@@ -45,7 +47,8 @@ fn started(alloc: Global, verified: &Verified, context: &Context) -> Option<Acti
     }
 }
 
-/// Runs an activation until it waits for the board, or returns `None` if it takes `limit` steps or exits before.
+/// Runs an activation until it waits for an answer of the board. Returns `None` if it exits or has taken `limit` steps
+/// without such a request.
 fn asked(
     activation: Activation,
     verified: &Verified,
@@ -61,7 +64,8 @@ fn asked(
     }
 }
 
-/// Runs the program from its start to its request, for which six steps are enough.
+/// Runs the program `SWAPPING` from its start to its request, which is its sixth step. Returns `None` if there is no
+/// request.
 fn first_request(alloc: Global, verified: &Verified, context: &Context) -> Option<Waiting>
     ensures { IfSome result (λ waiting. IsAskOfRun verified.now context.now waiting.request waiting.standing) }
 {
@@ -71,7 +75,8 @@ fn first_request(alloc: Global, verified: &Verified, context: &Context) -> Optio
     }
 }
 
-/// Cancels a request, which takes its step back, and runs the program to its request again.
+/// Cancels a request, which takes back its step, and runs the program until it makes the request again. Returns `None`
+/// if it does not.
 fn second_request(waiting: Waiting, verified: &Verified, context: &Context) -> Option<Waiting>
     requires { IsAskOfRun verified.now context.now waiting.request waiting.standing }
     ensures { IfSome result (λ again. IsAskOfRun verified.now context.now again.request again.standing) }
@@ -83,7 +88,8 @@ fn second_request(waiting: Waiting, verified: &Verified, context: &Context) -> O
     asked(activation, verified, context, 6)
 }
 
-/// Answers a request with 41, runs the program for at most eight steps in all, and returns what it leaves at its exit.
+/// Answers a request with a board on which every word is 41, and runs the program to its exit. Returns what it leaves.
+/// Returns `None` if it does not exit within eight steps in all.
 fn answered(
     alloc: Global,
     waiting: Waiting,
@@ -102,7 +108,7 @@ fn answered(
     }
 }
 
-/// Checks that the sixth step asks the board to swap word 9 for 5.
+/// Checks whether the request is the sixth step, and asks the board to replace word 9 by 5.
 fn asks_to_swap(waiting: &Waiting) -> bool {
     match waiting.request() {
         Request::Swap { slot, value } => {
@@ -112,8 +118,8 @@ fn asks_to_swap(waiting: &Waiting) -> bool {
     }
 }
 
-/// Checks the number of steps that a program has taken, its result, if it has exited, and the order that it has sent to
-/// general 1. Also checks that it has sent no order to general 2.
+/// Checks whether a program has taken `steps` steps, has exited with `r0` (or not, if this is `None`), and has sent
+/// `order` to general 1 and nothing to general 2.
 fn has_left(ended: &Ended, steps: u32, r0: Option<u64>, order: Option<u32>) -> bool {
     ended.steps == steps
         && ended.r0 == r0
@@ -121,7 +127,7 @@ fn has_left(ended: &Ended, steps: u32, r0: Option<u64>, order: Option<u32>) -> b
         && ended.outbox.get(0, 2).is_none()
 }
 
-/// Checks that the program asks for the swap, and exits with 42 once it is answered.
+/// Checks that the program `SWAPPING` asks the board to replace word 9, and exits with 42 when the answer is 41.
 fn exits_once_answered(alloc: Global, verified: &Verified, context: &Context) -> bool {
     let Some(waiting) = first_request(alloc, verified, context) else {
         return false;
@@ -135,8 +141,8 @@ fn exits_once_answered(alloc: Global, verified: &Verified, context: &Context) ->
     }
 }
 
-/// Checks that the program asks for the same swap again after its request is cancelled, and then exits as if it had
-/// asked once.
+/// Checks that the program `SWAPPING` makes the same request again after the first one is cancelled. It then exits as
+/// if it had made only one.
 fn asks_again(alloc: Global, verified: &Verified, context: &Context) -> bool {
     let Some(waiting) = first_request(alloc, verified, context) else {
         return false;
@@ -153,7 +159,8 @@ fn asks_again(alloc: Global, verified: &Verified, context: &Context) -> bool {
     }
 }
 
-/// Checks that the program has taken five steps and has no result if it is ended after its request is cancelled.
+/// Checks that the program `SWAPPING` has taken five steps and has no result if it ends after its request was
+/// cancelled.
 fn ends_unanswered(alloc: Global, verified: &Verified, context: &Context) -> bool {
     match first_request(alloc, verified, context) {
         Some(waiting) => has_left(&waiting.cancel().end(), 5, None, Some(7)),
@@ -161,7 +168,8 @@ fn ends_unanswered(alloc: Global, verified: &Verified, context: &Context) -> boo
     }
 }
 
-/// Checks that the program is cut after `limit` steps, and which order it has then sent to general 1.
+/// Checks whether a limit of `limit` steps cuts the program `SWAPPING`, and whether it has then sent `order` to general
+/// 1.
 fn is_cut(
     alloc: Global,
     verified: &Verified,
@@ -178,11 +186,11 @@ fn is_cut(
     }
 }
 
-/// Limits that cut the program, and the order that general 1 then has. The order is sent by the third step, and the
-/// sixth asks the board.
+/// Limits on the steps that cut the program `SWAPPING`, with the order that it has then sent to general 1. Its third
+/// step sends the order, and its sixth step makes the request.
 const CUTS: &[(u32, Option<u32>)] = &[(0, None), (2, None), (3, Some(7)), (5, Some(7))];
 
-/// Checks that each limit cuts the program.
+/// Checks that each limit in `CUTS` cuts the program, with the order that it has then sent.
 fn are_cuts(alloc: Global, verified: &Verified, context: &Context) -> bool {
     for &(limit, order) in CUTS {
         if !is_cut(alloc, verified, context, limit, order) {
@@ -192,8 +200,8 @@ fn are_cuts(alloc: Global, verified: &Verified, context: &Context) -> bool {
     true
 }
 
-/// Checks three runs of the program: its request is answered, is cancelled and then answered, and is cancelled for
-/// good.
+/// Checks three runs of the program `SWAPPING`. In the first its request is answered, in the second it is cancelled
+/// once and then answered, and in the third it is cancelled and the run ends.
 fn requests_are_served(alloc: Global, context: &Context) -> bool {
     match accepted(alloc) {
         Some(verified) => {
@@ -212,7 +220,7 @@ fn a_request_is_answered_or_cancelled(rt: HostRuntime) {
     assert!(rt; requests_are_served(rt.alloc(), &context));
 }
 
-/// Checks the runs of the program that a limit cuts.
+/// Checks that each limit in `CUTS` cuts the program `SWAPPING`.
 fn limits_cut(alloc: Global, context: &Context) -> bool {
     match accepted(alloc) {
         Some(verified) => are_cuts(alloc, &verified, context),

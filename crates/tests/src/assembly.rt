@@ -1,11 +1,12 @@
-//! Tests of assembling texts into programs, and of disassembling programs.
+//! Tests of the assembler, which turns text into programs, and of the disassembler.
 
 use asm::{AsmError, assemble, disassemble};
 use insn::Program;
 use std::alloc::Global;
 use std::fmt::Display;
 
-/// Texts, and the code and line with which each is rejected. An accepted text has an empty string instead.
+/// Texts, each with the message with which the assembler rejects it: a code and a line. The message is empty for a text
+/// that is accepted.
 const REFUSALS: &[(&str, &str)] = &[
     ("", "A7 line 1"),
     ("mov r11, 0", "A3 line 1"),
@@ -16,7 +17,7 @@ const REFUSALS: &[(&str, &str)] = &[
     ("; nothing\n\n", "A7 line 2"),
     ("ja +40000\nfoo", "A2 line 2"),
     ("ja +40000\nexit", "A6 line 1"),
-    // The outline of a line is checked before the kinds of its operands.
+    // A line's punctuation is checked before its operands.
     ("mov r0 0", "A1 line 1"),
     ("mov r0,,0", "A1 line 1"),
     ("mov! r0", "A1 line 1"),
@@ -31,7 +32,7 @@ const REFUSALS: &[(&str, &str)] = &[
     ("exit\r\n\ta_1:exit ; \u{e9}\r\n", ""),
 ];
 
-/// Checks whether an error is printed as `expected`.
+/// Checks whether an error is displayed as the text `expected`.
 fn is_printed(alloc: Global, error: AsmError, expected: &str) -> bool {
     match error.to_string(alloc) {
         Ok(text) => text.as_str() == expected,
@@ -39,7 +40,7 @@ fn is_printed(alloc: Global, error: AsmError, expected: &str) -> bool {
     }
 }
 
-/// Checks whether a text is rejected with the message `refusal`, or accepted if that is empty.
+/// Checks whether the assembler rejects a text with the message `refusal`, or accepts it if this is empty.
 fn is_refused(alloc: Global, text: &str, refusal: &str) -> bool {
     match assemble(alloc, text) {
         Ok(_) => refusal.is_empty(),
@@ -47,7 +48,7 @@ fn is_refused(alloc: Global, text: &str, refusal: &str) -> bool {
     }
 }
 
-/// Checks that each rejected text has its code and its line.
+/// Checks each text in `REFUSALS`: whether it is rejected with its code and its line.
 #[test]
 fn refusals_have_their_code_and_line(rt: HostRuntime) {
     let alloc = rt.alloc();
@@ -56,7 +57,7 @@ fn refusals_have_their_code_and_line(rt: HostRuntime) {
     }
 }
 
-/// A program that uses many of the forms that assembly allows.
+/// A program in assembly that uses many of the forms that a user may write.
 const WRITTEN: &str =
     "start: lddw r1, -1 ; wide\n\n mov.w r2 ,-1\nback:add r1, r2\nstxd [r10-8], r1\nstd [r10-0x10], 5\nldd r3,[r10]\n\
      jsgt.w r1, -3, end\nja back\ncall send\nend:exit\n";
@@ -66,7 +67,7 @@ const PRINTED: &str =
     "lddw r1, 18446744073709551615\nmov.w r2, -1\nadd r1, r2\nstxd [r10-8], r1\nstd [r10-16], 5\nldd r3, [r10+0]\n\
      jsgt.w r1, -3, +2\nja -6\ncall 6\nexit\n";
 
-/// Checks whether the program is disassembled to `expected`.
+/// Checks whether the disassembler writes a program as the text `expected`.
 fn is_disassembled(alloc: Global, program: &Program, expected: &str) -> bool {
     match disassemble(alloc, program) {
         Ok(text) => text.as_str() == expected,
@@ -74,7 +75,7 @@ fn is_disassembled(alloc: Global, program: &Program, expected: &str) -> bool {
     }
 }
 
-/// Checks whether a text assembles to a program that is disassembled to `expected`.
+/// Checks whether a text assembles to a program that the disassembler writes as `expected`.
 fn is_printed_as(alloc: Global, text: &str, expected: &str) -> bool {
     match assemble(alloc, text) {
         Ok(program) => is_disassembled(alloc, &program, expected),

@@ -1,10 +1,10 @@
-//! Tests of the board and its ledger.
+//! Tests of the board, which traitors share, and of its ledger, which lists all accesses.
 
 use board::Board;
 use helper::{Reply, Request, Slot, Span};
 use std::alloc::Global;
 
-/// Checks whether the board answers a general's request with the word `expected`.
+/// Checks whether the board answers a request of this general in this round with the word `expected`.
 fn gets(board: &mut Board, general: u32, round: u32, request: Request, expected: u64) -> bool {
     match board.apply(general, round, request) {
         Ok(Reply::Word(word)) => word == expected,
@@ -12,7 +12,8 @@ fn gets(board: &mut Board, general: u32, round: u32, request: Request, expected:
     }
 }
 
-/// Checks that the board answers five requests for a word, each with the word's value before the request.
+/// Checks that the board answers five requests for a word correctly: each with the value that the word has before the
+/// request.
 fn serves(board: &mut Board, slot: Slot) -> bool {
     let wrong = Request::Cas {
         slot,
@@ -35,7 +36,8 @@ fn serves(board: &mut Board, slot: Slot) -> bool {
         && gets(board, 0, 2, Request::Get { slot }, 8)
 }
 
-/// Checks that the last four words can be copied, and that five words from the same place are rejected.
+/// Checks that words 60 to 63, the last four, can be copied, and that a request for five words from word 60 on cannot
+/// be made.
 fn copies(board: &mut Board) -> bool {
     let Some(span) = Span::new(60, 4) else {
         return false;
@@ -47,7 +49,7 @@ fn copies(board: &mut Board) -> bool {
         )
 }
 
-/// Checks that a board of zeros answers six accesses, and records each in the ledger.
+/// Checks that a board of zeros answers six requests correctly and lists all six in its ledger.
 fn serves_and_enters(alloc: Global) -> bool {
     let Some(slot) = Slot::new(0) else {
         return false;

@@ -1,10 +1,10 @@
-//! Tests of decoding bytes into programs, and of encoding programs.
+//! Tests of the codec, which decodes bytes into programs and encodes programs.
 
 use codec::{CodecError, CodecFault, decode, encode};
 use insn::Program;
 use std::alloc::Global;
 
-/// Checks whether decoding the bytes fails with `fault` at `unit`.
+/// Checks whether the codec rejects the bytes with `fault` at the unit `unit`.
 fn is_refused(alloc: Global, bytes: &[u8], fault: CodecFault, unit: usize) -> bool {
     match decode(alloc, bytes) {
         Err(error) => error == CodecError::At(fault, unit),
@@ -12,8 +12,8 @@ fn is_refused(alloc: Global, bytes: &[u8], fault: CodecFault, unit: usize) -> bo
     }
 }
 
-/// Checks that bytes with more units than a program may have are rejected. A wrong length is found before a wrong
-/// count.
+/// Checks that bytes are rejected if they have more units than a program may have. If their number is not a multiple of
+/// 8, this is reported first.
 #[test]
 fn long_bytes_are_refused(rt: HostRuntime) {
     let alloc = rt.alloc();
@@ -21,20 +21,20 @@ fn long_bytes_are_refused(rt: HostRuntime) {
     assert!(rt; is_refused(alloc, &[0; 32_776], CodecFault::Count, 0));
 }
 
-/// The result of decoding one unit.
+/// What the codec does with one unit of 8 bytes.
 #[derive(Clone, Copy, PartialEq, Eq)]
 enum Answer {
-    /// The unit is a program, and the program is encoded as this unit.
+    /// It decodes the unit to a program, and encodes this program to the same bytes.
     Taken,
-    /// The instruction is one that this project leaves out.
+    /// It rejects the unit, because the project does not support this instruction.
     LeftOut,
-    /// The opcode belongs to no instruction.
+    /// It rejects the unit, because no instruction has this opcode.
     Unknown,
-    /// Decoding or encoding had another result.
+    /// It does anything else, for example rejects the unit for another reason.
     Other,
 }
 
-/// Checks whether the program is encoded as these bytes.
+/// Checks whether the codec encodes a program to these bytes.
 fn is_spelt(alloc: Global, program: &Program, bytes: &[u8]) -> bool {
     match encode(alloc, program) {
         Ok(spelt) => spelt.as_slice() == bytes,
@@ -42,7 +42,8 @@ fn is_spelt(alloc: Global, program: &Program, bytes: &[u8]) -> bool {
     }
 }
 
-/// Returns the answer for a unit that decodes to a program, by whether the program is encoded as this unit.
+/// Returns the answer for a unit that was decoded to a program. `is_spelt` says whether the program is encoded to the
+/// same unit.
 fn taken(is_spelt: bool) -> Answer {
     if is_spelt {
         Answer::Taken
@@ -51,7 +52,7 @@ fn taken(is_spelt: bool) -> Answer {
     }
 }
 
-/// Decodes a unit and returns the result.
+/// Decodes a unit, and encodes the result if it is a program. Returns what the codec did.
 fn answered(alloc: Global, unit: &[u8]) -> Answer {
     match decode(alloc, unit) {
         Ok(program) => taken(is_spelt(alloc, &program, unit)),
@@ -61,7 +62,7 @@ fn answered(alloc: Global, unit: &[u8]) -> Answer {
     }
 }
 
-/// Counts the opcodes that have the result `wanted` if all other fields are zero.
+/// Counts for how many opcodes the codec does `wanted`. Each opcode is tried in a unit in which all other bytes are 0.
 fn count(alloc: Global, wanted: Answer) -> u32 {
     let mut found = 0u32;
     for opcode in 0..=255u8 {
@@ -72,8 +73,9 @@ fn count(alloc: Global, wanted: Answer) -> u32 {
     found
 }
 
-/// Decodes each opcode with all other fields zero. 117 opcodes are supported. Of these, the wide instruction lacks its
-/// second half, and swaps of 0 bits do not exist, so that 113 are accepted.
+/// Tries each of the 256 opcodes in a unit in which all other bytes are 0. 117 opcodes are supported, and 113 of these
+/// units are accepted. The other four are the wide instruction, whose second half is missing, and the three swaps,
+/// since a swap of 0 bits does not exist.
 #[test]
 fn opcodes_taken(rt: HostRuntime) {
     let alloc = rt.alloc();

@@ -11,13 +11,14 @@ const START: Value = Value::Pointer(Region::Context, 0);
 
 const NUMBER: Value = Value::Number(0xfedc_ba98_7654_3210);
 
-/// Stores `NUMBER` at -8 and the frame pointer at -16, and returns whether both stores succeed.
+/// Stores `NUMBER` at offset -8 of the stack and the frame pointer at offset -16. Returns whether both stores succeed.
 fn is_filled(stack: &mut Stack) -> bool {
     store(stack, Size::Double, FRAME, -8, NUMBER).is_ok()
         && store(stack, Size::Double, FRAME, -16, FRAME).is_ok()
 }
 
-/// Loads: the size, the base, the offset, and the answer. All bytes of the context are 0x81.
+/// Loads with their expected results. Each row has the size, the base, the offset and the result. All bytes of the
+/// context are 0x81.
 const LOADS: &[(Size, Value, i16, Result<Value, MemoryFault>)] = &[
     (Size::Half, FRAME, -6, Ok(Value::Number(0x7654))),
     (Size::Double, FRAME, -16, Ok(FRAME)),
@@ -26,7 +27,7 @@ const LOADS: &[(Size, Value, i16, Result<Value, MemoryFault>)] = &[
     (Size::Word, START, 4093, Err(MemoryFault::OutOfBounds)),
 ];
 
-/// Checks whether each load in `LOADS` gives its answer.
+/// Checks whether each load in `LOADS` has its expected result.
 fn load_so(stack: &Stack, context: &Context) -> bool {
     for &(size, base, distance, answer) in LOADS {
         if load(stack, context, size, base, distance) != answer {
@@ -36,7 +37,7 @@ fn load_so(stack: &Stack, context: &Context) -> bool {
     true
 }
 
-/// Checks whether a signed load of the byte at -1 extends its sign.
+/// Checks whether a signed load of the byte 0xfe at offset -1 of the stack extends its sign.
 fn loads_a_sign(stack: &Stack, context: &Context) -> bool {
     let sign = load_signed(stack, context, Narrow::Byte, FRAME, -1);
     sign == Ok(Value::Number(0xffff_ffff_ffff_fffe))
@@ -57,7 +58,7 @@ fn stores_and_loads(rt: HostRuntime) {
     assert!(rt; is_not_written(&mut stack));
 }
 
-/// Checks whether `bytes` is accepted as a context and is then its contents.
+/// Checks whether `bytes` is accepted as a context, which then has these bytes.
 fn is_context_of(bytes: &[u8]) -> bool {
     match Context::try_new(bytes) {
         Some(context) => context.bytes() == bytes,

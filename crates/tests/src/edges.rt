@@ -1,18 +1,19 @@
-//! Tests how a conditional jump narrows the two ranges that it compares, if it is taken and if it is not. Each
-//! condition has rows at the limits of what it narrows.
+//! Tests of what the verifier learns from a conditional jump. If the jump is taken, the two ranges that it compares
+//! become narrower, and likewise if it is not taken. For each condition there are rows in which a range is just at the
+//! limit.
 
 use crate::ranges::range;
 use range::edges::refine;
 use word::{Condition, Width};
 
-/// Two ranges, each given by its ends.
+/// Two ranges. Each is given by its least and its greatest number.
 type Pair = ((u64, u64), (u64, u64));
 
-/// The width, the condition, whether the jump is taken, two ranges, and the narrowed ranges. These are `None` if the
-/// jump cannot go this way.
+/// A row of the test: the width, the condition, whether the jump is taken, the two ranges before the jump, and the two
+/// ranges after it. The last are `None` if the jump cannot go this way.
 type Row = (Width, Condition, bool, (u64, u64), (u64, u64), Option<Pair>);
 
-/// Equality, and tests of single bits, which narrow nothing.
+/// Rows for equality, and for tests of single bits, from which the verifier learns nothing.
 const EQUALITIES: &[Row] = &[
     (Width::W64, Condition::Equal, true, (7, 9), (5, 6), None),
     (
@@ -98,7 +99,7 @@ const EQUALITIES: &[Row] = &[
     ),
 ];
 
-/// Unsigned comparisons.
+/// Rows for unsigned comparisons.
 const ORDERS: &[Row] = &[
     (
         Width::W32,
@@ -168,7 +169,7 @@ const ORDERS: &[Row] = &[
     (Width::W64, Condition::AtMost, true, (7, 9), (5, 6), None),
 ];
 
-/// Signed comparisons, which narrow only ranges without negative numbers.
+/// Rows for signed comparisons, from which the verifier learns something only about ranges without negative numbers.
 const SIGNED_ORDERS: &[Row] = &[
     (
         Width::W64,
@@ -300,7 +301,8 @@ const SIGNED_ORDERS: &[Row] = &[
     ),
 ];
 
-/// Checks whether a jump narrows the ranges `a` and `b` to `left`.
+/// Checks whether the ranges `a` and `b` become the ranges `left` after a conditional jump. `left` is `None` if the
+/// jump cannot go this way.
 fn leaves(
     width: Width,
     condition: Condition,

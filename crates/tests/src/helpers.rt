@@ -1,8 +1,8 @@
-//! Tests of helpers and their numbers.
+//! Tests of helpers, the calls that a program can make, and of their numbers.
 
 use helper::{Argument, Helper, arguments, helper_of, result};
 
-/// Helpers by their numbers. The numbers 0 and 1000 must not be those of helpers.
+/// Numbers, each with the helper that has it. No helper has the numbers 0 and 1000.
 const NUMBERS: &[(i32, Option<Helper>)] = &[
     (0, None),
     (1, Some(Helper::BoardGet)),
@@ -13,7 +13,7 @@ const NUMBERS: &[(i32, Option<Helper>)] = &[
     (1000, None),
 ];
 
-/// Checks that `send_row` takes a label and at most 13 orders, and that `board_copy` returns at most 64.
+/// Checks that `send_row` takes a label and at most 13 orders, and that `board_copy` returns at most 64 words.
 fn has_bounds() -> bool {
     let [first, _, third] = arguments(Helper::SendRow);
     first == Some(Argument::Label)

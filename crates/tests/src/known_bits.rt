@@ -1,12 +1,13 @@
-//! Tests of number sets, which have a range and known bits: the results of operations, and how a jump narrows the sets.
+//! Tests of sets of numbers, which the verifier describes by a range and by known bits: the results of operations, and
+//! what a conditional jump shows about them.
 
 use absval::NumberSet;
 use word::{Condition, Operation, Width};
 
-/// The least and the greatest number of a set, the mask of the unknown bits, and the bits that are known to be 1.
+/// A set of numbers: its least and its greatest number, the mask of the unknown bits, and the value of the known bits.
 type Known = (u64, u64, u64, u64);
 
-/// Operations: the width, the operation, two sets, and the set of the results.
+/// Operations on two sets. Each row has the width, the operation, the two sets and the set of the results.
 const OPERATIONS: &[(Width, Operation, Known, Known, Known)] = &[
     (
         Width::W64,
@@ -73,8 +74,8 @@ const OPERATIONS: &[(Width, Operation, Known, Known, Known)] = &[
     ),
 ];
 
-/// Jumps: the width, the condition, whether the jump is taken, two sets, and the narrowed sets. These are `None` if the
-/// jump cannot go this way.
+/// Conditional jumps. Each row has the width, the condition, whether the jump is taken, the two sets before the jump,
+/// and the two sets after it. The last are `None` if the jump cannot go this way.
 const EDGES: &[(Width, Condition, bool, Known, Known, Option<(Known, Known)>)] = &[
     (
         Width::W64,
@@ -118,7 +119,7 @@ const EDGES: &[(Width, Condition, bool, Known, Known, Option<(Known, Known)>)] =
     ),
 ];
 
-/// Returns the set of the numbers with these ends and known bits, or `None` if there are none.
+/// Returns the set with this range and these known bits, or `None` if it is empty.
 fn set((lo, hi, open, ones): Known) -> Option<NumberSet> {
     let numbers = NumberSet::operate(
         Width::W64,
@@ -144,14 +145,14 @@ fn set((lo, hi, open, ones): Known) -> Option<NumberSet> {
     Some(numbers)
 }
 
-/// Checks whether a set has these ends and known bits.
+/// Checks whether a set has this range and these known bits.
 fn is(numbers: NumberSet, (lo, hi, open, ones): Known) -> bool {
     let range = numbers.range();
     let bits = numbers.bits();
     range.lo == lo && range.hi == hi && bits.mask == open && bits.value == ones
 }
 
-/// Checks whether an operation on the sets `a` and `b` has the set `made` as its result.
+/// Checks whether the set `made` is the result of an operation on the sets `a` and `b`.
 fn gives(width: Width, operation: Operation, a: Known, b: Known, made: Known) -> bool {
     let (Some(first), Some(second)) = (set(a), set(b)) else {
         return false;
@@ -159,7 +160,8 @@ fn gives(width: Width, operation: Operation, a: Known, b: Known, made: Known) ->
     is(first, a) && is(second, b) && is(NumberSet::operate(width, operation, first, second), made)
 }
 
-/// Checks whether a jump narrows the sets `a` and `b` to `left`.
+/// Checks whether the sets `a` and `b` become the sets `left` after a conditional jump. `left` is `None` if the jump
+/// cannot go this way.
 fn leaves(
     width: Width,
     condition: Condition,
@@ -184,7 +186,7 @@ fn leaves(
     }
 }
 
-/// Checks whether the join of the sets `a` and `b` is `both`.
+/// Checks whether `both` is the join of the sets `a` and `b`: the set that describes what may be in either.
 fn joins(a: Known, b: Known, both: Known) -> bool {
     let (Some(first), Some(second)) = (set(a), set(b)) else {
         return false;

@@ -1,4 +1,4 @@
-//! Tests of the units of programs.
+//! Tests of the units of a program. A unit has 8 bytes, and a wide instruction takes two.
 
 use insn::{Insn, Operand, Program, Reg};
 use std::alloc::{AllocError, Global};
@@ -9,7 +9,7 @@ fn is_wide(found: &Option<Insn>, register: Reg) -> bool {
     matches!(found, Some(Insn::LoadImmediate { dst, number: 7 }) if *dst == register)
 }
 
-/// Checks whether `found` is the instruction that moves 42 into `register`.
+/// Checks whether `found` is the narrow instruction that moves 42 into `register`.
 fn is_narrow(found: &Option<Insn>, register: Reg) -> bool {
     matches!(
         found,
@@ -22,8 +22,8 @@ fn is_narrow(found: &Option<Insn>, register: Reg) -> bool {
     )
 }
 
-/// Checks that the wide instruction, the narrow instruction and the exit take 4 units, and that no instruction begins
-/// at the second unit.
+/// Checks that the program of a wide instruction, a narrow instruction and the exit takes four units, and that no
+/// instruction begins at unit 1.
 fn is_laid_out(program: &Program, dst: Reg) -> bool {
     program.len() == 3
         && program.units() == 4
@@ -35,7 +35,7 @@ fn is_laid_out(program: &Program, dst: Reg) -> bool {
         && program.at(4).is_none()
 }
 
-/// Builds the program of the wide instruction, the narrow instruction and the exit.
+/// Builds the program of a wide instruction, a narrow instruction and the exit.
 fn program(alloc: Global, dst: Reg) -> Result<Program, AllocError> {
     let wide = Insn::LoadImmediate { dst, number: 7 };
     let narrow = Insn::Arithmetic {
@@ -47,7 +47,7 @@ fn program(alloc: Global, dst: Reg) -> Result<Program, AllocError> {
     Program::new(alloc, [wide, narrow, Insn::Exit].to_vec(alloc)?)
 }
 
-/// Builds the program for register 1, and checks that it takes 4 units.
+/// Checks that the program of a wide instruction, a narrow instruction and the exit takes four units.
 fn takes_two_units(alloc: Global) -> bool {
     let Some(dst) = Reg::new(1) else {
         return false;

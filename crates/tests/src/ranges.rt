@@ -1,15 +1,17 @@
-//! Tests of the table of range operations. Each line and case of the table has rows whose operands are at the limits of
-//! the case.
+//! Tests of operations on ranges of numbers. For each case that the verifier distinguishes there are rows in which an
+//! operand is just at the limit of the case.
 
 use range::Range;
 use range::operations::operate;
 use range::unary_operations::{negate, sign_extend, swap};
 use word::{ByteOrder, Narrow, Operation, SwapSize, Width};
 
-/// An operation on two ranges, and the range of its results. A range is given by its ends.
+/// A row of the test: the width, the operation, two ranges, and the range of its results. A range is given by its least
+/// and its greatest number.
 type Row = (Width, Operation, (u64, u64), (u64, u64), (u64, u64));
 
-/// Sums, differences and products: those that never carry, those that always carry, and those that sometimes carry.
+/// Rows for sums, differences and products: those that never overflow, those that always do, and those that sometimes
+/// do.
 const SUMS: &[Row] = &[
     (
         Width::W64,
@@ -125,7 +127,7 @@ const SUMS: &[Row] = &[
     ),
 ];
 
-/// Quotients and remainders. The divisors are positive, zero, or either. Signed operands also have ends that are
+/// Rows for quotients and remainders. The divisors are positive, are zero, or may be both. Some signed operands may be
 /// negative.
 const QUOTIENTS: &[Row] = &[
     (
@@ -242,7 +244,7 @@ const QUOTIENTS: &[Row] = &[
     (Width::W64, Operation::Mod, (3, 50), (0, 1), (0, 50)),
 ];
 
-/// Bitwise operations, shifts by one count or by several, and copies.
+/// Rows for bitwise operations, for shifts by one known count and by several possible ones, and for moves.
 const BITS_AND_SHIFTS: &[Row] = &[
     (
         Width::W64,
@@ -375,7 +377,7 @@ const BITS_AND_SHIFTS: &[Row] = &[
     ),
 ];
 
-/// Operations on the low halves of 64-bit ranges, whose upper halves are equal or differ.
+/// Rows for 32-bit operations on 64-bit ranges. The upper halves of the numbers in a range are equal or differ.
 const LOW_HALVES: &[Row] = &[
     (
         Width::W32,
@@ -402,7 +404,7 @@ pub(crate) fn range((lo, hi): (u64, u64)) -> Option<Range> {
     }
 }
 
-/// Checks whether an operation on the ranges `a` and `b` has the range `ends` as its result.
+/// Checks whether the range `ends` is the result of an operation on the ranges `a` and `b`.
 fn gives(
     width: Width,
     operation: Operation,
@@ -445,7 +447,7 @@ fn low_halves(rt: HostRuntime) {
     }
 }
 
-/// Negations: the width, a range, and the range of the negated numbers.
+/// Negations. Each row has the width, a range, and the range of the negated numbers.
 const NEGATED: &[(Width, (u64, u64), (u64, u64))] = &[
     (
         Width::W64,
@@ -456,7 +458,8 @@ const NEGATED: &[(Width, (u64, u64), (u64, u64))] = &[
     (Width::W32, (1, 2), (0, 0xffff_ffff)),
 ];
 
-/// Sign extensions: the width, the part that is extended, a range, and the range of the results.
+/// Sign extensions. Each row has the width, the size of the part that is extended, a range, and the range of the
+/// results.
 const EXTENDED: &[(Width, Narrow, (u64, u64), (u64, u64))] = &[
     (Width::W64, Narrow::Byte, (3, 127), (3, 127)),
     (
@@ -472,7 +475,7 @@ const EXTENDED: &[(Width, Narrow, (u64, u64), (u64, u64))] = &[
     (Width::W32, Narrow::Byte, (3, 128), (0, 0xffff_ffff)),
 ];
 
-/// Byte swaps: the byte order, the size, a range, and the range of the results.
+/// Byte swaps. Each row has the byte order, the size, a range, and the range of the results.
 const SWAPPED: &[(ByteOrder, SwapSize, (u64, u64), (u64, u64))] = &[
     (ByteOrder::Little, SwapSize::Half, (3, 65535), (3, 65535)),
     (ByteOrder::Little, SwapSize::Half, (3, 65536), (0, 65535)),
@@ -530,7 +533,7 @@ const SWAPPED: &[(ByteOrder, SwapSize, (u64, u64), (u64, u64))] = &[
     ),
 ];
 
-/// Checks whether negating the numbers of range `a` has the range `ends` as its result.
+/// Checks whether the range `ends` is the result when the numbers of range `a` are negated.
 fn negates(width: Width, a: (u64, u64), ends: (u64, u64)) -> bool {
     let Some(a) = range(a) else {
         return false;
@@ -539,7 +542,7 @@ fn negates(width: Width, a: (u64, u64), ends: (u64, u64)) -> bool {
     found.lo == ends.0 && found.hi == ends.1
 }
 
-/// Checks whether the sign extension of the numbers of range `a` has the range `ends` as its result.
+/// Checks whether the range `ends` is the result when the numbers of range `a` are sign-extended.
 fn extends(width: Width, part: Narrow, a: (u64, u64), ends: (u64, u64)) -> bool {
     let Some(a) = range(a) else {
         return false;
@@ -548,7 +551,7 @@ fn extends(width: Width, part: Narrow, a: (u64, u64), ends: (u64, u64)) -> bool 
     found.lo == ends.0 && found.hi == ends.1
 }
 
-/// Checks whether the byte swap of the numbers of range `a` has the range `ends` as its result.
+/// Checks whether the range `ends` is the result when the bytes of the numbers of range `a` are swapped.
 fn swaps(order: ByteOrder, size: SwapSize, a: (u64, u64), ends: (u64, u64)) -> bool {
     let Some(a) = range(a) else {
         return false;
@@ -570,7 +573,7 @@ fn operations_on_one(rt: HostRuntime) {
     }
 }
 
-/// Checks that the join of two ranges reaches from the lower to the upper outer end.
+/// Checks that the join of the ranges 3 to 5 and 9 to 12 is the range 3 to 12.
 fn are_joined() -> bool {
     let both = Range { lo: 3, hi: 5 }.join(Range { lo: 9, hi: 12 });
     both.lo == 3 && both.hi == 12 && both.contains(7) && !both.contains(13)

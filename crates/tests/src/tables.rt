@@ -3,7 +3,7 @@
 use book::{TableError, TableFault, decision, decisions, read_table};
 use std::alloc::Global;
 
-/// Checks whether the lieutenants of a table decide on `orders`.
+/// Checks whether the lieutenants of a message table decide on these orders, in ascending order of the lieutenants.
 fn decides(alloc: Global, text: &str, orders: &[u32]) -> bool {
     match read_table(alloc, text) {
         Ok(table) => decisions(&table).as_slice() == orders,
@@ -11,7 +11,7 @@ fn decides(alloc: Global, text: &str, orders: &[u32]) -> bool {
     }
 }
 
-/// Checks whether a table is rejected with this fault at this line.
+/// Checks whether a message table is rejected with this fault at this line, counted from 1.
 fn refuses(alloc: Global, text: &str, fault: TableFault, line: u64) -> bool {
     match read_table(alloc, text) {
         Ok(_) => false,
@@ -19,8 +19,9 @@ fn refuses(alloc: Global, text: &str, fault: TableFault, line: u64) -> bool {
     }
 }
 
-/// Tables of four generals and the decisions. In the first, the commander orders two of three lieutenants to attack. In
-/// the second, he sends nothing to the last. In the third, he sends each a different order.
+/// Message tables of four generals with a commander who is a traitor, and the orders on which the lieutenants decide.
+/// In the first he orders two of three lieutenants to attack, in the second he sends nothing to the last one, and in
+/// the third he sends each a different order.
 const TRAITORS: &[(&str, &[u32])] = &[
     (
         "generals 4 bound 1 commander 0\ntell 0 1 1\ntell 0 2 0\ntell 0 3 1\ntell 0.1 2 1\ntell 0.1 3 1\n\
@@ -47,11 +48,11 @@ fn one_traitor(rt: HostRuntime) {
     }
 }
 
-/// A table of three generals, in which general 2 relays to general 1 another order than he received.
+/// A message table of three generals. Lieutenant 2 relays a different order to general 1 than the one that he received.
 const THREE: &str =
     "generals 3 bound 1 commander 0\ntell 0 1 1\ntell 0 2 1\ntell 0.1 2 1\ntell 0.2 1 0\n";
 
-/// Checks whether general 1 decides to retreat in the table `THREE`.
+/// Checks whether general 1 decides on 0, which is RETREAT, by the table `THREE`.
 fn retreats(alloc: Global) -> bool {
     match read_table(alloc, THREE) {
         Ok(table) => { table.generals() == 3 && table.commander() == 0 && decision(&table, 1) == 0 }
@@ -64,7 +65,7 @@ fn too_few_generals(rt: HostRuntime) {
     assert!(rt; retreats(rt.alloc()));
 }
 
-/// Tables in which messages are missing, and the decisions.
+/// Message tables without some of the messages, and the orders on which the lieutenants decide.
 const MISSING: &[(&str, &[u32])] = &[
     ("generals 2 bound 0 commander 0\ntell 0 1 7\n", &[7]),
     (
@@ -85,7 +86,7 @@ fn messages_missing(rt: HostRuntime) {
     }
 }
 
-/// Tables that are rejected, with the fault and its line.
+/// Message tables that are rejected, each with its fault and the line of the fault.
 const REFUSED: &[(&str, TableFault, u64)] = &[
     ("generals 3 bound 2 commander 0", TableFault::Range, 1),
     // The receiver is on the label.
@@ -108,7 +109,7 @@ const REFUSED: &[(&str, TableFault, u64)] = &[
     ("", TableFault::Line, 1),
 ];
 
-/// Checks whether an error is printed as `expected`.
+/// Checks whether an error is displayed as the text `expected`.
 fn is_printed(alloc: Global, error: TableError, expected: &str) -> bool {
     match error.to_string(alloc) {
         Ok(text) => text.as_str() == expected,

@@ -1,4 +1,4 @@
-//! Tests of trees together with labels and rules: sizes of levels, order of labels, and decisions that are computed in
+//! Tests of a lieutenant's tree: the sizes of its levels, the order of its labels, and decisions that are computed in
 //! parallel.
 ghost use Rattle.std.specs.Prelude.{◌≡◌};
 ghost use Rattle.combine.specs.Rule.{majority};
@@ -13,19 +13,20 @@ use std::sync::atomic::{AtomicU32, Ordering};
 use std::thread::Threads;
 use tree::Tree;
 
-/// Thirteen generals with commander 0, as general 12 sees them.
+/// The labels of thirteen generals with commander 0 that do not contain general 12.
 const WIDE: Space = Space {
     generals: 13,
     commander: 0,
     general: 12,
 };
 
-/// Checks whether the level for labels of `size` generals has `values` values.
+/// Checks whether a tree has `values` orders for the labels of `size` generals.
 fn has_level(tree: &Tree, size: u8, values: usize) -> bool {
     0 < size && size - 1 <= tree.bound() && tree.level(size).len() == values
 }
 
-/// Checks whether the levels of a tree for thirteen generals have their sizes: 1, 11, 110, 990 and 7,920.
+/// Checks that the tree of a lieutenant among thirteen generals has 1, 11, 110, 990 and 7,920 orders for the labels of
+/// 1 to 5 generals.
 fn have_sizes(alloc: Global) -> bool {
     match Tree::new(alloc, 13, 4, 0, 12) {
         Ok(tree) => {
@@ -44,7 +45,8 @@ fn levels_of_thirteen_generals(rt: HostRuntime) {
     assert!(rt; have_sizes(rt.alloc()));
 }
 
-/// Checks whether the label of four generals with this rank extends the label `parent`, which has three.
+/// Checks whether the label of four generals with this rank is `parent`, which has three generals, followed by one
+/// more.
 fn is_child(parent: &Label, rank: u32) -> bool {
     match unrank(WIDE, 4, rank) {
         Ok(child) => child.len() == 4 && child.generals().starts_with(parent.generals()),
@@ -52,8 +54,8 @@ fn is_child(parent: &Label, rank: u32) -> bool {
     }
 }
 
-/// Checks that the labels of ranks 981 to 989 extend the last label of three generals, and that the label of rank 980
-/// does not.
+/// Checks that the labels of four generals with ranks 981 to 989 begin with the last label of three generals, and that
+/// the one with rank 980 does not.
 fn stand_together() -> bool {
     let Ok(parent) = unrank(WIDE, 3, 109) else {
         return false;
@@ -72,16 +74,16 @@ fn children_stand_together(rt: HostRuntime) {
     assert!(rt; unrank(WIDE, 4, 990).is_err());
 }
 
-/// The majority rule, whose first call waits until a second call has begun.
+/// The majority rule with a check that it is called in parallel: its first call waits until a second call has begun.
 #[derive(Drop)]
 struct Meeting<'a> {
     /// The number of calls that have begun.
     begun: &'a AtomicU32,
-    /// The number of calls that waited in vain.
+    /// How many calls waited although no second call began.
     missed: &'a AtomicU32,
 }
 
-/// The most turns that the first call waits.
+/// How often the first call checks whether a second call has begun, before it gives up.
 const TURNS: u32 = 100_000_000;
 
 impl Combine for Meeting<'_> {
@@ -97,7 +99,7 @@ impl Combine for Meeting<'_> {
     ghost most_decide = { λ _. majority_is_rule };
 }
 
-/// Waits until a second call has begun, for at most `TURNS` turns, and returns whether it has.
+/// Waits until a second call of the rule has begun. Returns whether it has, or `false` after `TURNS` checks.
 fn is_joined(begun: &AtomicU32) -> bool {
     for _ in 0..TURNS {
         if begun.load(Ordering::SeqCst) > 1 {
@@ -108,8 +110,8 @@ fn is_joined(begun: &AtomicU32) -> bool {
     false
 }
 
-/// Builds the trees of lieutenants 1 and 2 of four generals. Commander 0 sent them the order 5, and lieutenant 3
-/// relayed the same order.
+/// Builds the trees of lieutenants 1 and 2 among four generals. Commander 0 sent both the order 5, and lieutenant 3
+/// relayed it to them.
 fn told_five(alloc: Global) -> Result<Vec<Tree>, AllocError> {
     let mut trees = Vec::new(alloc);
     for general in 1..3 {
@@ -121,7 +123,7 @@ fn told_five(alloc: Global) -> Result<Vec<Tree>, AllocError> {
     Ok(trees)
 }
 
-/// Checks whether both lieutenants of these trees decide on 5.
+/// Checks whether both lieutenants with these trees decide on the order 5.
 fn decide_for_five<R: Threads + Sync>(
     rt: &R,
     alloc: Global,
@@ -134,7 +136,8 @@ fn decide_for_five<R: Threads + Sync>(
     }
 }
 
-/// Checks whether these trees are resolved in parallel: by two calls of the majority rule, of which none waits in vain.
+/// Checks whether the decisions from these two trees are computed in parallel: whether the rule is called twice, and
+/// its first call does not wait in vain.
 fn are_resolved_at_once<R: Threads + Sync>(rt: &R, alloc: Global, trees: &[Tree]) -> bool {
     let begun = AtomicU32::new(0);
     let missed = AtomicU32::new(0);
@@ -147,7 +150,7 @@ fn are_resolved_at_once<R: Threads + Sync>(rt: &R, alloc: Global, trees: &[Tree]
         && missed.load(Ordering::SeqCst) == 0
 }
 
-/// Checks whether the trees of two lieutenants are resolved in parallel.
+/// Checks whether the decisions of two lieutenants are computed in parallel.
 fn halves_meet<R: Threads + Sync>(rt: &R, alloc: Global) -> bool {
     match told_five(alloc) {
         Ok(trees) => are_resolved_at_once(rt, alloc, trees.as_slice()),

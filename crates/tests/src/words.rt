@@ -1,4 +1,4 @@
-//! Tests of arithmetic, comparisons and byte swaps of words.
+//! Tests of arithmetic, comparisons and byte swaps of 64-bit words.
 
 use word::arithmetic::{alu32, alu64, negate, sign_extend};
 use word::comparison::{compare32, compare64};
@@ -9,10 +9,10 @@ const MINUS_ONE: u64 = u64::MAX;
 
 const LEAST: u64 = 0x8000_0000_0000_0000;
 
-/// An operation, its operands, and the result.
+/// A row of the test: an operation, its two operands, and the result.
 type Row = (Operation, u64, u64, u64);
 
-/// Divisions and shifts of 64 bits.
+/// Divisions, remainders and shifts of 64 bits.
 const WIDE: &[Row] = &[
     (Operation::Div, 5, 0, 0),
     (Operation::Mod, 0x1_0000_0005, 0, 0x1_0000_0005),
@@ -31,7 +31,7 @@ const WIDE: &[Row] = &[
     ),
 ];
 
-/// Divisions and shifts of 32 bits.
+/// Divisions, remainders and shifts of 32 bits.
 const NARROW: &[Row] = &[
     (Operation::Div, 5, 0, 0),
     (Operation::Mod, 0x1_0000_0005, 0, 5),
@@ -56,7 +56,7 @@ fn divides_and_shifts(rt: HostRuntime) {
     }
 }
 
-/// Sign extensions: the width, the part that is extended, the word, and the result.
+/// Sign extensions. Each row has the width, the size of the part that is extended, the word and the result.
 const EXTENSIONS: &[(Width, Narrow, u64, u64)] = &[
     (Width::W64, Narrow::Byte, 0x80, 18_446_744_073_709_551_488),
     (Width::W32, Narrow::Half, 0x1_8000, 0xffff_8000),
@@ -81,10 +81,10 @@ fn compares(rt: HostRuntime) {
     assert!(rt; compare32(Condition::SignedBelow, 0x8000_0000, 0));
 }
 
-/// The word whose bytes `SWAPS` puts in order.
+/// The word whose bytes the swaps in `SWAPS` reorder.
 const WORD: u64 = 0x1122_3344_5566_7788;
 
-/// Byte swaps of `WORD`: the byte order, the size, and the result.
+/// Byte swaps of `WORD`. Each row has the byte order, the size and the result.
 const SWAPS: &[(ByteOrder, SwapSize, u64)] = &[
     (ByteOrder::Big, SwapSize::Half, 34935),
     (ByteOrder::Little, SwapSize::Word, 0x5566_7788),
