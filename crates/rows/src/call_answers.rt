@@ -1,4 +1,4 @@
-//! Answers a call as the program `byzlab` does, with the files of a row.
+//! Answers a call of `byzlab` without starting the program, with files that are kept in memory.
 use crate::shelf::{AnswerOutput, FileContent, FileInput, Shelf};
 use anyhow::{Result, bail};
 use campaign_schedules::seeded;
@@ -14,7 +14,7 @@ use std::io::ErrorKind;
 use std::sync::Wait;
 use std::thread::Threads;
 
-/// The answer to a call: what it writes to standard output and to standard error, and its exit status.
+/// What a call of `byzlab` writes to standard output and to standard error, and its exit status.
 #[derive(Drop)]
 pub struct CallOutput {
     pub out: Vec<u8>,
@@ -23,7 +23,7 @@ pub struct CallOutput {
 }
 
 impl CallOutput {
-    /// Returns an answer that writes nothing and has status 0.
+    /// Returns the answer that writes nothing and has exit status 0.
     fn nothing(alloc: Global) -> CallOutput {
         CallOutput {
             out: Vec::new(alloc),
@@ -32,7 +32,7 @@ impl CallOutput {
         }
     }
 
-    /// Appends the next answer, and keeps the higher status.
+    /// Appends the texts of the next answer, and keeps the higher exit status.
     fn add(&mut self, next: CallOutput) -> Result<(), AllocError> {
         self.out.extend_from_slice(next.out.as_slice())?;
         self.err.extend_from_slice(next.err.as_slice())?;
@@ -42,7 +42,8 @@ impl CallOutput {
         Ok(())
     }
 
-    /// Returns an answer that writes this text to standard error, and nothing to standard output.
+    /// Returns an answer with this exit status, which writes this text to standard error and nothing to standard
+    /// output.
     fn fault(alloc: Global, status: u8, text: String) -> CallOutput {
         CallOutput {
             out: Vec::new(alloc),
@@ -52,8 +53,9 @@ impl CallOutput {
     }
 }
 
-/// Answers a call with these words, files and standard output. If the words are several requests, their answers follow
-/// one another, with the highest status. A file that the call writes is put on the shelf.
+/// Answers a call of `byzlab` with these words. The files on the shelf are in memory, and `output` is the call's
+/// standard output. If the words are several requests, their answers follow one another, with the highest exit status.
+/// A file that the call writes is put on the shelf.
 pub fn answered<R: Threads + Wait + Sync + AllocGlobal>(
     rt: &R,
     words: &[&str],
@@ -80,7 +82,7 @@ pub fn answered<R: Threads + Wait + Sync + AllocGlobal>(
     Ok(all)
 }
 
-/// Answers one request.
+/// Answers one request of a call. A file that the request writes is put on the shelf.
 fn answered_one<R: Threads + Wait + Sync + AllocGlobal>(
     rt: &R,
     request: &TaskRequest,
@@ -95,8 +97,8 @@ fn answered_one<R: Threads + Wait + Sync + AllocGlobal>(
     written(alloc, &request.task, shelf, told)
 }
 
-/// Puts the files on the shelf that a task writes in addition to its answer: the schedule of a seed, or the outcomes of
-/// an exploration.
+/// Puts the files on the shelf that a task writes in addition to its answer. These are the schedule that a seed gives,
+/// or a scenario and schedules for the outcomes of an exploration.
 fn keep(alloc: Global, request: &TaskRequest, shelf: &mut Shelf) -> Result<()> {
     let task = &request.task;
     if let (Some(seed), Some(name)) = (task.seed(), task.schedule_target()) {
@@ -132,7 +134,7 @@ fn keep(alloc: Global, request: &TaskRequest, shelf: &mut Shelf) -> Result<()> {
     Ok(())
 }
 
-/// Returns the answer to words that name no task.
+/// Returns the answer to words that name no task: help or an error.
 fn refused(alloc: Global, error: TaskError) -> Result<CallOutput> {
     match error {
         TaskError::Words(error) => {
@@ -151,7 +153,7 @@ fn refused(alloc: Global, error: TaskError) -> Result<CallOutput> {
     }
 }
 
-/// Finds the task's files on the shelf, and does the task.
+/// Finds the files of the task on the shelf, and does the task. The answer reports a file that does not exist.
 fn opened<R: Threads + Wait + Sync + AllocGlobal>(
     rt: &R,
     request: &TaskRequest,
@@ -182,7 +184,8 @@ fn opened<R: Threads + Wait + Sync + AllocGlobal>(
     completed(rt, request, shelf, first, second, output)
 }
 
-/// Does the task with these files. In a scenario, the names of other files are replaced by their contents.
+/// Does the task with these files. If the first file is a scenario, the files that it names are read from the shelf
+/// first, and their contents replace their names.
 fn completed<R: Threads + Wait + Sync + AllocGlobal>(
     rt: &R,
     request: &TaskRequest,
@@ -223,7 +226,7 @@ fn completed<R: Threads + Wait + Sync + AllocGlobal>(
     }
 }
 
-/// Returns the answer to a task whose file does not exist.
+/// Returns the answer to a task whose file `name` does not exist.
 fn unopened(alloc: Global, request: &TaskRequest, name: &str, output: AnswerOutput) -> CallOutput {
     let name = FileName(name);
     let kind = Some(ErrorKind::NotFound);
@@ -236,8 +239,8 @@ fn unopened(alloc: Global, request: &TaskRequest, name: &str, output: AnswerOutp
     )
 }
 
-/// Returns the answer to a task whose file is not accepted. If the task explains its faults, the reason for `kind` is
-/// added.
+/// Returns the answer to a task whose file cannot be used, with `lines` as the error. If the task explains its errors,
+/// a sentence about the error of the operating system, `kind`, follows.
 fn untaken<D: Display + Drop>(
     alloc: Global,
     request: &TaskRequest,
@@ -259,7 +262,7 @@ fn untaken<D: Display + Drop>(
     }
 }
 
-/// Returns the answer to a task that is not done for the reason in `line`.
+/// Returns the answer to a task that is not done. Its error is `line`.
 fn turn_down<D: Display + Drop>(
     alloc: Global,
     request: &TaskRequest,
@@ -272,7 +275,7 @@ fn turn_down<D: Display + Drop>(
     CallOutput { out, err, status }
 }
 
-/// Does the task and returns its answer.
+/// Does the task with these files, and returns what it writes and its exit status.
 fn served<R: Threads + Wait + Sync + AllocGlobal>(
     rt: &R,
     request: &TaskRequest,
@@ -287,8 +290,8 @@ fn served<R: Threads + Wait + Sync + AllocGlobal>(
     CallOutput { out, err, status }
 }
 
-/// Moves the standard output of a task that writes to a file into that file on the shelf. No file is made if nothing
-/// was written.
+/// Handles a task whose answer goes to a file: moves its standard output into that file on the shelf. Makes no file if
+/// nothing was written.
 fn written(alloc: Global, task: &Task, shelf: &mut Shelf, told: CallOutput) -> Result<CallOutput> {
     let name = match task.target() {
         None | Some("-") => return Ok(told),

@@ -1,16 +1,16 @@
-//! Compares a text with the stored one.
+//! Compares a text with an expected text, line by line.
 ghost use Rattle.std.specs.Prelude.{◌≡◌, ◌↔◌};
 ghost use Rattle.rows.specs.declared.comparison.ComparisonResult.TheVariants.{AsStored};
 ghost use Rattle.rows.specs.Comparing.{parting, outcome_by};
 
 use std::fmt;
 
-/// The result of comparing a text with the stored one.
+/// The result of comparing a text with an expected text.
 #[derive(Clone, Copy)]
 pub enum ComparisonResult {
     /// The texts are equal.
     AsStored,
-    /// The texts first differ in this line, counted from 1.
+    /// The first line in which the texts differ, counted from 1.
     Differs(usize),
 }
 
@@ -23,7 +23,7 @@ impl fmt::Display for ComparisonResult {
     }
 }
 
-/// Returns the first line in which two texts differ, or `None` if they are equal.
+/// Returns the first line in which two texts differ, counted from 1. Returns `None` if they are equal.
 fn differing_line(told: &[u8], stored: &[u8]) -> Option<usize>
     ensures { result ≡ parting 1 told.now stored.now }
 {
@@ -44,7 +44,8 @@ fn differing_line(told: &[u8], stored: &[u8]) -> Option<usize>
     if rest.is_empty() { None } else { Some(line) }
 }
 
-/// Compares a text with the stored one.
+/// Compares a text with the stored text that is expected, and returns whether they are equal or where they first
+/// differ.
 pub fn compare(told: &[u8], stored: &[u8]) -> ComparisonResult
     ensures line { result ≡ outcome_by (parting 1 told.now stored.now) }
     ensures same { result ≡ AsStored ↔ told.now ≡ stored.now }

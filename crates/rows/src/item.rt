@@ -1,60 +1,62 @@
-//! The items of a table: the keys of its lines, and the text below each line.
+//! The items of a table of tests. An item is a line that begins with a key, with the text below it.
 use std::alloc::{AllocError, Global};
 
-/// What an item means.
+/// The key of an item, which says what the item describes: a file of the row, a call, or what the answer to the call
+/// must be.
 #[derive(Clone, Copy, PartialEq, Eq)]
 pub enum ItemKey {
     /// A row with this name begins.
     Row,
-    /// A file has this name. Its contents are the lines below, or a copy of another file.
+    /// The row has a file with this name. Its content is the text below, or a copy of another file.
     File,
-    /// The last file continues with these bytes, in hexadecimal.
+    /// These bytes, in hexadecimal digits, are appended to the file that was described last.
     Hex,
-    /// The lines below replace this line of the last file, counted from 1.
+    /// The text below replaces this line, counted from 1, of the file that was described last.
     Line,
-    /// The last file ends after this number of bytes.
+    /// The file that was described last is cut after this number of bytes.
     Cut,
-    /// The last file loses its last byte, which is the line feed at its end.
+    /// The file that was described last loses its last byte, the line feed at its end.
     Unended,
     /// A file with this name can be opened, but not read.
     Unreadable,
     /// A call has these words, separated by blanks.
     Words,
-    /// The call has one more word, which may contain blanks.
+    /// The call has this further word, which may contain blanks.
     Word,
-    /// Each write to standard output fails.
+    /// Each write to the call's standard output fails.
     Full,
-    /// Standard output keeps at most this number of bytes of each write, and cannot be flushed.
+    /// The call's standard output takes at most this number of bytes of each write, and cannot be flushed.
     Unflushed,
-    /// The call is made with each beginning of this file except the whole. The same items check each answer.
+    /// The call is repeated for each length that is shorter than this file, with the file cut to this length. The
+    /// expected answer is always the same.
     Beginnings,
-    /// The exit status is this number.
+    /// The call's exit status is this number.
     Status,
-    /// Standard output is the lines below, or the contents of another file.
+    /// The call's standard output is the text below, or the content of another file.
     Out,
-    /// Standard error is the lines below.
+    /// The call's standard error is the text below.
     Err,
-    /// Standard output matches the pattern below.
+    /// The call's standard output matches the pattern below.
     Like,
-    /// Standard error matches the pattern below.
+    /// The call's standard error matches the pattern below.
     Tells,
-    /// The last line of standard output matches this pattern.
+    /// The last line of the call's standard output matches this pattern.
     Last,
-    /// At least one line of standard output matches this pattern.
+    /// At least one line of the call's standard output matches this pattern.
     Has,
-    /// No line of standard output matches this pattern.
+    /// No line of the call's standard output matches this pattern.
     Lacks,
-    /// This number of lines of standard output match this pattern.
+    /// Exactly this number of lines of the call's standard output match this pattern.
     Times,
-    /// The accesses of this round are the lines below, in this order.
+    /// The call's standard output is a chronicle, and its lines of accesses in this round are the text below.
     Accesses,
-    /// Standard output is the JSON Lines of the chronicle in this file.
+    /// The call's standard output is, as JSON Lines, the chronicle in this file.
     Again,
-    /// Standard output is kept as a file with this name.
+    /// The call's standard output is kept as a file with this name, for later calls of the row.
     Keep,
 }
 
-/// The keys, and the words that mean them in a table.
+/// The words that begin the items of a table, with their keys.
 const KEYS: [(&str, ItemKey); 24] = [
     ("row", ItemKey::Row),
     ("file", ItemKey::File),
@@ -83,7 +85,8 @@ const KEYS: [(&str, ItemKey); 24] = [
 ];
 
 impl ItemKey {
-    /// Returns the key for a word, or `None` if there is none.
+    /// Returns the key that a word stands for in a table, such as `ItemKey::Row` for `row`. Returns `None` if it is not
+    /// a key.
     pub fn named(word: &str) -> Option<ItemKey> {
         for (name, key) in &KEYS {
             if *name == word {
@@ -94,12 +97,12 @@ impl ItemKey {
     }
 }
 
-/// An item: a line of the table, and the text below it.
+/// An item of a table of tests: a line that begins with a key, with the text below it.
 #[derive(Drop)]
 pub struct Item {
     /// The key at the beginning of the line.
     pub key: ItemKey,
-    /// The rest of the line after the key.
+    /// The text of the line after its key.
     pub value: String,
     /// The text below the line.
     pub block: Vec<u8>,

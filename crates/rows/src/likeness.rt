@@ -1,14 +1,14 @@
-//! Matches texts against patterns, in which `*` matches any text and `#` matches a number.
+//! Matches texts against patterns. In a pattern `*` matches any text, and `#` matches a decimal number.
 use std::alloc::{AllocError, Global};
 
-/// Checks whether the text matches the pattern.
+/// Checks whether the whole text matches the pattern, in which `*` matches any text and `#` a decimal number.
 pub fn is_like(alloc: Global, pattern: &[u8], text: &[u8]) -> Result<bool, AllocError> {
     let pieces: Vec<&[u8]> = pattern.split(|sign| *sign == b'*').collect(alloc)?;
     Ok(are_found(pieces.as_slice(), text))
 }
 
-/// Checks whether the pieces of a pattern between its stars occur in the text in this order, the first at its beginning
-/// and the last at its end.
+/// Checks whether the text matches a pattern that is given as its pieces between the stars. The pieces must occur in
+/// the text in this order, the first at its beginning and the last at its end.
 fn are_found(pieces: &[&[u8]], text: &[u8]) -> bool {
     match pieces {
         [] => text.is_empty(),
@@ -20,7 +20,8 @@ fn are_found(pieces: &[&[u8]], text: &[u8]) -> bool {
     }
 }
 
-/// Checks whether the pieces `middle` occur in the text in this order, followed by `last` at its end.
+/// Checks whether the pieces of a pattern in `middle` occur in the text in this order, followed by the piece `last` at
+/// its end.
 fn are_behind(middle: &[&[u8]], last: &[u8], text: &[u8]) -> bool {
     let mut rest = text;
     for piece in middle {
@@ -32,7 +33,7 @@ fn are_behind(middle: &[&[u8]], last: &[u8], text: &[u8]) -> bool {
     is_end(last, rest)
 }
 
-/// Returns the text after the first occurrence of this piece.
+/// Returns the text after the first match of this piece of a pattern. Returns `None` if the text has no match.
 fn behind_first<'a>(piece: &[u8], text: &'a [u8]) -> Option<&'a [u8]> {
     for start in 0..=text.len() {
         if let Some(rest) = behind(piece, &text[start..]) {
@@ -42,7 +43,7 @@ fn behind_first<'a>(piece: &[u8], text: &'a [u8]) -> Option<&'a [u8]> {
     None
 }
 
-/// Checks whether the text ends with this piece.
+/// Checks whether the end of the text matches this piece of a pattern.
 fn is_end(piece: &[u8], text: &[u8]) -> bool {
     for start in 0..=text.len() {
         if is_whole(piece, &text[start..]) {
@@ -52,7 +53,7 @@ fn is_end(piece: &[u8], text: &[u8]) -> bool {
     false
 }
 
-/// Checks whether the whole text matches this piece.
+/// Checks whether the whole text matches this piece of a pattern.
 fn is_whole(piece: &[u8], text: &[u8]) -> bool {
     match behind(piece, text) {
         Some(rest) => rest.is_empty(),
@@ -60,7 +61,8 @@ fn is_whole(piece: &[u8], text: &[u8]) -> bool {
     }
 }
 
-/// Returns the rest of a text that begins with this piece, or `None` if it does not.
+/// Returns the text after a match of this piece of a pattern at the beginning. Returns `None` if the text does not
+/// begin with a match.
 fn behind<'a>(piece: &[u8], text: &'a [u8]) -> Option<&'a [u8]> {
     let mut rest = text;
     for sign in piece {
@@ -74,7 +76,7 @@ fn behind<'a>(piece: &[u8], text: &'a [u8]) -> Option<&'a [u8]> {
     Some(rest)
 }
 
-/// Returns the rest of a text that begins with this byte, or `None` if it does not.
+/// Returns the text after its first byte if this is `byte`. Returns `None` if it is another byte or the text is empty.
 fn behind_byte(text: &[u8], byte: u8) -> Option<&[u8]> {
     match text {
         [first, rest @ ..] if *first == byte => Some(rest),
@@ -82,7 +84,7 @@ fn behind_byte(text: &[u8], byte: u8) -> Option<&[u8]> {
     }
 }
 
-/// Returns the rest of a text that begins with a digit, after all digits at its beginning, or `None` if it does not.
+/// Returns the text after the decimal digits with which it begins. Returns `None` if it does not begin with a digit.
 fn behind_number(text: &[u8]) -> Option<&[u8]> {
     match text.iter().position(|byte| !byte.is_ascii_digit()) {
         Some(0) => None,

@@ -1,4 +1,5 @@
-//! Reads the lines of an answer: all lines, the lines that match a pattern, the last line, and the accesses of a round.
+//! Finds lines in an answer: all of them, those that match a pattern, the last one, and the accesses of a round in a
+//! chronicle.
 use crate::likeness::is_like;
 use std::alloc::{AllocError, Global};
 
@@ -15,7 +16,7 @@ pub fn lines(alloc: Global, text: &[u8]) -> Result<Vec<&[u8]>, AllocError> {
     Ok(lines)
 }
 
-/// Counts the lines of a text that match a pattern.
+/// Counts the lines of a text that match the pattern, in which `*` matches any text and `#` a decimal number.
 pub fn number_like(alloc: Global, text: &[u8], pattern: &[u8]) -> Result<usize, AllocError> {
     let mut number = 0usize;
     for line in &lines(alloc, text)? {
@@ -26,7 +27,7 @@ pub fn number_like(alloc: Global, text: &[u8], pattern: &[u8]) -> Result<usize, 
     Ok(number)
 }
 
-/// Returns the last line of a text, or an empty line if the text has none.
+/// Returns the last line of a text without its line feed. Returns an empty line if the text has no lines.
 pub fn last(alloc: Global, text: &[u8]) -> Result<Vec<u8>, AllocError> {
     match lines(alloc, text)?.last() {
         Some(line) => line.to_vec(alloc),
@@ -34,8 +35,7 @@ pub fn last(alloc: Global, text: &[u8]) -> Result<Vec<u8>, AllocError> {
     }
 }
 
-/// Returns the lines of a chronicle that begin with `access `, after the line of the given round and before that of the
-/// next. Rounds are counted from 1.
+/// Returns the lines of accesses in one round of a chronicle, each with a line feed. Rounds are counted from 1.
 pub fn accesses(alloc: Global, text: &[u8], round: usize) -> Result<Vec<u8>, AllocError> {
     let mut accesses = Vec::new(alloc);
     let mut begun = 0usize;

@@ -1,6 +1,6 @@
-//! The program `rows`. It answers the calls in the tables of data/ with the same functions as the program `byzlab`, and
-//! prints which rows have another answer than the table says. `rows NAME..` runs the tables with these names.
-//! docs/TESTING.md describes how a table is written.
+//! The program `rows`, which runs tables of tests: `rows NAME..` runs the tables with these names. A row of a table has
+//! calls of `byzlab` and their expected answers. The program answers the calls with the functions that `byzlab` uses,
+//! and prints which rows have another answer. docs/TESTING.md describes how a table is written.
 #![tactic(auto)]
 
 mod call_answers;

@@ -1,4 +1,4 @@
-//! Compares the answer to a call with what the table says, and finds the first difference.
+//! Compares the answer to a call with the expected answer, and describes the first difference.
 use crate::call_answers::CallOutput;
 use crate::comparison::{ComparisonResult, compare};
 use crate::item::{Item, ItemKey};
@@ -12,8 +12,9 @@ use anyhow::Result;
 use std::alloc::Global;
 use std::rt::Files;
 
-/// Returns the first difference between an answer and what the call's items say, if there is one. Without an item for
-/// it, the status must be 0, and standard output and standard error must be empty.
+/// Returns a description of the first difference between the answer `told` and the answer that the call's items expect.
+/// Returns `None` if there is none. Unless an item says otherwise, the exit status must be 0, and standard output and
+/// standard error must be empty.
 pub fn difference<R: Files + AllocGlobal>(
     rt: &R,
     call: &ProgramCall,
@@ -32,7 +33,7 @@ pub fn difference<R: Files + AllocGlobal>(
     Ok(None)
 }
 
-/// The keys that say something about standard output.
+/// The keys of items that say what standard output must be.
 const OF_OUTPUT: [ItemKey; 9] = [
     ItemKey::Out,
     ItemKey::Like,
@@ -45,7 +46,7 @@ const OF_OUTPUT: [ItemKey; 9] = [
     ItemKey::Keep,
 ];
 
-/// Checks whether the call says something about standard output.
+/// Checks whether an item of the call says what standard output must be.
 fn asks_output(call: &ProgramCall) -> bool {
     for key in OF_OUTPUT {
         if call.has(key) {
@@ -55,7 +56,8 @@ fn asks_output(call: &ProgramCall) -> bool {
     false
 }
 
-/// Returns the first difference in the parts of the answer about which the call says nothing, if there is one.
+/// Checks the exit status, standard error and standard output as far as no item of the call says what they must be. The
+/// status must then be 0, and the outputs empty. Returns a description of the first difference, or `None`.
 fn unasked(alloc: Global, call: &ProgramCall, told: &CallOutput) -> Result<Option<String>> {
     if !call.has(ItemKey::Status) && told.status != 0 {
         return is_status(alloc, 0, told);
@@ -71,7 +73,8 @@ fn unasked(alloc: Global, call: &ProgramCall, told: &CallOutput) -> Result<Optio
     whole(alloc, "standard output", &told.out, &[])
 }
 
-/// Returns the difference between the answer and what the item says, if there is one.
+/// Returns a description of the difference between the answer `told` and the answer that this item expects. Returns
+/// `None` if there is none, or if the item expects nothing of the answer.
 fn asked<R: Files + AllocGlobal>(
     rt: &R,
     item: &Item,
@@ -106,8 +109,8 @@ fn asked<R: Files + AllocGlobal>(
     }
 }
 
-/// Returns the standard output that the item demands. If its value is `= NAME`, this is the contents of that file, and
-/// otherwise the text below the item.
+/// Returns the standard output that an item expects. If the item's value is `= NAME`, this is the content of the file
+/// NAME, and otherwise the text below the item.
 fn expected<R: Files + AllocGlobal>(rt: &R, item: &Item, shelf: &Shelf) -> Result<Vec<u8>> {
     match item.value.as_str().strip_prefix("= ") {
         Some(name) => copied(rt, shelf, name),
@@ -115,7 +118,8 @@ fn expected<R: Files + AllocGlobal>(rt: &R, item: &Item, shelf: &Shelf) -> Resul
     }
 }
 
-/// Returns the difference between the exit status and `status`, if there is one.
+/// Returns a description of the difference if the exit status of the answer `told` is not `status`, and otherwise
+/// `None`.
 fn is_status(alloc: Global, status: usize, told: &CallOutput) -> Result<Option<String>> {
     let got = usize::from(told.status);
     if got == status {
@@ -125,7 +129,8 @@ fn is_status(alloc: Global, status: usize, told: &CallOutput) -> Result<Option<S
     Ok(Some(format!(in alloc; "status {got}, not {status}: {err}")?))
 }
 
-/// Returns the difference between a text and the text that it must be, if there is one.
+/// Returns a description of the first line in which the text `got` differs from `expected`, or `None` if they are
+/// equal. `what` names the text in the description.
 fn whole(alloc: Global, what: &str, got: &Vec<u8>, expected: &[u8]) -> Result<Option<String>> {
     match compare(got.as_slice(), expected) {
         ComparisonResult::AsStored => Ok(None),
@@ -137,7 +142,8 @@ fn whole(alloc: Global, what: &str, got: &Vec<u8>, expected: &[u8]) -> Result<Op
     }
 }
 
-/// Returns the difference between a text and the pattern that it must match, if there is one.
+/// Returns a description of the text `got` if it does not match the pattern, and otherwise `None`. `what` names the
+/// text in the description.
 fn alike(alloc: Global, what: &str, got: &Vec<u8>, pattern: &[u8]) -> Result<Option<String>> {
     if is_like(alloc, pattern, got.as_slice())? {
         return Ok(None);
@@ -146,8 +152,8 @@ fn alike(alloc: Global, what: &str, got: &Vec<u8>, pattern: &[u8]) -> Result<Opt
     Ok(Some(format!(in alloc; "{what} is otherwise: {got}")?))
 }
 
-/// Returns the difference between the number of lines that match the item's pattern and the number that the item
-/// demands, if there is one.
+/// Counts the lines of standard output that match the item's pattern. Returns a description of the difference if the
+/// item expects another number, and otherwise `None`.
 fn counted(alloc: Global, item: &Item, told: &CallOutput) -> Result<Option<String>> {
     let value = item.value.as_str();
     let (times, pattern) = match item.key {

@@ -1,14 +1,14 @@
-//! Reads a table into rows.
+//! Reads a table of tests into its rows.
 use crate::item::{Item, ItemKey};
 use crate::row::WorkedRow;
 use anyhow::{Result, bail};
 use std::alloc::Global;
 
-/// Reads the text of a table into its rows.
+/// Reads the text of a table of tests into its rows.
 ///
 /// # Errors
 ///
-/// Fails with the number of the first line that is not understood.
+/// Fails with the number of the first line that is not a line of a table.
 pub fn rows(alloc: Global, text: &str) -> Result<Vec<WorkedRow>> {
     let mut rows = Vec::new(alloc);
     let mut number = 0usize;
@@ -21,7 +21,7 @@ pub fn rows(alloc: Global, text: &str) -> Result<Vec<WorkedRow>> {
     Ok(rows)
 }
 
-/// Reads a line into the rows, and returns whether it is understood.
+/// Reads a line of a table, and adds it to the rows. Returns `false` if it is not a line of a table.
 fn is_taken(alloc: Global, rows: &mut Vec<WorkedRow>, line: &str) -> Result<bool> {
     if line.is_empty() || line.starts_with('#') {
         return Ok(true);
@@ -45,7 +45,8 @@ fn is_taken(alloc: Global, rows: &mut Vec<WorkedRow>, line: &str) -> Result<bool
     }
 }
 
-/// Returns how often a line of text is repeated: the number before its bar, or once if there is nothing before the bar.
+/// Returns how often a line of text is repeated. `before` is what precedes its bar: a number, or nothing for a line
+/// that is not repeated. Returns `None` for any other text.
 fn number_of_times(before: &str) -> Option<usize> {
     if before.is_empty() {
         return Some(1);
@@ -53,7 +54,7 @@ fn number_of_times(before: &str) -> Option<usize> {
     before.parse::<usize>().ok()
 }
 
-/// Appends a line of text `times` times to the last item, and returns whether there is such an item.
+/// Appends a line to the text below the last item, `times` times. Returns `false` if there is no item yet.
 fn is_added(rows: &mut Vec<WorkedRow>, times: usize, text: &str) -> Result<bool> {
     let Some(row) = rows.last_mut() else {
         return Ok(false);
@@ -72,7 +73,7 @@ fn is_added(rows: &mut Vec<WorkedRow>, times: usize, text: &str) -> Result<bool>
     Ok(true)
 }
 
-/// Adds an item to the last row, and returns whether there is such a row.
+/// Adds an item with this key and value to the last row. Returns `false` if there is no row yet.
 fn is_begun(alloc: Global, rows: &mut Vec<WorkedRow>, key: ItemKey, value: &str) -> Result<bool> {
     let Some(row) = rows.last_mut() else {
         return Ok(false);

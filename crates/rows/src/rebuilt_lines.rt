@@ -1,13 +1,13 @@
-//! Converts the JSON Lines of a chronicle back to its text.
+//! Turns a chronicle in JSON Lines back into its text.
 use anyhow::{Result, bail};
 use serde_json::{Map, Value};
 use std::alloc::{AllocError, Global};
 
-/// Returns the text of the chronicle that is given as JSON Lines.
+/// Turns a chronicle in JSON Lines back into its text.
 ///
 /// # Errors
 ///
-/// Fails if a line is not an object, or not the object of a chronicle's line.
+/// Fails if the bytes are not UTF-8, or if a line is not a JSON object for a line of a chronicle.
 pub fn again(alloc: Global, lines: &[u8]) -> Result<Vec<u8>> {
     let Ok(lines) = str::from_utf8(lines) else {
         bail!("no text");
@@ -23,7 +23,7 @@ pub fn again(alloc: Global, lines: &[u8]) -> Result<Vec<u8>> {
     Ok(out.into_bytes())
 }
 
-/// Appends the line that an object describes.
+/// Appends the line of a chronicle that a JSON object describes.
 fn put_line(alloc: Global, out: &mut String, object: &Map<String, Value>) -> Result<()> {
     let mut front = "";
     for word in words(object)?.split(' ') {
@@ -40,8 +40,9 @@ fn put_line(alloc: Global, out: &mut String, object: &Map<String, Value>) -> Res
     Ok(())
 }
 
-/// Returns the words of the line that an object describes. `$NAME` is replaced by a member, `$NAME..` by the members of
-/// a list, and `$NAME.` by these, joined by dots.
+/// Returns a template for the line of a chronicle that a JSON object describes, such as `round $round`. `$NAME` means
+/// the value of the member NAME, `$NAME..` the items of a list, separated by spaces, and `$NAME.` the items separated
+/// by dots.
 fn words(object: &Map<String, Value>) -> Result<&'static str> {
     let Some(line) = object.get("line").and_then(Value::as_str) else {
         bail!("an object that does not say what it is");
@@ -62,7 +63,8 @@ fn words(object: &Map<String, Value>) -> Result<&'static str> {
     }
 }
 
-/// Returns the words of a campaign's line.
+/// Returns a template for the line that describes a campaign, as `words` does. It depends on whether the campaign is
+/// signed and names its rule.
 fn campaign(object: &Map<String, Value>) -> &'static str {
     if object.contains_key("messages") {
         "signed generals $generals bound $bound commander $commander order $order patience $patience"
@@ -73,7 +75,7 @@ fn campaign(object: &Map<String, Value>) -> &'static str {
     }
 }
 
-/// Returns the words of an access's line.
+/// Returns a template for the line of an access, as `words` does. It depends on which operands the request has.
 fn access(object: &Map<String, Value>) -> &'static str {
     if object.contains_key("expected") {
         "access $general $request $slot $expected $new = $answer.."
@@ -120,7 +122,7 @@ fn put_member(
     Ok(())
 }
 
-/// Appends the word of a value.
+/// Appends a JSON value as a word of a chronicle: `-` for null, and `yes` or `no` for a Boolean.
 fn put_value(alloc: Global, out: &mut String, value: &Value) -> Result<(), AllocError> {
     match value {
         Value::Null => out.push_str("-"),

@@ -1,4 +1,4 @@
-//! Runs a table and prints which of its rows have another answer than the table says.
+//! Runs a table of tests, and prints which of its rows have another answer than expected.
 use crate::call_answers::answered;
 use crate::item::ItemKey;
 use crate::questions::difference;
@@ -13,8 +13,8 @@ use std::rt::Files;
 use std::sync::Wait;
 use std::thread::Threads;
 
-/// Makes the calls of all rows of a table. Prints each row whose answer differs, with its first difference, and then
-/// the number of rows and of wrong rows.
+/// Makes the calls of all rows of a table. Prints each row with a wrong answer, with the first difference, and then how
+/// many rows there are and how many are wrong.
 pub fn report<R: Print + Files + Threads + Wait + Sync + AllocGlobal>(
     rt: &R,
     table: &str,
@@ -36,7 +36,8 @@ pub fn report<R: Print + Files + Threads + Wait + Sync + AllocGlobal>(
     Ok(())
 }
 
-/// Makes a row's calls in turn, and returns the first difference in their answers, if there is one.
+/// Makes the calls of a row in turn. Returns a description of the first difference from the expected answers, or `None`
+/// if there is none.
 fn differing<R: Files + Threads + Wait + Sync + AllocGlobal>(
     rt: &R,
     row: &WorkedRow,
@@ -54,7 +55,8 @@ fn differing<R: Files + Threads + Wait + Sync + AllocGlobal>(
     Ok(None)
 }
 
-/// Makes a call, and returns the first difference in its answer, if there is one.
+/// Makes a call. Returns a description of the first difference between its answer and the expected one, or `None` if
+/// there is none.
 fn called<R: Files + Threads + Wait + Sync + AllocGlobal>(
     rt: &R,
     call: &ProgramCall,
@@ -81,7 +83,7 @@ fn called<R: Files + Threads + Wait + Sync + AllocGlobal>(
     Ok(difference)
 }
 
-/// Returns the output to which the call's standard output is written.
+/// Returns the standard output for a call: one that keeps what is written, or one that fails, as the call's items say.
 fn output(alloc: Global, call: &ProgramCall) -> Result<AnswerOutput> {
     let bytes = Vec::new(alloc);
     match call.value(ItemKey::Unflushed) {
@@ -94,7 +96,8 @@ fn output(alloc: Global, call: &ProgramCall) -> Result<AnswerOutput> {
     }
 }
 
-/// Makes the call with each beginning of the file except the whole, and returns the first difference in the answers.
+/// Makes the call once for each length that is shorter than the file `name`, with the file cut to this length. Returns
+/// a description of the first difference from the expected answer, or `None` if there is none.
 fn beginnings<R: Files + Threads + Wait + Sync + AllocGlobal>(
     rt: &R,
     call: &ProgramCall,

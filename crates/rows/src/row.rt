@@ -1,26 +1,26 @@
-//! A row of a table: its files, and the calls that are made with them.
+//! A row of a table of tests: its files, and the calls of `byzlab` that are made with them.
 use crate::item::{Item, ItemKey};
 use std::alloc::{AllocError, Global};
 
-/// A row of a table.
+/// A row of a table of tests: files, and calls of `byzlab` that are made with them.
 #[derive(Drop)]
 pub struct WorkedRow {
     /// What the row shows, in words.
     pub name: String,
-    /// The items that describe the row's files.
+    /// The items that describe the row's files, before its first call.
     pub files: Vec<Item>,
     /// The row's calls, in the order in which they are made.
     pub calls: Vec<ProgramCall>,
 }
 
-/// A call: its words, how it is made, and what its answer must be.
+/// A call of `byzlab` in a row, as a list of items: its words, how it is made, and what its answer must be.
 #[derive(Drop)]
 pub struct ProgramCall {
     pub items: Vec<Item>,
 }
 
 impl WorkedRow {
-    /// Creates a row with this name, without files and calls.
+    /// Creates a row with this name, which has no files and no calls yet.
     pub fn named(alloc: Global, name: &str) -> Result<WorkedRow, AllocError> {
         Ok(WorkedRow {
             name: String::from_str(alloc, name)?,
@@ -29,8 +29,8 @@ impl WorkedRow {
         })
     }
 
-    /// Adds an item to the row. An item with words begins a call. Any other item belongs to the last call, or to the
-    /// files if there is no call yet.
+    /// Adds an item to the row. An item with the key `words` begins a new call. Any other item belongs to the call
+    /// before it or, if there is none, to the files.
     pub fn take_in(&mut self, alloc: Global, item: Item) -> Result<(), AllocError> {
         if item.key == ItemKey::Words {
             let mut items = Vec::new(alloc);
@@ -45,7 +45,7 @@ impl WorkedRow {
         Ok(())
     }
 
-    /// Returns the last item of the row.
+    /// Returns the item that was added last, or `None` if the row has no items.
     pub fn last_item(&mut self) -> Option<&mut Item> {
         match self.calls.last_mut() {
             Some(call) => call.items.last_mut(),

@@ -1,4 +1,4 @@
-//! Makes the files of a row and puts them on its shelf.
+//! Makes the files that the items of a row describe, and keeps them in memory on a shelf.
 use crate::item::{Item, ItemKey};
 use crate::shelf::{FileContent, Shelf};
 use anyhow::{Result, bail};
@@ -6,7 +6,7 @@ use std::alloc::Global;
 use std::fs;
 use std::rt::Files;
 
-/// Makes the files that these items describe.
+/// Makes the files that these items describe, and keeps them in memory on a shelf.
 ///
 /// # Errors
 ///
@@ -19,7 +19,7 @@ pub fn shelf<R: Files + AllocGlobal>(rt: &R, items: &[Item]) -> Result<Shelf> {
     Ok(shelf)
 }
 
-/// Creates a file or changes the last one, as the item says.
+/// Puts the file that an item describes on the shelf, or changes the file that was put there last.
 fn shelve<R: Files + AllocGlobal>(rt: &R, shelf: &mut Shelf, item: &Item) -> Result<()> {
     let alloc = rt.alloc();
     let value = item.value.as_str();
@@ -39,8 +39,8 @@ fn shelve<R: Files + AllocGlobal>(rt: &R, shelf: &mut Shelf, item: &Item) -> Res
     }
 }
 
-/// Creates a file. If the value is `NAME = OTHER`, the file NAME is a copy of the file OTHER. Otherwise its contents
-/// are `block`.
+/// Puts a new file on the shelf. If `value` is `NAME = OTHER`, the new file NAME is a copy of the file OTHER. Otherwise
+/// `value` is the name of the new file, and `block` its content.
 fn put<R: Files + AllocGlobal>(rt: &R, shelf: &mut Shelf, value: &str, block: &[u8]) -> Result<()> {
     let alloc = rt.alloc();
     let (name, bytes) = match value.split_once(" = ") {
@@ -51,7 +51,7 @@ fn put<R: Files + AllocGlobal>(rt: &R, shelf: &mut Shelf, value: &str, block: &[
     Ok(())
 }
 
-/// Returns the bytes of the row's file with this name, or of the file in data/ if the row has none.
+/// Returns the bytes of the file with this name: from the shelf or, if it has no such file, from the folder data/.
 pub fn copied<R: Files + AllocGlobal>(rt: &R, shelf: &Shelf, name: &str) -> Result<Vec<u8>> {
     match shelf.bytes(name) {
         Some(bytes) => Ok(bytes.to_vec(rt.alloc())?),
@@ -59,7 +59,8 @@ pub fn copied<R: Files + AllocGlobal>(rt: &R, shelf: &Shelf, name: &str) -> Resu
     }
 }
 
-/// Changes the contents of a file as the item says.
+/// Changes the content of a file as an item says: appends bytes, replaces a line, cuts the file, or removes its last
+/// byte.
 fn change(alloc: Global, bytes: &mut Vec<u8>, item: &Item) -> Result<()> {
     let value = item.value.as_str();
     match item.key {
@@ -83,7 +84,7 @@ fn change(alloc: Global, bytes: &mut Vec<u8>, item: &Item) -> Result<()> {
     Ok(())
 }
 
-/// Parses a decimal number. Fails if `word` is not one, or if it does not fit into `usize`.
+/// Parses a decimal number. Fails if `word` is not one, or if the number does not fit into `usize`.
 pub fn number(word: &str) -> Result<usize> {
     match word.parse::<usize>() {
         Ok(number) => Ok(number),
@@ -91,7 +92,7 @@ pub fn number(word: &str) -> Result<usize> {
     }
 }
 
-/// Returns the text with `lines` in place of line `number`, counted from 1.
+/// Returns a text in which `lines` replace line `number`. Lines are counted from 1.
 fn with_line(alloc: Global, text: &[u8], number: usize, lines: &[u8]) -> Result<Vec<u8>> {
     let mut changed = Vec::new(alloc);
     let mut line = 1usize;

@@ -1,27 +1,27 @@
-//! The files of a row, which are kept in memory, and the outputs to which an answer is written.
+//! A shelf: the files of a row, which are kept in memory. Also the outputs to which an answer is written.
 ghost use Rattle.std.specs.Prelude.{◌≤◌, IfOk, length};
 
 use cli_tasks::Folder;
 use std::alloc::{AllocError, Global};
 use std::io::{self, ErrorKind, Read, Write};
 
-/// The contents of a file.
+/// The content of a file on the shelf.
 #[derive(Drop)]
 pub enum FileContent {
-    /// The file has these bytes.
+    /// A file with these bytes.
     Bytes(Vec<u8>),
-    /// The file can be opened, but not read.
+    /// A file that can be opened, but not read.
     Unreadable,
 }
 
-/// A file and its name.
+/// A file on the shelf, with its name.
 #[derive(Drop)]
 struct Named {
     name: String,
     content: FileContent,
 }
 
-/// The files of a row by their names.
+/// The files of a row, which are kept in memory and found by their names.
 #[derive(Drop)]
 pub struct Shelf {
     files: Vec<Named>,
@@ -35,7 +35,7 @@ impl Shelf {
         }
     }
 
-    /// Adds a file, which hides any older file with the same name.
+    /// Puts a file on the shelf. It hides any older file with the same name.
     pub fn put(
         &mut self,
         alloc: Global,
@@ -47,7 +47,7 @@ impl Shelf {
         Ok(())
     }
 
-    /// Returns the contents of the file with this name that was added last.
+    /// Returns the content of the newest file with this name, or `None` if there is no such file.
     pub fn find(&self, name: &str) -> Option<&FileContent> {
         for file in self.files.iter().rev() {
             if file.name.as_str() == name {
@@ -57,7 +57,8 @@ impl Shelf {
         None
     }
 
-    /// Returns the bytes of the file with this name, or `None` if there is no such file or it cannot be read.
+    /// Returns the bytes of the newest file with this name. Returns `None` if there is no such file, or if it cannot be
+    /// read.
     pub fn bytes(&self, name: &str) -> Option<&[u8]> {
         match self.find(name) {
             Some(FileContent::Bytes(bytes)) => Some(bytes.as_slice()),
@@ -65,7 +66,8 @@ impl Shelf {
         }
     }
 
-    /// Returns the bytes of the file that was added last, or `None` if there is none or it cannot be read.
+    /// Returns the bytes of the file that was put on the shelf last. Returns `None` if the shelf is empty, or if this
+    /// file cannot be read.
     pub fn last(&mut self) -> Option<&mut Vec<u8>> {
         match self.files.last_mut() {
             Some(
@@ -78,7 +80,7 @@ impl Shelf {
         }
     }
 
-    /// Removes the file that was added last.
+    /// Removes the file that was put on the shelf last.
     pub fn drop_last(&mut self) {
         let _ = self.files.pop();
     }
@@ -96,17 +98,17 @@ impl Folder for Shelf {
     }
 }
 
-/// A file that is open for reading.
+/// A file on the shelf that is open for reading.
 #[derive(Clone, Copy, Drop)]
 pub enum FileInput<'a> {
-    /// Reads return these bytes.
+    /// A reader of these bytes.
     Bytes(&'a [u8]),
-    /// Each read fails.
+    /// A reader that fails in each read.
     Unreadable,
 }
 
 impl FileContent {
-    /// Returns a reader of the contents.
+    /// Opens the file for reading.
     pub fn input(&self) -> FileInput<'_> {
         match self {
             FileContent::Bytes(bytes) => FileInput::Bytes(bytes.as_slice()),
@@ -124,18 +126,18 @@ impl Read for FileInput<'_> {
     }
 }
 
-/// An output to which an answer is written.
+/// A standard output for a call, which keeps what is written or fails.
 #[derive(Drop)]
 pub enum AnswerOutput {
-    /// The output keeps what is written.
+    /// An output that keeps everything that is written.
     Kept(Vec<u8>),
-    /// Each write and each flush fails.
+    /// An output in which each write and each flush fails.
     Full,
-    /// The output keeps at most `most` bytes of each write, and each flush fails.
+    /// An output that keeps at most `most` bytes of each write, and in which each flush fails.
     Unflushed { most: usize, bytes: Vec<u8> },
 }
 
-/// Appends the first bytes to `taken`, at most `most` of them, and returns how many it appended.
+/// Appends at most the first `most` of `bytes` to `taken`. Returns how many bytes it appended.
 fn take(taken: &mut Vec<u8>, bytes: &[u8], most: usize) -> Result<usize, AllocError>
     ensures { IfOk result (λ n. n ≤ length bytes.now) }
 {
@@ -149,7 +151,7 @@ fn take(taken: &mut Vec<u8>, bytes: &[u8], most: usize) -> Result<usize, AllocEr
 }
 
 impl AnswerOutput {
-    /// Returns the bytes that were written.
+    /// Returns the bytes that were written to the output.
     pub fn into_bytes(self, alloc: Global) -> Vec<u8> {
         match self {
             AnswerOutput::Kept(bytes) => bytes,
