@@ -85,8 +85,8 @@ const KEYS: [(&str, ItemKey); 24] = [
 ];
 
 impl ItemKey {
-    /// Returns the key that a word stands for in a table, such as `ItemKey::Row` for `row`. Returns `None` if it is not
-    /// a key.
+    /// Returns the key that a word means in a table, such as `ItemKey::Row` for `row`. Returns `None` if it is not a
+    /// key.
     pub fn named(word: &str) -> Option<ItemKey> {
         for (name, key) in &KEYS {
             if *name == word {

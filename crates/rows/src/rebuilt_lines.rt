@@ -93,7 +93,8 @@ fn holds(object: &Map<String, Value>, name: &str) -> bool {
     object.get(name).and_then(Value::as_bool).unwrap_or(false)
 }
 
-/// Appends the words of a member.
+/// Appends the value of the member `name` of an object, after `front`. For a list these are its items, separated by
+/// spaces if `name` ends with `..`, and otherwise by dots.
 fn put_member(
     alloc: Global,
     out: &mut String,
