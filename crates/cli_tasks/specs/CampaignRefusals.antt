@@ -1,4 +1,4 @@
--- Defines why listed accesses cannot happen in a campaign, and why threads gave no chronicle.
+-- Defines why listed accesses cannot happen in a campaign, and why a run with threads made no chronicle.
 use Rattle.std.specs.Prelude.{ℕ, ◌≢◌, List}
 use Rattle.campaign_schedules.specs.Arranged.{IsUnarranged}
 use Rattle.round.specs.Scenario.{Scenario as OralScenario}
@@ -8,14 +8,14 @@ use Rattle.cli_tasks.specs.declared.refusal.InputRefusal.{InputRefusal}
 use Rattle.cli_tasks.specs.declared.refusal.InputRefusal.TheVariants.{Threads, Accesses, Memory}
 use Rattle.cli_tasks.specs.Refusals.{RefusesScenario}
 
--- States why a task rejects a text or the accesses in `list`: the text is not an oral campaign, or the accesses cannot
--- happen in it by this first fault.
+-- States why `schedule` rejects a campaign with the accesses in `list`: the text is not an oral campaign, the list or
+-- one of its accesses has this first fault, or memory ran out.
 abbrev pub RefusesListed : List ℕ → List ℕ → InputRefusal → Type 0
 RefusesListed list text (Accesses fault) = (s : OralScenario) × Tells text s × IsUnarranged s list fault
 RefusesListed list text refusal = RefusesScenario text refusal
 
--- States that the threads gave no chronicle, or that memory ran out. It does not say which error of the threads
--- occurred.
+-- States that a run with threads made no chronicle, or that memory ran out. Which error of the threads occurred is not
+-- stated.
 abbrev pub RefusesMuster : InputRefusal → Type 0
 RefusesMuster (Threads error) = error ≢ muster.Memory
 RefusesMuster Memory = Unit {0}

@@ -1,4 +1,4 @@
--- Defines what `play`, `muster` and `audit` print of a campaign.
+-- Defines what `play`, `muster` and `audit` print about a campaign.
 use Rattle.std.specs.Prelude.{ℕ, suc, ◌≡◌, List, [], ◌∷◌, ◌++◌, Option, None, Some}
 use Rattle.cli_words.specs.declared.tasks.Account.{Account}
 use Rattle.cli_words.specs.declared.tasks.Account.TheVariants as accounts
@@ -28,32 +28,32 @@ use Rattle.cli_tasks.specs.AuditLines.{sound_lines}
 use Rattle.cli_tasks.specs.Promises.{IsCompleteRun}
 use Rattle.cli_tasks.specs.Schedules.{played, signed_played}
 
--- States that the text gives this account of an oral campaign: its chronicle, or the message table of its letters,
--- whose decisions are those of the chronicle.
+-- States that `text` is the chronicle of an oral campaign or, if `Table` is asked for, the message table that its
+-- letters give. By this table the lieutenants decide as in the chronicle.
 abbrev pub IsAccount : Account → Chronicle → List ℕ → Type 0
 IsAccount accounts.Chronicle c text = text ≡ chronicle_text c
 IsAccount accounts.Table c text = IsRetold c text
 
--- Returns the general whose decision is asked for, or `None` if the decisions of all are asked for.
+-- Returns the number of the lieutenant whose decision is explained, or `None` if the decisions of all lieutenants are.
 abbrev pub asked : Lieutenants → Option ℕ
 asked lieutenants.All = None
 asked (lieutenants.One g) = Some g
 
--- States what follows the text of an oral campaign: nothing or, if it is asked for, an empty line and the explanation
--- of the decisions.
+-- States that `behind` is an empty line and the explanation of the decisions in an oral campaign. It is empty if no
+-- explanation is asked for.
 abbrev pub IsBehind : Option Lieutenants → Chronicle → List ℕ → Type 0
 IsBehind None c behind = behind ≡ []
 IsBehind (Some who) c behind = (lines : List ℕ) × (behind ≡ 10 ∷ lines) × Explains c (asked who) lines
 
--- States that the text is `front`, followed by the explanation of the decisions in an oral campaign, if it is asked
--- for.
+-- States that `text` is `front`, followed by an empty line and the explanation of the decisions in an oral campaign, if
+-- one is asked for.
 abbrev pub IsFollowed : Option Lieutenants → Chronicle → List ℕ → List ℕ → Type 0
 IsFollowed explained c front text = (behind : List ℕ) × (text ≡ front ++ behind) × IsBehind explained c behind
 
--- States that the text gives this account of the oral campaign played by the schedule, followed by the explanation, if
--- it is asked for. The run is complete, no activation in it traps or takes more steps than its program has
--- instructions, and its letters are whole. The decisions agree under the bound, and the verdict describes them
--- correctly.
+-- States that `text` is the chronicle or the message table of the oral campaign when it is played by the schedule. The
+-- explanation of the decisions follows if it is asked for. The run is complete, no activation in it traps or takes more
+-- steps than its program has instructions, and each letter is complete. If the bound holds, the decisions agree. The
+-- verdict describes them correctly.
 pub record IsOralPlayed (s : Scenario) (schedule : List (List Repeat)) (account : Account)
     (explained : Option Lieutenants) (text : List ℕ) : Type 0 where
   pub front : List ℕ
@@ -64,16 +64,16 @@ pub record IsOralPlayed (s : Scenario) (schedule : List (List Repeat)) (account 
   pub verdict : IsVerdictOn s (played s schedule).decisions (played s schedule).verdict
   pub well : IsWellUnderBound (played s schedule).verdict
 
--- Returns what follows the text of a signed campaign: nothing or, if it is asked for, an empty line and the explanation
--- of the decisions.
+-- Returns an empty line and the explanation of the decisions in a signed campaign. Returns no text if no explanation is
+-- asked for.
 abbrev pub signed_behind : Option Lieutenants → Chronicle → List ℕ
 signed_behind None c = []
 signed_behind (Some who) c = 10 ∷ signed_explained c (asked who)
 
--- States that the text is the chronicle of the signed campaign played by the schedule, followed by the explanation, if
--- it is asked for. The run is complete, no activation in it traps or takes more steps than its program has
--- instructions, and its letters are whole. The decisions agree if there are at most m traitors among n generals, with n
--- at least m + 2, and the verdict describes them correctly.
+-- States that `text` is the chronicle of the signed campaign when it is played by the schedule. The explanation of the
+-- decisions follows if it is asked for. The run is complete, no activation in it traps or takes more steps than its
+-- program has instructions, and each letter is complete. The decisions agree if there are at most m traitors among n
+-- generals, with n at least m + 2. The verdict describes them correctly.
 pub record IsSignedPlayed (s : Scenario) (schedule : List (List Repeat)) (explained : Option Lieutenants)
     (text : List ℕ) : Type 0 where
   pub told : text ≡ signed_text (signed_played s schedule) ++ signed_behind explained (signed_played s schedule)
@@ -82,15 +82,15 @@ pub record IsSignedPlayed (s : Scenario) (schedule : List (List Repeat)) (explai
   pub verdict : IsSignedVerdictOn s (signed_played s schedule).decisions (signed_played s schedule).verdict
   pub well : IsWellUnderBound (signed_played s schedule).verdict
 
--- States that the text is that of the campaign played by the schedule, as an account of an oral campaign or as the
--- chronicle of a signed one.
+-- States that `text` is what `play` prints about the campaign when it is played by the schedule.
 abbrev pub IsPlayed : Campaign → List (List Repeat) → Account → Option Lieutenants → List ℕ → Type 0
 IsPlayed (Oral s) schedule account explained text = IsOralPlayed s schedule account explained text
 IsPlayed (Signed s) schedule account explained text = IsSignedPlayed s schedule explained text
 
--- States that the text is the chronicle of a complete run, followed by the explanation, if it is asked for. The run is
--- the replay of its own accesses, no activation in it traps or takes more steps than its program has instructions, and
--- its letters are whole. The decisions agree under the bound, and the verdict describes them correctly.
+-- States that `text` is the chronicle of a complete run of an oral campaign with threads. The explanation of the
+-- decisions follows if it is asked for. The run is the replay of its own accesses, no activation in it traps or takes
+-- more steps than its program has instructions, and each letter is complete. If the bound holds, the decisions agree.
+-- The verdict describes them correctly.
 pub record IsMustered (s : Scenario) (explained : Option Lieutenants) (text : List ℕ) : Type 0 where
   pub chronicle : Chronicle
   pub told : IsFollowed explained chronicle (chronicle_text chronicle) text
@@ -100,23 +100,22 @@ pub record IsMustered (s : Scenario) (explained : Option Lieutenants) (text : Li
   pub verdict : IsVerdictOn s chronicle.decisions chronicle.verdict
   pub well : IsWellUnderBound chronicle.verdict
 
--- States that the bytes are the text of a chronicle of the oral campaign. The lines say so, give the verdict of its
--- replay, which is a complete run, and then the explanation, if it is asked for.
+-- States that `bytes` are the chronicle of a complete run of the oral campaign, the replay of the accesses in it.
+-- `text` says that they are sound, and gives the verdict. The explanation of the decisions follows if it is asked for.
 pub record IsOralAudited (s : Scenario) (explained : Option Lieutenants) (bytes text : List ℕ) : Type 0 where
   pub sound : IsSoundText s bytes
   pub run : IsCompleteRun oral_kind s (replayed oral_kind s (names_of bytes)) (chronicle_told s bytes)
   pub told : IsFollowed explained (chronicle_told s bytes) (sound_lines (chronicle_told s bytes).verdict) text
 
--- States that the bytes are the text of a chronicle of the signed campaign. The lines say so, give the verdict of its
--- replay, which is a complete run, and then the explanation, if it is asked for.
+-- States that `bytes` are the chronicle of a complete run of the signed campaign, the replay of the accesses in it.
+-- `text` says that they are sound, and gives the verdict. The explanation of the decisions follows if it is asked for.
 pub record IsSignedAudited (s : Scenario) (explained : Option Lieutenants) (bytes text : List ℕ) : Type 0 where
   pub sound : IsSoundSignedText s bytes
   pub run : IsCompleteRun signed_kind s (replayed signed_kind s (names_of bytes)) (signed_chronicle_told s bytes)
   pub told : text ≡ sound_lines (signed_chronicle_told s bytes).verdict
       ++ signed_behind explained (signed_chronicle_told s bytes)
 
--- States that the bytes are the text of a chronicle of the campaign. The lines say so, give the verdict of its replay,
--- and then the explanation, if it is asked for.
+-- States that `bytes` are the text of a chronicle of the campaign, and that `text` is what `audit` prints about it.
 abbrev pub IsAudited : Campaign → Option Lieutenants → List ℕ → List ℕ → Type 0
 IsAudited (Oral s) explained bytes text = IsOralAudited s explained bytes text
 IsAudited (Signed s) explained bytes text = IsSignedAudited s explained bytes text

@@ -1,5 +1,5 @@
--- Defines the text of a refusal: the code and the place of its fault. An unknown key is shown without control
--- characters.
+-- Defines the text of a refusal, the reason why a task rejects its input: the code of the fault and where it is. An
+-- unknown key is shown without control characters.
 use Rattle.std.specs.Prelude.{ℕ, List, ◌++◌, codes, decimal}
 use Rattle.asm.specs.ErrorText as asm
 use Rattle.book.specs.ErrorText as book
@@ -13,7 +13,7 @@ use Rattle.cli_report.specs.ShownErrors.{scenario_text, setting_text}
 use Rattle.cli_tasks.specs.declared.refusal.InputRefusal.{InputRefusal}
 use Rattle.cli_tasks.specs.declared.refusal.InputRefusal.TheVariants.{Codec, Object, Verifier, Assembly, Table, Scenario, Setting, Trace, Threads, Accesses, Tolerated, Stranger, NotText, Memory}
 
--- Returns the text of a refusal.
+-- Returns the text of a refusal: the code of the fault and, as far as there is one, where the fault is.
 abbrev pub refusal_text : InputRefusal → List ℕ
 refusal_text (Codec error) = codec.told error
 refusal_text (Object fault) = elf.told fault

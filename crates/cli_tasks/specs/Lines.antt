@@ -1,4 +1,4 @@
--- Defines the lines that `check` and `asm` print of a program.
+-- Defines the lines that `check` and `asm` print about a program.
 use Rattle.std.specs.Prelude.{ℕ, List, ◌++◌, codes}
 use Rattle.hex.specs.Hex.{encode_lower}
 use Rattle.insn.specs.declared.insn.Insn.{Insn}
@@ -6,10 +6,10 @@ use Rattle.codec.specs.Spelling.{program_bytes}
 use Rattle.trial.specs.Lines.{first_lines}
 use Rattle.cli_tasks.specs.declared.program_check.Checked.{Checked}
 
--- Returns the lines that `check` prints of an accepted program's run.
+-- Returns the lines that `check` prints about an accepted program: its size, and the result of its run.
 abbrev pub checked_lines : Checked → List ℕ
 checked_lines checked = first_lines checked.instructions checked.units checked.r0 checked.steps
 
--- Returns a line with a program's bytecode in lower-case hex.
+-- Returns a program's bytecode as one line of lower-case hexadecimal digits.
 abbrev pub hex_line : List Insn → List ℕ
 hex_line program = encode_lower (program_bytes program) ++ codes "\n"

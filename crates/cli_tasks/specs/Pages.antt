@@ -1,4 +1,4 @@
--- Defines what `page` prints of a campaign: an HTML page.
+-- Defines what `page` prints: an HTML page about a campaign.
 use Rattle.std.specs.Prelude.{ℕ, ◌≡◌, ◌≤◌, List, length, Option, None, Some, Ok}
 use Rattle.book.specs.Grammar.{table_told}
 use Rattle.book.specs.Table.{MessageTable}
@@ -19,22 +19,22 @@ use Rattle.cli_tasks.specs.Diagrams.{BlamesSignedTraitors}
 use Rattle.cli_tasks.specs.Promises.{KeepsPromises, KeepsSignedPromises}
 
 -- States that the page shows the chronicle of an oral campaign, the message table that its letters give, the scenario's
--- text, and the schedule, if there is one. The page is not longer than a page may be. In its picture every stroke of a
--- loyal general is drawn as that of an honest relay.
+-- text, and the schedule, if there is one. The page is not longer than `longest_page` bytes. Its picture draws every
+-- message of a loyal general as one that follows the protocol.
 abbrev pub IsPage : List ℕ → Option (List (List Repeat)) → Chronicle → List ℕ → Type 0
 IsPage text schedule c page =
     (table : MessageTable) × (table_told (table_of c) ≡ Ok table) × BlamesTraitors c.scenario table
     × (page ≡ page_text text schedule table c) × (length page ≤ longest_page)
 
 -- States that the page shows the chronicle of a signed campaign, the scenario's text, and the schedule, if there is
--- one. The page is not longer than a page may be. In its picture every stroke of a loyal general is drawn as that of an
--- honest relay.
+-- one. The page is not longer than `longest_page` bytes. Its picture draws every message of a loyal general as one that
+-- follows the protocol.
 abbrev pub IsSignedPage : List ℕ → Option (List (List Repeat)) → Chronicle → List ℕ → Type 0
 IsSignedPage text schedule c page =
     BlamesSignedTraitors c × (page ≡ signed_page_text text schedule c) × (length page ≤ longest_page)
 
--- States that the page shows the scenario's text and the chronicle of the campaign played by the schedule, and that
--- this chronicle keeps what is promised.
+-- States that the page shows the scenario's text, and the chronicle of the campaign when it is played by the schedule.
+-- The decisions in this chronicle agree as the theorems promise, and its verdict is correct.
 abbrev pub IsCampaignPaged : Campaign → List ℕ → List (List Repeat) → List ℕ → Type 0
 IsCampaignPaged (Oral s) text schedule page =
     IsPage text (Some schedule) (played s schedule) page × KeepsPromises s (played s schedule)
@@ -42,8 +42,8 @@ IsCampaignPaged (Signed s) text schedule page =
     IsSignedPage text (Some schedule) (signed_played s schedule) page
     × KeepsSignedPromises s (signed_played s schedule)
 
--- States that the bytes are the text of a chronicle of the campaign which keeps what is promised, and that the page
--- shows this chronicle and the scenario's text.
+-- States that `bytes` are the text of a chronicle of the campaign, and that the page shows this chronicle and the
+-- scenario's text. The decisions in the chronicle agree as the theorems promise, and its verdict is correct.
 abbrev pub IsRecordTold : Campaign → List ℕ → List ℕ → List ℕ → Type 0
 IsRecordTold (Oral s) text bytes page =
     IsSoundText s bytes × IsPage text None (chronicle_told s bytes) page × KeepsPromises s (chronicle_told s bytes)

@@ -8,8 +8,8 @@ use Rattle.cli_tasks.specs.TaskHints.{IsHintOf}
 use Rattle.cli_tasks.specs.declared.hint.Hint.{Hint}
 use Rattle.streams.specs.Reading.{AreBytes}
 
--- States that the bytes are not the bytecode of a program, by this first fault, and that this is the hint of the task
--- for such bytecode.
+-- States that bytecode which is too long is rejected with this first fault, and that the task prints this hint about
+-- it. `known` are the bytes of the file, if they are known.
 abbrev pub IsTooLong : Task → Option (List ℕ) → InputRefusal → Option Hint → Type 0
 IsTooLong task known (Codec error) hint =
     ((bytes : List ℕ) × AreBytes known bytes × RefusesBytes bytes error)

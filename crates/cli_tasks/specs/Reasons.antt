@@ -1,9 +1,9 @@
--- Defines the sentence which says why a file could not be read or written, by the kind of the system's error.
+-- Defines the sentences that explain why the operating system could not read or write a file.
 use Rattle.std.specs.Prelude.{ℕ, List, codes}
 use Rattle.std.specs.declared.io.ErrorKind.{ErrorKind}
 use Rattle.std.specs.declared.io.ErrorKind.TheVariants.{NotFound, PermissionDenied, IsADirectory, NotADirectory, InvalidFilename, FilesystemLoop, FileTooLarge, ReadOnlyFilesystem, StorageFull, BrokenPipe}
 
--- Returns the sentence for an error of this kind.
+-- Returns the sentence for a system error of this kind.
 abbrev pub reason_text : ErrorKind → List ℕ
 reason_text NotFound = codes "there is no file with this name"
 reason_text PermissionDenied = codes "the system does not permit it"

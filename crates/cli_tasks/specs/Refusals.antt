@@ -1,4 +1,5 @@
--- Defines the refusal for each error, and why a text is not a campaign, a schedule or a chronicle.
+-- Defines the refusal (why a task rejects its input) for each reader's error, and why a text is not a campaign, a
+-- schedule or a chronicle.
 use Rattle.std.specs.Prelude.{ℕ, ◌≡◌, ◌≢◌, Bool, true, false, List, Err}
 use Rattle.std.specs.Str.{IsUtf8}
 use Rattle.codec.specs.declared.fault.CodecError.{CodecError}
@@ -32,89 +33,91 @@ use Rattle.verify.specs.declared.error.VerifyError.TheVariants as verifier
 use Rattle.cli_tasks.specs.declared.refusal.InputRefusal.{InputRefusal}
 use Rattle.cli_tasks.specs.declared.refusal.InputRefusal.TheVariants.{Codec, Verifier, Assembly, Table, Scenario, Setting, Trace, Threads, Accesses, Tolerated, NotText, Memory}
 
--- Returns the refusal for an error of the codec. Running out of memory gives the same refusal for all kinds of errors.
+-- Returns the refusal for an error of the codec. If the codec ran out of memory, this is `Memory`.
 abbrev pub codec_refusal : CodecError → InputRefusal
 codec_refusal codec.Memory = Memory
 codec_refusal error = Codec error
 
--- Returns the refusal for an error of the verifier.
+-- Returns the refusal for an error of the verifier. If the verifier ran out of memory, this is `Memory`.
 abbrev pub verifier_refusal : VerifyError → InputRefusal
 verifier_refusal verifier.Memory = Memory
 verifier_refusal fault = Verifier fault
 
--- Returns the refusal for an error of the assembler.
+-- Returns the refusal for an error of the assembler. If the assembler ran out of memory, this is `Memory`.
 abbrev pub assembly_refusal : AsmError → InputRefusal
 assembly_refusal asm.Memory = Memory
 assembly_refusal error = Assembly error
 
--- Returns the refusal for an error of a message table.
+-- Returns the refusal for an error in a message table. If its reader ran out of memory, this is `Memory`.
 abbrev pub table_refusal : TableError → InputRefusal
 table_refusal table.Memory = Memory
 table_refusal error = Table error
 
--- Returns the refusal for numbers among which no story breaks a rule.
+-- Returns the refusal for numbers of a campaign with which `refute` finds no table: they are wrong, or there are enough
+-- generals.
 abbrev pub refutation_refusal : RefutationError → InputRefusal
 refutation_refusal (refutation.Table table.Memory) = Memory
 refutation_refusal (refutation.Table error) = Table error
 refutation_refusal refutation.Enough = Tolerated
 
--- Returns the refusal for an error of a scenario.
+-- Returns the refusal for an error in a scenario. If its reader ran out of memory, this is `Memory`.
 abbrev pub scenario_refusal : ScenarioError → InputRefusal
 scenario_refusal scenario.Memory = Memory
 scenario_refusal error = Scenario error
 
--- Returns the refusal for an error of a setting.
+-- Returns the refusal for an error in a setting. If its reader ran out of memory, this is `Memory`.
 abbrev pub setting_refusal : SettingError → InputRefusal
 setting_refusal setting.Memory = Memory
 setting_refusal error = Setting error
 
--- Returns the refusal for an error of a schedule or a chronicle.
+-- Returns the refusal for an error in a schedule or a chronicle. If its reader ran out of memory, this is `Memory`.
 abbrev pub trace_refusal : TraceError → InputRefusal
 trace_refusal trace.Memory = Memory
 trace_refusal error = Trace error
 
--- Returns the refusal for an error of a muster.
+-- Returns the refusal for a run with threads that made no chronicle. If it ran out of memory, this is `Memory`.
 abbrev pub muster_refusal : MusterError → InputRefusal
 muster_refusal muster.Memory = Memory
 muster_refusal error = Threads error
 
--- States that the text is not an oral campaign, by this first fault, or that memory ran out.
+-- States that the text is not an oral campaign because of this first fault, or that memory ran out.
 abbrev pub RefusesScenario : List ℕ → InputRefusal → Type 0
 RefusesScenario text (Scenario error) = (error ≢ scenario.Memory) × Reads (parse_document text) (Err error)
 RefusesScenario text Memory = Unit {0}
 RefusesScenario text _ = ⊥
 
--- States that the text is not a campaign, oral or signed, by this first fault, or that memory ran out.
+-- States that the text is not a campaign, oral or signed, because of this first fault, or that memory ran out.
 abbrev pub RefusesCampaign : List ℕ → InputRefusal → Type 0
 RefusesCampaign text (Scenario error) = (error ≢ scenario.Memory) × ReadsAny (parse_document text) (Err error)
 RefusesCampaign text Memory = Unit {0}
 RefusesCampaign text _ = ⊥
 
--- States that the text is not a campaign of which the account can be given. If the flag is not set, a message table is
--- asked for, which needs an oral campaign.
+-- States that the text is not a campaign that can be printed as asked. If the flag is not set, a message table is asked
+-- for, and the campaign must be oral.
 abbrev pub RefusesAsked : Bool → List ℕ → InputRefusal → Type 0
 RefusesAsked true text refusal = RefusesCampaign text refusal
 RefusesAsked false text refusal = RefusesScenario text refusal
 
--- States that the text is not a schedule, by this first line, or that memory ran out.
+-- States that the text is not a schedule because of this first line, or that memory ran out.
 abbrev pub RefusesSchedule : List ℕ → InputRefusal → Type 0
 RefusesSchedule text (Trace error) = schedule_told text ≡ Err error
 RefusesSchedule text Memory = Unit {0}
 RefusesSchedule text _ = ⊥
 
--- States that the text is not a chronicle of the campaign, with this line at fault, or that memory ran out.
+-- States that the text is not a chronicle of the campaign because of this line, or that memory ran out.
 abbrev pub RefusesChronicle : Campaign → List ℕ → InputRefusal → Type 0
 RefusesChronicle (Oral s) text (Trace error) = (IsSoundText s text → ⊥) × IsFaultOf s text error
 RefusesChronicle (Signed s) text (Trace error) = (IsSoundSignedText s text → ⊥) × IsSignedFaultOf s text error
 RefusesChronicle c text Memory = Unit {0}
 RefusesChronicle c text _ = ⊥
 
--- Returns the refusal for an error of listed accesses.
+-- Returns the refusal for a list of accesses that is wrong or cannot happen. If its reader ran out of memory, this is
+-- `Memory`.
 abbrev pub accesses_refusal : AccessesError → InputRefusal
 accesses_refusal accesses.Memory = Memory
 accesses_refusal (accesses.At fault) = Accesses fault
 
--- States that the bytes are not UTF-8, or that `refuses` holds of the text.
+-- States that the bytes are not UTF-8, or that they are a text that is rejected: `refuses` holds of it.
 abbrev pub RefusesText : (List ℕ → InputRefusal → Type 0) → List ℕ → InputRefusal → Type 0
 RefusesText refuses bytes NotText = IsUtf8 bytes → ⊥
 RefusesText refuses bytes refusal = refuses bytes refusal

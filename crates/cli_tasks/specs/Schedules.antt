@@ -1,5 +1,5 @@
--- Defines the campaign and the schedule that two files describe, and the chronicle of the campaign played by the
--- schedule.
+-- Defines the campaign and the schedule that two files describe, and the chronicle of the campaign when it is played by
+-- the schedule.
 use Rattle.std.specs.Prelude.{ℕ, ◌≡◌, Bool, true, false, List, [], Option, None, Some, Ok}
 use Rattle.cli_words.specs.declared.tasks.Account.{Account}
 use Rattle.cli_words.specs.declared.tasks.Account.TheVariants as accounts
@@ -17,16 +17,15 @@ use Rattle.signed.specs.Kind as signed
 use Rattle.signed.specs.Chronicle.{signed_chronicle_of}
 use Rattle.trace.specs.Schedules.{schedule_told}
 
--- Returns the chronicle of the scenario's oral campaign played by the schedule.
+-- Returns the chronicle of an oral campaign when it is played by the schedule.
 abbrev pub played : Scenario → List (List Repeat) → Chronicle
 played s schedule = chronicle_of (run (opening s) (listed s (lines_by schedule)))
 
--- Returns the chronicle of the scenario's signed campaign played by the schedule.
+-- Returns the chronicle of a signed campaign when it is played by the schedule.
 abbrev pub signed_played : Scenario → List (List Repeat) → Chronicle
 signed_played s schedule = signed_chronicle_of (signed.played s (listed s (lines_by schedule)))
 
--- Checks whether the chronicle of a campaign is asked for, and not its message table, which a signed campaign does not
--- have.
+-- Checks whether the chronicle of a campaign is asked for, and not its message table, which only an oral campaign has.
 abbrev pub is_chronicle : Account → Bool
 is_chronicle accounts.Chronicle = true
 is_chronicle accounts.Table = false

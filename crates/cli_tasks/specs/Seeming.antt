@@ -1,4 +1,4 @@
--- Defines what a file that should be bytecode, and is not, seems to be.
+-- Defines what a file seems to be that should be bytecode but is not.
 use Rattle.std.specs.Prelude.{ℕ, Bool, ◌||◌, ◌==◌, nat_eq, List, ◌∷◌, length, take, Option, None, Some, codes, if◌then◌else◌}
 use Rattle.std.specs.List.{list_all, starts_with}
 use Rattle.std.specs.Char.{is_ascii_graphic, is_ascii_hexdigit, is_ascii_whitespace}
@@ -15,12 +15,12 @@ is_of_hex c = is_ascii_hexdigit c || is_ascii_whitespace c
 abbrev pub is_of_text : ℕ → Bool
 is_of_text c = is_ascii_graphic c || is_ascii_whitespace c
 
--- Returns the first four bytes of an ELF object: the byte 127 and the letters `ELF`.
+-- Returns the four bytes with which an ELF object begins: the byte 127 and the letters `ELF`.
 abbrev pub object_mark : List ℕ
 object_mark = 127 ∷ codes "ELF"
 
--- Returns what the bytes seem to be. An object is recognized by its first four bytes, and hex and text are recognized
--- by all bytes. Returns `None` if there are no bytes.
+-- Returns what the bytes seem to be. An ELF object is recognized by its first four bytes. The bytes are hex or text if
+-- all of them are. Returns `None` for anything else, and if there are no bytes.
 abbrev pub seems_of : List ℕ → Option Likeness
 seems_of bytes =
     if length bytes == 0 then None
@@ -29,13 +29,12 @@ seems_of bytes =
     else if list_all is_of_text bytes then Some Text
     else None
 
--- Returns what the bytes seem to be. If there are more than 32,768 bytes, which is the most that a program may have,
--- only the first 32,768 are examined.
+-- Returns what the bytes seem to be. Only the first 32,768 bytes, the size of the longest program, are examined.
 unfoldable pub seems_at_first : List ℕ → Option Likeness
 seems_at_first bytes = seems_of (take 32768 bytes)
 
--- Returns what rejected bytes seem to be. Only bytes that are rejected because they are not bytecode seem to be
--- anything.
+-- Returns what rejected bytes seem to be, if they were rejected because they are not bytecode. Returns `None` for any
+-- other refusal.
 abbrev pub likeness_of : InputRefusal → List ℕ → Option Likeness
 likeness_of (Codec error) bytes = seems_at_first bytes
 likeness_of _ bytes = None

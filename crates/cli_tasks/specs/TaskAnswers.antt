@@ -1,4 +1,4 @@
--- Defines what a task results in on its first file.
+-- Defines the result of a task on its first file: what it prints, or what it needs for the second file.
 use Rattle.std.specs.Prelude.{ℕ, ◌≡◌, false, true, List, None, Some, string_bytes}
 use Rattle.semantics.specs.Run.{IsSound}
 use Rattle.cli_words.specs.declared.tasks.Spelling.TheVariants.{Hex, Raw}
@@ -23,7 +23,7 @@ use Rattle.cli_tasks.specs.declared.first_answer.FirstAnswer.{FirstAnswer}
 use Rattle.cli_tasks.specs.declared.first_answer.FirstAnswer.TheVariants as answer
 use Rattle.cli_tasks.specs.Answers.{IsChecked, AssemblesRaw, Assembles, Disassembles}
 
--- States that the task prints this text on a first file with these bytes, and needs no second file.
+-- States that the task prints `text` for a first file with these bytes, and needs no second file.
 abbrev pub Prints : Task → List ℕ → List ℕ → Type 0
 Prints (Check file notation None explained traced) first text = IsChecked notation explained traced first text
 Prints (Assemble file Hex target explained) first text = Assembles first text
@@ -48,8 +48,8 @@ Prints (Tree file general traitors drawing depth folded) first text =
 Prints (Retrace scenario (Listed list)) first text = Arranges (string_bytes list) first text
 Prints _ first text = ⊥
 
--- States that the task goes on with this after its first file: with a program to try and whether its steps are printed,
--- or with a campaign.
+-- States that the task accepts a first file with these bytes and needs the given result for its second file: a verified
+-- program, and whether its steps are printed, or a campaign.
 abbrev pub GoesOn : Task → List ℕ → FirstAnswer → Type 0
 GoesOn (Check file notation (Some context) explained traced) first (answer.Trial program told) =
     HasProgram notation first program × (judged program ≡ None) × IsSound program × (told ≡ traced)
@@ -68,14 +68,14 @@ GoesOn (Page scenario (Recorded file) target) first (answer.PageRecorded c text)
 GoesOn (Retrace scenario (OfChronicle file)) first (answer.Retrace s) = Tells first s
 GoesOn _ first _ = ⊥
 
--- States that the task results in this on its first file: in a text or bytes to print, or in something with which it
--- goes on.
+-- States that this is the task's result on a first file with these bytes: a text or bytes to print, or a program or a
+-- campaign that it needs for the second file.
 abbrev pub ComesTo : Task → List ℕ → FirstAnswer → Type 0
 ComesTo task first (answer.Text text) = Prints task first (string_bytes text)
 ComesTo task first (answer.Bytes bytes) = Prints task first bytes.items
 ComesTo task first more = GoesOn task first more
 
--- States that the task goes on after its first file.
+-- States that the result on the first file is not yet the whole answer.
 abbrev pub IsUnfinished : FirstAnswer → Type 0
 IsUnfinished (answer.Text text) = ⊥
 IsUnfinished (answer.Bytes bytes) = ⊥

@@ -11,7 +11,7 @@ use Rattle.cli_tasks.specs.Refusals.{RefusesScenario, RefusesCampaign, RefusesTe
 use Rattle.cli_tasks.specs.Explained.{RefusesExplained}
 use Rattle.cli_tasks.specs.CampaignRefusals.{RefusesListed}
 
--- States that the task rejects its only or first file, which has these bytes, with this refusal.
+-- States that the task rejects its only or first file, which has the bytes `bytes`, with this refusal.
 abbrev pub Refuses : Task → List ℕ → InputRefusal → Type 0
 Refuses (Check file notation context explained traced) bytes refusal = RefusesCheckIn notation bytes refusal
 Refuses (Assemble file spelling target explained) bytes refusal = RefusesText RefusesAssembly bytes refusal

@@ -1,5 +1,5 @@
--- Defines the report that is printed after the error line of a rejected input if an explanation is asked for. Crate
--- `cli_report` defines its text.
+-- Defines the report that is printed after the error line of a rejected input if the task must explain its errors.
+-- Crate `cli_report` defines the text of the report.
 use Rattle.std.specs.Prelude.{ℕ, ◌≡◌, Bool, true, false, List, [], ◌++◌, Option, None, Some, IfSome, codes, is_some}
 use Rattle.cli_words.specs.declared.tasks.Task.{Task}
 use Rattle.cli_words.specs.declared.tasks.Task.TheVariants.{Assemble, AssemblePartly, Audit, Check, Disassemble, DisassemblePartly, ExplainDecisions, Muster, Play}
@@ -25,7 +25,7 @@ use Rattle.scenario.specs.declared.messages.Campaign.TheVariants as campaigns
 use Rattle.trace.specs.Again.{signed_told_again, told_again}
 use Rattle.cli_report.specs.Musters.{muster_told}
 
--- Checks whether the task must explain why it rejects its input.
+-- Checks whether the task was called with `--explain`, so that it must explain also why it rejects its input.
 abbrev pub is_explained : Task → Bool
 is_explained (Check file notation context explained traced) = explained
 is_explained (Assemble file spelling target explained) = explained
@@ -38,31 +38,30 @@ is_explained (Muster scenario explained) = is_some explained
 is_explained (Audit scenario chronicle explained) = is_some explained
 is_explained _ = false
 
--- Returns the line which says what bytes seem to be, with a line feed before it, or nothing if they seem to be nothing
--- known.
+-- Returns a line feed and the line which says what bytes seem to be. Returns no text if they seem to be nothing known.
 abbrev pub seems_line : Option Likeness → List ℕ
 seems_line None = []
 seems_line (Some likeness) = codes "\n" ++ seems_text likeness
 
--- The role of a file in which a line is at fault: a schedule, a chronicle of this campaign, or any other file.
+-- What the file at fault should be: a schedule, a chronicle of this campaign, or anything else.
 pub data Role : Type 0 where
   Schedule : Role
   Chronicle : Campaign → Role
   Nothing : Role
 
--- Returns the role as a plain value.
+-- Returns what the file at fault should be, as a value of definitions.
 abbrev pub role_view : FileRole → Role
 role_view traced.Schedule = Schedule
 role_view (traced.Chronicle campaign) = Chronicle campaign.now
 role_view traced.Nothing = Nothing
 
--- Returns the text that the chronicle of a campaign should have in place of this one, which is not sound.
+-- Returns the text that `text`, a faulty chronicle of the campaign, should have been.
 abbrev pub campaign_again : Campaign → List ℕ → List ℕ
 campaign_again (campaigns.Oral s) text = told_again s text
 campaign_again (campaigns.Signed s) text = signed_told_again s text
 
--- States that this is the report that is printed after the error line of a rejected file. `name` is the file's name as
--- it is printed, and `bytes` are its bytes.
+-- States that `told` is the report that is printed after the error line of a rejected file. `name` is the file's name
+-- as it is printed, and `bytes` are its bytes.
 abbrev pub TellsWhy : InputRefusal → Role → List ℕ → List ℕ → List ℕ → Type 0
 TellsWhy (Trace (trace.At fault line)) Schedule name bytes told = told ≡ schedule_told name bytes line
 TellsWhy (Trace (trace.At fault line)) (Chronicle c) name bytes told =
@@ -77,7 +76,7 @@ TellsWhy (Threads error) of name bytes told = told ≡ muster_told error
 TellsWhy (Stranger general generals) of name bytes told = told ≡ stranger_told name bytes general generals
 TellsWhy _ of name bytes told = told ≡ []
 
--- States that this is the report on a rejected file with this name and these bytes. If the name has a control character
--- and characters beyond ASCII, nothing is stated.
+-- States that `told` is the report on a rejected file with this name and these bytes. If the name has both a control
+-- character and characters beyond ASCII, nothing is stated.
 abbrev pub TellsWhyOf : InputRefusal → Role → List ℕ → List ℕ → List ℕ → Type 0
 TellsWhyOf refusal of file bytes told = IfSome (shown file) (λ name. TellsWhy refusal of name bytes told)
