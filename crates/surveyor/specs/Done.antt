@@ -1,4 +1,4 @@
--- Defines what is done for the words of the command line, and why it cannot be finished.
+-- Defines what the program does for a command line, and why it cannot finish.
 use Rattle.std.specs.Prelude.{ℕ, ◌≡◌, List, [], Option, Result, Ok, Err, IfErr, IfOk}
 use Rattle.std.specs.Fmt.{with_newline}
 use Rattle.clap.specs.Words.{Text, fault_of, matches_of}
@@ -17,14 +17,14 @@ use Rattle.surveyor.specs.declared.task.Asked.TheVariants.{Survey, Campaign, Bre
 use Rattle.surveyor.specs.declared.task.AskedError.{AskedError}
 use Rattle.surveyor.specs.declared.fault.SurveyFailure.{SurveyFailure}
 
--- States that the words ask for this, or that they ask for nothing, for this reason.
+-- States that the words describe the task in `asked`, or that they describe no task for the reason in `asked`.
 pub record IsAskedBy (words : List Text) (asked : Result Asked AskedError) : Type 0 where
   pub found : IfOk asked (Asks (matches_of survey_app words))
   pub taken : IfOk asked (λ _. fault_of survey_app words ≡ [])
   pub refused : IfErr asked (IsUnmet words)
 
--- States what is done: the change of the output and of the kept files, what is reported, and the exit status. If nothing
--- is asked for, the reason is reported, and neither the output nor the files change.
+-- States what is done for a task: how the output and the files with campaigns change, what is reported on standard
+-- error, and the exit status. If there is no task, the reason is reported, and neither the output nor the files change.
 abbrev pub IsDone : Result Asked AskedError → Option (List ℕ) → Option (List ℕ) → Option (List File)
     → Option (List File) → (Option (List ℕ) → Type 0) → ℕ → Type 0
 IsDone (Ok (Survey s)) old new before after Reports status = IsSurveyed s old new before after × (status ≡ 0)
@@ -36,7 +36,7 @@ IsDone (Ok (Merge m)) old new before after Reports status = IsSummed m old new R
 IsDone (Err error) old new before after Reports status =
     IsUnasked error status × Reports (with_newline (complaint error)) × (new ≡ old) × (after ≡ before)
 
--- States that this failure can keep the request from being finished.
+-- States that this failure can keep the task from being finished.
 abbrev pub IsUndone : Result Asked AskedError → SurveyFailure → Type 0
 IsUndone (Ok (Survey s)) fault = IsUnsurveyed s fault
 IsUndone (Ok (Campaign c)) fault = IsUnended c.survey NoneIsRefused fault

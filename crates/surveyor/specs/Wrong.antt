@@ -1,4 +1,4 @@
--- Defines why words ask for nothing and what is reported then, in terms of what `clap` has found in them.
+-- Defines why a command line describes no task, and what is then reported. `rows` are the values that `clap` found.
 use Rattle.std.specs.Prelude.{⊤, ℕ, ◌≡◌, ◌≢◌, ◌<◌, Bool, true, false, List, Option, None, Some, IsSomeAnd, codes, count_by, is_some}
 use Rattle.std.specs.Str.{bytes_eq}
 use Rattle.clap.specs.Words.{IsAmong, Row, Text, fault_of, kind_of, matches_of}
@@ -13,11 +13,11 @@ use Rattle.surveyor.specs.declared.task.AskedError.{AskedError}
 use Rattle.surveyor.specs.declared.task.AskedError.TheVariants.{Words, Value, Rule, Memory}
 use Rattle.surveyor.specs.declared.task.ReportKind.{ReportKind}
 
--- States that the word is not a span of numbers from the least to the most.
+-- States that the word is not a range of numbers from `least` to `most`.
 abbrev pub IsOutside : ℕ → ℕ → Text → Type 0
 IsOutside least most word = (span : CountRange) → IsWithin least most word span → ⊥
 
--- States that the word is not a span of seeds.
+-- States that the word is not a valid range of seeds.
 abbrev pub AreNoSeeds : Text → Type 0
 AreNoSeeds word = (seeds : ℕ × ℕ) → AreSeeds word seeds → ⊥
 
@@ -25,27 +25,27 @@ AreNoSeeds word = (seeds : ℕ × ℕ) → AreSeeds word seeds → ⊥
 abbrev pub IsNoSeed : Text → Type 0
 IsNoSeed word = (seed : ℕ) → IsSeed word seed → ⊥
 
--- States that the word is not one of `generals` generals.
+-- States that the word is not the number of one of `generals` generals.
 abbrev pub IsNoCommander : ℕ → Text → Type 0
 IsNoCommander generals word = (c : ℕ) → IsCommander generals word c → ⊥
 
--- States that the word denotes no orders.
+-- States that the word is not a valid range of orders.
 abbrev pub AreNoOrders : Text → Type 0
 AreNoOrders word = (most : ℕ) → AreOrders word most → ⊥
 
--- States that the word is not a number of steps for which a traitor is waited for.
+-- States that the value of `--patience` is not a number of steps from 1 to 4,096.
 abbrev pub IsNoPatience : Option Text → Type 0
 IsNoPatience word = (steps : Option ℕ) → IsPatience word steps → ⊥
 
--- States that `--break` cannot print in this form.
+-- States that `--break` cannot print in this form of output.
 abbrev pub IsNoBreak : ReportKind → Type 0
 IsNoBreak shape = (is_table : Bool) → shape ≢ break_shape is_table
 
--- States that more than one of these names means standard input.
+-- States that standard input, `-`, is named more than once.
 abbrev pub AreTwice : List Text → Type 0
 AreTwice names = 1 < count_by (λ name. bytes_eq name (codes "-")) names
 
--- States that this message is true of the words: it says what is wrong with them.
+-- States that this message says correctly what is wrong with the options.
 pub data IsWrong (rows : List Row) (why : Text) : Type 0 where
   generals : why ≡ codes "--generals takes 2 to 13, such as 4 or 4..7" →
       IsOutside 2 13 (value (codes "generals") (codes "4") rows) → IsWrong rows why
@@ -79,44 +79,45 @@ pub data IsWrong (rows : List Row) (why : Text) : Type 0 where
   twice : why ≡ codes "standard input can be read only once" →
       (names : List Text) → names_in rows ≡ Some names → AreTwice names → IsWrong rows why
 
--- States that a rule is named for oral messages, and that there is no rule of this name.
+-- States that messages are oral, and that no rule has the given name.
 abbrev pub IsNoRule : List Row → Type 0
 IsNoRule rows = (has (codes "signed") rows ≡ false)
     × IsSomeAnd (given (codes "rule") rows) (λ word. rule_named word ≡ None)
 
--- States that exactly this message is the error, and that the property holds.
+-- States that the error has exactly this message, and that `P` holds.
 abbrev pub IsSaid : Text → Type 0 → AskedError → Type 0
 IsSaid text P (Value why) = (why.now ≡ text) × P
 IsSaid text P _ = ⊥
 
--- States the error for words that do not say how messages are sent: a rule is given for signed messages, or there is no
--- rule of the given name.
+-- States that this is the error for options that do not say how messages are sent: a rule is given for signed messages,
+-- or there is no rule with the given name.
 abbrev pub IsNoManner : List Row → AskedError → Type 0
 IsNoManner rows (Value why) = (why.now ≡ codes "signed messages have no rule")
     × (has (codes "signed") rows ≡ true) × (has (codes "rule") rows ≡ true)
 IsNoManner rows Rule = IsNoRule rows
 IsNoManner rows _ = ⊥
 
--- States that the error is true of the words and that the property holds, unless memory ran out. `clap` has accepted
--- the words.
+-- States that the error says correctly what is wrong with options that `clap` accepts, and that `P` holds. The error
+-- may also be that memory ran out.
 abbrev pub IsRefused : List Row → Type 0 → AskedError → Type 0
 IsRefused rows P (Value why) = IsWrong rows why.now × P
 IsRefused rows P Rule = IsNoRule rows × P
 IsRefused rows P (Words refusal) = ⊥
 IsRefused rows P Memory = ⊤
 
--- States that the words ask for nothing.
+-- States that the options describe no task.
 abbrev pub AsksNothing : List Row → Type 0
 AsksNothing rows = (asked : Asked) → Asks rows asked → ⊥
 
--- States which error is returned for an error of `clap`.
+-- States which error is returned if `clap` fails: `Memory` if `clap` ran out of memory, and otherwise the error of
+-- `clap`.
 abbrev pub IsByClap : Error → AskedError → Type 0
 IsByClap error (Words own) = (own ≡ error) × (kind_of error ≢ OutOfMemory)
 IsByClap error Memory = kind_of error ≡ OutOfMemory
 IsByClap error _ = ⊥
 
--- States why words ask for nothing: `clap` rejects them with such an error, or `clap` accepts them and the returned
--- error is true of them.
+-- States why a command line describes no task: `clap` rejects it with such an error, or `clap` accepts it and the
+-- returned error says correctly what is wrong.
 abbrev pub IsUnmet : List Text → AskedError → Type 0
 IsUnmet words (Words refusal) = IsAmong (kind_of refusal) (fault_of survey_app words)
 IsUnmet words error = IsRefused (matches_of survey_app words) (AsksNothing (matches_of survey_app words)) error
