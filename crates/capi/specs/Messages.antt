@@ -1,7 +1,7 @@
--- Defines the sentences that describe statuses and faults.
+-- Defines the sentences that describe statuses and faults for C.
 use Rattle.std.specs.Prelude.{ℕ, ◌-◌, ◌==◌, if◌then◌else◌, List, [], ◌∷◌, codes, slice_index_or}
 
--- Lists the sentence of each status, from 0 on.
+-- The sentences for the statuses, from 0 on.
 abbrev pub statuses : List (List ℕ)
 statuses =
     codes "the call has done its work"
@@ -13,7 +13,7 @@ statuses =
     ∷ codes "a helper is called that is not allowed"
     ∷ []
 
--- Lists the sentence of each fault in the bytes, by its number. No fault has number 0.
+-- The sentences for the faults of bytecode, by their numbers. No fault has number 0.
 abbrev pub misspellings : List (List ℕ)
 misspellings =
     []
@@ -27,8 +27,8 @@ misspellings =
     ∷ codes "a program has 1 to 4,096 units"
     ∷ []
 
--- Lists the sentence of each reason why the verifier rejects a program, by its number less 100. No reason has number
--- 100.
+-- The sentences for the reasons why the verifier rejects a program. Reason V1, which has number 101 in C, is at index
+-- 1.
 abbrev pub rejections : List (List ℕ)
 rejections =
     []
@@ -47,8 +47,8 @@ rejections =
     ∷ codes "the program ends with a pointer in r0"
     ∷ []
 
--- Returns the sentence that describes a status or, at status 1 and 2, the fault with a number. It is empty if there is no
--- such status or fault.
+-- Returns the sentence that describes a status. For status 1 and 2, a rejected program, it describes instead the fault
+-- with this number. The sentence is empty if there is no such status or fault.
 abbrev pub message : ℕ → ℕ → List ℕ
 message status number =
     if status == 1 then slice_index_or misspellings number []

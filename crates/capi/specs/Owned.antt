@@ -1,4 +1,4 @@
--- Defines what the place of a loaded program owns.
+-- Defines which memory the address of a loaded program owns.
 use Rattle.std.specs.Prelude.{List, None, Some}
 use Rattle.std.specs.declared.option.Option.{Option}
 use base.Fml.{Fml, ftrue}
@@ -13,8 +13,8 @@ use Rattle.capi.specs.contracts.kept.Kept.{the_row}
 abbrev heap : Heap.the_row.Denot
 heap = record { memory = record { seal = tt } }
 
--- Describes the memory that the place owns: at this address a block of its own with the program and the right to free
--- it, or nothing.
+-- Describes the memory that the address of a loaded program owns: a block with the program, and the right to free it.
+-- Without a program it owns nothing.
 abbrev pub place_owns : Ptr → Option (List Insn) → Fml
 place_owns at None = ftrue
 place_owns at (Some program) = box_owns (ghosts.dealloc_token heap) the_row at program

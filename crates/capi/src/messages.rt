@@ -71,7 +71,7 @@ fn rejections() -> &'static [&'static str]
     REJECTIONS
 }
 
-/// Returns the sentence with this index, or an empty text if there are not so many.
+/// Returns the sentence with this index, or an empty text if there is no such sentence.
 #[tactic(auto, using(crate::proofs::Sentences::sentence_read, crate::proofs::Sentences::no_sentence))]
 fn sentence_at(sentences: &'static [&'static str], index: usize) -> &'static str
     ensures { result.now ≡ slice_index_or (map (λ m. m.now) sentences.now) index [] }
