@@ -1,8 +1,9 @@
--- Defines which part of a text has been written if a write fails.
+-- Defines how much of a text may have been written if a write fails.
 use Rattle.std.specs.Prelude.{ℕ, ◌≡◌, ◌++◌, List, Option}
 use Rattle.std.specs.Io.KnownBytes.{Appends}
 
--- States that a beginning of the text has been appended to the bytes, if those are known.
+-- States that a stream contained `old` and now contains `new`, which is `old` followed by the front of the text: any
+-- number of its first bytes. Nothing is stated if the contents are not known.
 pub record AppendsFront (old new : Option (List ℕ)) (text : List ℕ) : Type 0 where
   pub front : List ℕ
   pub rest : List ℕ
