@@ -1,4 +1,4 @@
--- Laws of HTML pages. Each is the contract of a function of this crate.
+-- States the laws about HTML pages. Each is the contract of a function of this crate.
 use Rattle.std.specs.Prelude.{ℕ, ◌+◌, ◌≤◌, ◌<◌, ◌≡◌, ◌⊎◌, Bool, true, not, List, ◌∷◌, ◌++◌, codes, length}
 use Rattle.std.specs.List.{All, list_all}
 use Rattle.html.specs.Grammar.{IsContent, IsElement, IsText}
@@ -6,18 +6,18 @@ use Rattle.html.specs.Page.{begun_lines, cell, fold, head, heading, item, lines,
 use Rattle.html.specs.Sections.{Section, all_sections, bytes_of, heading_bytes, rooms, sections_in, standing_in, told_bytes}
 use Rattle.html.specs.Visible.{is_hidden, visible}
 
--- States that shown text is text without tags: it contains no `<`, `>` or `"`, and no `&` except that of a reference.
+-- States that text which a page shows contains no `<`, `>` or `"`, and no `&` except at the start of a reference.
 abbrev pub TextsAreText : Type 0
 TextsAreText = (text : List ℕ) → IsText (shown text)
 
--- States that visible text contains none of the characters that Visible lists. A text without such characters is shown
--- unchanged.
+-- States that visible text contains no hidden character, as specs/Visible defines them. A text without hidden
+-- characters is shown unchanged.
 pub record TextsAreVisible : Type 0 where
   pub seen : (cs : List ℕ) → list_all (λ c. not (is_hidden c)) (visible cs) ≡ true
   pub same : (cs : List ℕ) → list_all (λ c. not (is_hidden c)) cs ≡ true → visible cs ≡ cs
 
--- States that all parts are content if what they contain is content. This covers folds, lists and their items, tables
--- and their rows, and pictures.
+-- States that each part of a page is well-formed XML content if what it contains is. Folds, lists, list items, tables,
+-- rows and pictures contain other content.
 pub record PartsAreContent : Type 0 where
   pub heading : (text : List ℕ) → IsContent (heading text)
   pub paragraph : (text : List ℕ) → IsContent (paragraph text)
@@ -33,33 +33,34 @@ pub record PartsAreContent : Type 0 where
   pub cell : (text : List ℕ) → IsContent (cell text)
   pub picture : (is_wide : Bool) (name svg : List ℕ) → IsContent svg → IsContent (picture is_wide name svg)
 
--- States that a page with well-formed parts consists of the document type line, one XML element, and a line feed.
+-- States that a page whose parts are well-formed consists of the document type line, one XML element and a line feed.
 abbrev pub PagesAreElements : Type 0
 PagesAreElements = (title parts : List ℕ) → IsContent parts →
     (text : List ℕ) × IsElement text × (page title parts ≡ codes "<!DOCTYPE html>\n" ++ text ++ codes "\n")
 
--- States that a text is a contiguous part of another text.
+-- States that `part` occurs in `whole` as a contiguous part of it.
 abbrev pub StandsIn : List ℕ → List ℕ → Type 0
 StandsIn part whole = (before : List ℕ) × (after : List ℕ) × (whole ≡ before ++ part ++ after)
 
--- States that the replacement of a section fits into the section's own room.
+-- States that the replacement of a section is not longer than the section's own room.
 abbrev pub IsRoomy : Section → Type 0
 IsRoomy s = length s.instead ≤ s.room
 
--- States that a section's parts are content, and so is its replacement.
+-- States that the text of a section is well-formed content, and so is its replacement.
 abbrev pub IsFilled : Section → Type 0
 IsFilled s = IsContent s.told × IsContent s.instead
 
--- States that what is written of a section is its full text. It may be the replacement only if the full text is longer
--- than what the other sections leave.
+-- States that `own`, which is written for a section, is its full text. It may be the replacement only if the full text
+-- is longer than the room that the texts in `ahead` and `behind`, written for the other sections, leave.
 abbrev pub IsToldOrTooLong : ℕ → Section → List (List ℕ) → List ℕ → List (List ℕ) → Type 0
 IsToldOrTooLong room s ahead own behind =
     (own ≡ s.told) ⊎ ((own ≡ s.instead) × (room < bytes_of ahead + length s.told + bytes_of behind))
 
--- States how sections share the room of a page, in bytes. If their own rooms fit into it, they take at most that room
--- and the bytes of their headings. A section that fits into its own room is written in full, and so are all sections if
--- the page's room suffices for all. A section is replaced only if its text is longer than what the others leave. Each
--- section's text or its replacement is in the result, which is content if each section is.
+-- States how sections share the room of a page, which is a number of bytes. If their own rooms fit into it, the
+-- sections take at most the page's room and the bytes of their headings. A section that fits into its own room is
+-- written in full. All sections are if the page has room for all. A section is replaced only if its text is longer than
+-- what the others leave. Either its text or its replacement is in the result, which is well-formed content if each
+-- section is.
 pub record SectionsAreFitted : Type 0 where
   pub short :
       (room : ℕ) (ss : List Section) → rooms ss ≤ room → All IsRoomy ss

@@ -1,15 +1,15 @@
--- An HTML page (HTML Living Standard, section 13.1), defined byte by byte. Apart from its first line it is also one XML
--- element. Untrusted text is made visible and escaped.
+-- Defines an HTML page byte by byte (HTML Living Standard, section 13.1). Apart from its first line the page is also
+-- one XML element. Untrusted text in it is made visible and escaped.
 use Rattle.std.specs.Prelude.{ℕ, Bool, true, false, List, ◌++◌, codes}
 use Rattle.std.specs.Str.{chars, encode_utf8_all}
 use Rattle.html.specs.Escaped.{escaped}
 use Rattle.html.specs.Visible.{visible}
 
--- Untrusted text as a page shows it: made visible, then escaped.
+-- Returns untrusted text as a page shows it: first hidden characters are made visible, then markup is escaped.
 abbrev pub shown : List ℕ → List ℕ
 shown text = encode_utf8_all (escaped (visible (chars text)))
 
--- The start of a page, up to its style sheet. It says that the page is HTML in English, and allows only its own style
+-- The text of a page before its style sheet. It says that the page is in English, and allows only the page's own styles
 -- and embedded pictures.
 unfoldable pub preamble : List ℕ
 preamble =
@@ -17,7 +17,7 @@ preamble =
     ++ codes "<meta http-equiv=\"Content-Security-Policy\" content=\"default-src 'none'; style-src 'unsafe-inline'; "
     ++ codes "img-src data:\"/>\n<meta name=\"viewport\" content=\"width=device-width, initial-scale=1\"/>\n<style>"
 
--- The style sheet.
+-- The style sheet of a page.
 unfoldable pub look : List ℕ
 look =
     codes ":root{color-scheme:light dark}body{margin:0;background:#fff;color:#111;font:16px/1.5 sans-serif}"
@@ -53,7 +53,7 @@ page_start title = preamble ++ look ++ look_end ++ shown title ++ head_middle ++
 abbrev pub page_end : List ℕ
 page_end = codes "</main>\n</body>\n</html>\n"
 
--- Writes a page with the given title and parts.
+-- Returns the page with this title, where `parts` is its content.
 abbrev pub page : List ℕ → List ℕ → List ℕ
 page title parts = page_start title ++ parts ++ page_end
 
@@ -65,15 +65,15 @@ heading text = codes "<h2>" ++ shown text ++ codes "</h2>\n"
 abbrev pub paragraph : List ℕ → List ℕ
 paragraph text = codes "<p>" ++ shown text ++ codes "</p>\n"
 
--- Writes a preformatted text, which keeps its lines. A browser does not show the line feed before it.
+-- Returns a preformatted text, in which a browser keeps the lines. The line feed before it is not shown.
 abbrev pub lines : List ℕ → List ℕ
 lines text = codes "<pre>\n" ++ shown text ++ codes "</pre>\n"
 
--- Writes a preformatted text in which each line begins with a line feed. A browser does not show the first line feed.
+-- Returns a preformatted text in which each line begins with a line feed. A browser does not show the first line feed.
 abbrev pub begun_lines : List ℕ → List ℕ
 begun_lines text = codes "<pre>" ++ shown text ++ codes "</pre>\n"
 
--- Writes the start of a fold. Its summary is always shown, and its parts only if the reader opens it.
+-- Returns the start of a fold, content that the reader can open and close. Its summary is always shown.
 abbrev pub fold_start : List ℕ → List ℕ
 fold_start summary = codes "<details>\n<summary>" ++ shown summary ++ codes "</summary>\n"
 
@@ -83,8 +83,8 @@ fold_end = codes "</details>\n"
 abbrev pub fold : List ℕ → List ℕ → List ℕ
 fold summary parts = fold_start summary ++ parts ++ fold_end
 
--- Writes a picture, unchanged, with an accessible name. It can be scrolled by keyboard, and a wide one has a sheet of
--- its own on paper.
+-- A picture, which is not changed, with a name for screen readers. It can be scrolled by keyboard. A wide picture is
+-- printed on a sheet of its own.
 unfoldable pub picture_tag : Bool → List ℕ
 picture_tag true = codes "<figure class=\"wide\" tabindex=\"0\" aria-label=\""
 picture_tag false = codes "<figure tabindex=\"0\" aria-label=\""
@@ -98,7 +98,7 @@ picture_end = codes "</figure>\n"
 abbrev pub picture : Bool → List ℕ → List ℕ → List ℕ
 picture is_wide name svg = picture_start is_wide name ++ svg ++ picture_end
 
--- A list. Each of its items is a text or contains parts.
+-- An HTML list. Each item is a text or contains other parts, such as a fold.
 abbrev pub list_start : List ℕ
 list_start = codes "<ul>\n"
 
@@ -120,7 +120,7 @@ item_end = codes "</li>\n"
 abbrev pub item : List ℕ → List ℕ
 item parts = item_start ++ parts ++ item_end
 
--- A table, which consists of rows of cells. The cells of a header row are column headers.
+-- An HTML table, which consists of rows of cells. The cells of a header row name the columns.
 abbrev pub table_start : List ℕ
 table_start = codes "<table>\n"
 

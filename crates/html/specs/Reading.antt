@@ -1,8 +1,8 @@
--- What an XML reader reads from a text without tags (XML 1.0, productions 14, 66 and 68).
+-- Defines what an XML reader reads from text without tags (XML 1.0, productions 14, 66 and 68).
 use Rattle.std.specs.Prelude.{ℕ, ◌==◌, if◌then◌else◌, List, [], ◌∷◌, ◌++◌, codes, bytes_eq, Option, None, Some, option_map}
 
--- Returns the character that a reference with this name denotes. Only the references that this crate writes are
--- defined.
+-- Returns the character that the reference with this name means, for example `<` for `lt`. Only the references that
+-- this crate writes are defined.
 abbrev pub meaning : List ℕ → Option ℕ
 meaning name =
     if bytes_eq name (codes "amp") then Some 38
@@ -15,13 +15,14 @@ meaning name =
     else if bytes_eq name (codes "#13") then Some 13
     else None
 
--- Returns a character put before the rest of what is read, if both can be read.
+-- Puts a character before the following ones that were read. Returns `None` if either could not be read.
 abbrev pub onto : Option ℕ → Option (List ℕ) → Option (List ℕ)
 onto None rest = None
 onto (Some c) rest = option_map (λ cs. c ∷ cs) rest
 
--- Returns the characters that are read. The state is `None` outside of references, and inside of one it is the name
--- read so far. A reference ends with a semicolon. A tag cannot be read.
+-- Returns the characters that an XML reader reads from a text, or `None` if it has a tag or an unfinished reference.
+-- The state is `None` outside of references. Within one it is the part of the name read so far. A reference ends with a
+-- semicolon.
 abbrev pub read : Option (List ℕ) → List ℕ → Option (List ℕ)
 read None [] = Some []
 read (Some name) [] = None

@@ -1,4 +1,4 @@
--- Tags and attributes as XML writes them (XML 1.0, productions 39 to 44).
+-- Defines tags and attributes as XML writes them (XML 1.0, productions 39 to 44).
 use Rattle.std.specs.Prelude.{ℕ, List, ◌++◌, codes}
 
 abbrev pub attribute : List ℕ → List ℕ → List ℕ
