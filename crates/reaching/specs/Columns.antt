@@ -1,4 +1,4 @@
--- Defines for each cell of the stack which units set it (own).
+-- Defines for each cell, which is one of the 512 bytes of the stack, which units of a program set it (own).
 use Rattle.std.specs.Prelude.{ℕ, zero, suc, ◌≡◌, not, Bool, false, List, [], ◌∷◌, ◌++◌, Option, Some, None, length, slice_get}
 use Rattle.insn.specs.declared.insn.Insn.{Insn}
 use Rattle.insn.specs.declared.insn.Insn.TheVariants.{Store, Call}
@@ -13,54 +13,58 @@ use Rattle.reaching.specs.Left.{left}
 use Rattle.reaching.specs.Setting.{sets}
 use Rattle.reaching.specs.Marks.{KnownByUnit, known_by}
 
--- Checks whether the instruction at a unit sets the register or cell. It does not if there is no instruction or no path
--- leads there.
+-- Checks whether the instruction at a unit sets the register or cell. It does not if there is no instruction, or if no
+-- path leads there.
 abbrev pub set_by : Subject → Option Insn → Option AbsState → Bool
 set_by subject (Some i) (Some a) = sets subject i a
 set_by subject i known = false
 
--- Returns the list that has an entry for each of the first `n` units.
+-- Returns a list with an entry for each of the first `n` units. `tells` gives the entry of a unit.
 abbrev pub of_units : {X : Type 0} → (ℕ → X) → ℕ → List X
 of_units tells zero = []
 of_units tells (suc n) = of_units tells n ++ tells n ∷ []
 
--- Returns, for each of the first `n` units, whether it sets the register or cell.
+-- Returns for each of the first `n` units whether its instruction sets the register or cell.
 abbrev pub setting : List Insn → KnownByUnit → Subject → ℕ → List Bool
 setting program survey subject n =
     of_units (λ unit. set_by subject (instruction_at program unit) (known_by (survey unit))) n
 
--- Returns the abstract stack after a store or a call. Other instructions do not change the stack, and have none here.
+-- Returns the abstract stack after a store or a call. Returns `None` for any other instruction, and if no path leads to
+-- it.
 abbrev pub stack_behind : Option Insn → Option AbsState → Option Known
 stack_behind (Some (Store size base offset source)) (Some a) = Some (left (Store size base offset source) a).stack
 stack_behind (Some (Call number)) (Some a) = Some (left (Call number) a).stack
 stack_behind i known = None
 
--- Returns, for each of the first `n` units, the abstract stack after a store or a call.
+-- Returns for each of the first `n` units the abstract stack after its instruction. An entry is `None` if this is
+-- neither a store nor a call, or if no path leads to it.
 abbrev pub stacks_behind : List Insn → KnownByUnit → ℕ → List (Option Known)
 stacks_behind program survey n =
     of_units (λ unit. stack_behind (instruction_at program unit) (known_by (survey unit))) n
 
--- Returns the abstract stack after a unit, if there is one.
+-- Returns the abstract stack after the instruction at a unit, from the list's entry for this unit, if there is one.
 abbrev pub stack_at : Option (Option Known) → Option Known
 stack_at None = None
 stack_at (Some behind) = behind
 
--- Checks whether a cell of the stack holds something else after an instruction than before it.
+-- Checks whether an instruction changes what is known of a cell of the stack. Returns `false` if what is known before
+-- or after it is `None`.
 abbrev pub changed_in : ℕ → Option AbsState → Option Known → Bool
 changed_in cell (Some a) (Some behind) = not (same_content (held_at a.stack cell) (held_at behind cell))
 changed_in cell known behind = false
 
--- Checks whether a unit sets the cell of a column.
+-- Checks whether a unit sets the cell of a column, from the column's entry for this unit. Returns `false` if there is
+-- no entry.
 abbrev pub flag_at : Option Bool → Bool
 flag_at None = false
 flag_at (Some flag) = flag
 
--- States that the column says for each unit of the program whether it sets the cell.
+-- States that the column says for each unit of the program whether its instruction sets the cell.
 abbrev pub IsColumn : List Insn → KnownByUnit → ℕ → Column → Type 0
 IsColumn program survey cell column =
     column.changed.items ≡ setting program survey (Cell cell) (length (slots_of program))
 
--- States that the columns are those of the 512 cells of the stack, in their order.
+-- States that there is a column for each of the 512 cells of the stack, from the lowest cell on.
 pub record AreColumns (program : List Insn) (survey : KnownByUnit) (columns : List Column) : Type 0 where
   pub all : length columns ≡ 512
   pub each : (cell : ℕ) (column : Column) → slice_get columns cell ≡ Some column → IsColumn program survey cell column

@@ -1,5 +1,5 @@
--- Defines what is known after an instruction that may run: the result of the verifier's transfer. The definition is
--- total, because it changes the stack only for stores and copies to the stack (own).
+-- Defines what is known after an instruction that may run, as the verifier computes it. The definition also has a
+-- result for an instruction that may not run (own).
 use Rattle.std.specs.Prelude.{ℕ, ℤ, nat_le, if◌then◌else◌, Option, Some, None}
 use Rattle.insn.specs.declared.insn.Insn.{Insn}
 use Rattle.insn.specs.declared.insn.Insn.TheVariants.{Arithmetic, Negate, SignExtend, Swap, LoadImmediate, Load, LoadSigned, Store, Call}
@@ -17,24 +17,26 @@ use Rattle.verify.specs.declared.state.AbsState.{AbsState}
 use Rattle.verify.specs.Registers.{known_at, operand_known}
 use Rattle.verify.specs.Transfer.{stored, copied, transfer}
 
--- Returns the abstract stack after a value is stored at a pointer. It changes only if the pointer points to the stack.
+-- Returns the abstract stack after a value is stored at the address `base` plus `distance`. The stack is unchanged if
+-- the address is not in it.
 abbrev pub stored_in_stack : Size → AbsVal → ℤ → AbsVal → Known → Known
 stored_in_stack size (Pointer Stack at) distance value known = stored size (Pointer Stack at) distance value known
 stored_in_stack size base distance value known = known
 
--- Returns the abstract stack after words of the board are copied to a pointer. It changes only if the pointer points to
--- the stack and there are at most as many words as the board has.
+-- Returns the abstract stack after words of the board are copied to the address `target`. The stack is unchanged if the
+-- address is not in it, or if there may be more words than the board has.
 abbrev pub copied_to_stack : AbsVal → AbsVal → Known → Known
 copied_to_stack (Pointer Stack at) (Number counts) known =
     if nat_le (greatest counts) board_words then copied (Pointer Stack at) (Number counts) known else known
 copied_to_stack target counts known = known
 
--- Returns the abstract stack after a call. Only the helper that copies words of the board writes to it.
+-- Returns the abstract stack after a call of a helper. Only `board_copy`, which copies words of the board, writes to
+-- it.
 abbrev pub behind_call : Option Helper → AbsVal → AbsVal → Known → Known
 behind_call (Some BoardCopy) target counts known = copied_to_stack target counts known
 behind_call helper target counts known = known
 
--- Returns what is known after an instruction, if it may run.
+-- Returns the state after an instruction, for an instruction that may run.
 abbrev pub left : Insn → AbsState → AbsState
 left (Store size base offset source) a =
     record {
@@ -48,7 +50,8 @@ left (Call number) a =
     }
 left i a = transfer i a
 
--- Returns the register that the result of an instruction is written to, if there is one.
+-- Returns the register to which an instruction writes its result, which is r0 for a call. Returns `None` for jumps,
+-- stores and the exit.
 abbrev pub result_of : Insn → Option ℕ
 result_of (Arithmetic w operation dst operand) = Some dst
 result_of (Negate w dst) = Some dst

@@ -1,4 +1,4 @@
--- Defines when an instruction sets a register or a cell (own).
+-- Defines when an instruction sets a register or a cell of the stack (own).
 use Rattle.std.specs.Prelude.{ℕ, ◌==◌, not, nat_le, Bool, false, Option, Some, None}
 use Rattle.insn.specs.declared.insn.Insn.{Insn}
 use Rattle.insn.specs.declared.insn.Insn.TheVariants.{Call}
@@ -8,7 +8,7 @@ use Rattle.reaching.specs.declared.subject.Subject.TheVariants.{Register, Cell}
 use Rattle.reaching.specs.Contents.{held_at, same_content}
 use Rattle.reaching.specs.Left.{left, result_of}
 
--- Checks whether a register is the one that a result is written to.
+-- Checks whether register `r` is the one to which an instruction writes its result.
 abbrev pub is_result : ℕ → Option ℕ → Bool
 is_result r None = false
 is_result r (Some dst) = dst == r
@@ -18,8 +18,8 @@ abbrev pub writes : Insn → ℕ → Bool
 writes (Call number) r = nat_le r 5
 writes i r = is_result r (result_of i)
 
--- Checks whether an instruction sets a register or a cell. A register is set if it is written. A cell is set if it
--- holds something else afterwards than was known of it.
+-- Checks whether an instruction sets a register or a cell of the stack. A register is set if it is written. A cell is
+-- set if the instruction changes what is known of it.
 abbrev pub sets : Subject → Insn → AbsState → Bool
 sets (Register r) i a = writes i r
 sets (Cell place) i a = not (same_content (held_at a.stack place) (held_at (left i a).stack place))
