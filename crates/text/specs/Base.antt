@@ -1,4 +1,4 @@
--- The bases in which numbers are written, and the number of their digits.
+-- Defines the bases in which numbers are written: ten and sixteen.
 use Rattle.std.specs.Prelude.{ℕ}
 use Rattle.text.specs.declared.base.Base.{Base}
 use Rattle.text.specs.declared.base.Base.TheVariants.{Ten, Sixteen}
