@@ -46,8 +46,8 @@ pub fn assembled_raw(alloc: Global, text: &str) -> Result<Vec<u8>, InputRefusal>
 ///
 /// # Errors
 ///
-/// Fails if the bytes are not the bytecode of a program, if an object has no code for the entry, if a text does not
-/// assemble or is not UTF-8, or if memory runs out.
+/// Fails if the bytes are not the bytecode of a program, if an ELF object has no code for the entry function, if a text
+/// does not assemble or is not UTF-8, or if memory runs out.
 pub fn disassembled(
     alloc: Global,
     notation: &Notation,

@@ -52,8 +52,8 @@ impl<'a> TaskFailure<'a> {
     }
 
     /// Returns the failure of a task that rejects the file named `file` with the bytes `bytes` for the reason
-    /// `refusal`. If the bytes are not bytecode, the hint says what they seem to be. If an object has no code for the
-    /// entry, the hint says why. Otherwise there is no hint.
+    /// `refusal`. If the bytes are not bytecode, the hint says what they seem to be. If an ELF object has no code for
+    /// the entry function, the hint says why. Otherwise there is no hint.
     pub(crate) fn of_bytes(refusal: InputRefusal, file: &'a str, bytes: &[u8]) -> TaskFailure<'a>
         ensures { result ≡ fault_of_bytes refusal file.entry bytes.now }
     {

@@ -7,7 +7,7 @@ use std::fmt;
 pub enum Hint {
     /// Says what bytes that are not bytecode seem to be.
     Seems(Likeness),
-    /// Says why an ELF object has no code for the entry.
+    /// Says why an ELF object has no code for the entry function.
     Fault(object::ObjectFault),
     /// Explains a rejected program, or reports where and why another input is at fault.
     Explained(String),

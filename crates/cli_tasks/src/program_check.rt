@@ -42,8 +42,8 @@ pub struct Checked {
 ///
 /// # Errors
 ///
-/// Fails if the codec, the assembler or the verifier rejects the program, if an object has no code for the entry, if a
-/// text is not UTF-8, or if memory runs out.
+/// Fails if the codec, the assembler or the verifier rejects the program, if an ELF object has no code for the entry
+/// function, if a text is not UTF-8, or if memory runs out.
 pub fn check(
     alloc: Global,
     notation: &Notation,
@@ -63,8 +63,8 @@ pub fn check(
 ///
 /// # Errors
 ///
-/// Fails if the codec, the assembler or the verifier rejects the program, if an object has no code for the entry, if a
-/// text is not UTF-8, or if memory runs out.
+/// Fails if the codec, the assembler or the verifier rejects the program, if an ELF object has no code for the entry
+/// function, if a text is not UTF-8, or if memory runs out.
 pub fn accepted_in(
     alloc: Global,
     notation: &Notation,

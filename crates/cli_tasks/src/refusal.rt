@@ -20,7 +20,7 @@ use verify::VerifyError;
 pub enum InputRefusal {
     /// The bytes are not the bytecode of a program.
     Codec(CodecError),
-    /// The ELF object has no code for the entry.
+    /// The ELF object has no code for the entry function.
     Object(object::ObjectFault),
     /// The verifier rejects the program.
     Verifier(VerifyError),
