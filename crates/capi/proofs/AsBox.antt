@@ -1,4 +1,4 @@
--- A box of a program, as its row.
+-- Defines the box of a loaded program as the prover's memory model sees it.
 use mathlib.Core.List.{[]}
 use mir.Syntax.{impl, tnil, dnil}
 use denote.Signature.{Slot, plain}

@@ -1,18 +1,18 @@
--- Contexts of fewer bytes, and the zeros behind them.
+-- Lemmas about contexts that are filled up with zeros.
 use Rattle.std.proofs.Common.{◌≡◌, ◌∙◌, ℕ, ◌+◌, ◌-◌, ◌≤◌, List, ◌++◌, append-nil, length, take, drop, replicate, sym, ap, subst, refl, arith}
 use Rattle.std.proofs.lemmas.List.{drop-drop, drop_at, take_at, length-append, length-replicate, drop-replicate, replicate-append-replicate}
 use Rattle.semantics.specs.Limits.{context_size}
 use Rattle.capi.specs.Padding.{padded, IsPadded}
 
--- a context that is given as a whole
+-- A context of 4,096 bytes needs no zeros.
 pub whole : (bytes : List ℕ) → length bytes ≡ 4096 → padded bytes ≡ bytes
 whole bytes long = let none : context_size - length bytes ≡ 0 = omega arith in ap (λ (k : ℕ). bytes ++ replicate k 0) none ∙ append-nil bytes
 
--- zeros alone
+-- A buffer of zeros is a context of which nothing is given.
 pub blank : IsPadded (replicate 4096 0) 0
 blank = record { long = length-replicate {A = ℕ} 4096 0; within = omega arith; zeros = drop-replicate 0 4096 0 }
 
--- what is given is filled, and zeros are behind it
+-- A context has the given bytes first and then zeros.
 pub is_padded : (bytes : List ℕ) → length bytes ≤ 4096 → IsPadded (padded bytes) (length bytes)
 is_padded bytes few = record {
   long = (
@@ -25,20 +25,20 @@ is_padded bytes few = record {
   zeros = drop_at bytes (replicate (context_size - length bytes) 0) (length bytes) refl;
 }
 
--- the zeros of a buffer, by its length
+-- The zeros at the end of a buffer, in terms of its length.
 pub zeros_in : (bytes : List ℕ) (filled : ℕ) → IsPadded bytes filled → drop filled bytes ≡ replicate (length bytes - filled) 0
 zeros_in bytes filled h = h.zeros ∙ ap (λ (n : ℕ). replicate (n - filled) 0) (sym h.long)
 
--- a buffer that is written over has the context
+-- A buffer to which new bytes and zeros were written has the new context.
 pub refilled : (bytes room start : List ℕ) → length bytes ≡ 4096 → room ≡ start ++ replicate (length bytes - length start) 0 → room ≡ padded start
 refilled bytes room start long written = written ∙ ap (λ (n : ℕ). start ++ replicate (n - length start) 0) long
 
--- and then what is given is filled
+-- In this buffer the new bytes are the given ones.
 pub filled_again : (bytes room start : List ℕ) (n : ℕ) → length bytes ≡ 4096 → length start ≤ 4096 → n ≡ length start → room ≡ start ++ replicate (length bytes - length start) 0 → IsPadded room n
 filled_again bytes room start n long few count written =
     subst (λ (k : ℕ). IsPadded room k) (sym count) (subst (λ (l : List ℕ). IsPadded l (length start)) (sym (refilled bytes room start long written)) (is_padded start few))
 
--- the zeros from one place on are those from a later place on
+-- A buffer that is 0 from one index on is 0 from every later index on.
 zeros_later : (room : List ℕ) (filled n : ℕ) → filled ≤ n → drop filled room ≡ replicate (length room - filled) 0 → drop n room ≡ replicate (length room - n) 0
 zeros_later room filled n le zeros =
     let on : filled + (n - filled) ≡ n = omega arith in
@@ -48,11 +48,11 @@ zeros_later room filled n le zeros =
     ∙ (ap (λ (l : List ℕ). drop (n - filled) l) zeros
     ∙ (drop-replicate (n - filled) (length room - filled) 0 ∙ ap (λ (k : ℕ). replicate k 0) rest)))
 
--- more bytes than before
+-- The new context gives at least as many bytes as the previous one.
 pub covered : (room start : List ℕ) (filled n : ℕ) → filled ≤ n → drop filled room ≡ replicate (length room - filled) 0 → start ++ drop n room ≡ start ++ replicate (length room - n) 0
 covered room start filled n le zeros = ap (λ (l : List ℕ). start ++ l) (zeros_later room filled n le zeros)
 
--- fewer bytes than before
+-- The new context gives fewer bytes than the previous one, so the bytes between are cleared.
 pub cleared : (room start : List ℕ) (filled n : ℕ) → length start ≡ n → n ≤ filled → filled ≤ length room → drop filled room ≡ replicate (length room - filled) 0
     → take n (start ++ drop n room) ++ (replicate (filled - n) 0 ++ drop filled (start ++ drop n room)) ≡ start ++ replicate (length room - n) 0
 cleared room start filled n long le within zeros =

@@ -1,4 +1,4 @@
--- A sentence of a list.
+-- Lemmas about the sentence at an index of a list.
 use Rattle.std.proofs.Common.{◌≡◌, ℕ, ◌≤◌, ◌<◌, List, [], length, map, get_or, sym, arith}
 use Rattle.std.proofs.lemmas.List.{get_or-map, get_or_past, length-map}
 

@@ -1,4 +1,4 @@
--- The program is that which was verified.
+-- The program that is searched is the one that was verified.
 use Rattle.std.proofs.Common.{ℕ, List, subst}
 use Rattle.std.specs.Prelude.{IfSome, IfNone}
 use Rattle.insn.specs.declared.insn.Insn.{Insn}

@@ -1,4 +1,4 @@
--- Each unit is allowed that was passed, and past the end there is none.
+-- The calls at all units before the current one are allowed, and there are none after the end.
 use Rattle.std.proofs.Common.{arith, below_more}
 use Rattle.capi.proofs.Calls.{each_below}
 use Rattle.capi.proofs.helpers.first_in.Goals as goal

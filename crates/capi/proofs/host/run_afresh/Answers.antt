@@ -1,4 +1,4 @@
--- A run on a board of zeros.
+-- The run begins with a board on which all words are 0.
 use Rattle.std.proofs.lemmas.Result.{IfOk-weaker}
 use Rattle.capi.proofs.host.run_afresh.Goals as goal
 

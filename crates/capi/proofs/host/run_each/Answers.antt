@@ -1,4 +1,4 @@
--- Each outcome is that in its context.
+-- Each outcome is that of the run in the context with the same index.
 use Rattle.std.proofs.Common.{rules, ◌≡◌, ◌∙◌, ◌⊎◌, inl, ℕ, ◌+◌, ◌-◌, ◌*◌, List, Some, ap, subst, arith}
 use Rattle.std.specs.Prelude.{take, drop, slice_get}
 use Rattle.codec.specs.Program.{SpellsProgram}

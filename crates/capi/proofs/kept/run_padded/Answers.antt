@@ -1,4 +1,4 @@
--- The context is the buffer, which is filled.
+-- The context is the buffer after it was filled.
 use Rattle.std.proofs.Common.{◌∙◌, ℕ, List, subst}
 use Rattle.std.proofs.lemmas.Result.{IfOk-weaker}
 use Rattle.capi.specs.Runs.{Exits}

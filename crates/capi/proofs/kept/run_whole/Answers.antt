@@ -1,4 +1,4 @@
--- Nothing is padded.
+-- A context of 4,096 bytes needs no zeros.
 use Rattle.std.proofs.Common.{◌∙◌, ℕ, List, sym, subst}
 use Rattle.std.proofs.lemmas.Result.{IfOk-weaker}
 use Rattle.capi.specs.Runs.{Exits}

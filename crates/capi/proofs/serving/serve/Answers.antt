@@ -1,4 +1,4 @@
--- The reply fits the request, since the words are a board.
+-- The reply fits the request, because the words are those of a board.
 use Rattle.std.proofs.Common.{◌≡◌, true, List, ℕ, sym, subst}
 use Rattle.semantics.specs.Call.{fits}
 use Rattle.board.proofs.Serving.{reply_fits}

@@ -1,4 +1,4 @@
--- `into_parts` keeps the pointer, and what stands there goes with it.
+-- `into_parts` keeps the pointer, and the result owns the program at this address.
 use Rattle.std.proofs.Common.{◌≡◌, List, [], ◌∷◌, ◌++◌, refl, sym, ap, ◌∙◌, subst}
 use mir.Raw.{raw as bare}
 use mir.Val.{Val}

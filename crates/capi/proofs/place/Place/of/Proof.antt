@@ -1,4 +1,4 @@
--- `of` keeps the pointer, and what stands there goes with it.
+-- `of` keeps the pointer, and the result owns the program at this address.
 use mathlib.Core.Path.{refl, sym, subst}
 use mathlib.Core.List.{List, [], ◌∷◌, ◌++◌}
 use seplogic.Ra.Ura.{Ura}
