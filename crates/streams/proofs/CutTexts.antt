@@ -1,4 +1,4 @@
--- Where a text may be cut: behind characters, or within its last one (Unicode, table 3-7).
+-- Proves where a text may be cut: after a character, or within its last one (Unicode, table 3-7).
 use Rattle.std.proofs.Common.{ℕ, ◌≡◌, ◌+◌, ◌/◌, ◌≤◌, ◌<◌, ◌⊎◌, ◌++◌, ◌∷◌, [], ◌∙◌, List, length, take, drop, Bool, true, false, cond, ◌==◌, arith, inl, inr, subst, sym, ap, ⊎_elim}
 use Rattle.std.specs.Prelude.{◌↔◌, IsTrue, Option, Some, None, is_some, not, slice_index, nat_lt}
 use Rattle.std.specs.Int.{is_in_range}
@@ -17,7 +17,7 @@ use Rattle.streams.specs.Reading.{MayBeginText}
 abbrev Follows : ℕ → Type 0
 Follows b = (128 ≤ b) × (b < 192)
 
--- a byte that may follow the first byte x
+-- The byte y may follow the first byte x of a character.
 record Second (x y : ℕ) : Type 0 where
   low : 128 ≤ y
   high : y < 192
@@ -32,7 +32,7 @@ within lo hi c l h = and_from _ _ (le-leb lo c l) (le-leb c hi h)
 bounds : (lo hi c : ℕ) → is_in_range lo hi c ≡ true → (lo ≤ c) × (c ≤ hi)
 bounds lo hi c e = let parts = and_parts _ _ e in (leb-true lo c parts.0, leb-true c hi parts.1)
 
--- ---- the second byte
+-- ---- the second byte of a character
 
 least : (x : ℕ) → (128 ≤ second_byte_min x) × (second_byte_min x < 161)
 least x = cond_both (x == 224) 160 _ (λ n. (128 ≤ n) × (n < 161)) (λ _. (omega arith, omega arith))
@@ -66,7 +66,7 @@ in_second x y s = within _ _ y
     (λ _. cond_both (x == 244) 143 191 (λ n. y ≤ n) (λ i. let h : y < 144 = s.four_most (eqb-true x 244 i) in omega arith)
     (λ _. let h : y < 192 = s.high in omega arith)))
 
--- the least that may follow
+-- The least byte that may follow the first byte of a character.
 first_second : (x : ℕ) → Second x (second_byte_min x)
 first_second x =
     let low : 128 ≤ second_byte_min x = (least x).0 in
@@ -80,7 +80,7 @@ first_second x =
       four_most = λ i. let h : second_byte_min x ≡ 128 = ap second_byte_min i in omega arith;
     }
 
--- ---- whole characters
+-- ---- characters of two, three and four bytes
 
 two_is : (x y : ℕ) → 194 ≤ x → x < 224 → Follows y → IsUtf8 (x ∷ y ∷ [])
 two_is x y l h f = of_two (x ∷ y ∷ []) 0 (omega arith) (l, h) f
@@ -105,12 +105,12 @@ four_is x y z w l h s f g =
       ⊎_elim (λ i. let k : y < 144 = s.four_most i in omega arith) (λ ne. omega arith) (cases_eq x 244),
     )
 
--- ---- what is not at fault can be gone on with
+-- ---- bytes without a fault can be continued to a text
 
 abbrev Begins : List ℕ → Type 0
 Begins t = (rest : List ℕ) × IsUtf8 (t ++ rest)
 
--- no character stands at its front
+-- The bytes begin with no character.
 abbrev StartsWithNone : List ℕ → Type 0
 StartsWithNone t = (w : ℕ) → 0 < w → IsUtf8 (take w t) → ⊥
 
@@ -197,7 +197,7 @@ goes_on (x ∷ y ∷ z ∷ w ∷ t) some none e =
     let f = thirded (x ∷ y ∷ z ∷ w ∷ t) (omega arith) s.1 in
     let short : length (x ∷ y ∷ z ∷ w ∷ t) < 4 = f.1 in absurd (omega arith)
 
--- ---- what can be gone on with is not at fault
+-- ---- bytes that can be continued to a text have no fault
 
 one_is_led : (x : ℕ) → 194 ≤ x → x ≤ 244 → error_len_of_some (x ∷ []) ≡ None
 one_is_led x l h = cond-true _ _ _ (within 194 244 x l h)
@@ -273,7 +273,7 @@ module _ (t rest tail : List ℕ) (some : 0 < length t) (none : StartsWithNone t
           (subst (λ k. IsUtf8 (k ∷ y ∷ z ∷ w ∷ [])) first (subst (λ k. IsUtf8 (a ∷ k ∷ z ∷ w ∷ [])) next
           (subst (λ k. IsUtf8 (a ∷ b ∷ k ∷ w ∷ [])) third (subst (λ k. IsUtf8 (a ∷ b ∷ d ∷ k ∷ [])) last is)))))
 
-  -- the character with which it goes on
+  -- Bytes that end within the character with which the text continues have no fault.
   of_char : (c : ℕ) → IsScalar c → encode_utf8 c ++ tail ≡ t ++ rest → error_len_of_some t ≡ None
   of_char c sc e = by (cases_lt c 128) (cases_lt c 2048) (cases_lt c 65536) (scalar_cases c sc)
     where
@@ -304,7 +304,7 @@ not_at_fault t rest some none u = by u.0 u.1.0 u.1.1
     by [] ok e = let long : 0 ≡ length (t ++ rest) = ap length e in absurd (omega (arith, length-append t rest))
     by (c ∷ cs) ok e = of_char t rest (encode_utf8_all cs) some none c (and_parts _ _ ok).0 e
 
--- ---- a text, and where it is not one
+-- ---- whole texts, and bytes after a valid part
 
 pub whole : (front : List ℕ) → IsUtf8 front → MayBeginText front
 whole front is = ([], subst IsUtf8 (sym (append-nil front)) is)
@@ -320,7 +320,7 @@ module _ (front : List ℕ) (n : ℕ) (valid : IsValidUpTo front n) where
   unfolding utf8_error_len
   by_error = cond-false _ _ _ (ne_eqb (length (drop n front)) 0 (let some = some_left in omega arith))
 
-  -- it ends within a character
+  -- Bytes that end within a character can be continued to a text.
   pub ends_within : utf8_error_len (drop n front) ≡ None → MayBeginText front
   ends_within e =
       let further = goes_on (drop n front) some_left none_left (sym by_error ∙ e) in

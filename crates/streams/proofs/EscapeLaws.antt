@@ -1,4 +1,4 @@
--- Displayed texts: which characters they contain, and which texts are displayed unchanged.
+-- Proves the law about displayed texts: which characters they contain, and which texts are displayed unchanged.
 use Rattle.std.proofs.Common.{ℕ, ◌+◌, ◌/◌, ◌%◌, ◌<◌, ◌≤◌, ◌≡◌, Bool, true, false, not, ◌&&◌, ◌||◌, List, [], ◌∷◌, ◌++◌, refl, ap, sym, ◌∙◌, arith, codes}
 use Rattle.std.specs.Prelude.{nat_lt}
 use Rattle.std.specs.Char.{digit_char, is_control}
@@ -15,7 +15,7 @@ use Rattle.streams.specs.Escapes.{displayed, escape, escaped, is_escaped, is_kep
 use Rattle.streams.specs.Laws.{EscapedTextsArePlain}
 use Rattle.streams.specs.Names.{has_control}
 
--- one character more
+-- Displaying one more character appends its displayed form.
 pub one_more : (kept : Kept) (cs : List ℕ) (c : ℕ)
     → encode_utf8_all (flat_map (displayed kept) cs) ++ encode_utf8_all (displayed kept c) ≡ encode_utf8_all (flat_map (displayed kept) (cs ++ c ∷ []))
 one_more kept cs c =
@@ -39,7 +39,7 @@ pub clean_same : (kept : Kept) (text : List ℕ) → IsUtf8 text → has_control
 unfolding escaped has_control
 clean_same kept text utf8 h = ap encode_utf8_all (flat_same kept (chars text) h) ∙ encodes-chars text utf8
 
--- ---- the characters of a displayed text
+-- ---- the characters of a text as it is displayed
 
 scalar_small : (c : ℕ) → c < 55296 → scalar c ≡ true
 scalar_small c h = cond-true (nat_lt c 55296) true _ (lt-ltb c 55296 h)

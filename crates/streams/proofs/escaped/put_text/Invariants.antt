@@ -4,7 +4,7 @@ use Rattle.std.specs.Str.{encode_utf8_all}
 use Rattle.streams.specs.Escapes.{displayed}
 use Rattle.streams.proofs.escaped.put_text.Given as goal
 
--- the characters so far
+-- The characters so far are written as they should be.
 abbrev pub invariant-loop-character : goal.invariant-loop-character
 invariant-loop-character g l =
     IsPlainFormatter l.initial.f →

@@ -1,4 +1,4 @@
--- A write that took nothing, and one more write.
+-- The contract holds after a write that took nothing, and after one more write.
 use Rattle.std.proofs.Common.{◌+◌, arith, rules}
 use Rattle.streams.proofs.WriteLemmas.{appends_front, appends_kept, appends_on}
 use Rattle.streams.proofs.writer.write_whole.Goals as goal
