@@ -1,4 +1,4 @@
--- Escaped texts in UTF-8 are texts without tags, byte by byte.
+-- Proves that the UTF-8 bytes of an escaped text are text without tags, byte by byte.
 use Rattle.std.proofs.Common.{ℕ, ◌+◌, ◌/◌, ◌<◌, ◌≤◌, ◌≡◌, ◌≢◌, Bool, true, false, ◌&&◌, ◌||◌, List, [], ◌∷◌, ◌++◌, refl, sym, ◌∙◌, subst, inl, inr, arith, codes, encode_utf8, encode_utf8_all, chars, append-nil}
 use Rattle.std.specs.Prelude.{◌==◌, nat_le}
 use Rattle.std.proofs.lemmas.Bool.{cases_lt, cases_eq, le-leb, le-ltb, lt-leb, lt-ltb, ne_eqb, or_from, or_left, or_right, and_from, cond_both, true≢false}
@@ -9,7 +9,7 @@ use Rattle.html.specs.Grammar.{IsText, character, no_text, referred}
 use Rattle.html.specs.Page.{shown as shown_bytes}
 use Rattle.html.specs.Visible.{visible}
 
--- the bytes of a character past ASCII
+-- The UTF-8 bytes of a character that is not ASCII.
 two : (c : ℕ) → 128 ≤ c → c < 2048 → encode c ≡ (192 + c / 64) ∷ next c ∷ []
 unfolding encode
 two c l h = rw (le-ltb c 128 l, lt-ltb c 2048 h) refl
@@ -22,7 +22,7 @@ four : (c : ℕ) → 65536 ≤ c → encode c ≡ (240 + c / 262144) ∷ next (c
 unfolding encode
 four c l = rw (le-ltb c 128 (omega arith), le-ltb c 2048 (omega arith), le-ltb c 65536 l) refl
 
--- a byte past ASCII is a character
+-- A byte of 128 or more is a character that XML allows.
 high_is : (b : ℕ) → 128 ≤ b → b < 256 → is_character b ≡ true
 high_is b low high =
     or_left (b == 9 || b == 10 || b == 13 || is_within 0x20 0xD7FF b || is_within 0xE000 0xFFFD b) (is_within 0x10000 0x10FFFF b)
@@ -36,7 +36,7 @@ off : (x y : Bool) → y ≡ false → (x && y) ≡ false
 off true y h = h
 off false y h = refl
 
--- no character is past the last of Unicode
+-- A number greater than U+10FFFF is not a character that XML allows.
 beyond : (c : ℕ) → 1114112 ≤ c → is_character c ≡ false
 beyond c far =
     or_from (c == 9 || c == 10 || c == 13 || is_within 0x20 0xD7FF c || is_within 0xE000 0xFFFD c) (is_within 0x10000 0x10FFFF c)
@@ -53,7 +53,7 @@ below c h = elim (cases_lt c 1114112) [
   | inr far ↦ absurd (true≢false (sym h ∙ beyond c far))
 ]
 
--- a character past ASCII, in its bytes
+-- The bytes of a character that is not ASCII are text.
 wide : (c : ℕ) (rest : List ℕ) → 128 ≤ c → c < 1114112 → IsText rest → IsText (encode_utf8 c ++ rest)
 wide c rest low top t = elim (cases_lt c 2048) [
   | inl less ↦ subst (λ bs. IsText (bs ++ rest)) (sym (two c low less)) (high _ _ (omega arith) (omega arith) (high _ _ (omega arith) (omega arith) t))
@@ -64,7 +64,7 @@ wide c rest low top t = elim (cases_lt c 2048) [
   ]
 ]
 
--- any character that is no markup
+-- The bytes of any character that is not markup are text.
 plain : (c : ℕ) (rest : List ℕ) → is_character c ≡ true → c ≢ 38 → c ≢ 60 → c ≢ 62 → c ≢ 34 → IsText rest → IsText (encode_utf8 c ++ rest)
 plain c rest is n38 n60 n62 n34 t = elim (cases_lt c 128) [
   | inl less ↦ subst (λ bs. IsText (bs ++ rest)) (sym (encode_ascii c less)) (character c rest is n38 n60 n62 n34 t)
@@ -74,7 +74,7 @@ plain c rest is n38 n60 n62 n34 t = elim (cases_lt c 128) [
 abbrev GoesOn : List ℕ → ℕ → Type 0
 GoesOn rest c = IsText (encode_utf8_all (written c) ++ rest)
 
--- a character that is not written as a reference
+-- The bytes of a character that has no reference are text.
 other : (rest : List ℕ) → IsText rest → (c : ℕ) → written c ≡ shown c ∷ [] → c ≢ 38 → c ≢ 60 → c ≢ 62 → c ≢ 34 → GoesOn rest c
 unfolding encode
 other rest t c is n38 n60 n62 n34 =

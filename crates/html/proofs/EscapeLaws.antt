@@ -1,4 +1,4 @@
--- Escaped texts are plain, and are read back.
+-- Proves that escaped text contains no markup and is read back as the original text.
 use Rattle.std.proofs.Common.{ℕ, ◌≡◌, ◌≢◌, true, List, [], ◌∷◌, ◌++◌, map, None, Some, refl, sym, ap, subst, ◌∙◌, inl, inr}
 use Rattle.std.specs.Prelude.{codes}
 use Rattle.std.specs.List.{list_all}
@@ -9,7 +9,7 @@ use Rattle.html.specs.Grammar.{IsText, character, no_text, referred}
 use Rattle.html.specs.MarkupLaws.{EscapesArePlain, EscapesAreReadBack, is_plain}
 use Rattle.html.specs.Reading.{onto, read}
 
--- it is none of those that are written as references
+-- The character has no reference.
 record IsOther (c : ℕ) : Type 0 where
   ampersand : c ≢ 38
   less : c ≢ 60
@@ -20,7 +20,7 @@ record IsOther (c : ℕ) : Type 0 where
   feed : c ≢ 10
   return : c ≢ 13
 
--- what holds of those, and of all others, holds of all
+-- What holds for each character with a reference, and for all others, holds for all characters.
 by_cases : (P : ℕ → Type 0) → P 38 → P 60 → P 62 → P 34 → P 39 → P 9 → P 10 → P 13 → ((c : ℕ) → IsOther c → P c) → (c : ℕ) → P c
 by_cases P p38 p60 p62 p34 p39 p9 p10 p13 rest c =
     elim (cases_eq c 38) [
@@ -49,12 +49,12 @@ by_cases P p38 p60 p62 p34 p39 p9 p10 p13 rest c =
       ]
     ]
 
--- another is written as it is shown
+-- A character without a reference is written as itself, or as U+FFFD if XML forbids it.
 written_other : (c : ℕ) → IsOther c → written c ≡ shown c ∷ []
 written_other c o =
     rw (ne_eqb c 38 o.ampersand, ne_eqb c 60 o.less, ne_eqb c 62 o.greater, ne_eqb c 34 o.quote, ne_eqb c 39 o.apostrophe, ne_eqb c 9 o.tab, ne_eqb c 10 o.feed, ne_eqb c 13 o.return) refl
 
--- what holds of it and of the replacement character holds of what is shown
+-- What holds for a character that XML allows, and for U+FFFD, holds for what is written.
 of_shown : (P : ℕ → Type 0) (c : ℕ) → (is_character c ≡ true → P c) → P 0xFFFD → P (shown c)
 of_shown P c itself replaced = cond_both (is_character c) c 0xFFFD P itself (λ _. replaced)
 
@@ -90,7 +90,7 @@ proved_escapes_are_read_back = record {
   same = λ cs h. reads_back cs ∙ ap Some (all_shown cs h);
 }
 
--- ---- what is written
+-- ---- what escaped text contains
 
 abbrev IsPlainly : ℕ → Type 0
 IsPlainly c = list_all is_plain (written c) ≡ true

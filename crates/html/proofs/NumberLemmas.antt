@@ -1,4 +1,4 @@
--- The number of a character, as it is written.
+-- Lemmas about writing the number of a character, such as `[U+200B]`.
 use Rattle.std.proofs.Common.{ℕ, ◌≡◌, List, [], ◌∷◌, ◌++◌, sym, ap, ◌∙◌, append_assoc, append-nil, codes, encode_utf8_all}
 use Rattle.std.proofs.lemmas.Grind.{flat_map-append}
 use Rattle.std.proofs.lemmas.Str.{encodes-append}
@@ -8,7 +8,7 @@ use Rattle.html.specs.Escaped.{escaped, written}
 abbrev E : List ℕ → List ℕ
 E cs = encode_utf8_all cs
 
--- a character alone
+-- A text of one character is escaped as this character.
 pub one_written : (c : ℕ) → E (escaped (c ∷ [])) ≡ E (written c)
 one_written c = ap encode_utf8_all (append-nil (written c))
 
@@ -37,7 +37,7 @@ shown_so lead a b c d =
 regrouped : (old p l a b c d q : List ℕ) → ((((((old ++ p) ++ l) ++ a) ++ b) ++ c) ++ d) ++ q ≡ old ++ (p ++ (l ++ (a ++ (b ++ (c ++ (d ++ q))))))
 regrouped old p l a b c d q = simp append_assoc
 
--- piece by piece
+-- The number is written piece by piece.
 pub number_written : (old first zeroth one two three four new lead : List ℕ) (a b c d : ℕ) → first ≡ old ++ codes "[U+" → zeroth ≡ first ++ E (escaped lead) → one ≡ zeroth ++ E (written a)
     → two ≡ one ++ E (written b) → three ≡ two ++ E (written c) → four ≡ three ++ E (written d) → new ≡ four ++ codes "]"
     → new ≡ old ++ E (escaped (codes "[U+" ++ (lead ++ (a ∷ b ∷ c ∷ d ∷ codes "]"))))

@@ -1,4 +1,4 @@
--- Pages are elements.
+-- Proves that a page is an XML element.
 use Rattle.std.proofs.Common.{ℕ, ◌≡◌, ◌≢◌, Bool, true, false, not, ◌&&◌, List, [], ◌∷◌, ◌++◌, refl, sym, subst, append_assoc, append-nil, codes}
 use Rattle.std.specs.Prelude.{◌==◌, bytes_eq}
 use Rattle.std.specs.List.{list_all, list_any}
@@ -10,14 +10,14 @@ use Rattle.html.specs.Laws.{PagesAreElements, PartsAreContent}
 use Rattle.html.specs.Page.{begun_lines, cell, fold, head, head_start, heading, item, lines, list, look, page, paragraph, picture, picture_tag, preamble, row, shown, table, text_item}
 use Rattle.html.proofs.EncodedLaws.{shown_text}
 
--- a character that is no markup, and no quotation mark
+-- The character is allowed in XML, and is neither markup nor a double quotation mark.
 abbrev is_bare : ℕ → Bool
 is_bare c = is_character c && not (c == 38) && not (c == 60) && not (c == 62) && not (c == 34)
 
 apart : (c d : ℕ) → not (c == d) ≡ true → c ≢ d
 apart c d h = eqb-false c d (not-true (c == d) h)
 
--- a text of such characters; of one that is written out the test computes
+-- A text of such characters is text without tags. For a given text the test is computed.
 bare : (cs : List ℕ) → list_all is_bare cs ≡ true → IsText cs
 bare [] h = no_text
 bare (c ∷ cs) h =
@@ -52,11 +52,11 @@ fed cs c = joined cs (codes "\n") c feed
 led : (cs : List ℕ) → IsContent cs → IsContent (codes "\n" ++ cs)
 led cs c = joined (codes "\n") cs feed c
 
--- an element with text alone
+-- An element whose content is only text is well-formed content.
 worded : (name words : List ℕ) → is_name name ≡ true → IsText words → IsContent (element name [] words)
 worded name words n t = nested name [] words (bare_tag name n) (text words t)
 
--- ---- parts
+-- ---- the parts of a page
 
 three_parts : (first words close feed : List ℕ) → first ++ words ++ (close ++ feed) ≡ (first ++ words ++ close) ++ feed
 three_parts first words close feed = simp append_assoc
@@ -140,7 +140,7 @@ text_item_content : (words : List ℕ) → IsContent (text_item words)
 text_item_content words =
     subst IsContent (sym (three_parts (codes "<li>") (shown words) (codes "</li>") (codes "\n"))) (fed (element (codes "li") [] (shown words)) (worded (codes "li") (shown words) refl (shown_text words)))
 
--- parts in an element without attributes, between line feeds
+-- An element without attributes, with parts between line feeds in it, is well-formed content.
 around_parts : (first feed parts close : List ℕ) → (first ++ feed) ++ parts ++ (close ++ feed) ≡ (first ++ (feed ++ parts) ++ close) ++ feed
 around_parts first feed parts close = simp append_assoc
 
@@ -187,7 +187,7 @@ proved_parts_are_content = record {
 
 -- ---- the page
 
--- what the head has before the look: that it is in UTF-8, what it may load, and that it is as wide as the screen
+-- The tags in the head of a page before the style sheet: its encoding, what it may load, and its width.
 abbrev charset : List ℕ
 charset = empty (codes "meta") (attribute (codes "charset") (codes "utf-8") ++ [])
 
@@ -228,7 +228,7 @@ metas_content =
     joined ((charset ++ codes "\n") ++ (policy ++ codes "\n")) (viewport ++ codes "\n")
     (joined (charset ++ codes "\n") (policy ++ codes "\n") (fed charset charset_content) (fed policy policy_content)) (fed viewport viewport_content)
 
--- what the head and the body have inside
+-- The content of the head and of the body of a page.
 abbrev head_inside : List ℕ → List ℕ
 head_inside t = codes "\n" ++ (metas ++ ((element (codes "style") [] look ++ codes "\n") ++ (element (codes "title") [] t ++ codes "\n")))
 

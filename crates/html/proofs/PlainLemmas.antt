@@ -1,4 +1,4 @@
--- Characters that are written as they are.
+-- Lemmas about characters that are written unchanged.
 use Rattle.std.proofs.Common.{ℕ, ◌<◌, ◌≤◌, ◌≡◌, Bool, true, not, ◌&&◌, ◌||◌, List, [], ◌∷◌, Option, Some, None, refl, sym, ap, ◌∙◌, arith, inl, inr, append-nil, encode_utf8, encode_utf8_all}
 use Rattle.std.specs.Prelude.{◌==◌, nat_le, is_none, unwrap_or}
 use Rattle.std.proofs.Math.Utf8.{encode}
@@ -6,7 +6,7 @@ use Rattle.std.proofs.lemmas.Bool.{agree_below_at, and_parts, cond-false, cond-t
 use Rattle.html.specs.Escaped.{escaped, is_character, is_within, reference, shown, written}
 use Rattle.html.specs.Visible.{is_hidden, is_plain, made_visible, numbered}
 
--- what is tested of each character below 127
+-- The facts that are tested for each character below 127.
 abbrev is_right : ℕ → Bool
 is_right c = not (is_plain c) || (not (is_hidden c) && is_none (reference c) && is_character c)
 

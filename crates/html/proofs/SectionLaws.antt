@@ -1,4 +1,4 @@
--- Sections take no more than their room, and none is left out that there is room for.
+-- Proves that sections take no more than the page's room, and that no section is replaced if there is room for it.
 use Rattle.std.proofs.Common.{ℕ, suc, ◌+◌, ◌-◌, ◌≤◌, ◌<◌, ◌≡◌, List, [], ◌∷◌, ◌++◌, length, length-append, refl, sym, ap, subst, ◌∙◌, arith, append_assoc, append-nil, true, false, inl, inr, ◌⊎◌}
 use Rattle.std.specs.Prelude.{nat_le, if◌then◌else◌}
 use Rattle.std.specs.List.{AllByRecursion}
@@ -10,7 +10,7 @@ use Rattle.html.specs.Laws.{IsFilled, IsRoomy, IsToldOrTooLong, SectionsAreFitte
 use Rattle.html.specs.Sections.{Section, all_sections, bytes_of, fitted_sections, heading_bytes, left_by, more, rooms, section, sections_in, standing, standing_in, sure, titled, told_bytes}
 use Rattle.html.proofs.PageLaws.{proved_parts_are_content}
 
--- of a section
+-- Facts about one section.
 
 sure_told : (s : Section) → length s.told ≤ s.room → sure s ≡ s.told
 sure_told s short = cond-true (nat_le (length s.told) s.room) s.told s.instead (le-leb (length s.told) s.room short)
@@ -27,7 +27,7 @@ section_short : (title told : List ℕ) → length (section title told) ≤ leng
 section_short title [] = omega arith
 section_short title (c ∷ cs) = omega (arith, length-append (heading title) (c ∷ cs))
 
--- ---- how long they are
+-- ---- the length of the sections
 
 sure_bytes : List Section → ℕ
 sure_bytes [] = 0
@@ -69,7 +69,7 @@ fitted_short left (s ∷ ss) =
     let rest = fitted_short left ss in
     omega (arith, length-append (section s.title s.instead) (fitted_sections left ss)))
   where
-    -- a section that has to be left out is not within its own room
+    -- If a section has to be replaced, its replacement is not longer than its reserved bytes.
     instead_short : (s : Section) (m left : ℕ) → left < m → m ≡ more s → length s.instead ≤ length (sure s)
     instead_short s m left low e =
         cond_both (nat_le (length s.told) s.room) s.told s.instead (λ xs. m ≡ length s.told - length xs → length s.instead ≤ length xs)
@@ -82,9 +82,9 @@ short room ss low each =
     let sures = sure_roomy ss each in
     omega arith
 
--- ---- which are told
+-- ---- which sections are written in full
 
--- a section that fits, and one that does not
+-- A section that fits is written in full, and one that does not is replaced.
 fits_told : (left : ℕ) (s : Section) (ss : List Section) → more s ≤ left → standing left (s ∷ ss) ≡ s.told ∷ standing (left - more s) ss
 fits_told left s ss low = cond-true (nat_le (more s) left) (s.told ∷ standing (left - more s) ss) (s.instead ∷ standing left ss) (le-leb (more s) left low)
 
@@ -101,7 +101,7 @@ all_told room ss low each =
     let parts = told_is ss each in
     all_fitted (left_by room ss) ss (omega arith)
 
--- what stands in a text stands in a longer one
+-- A part of a text is a part of any longer text.
 pub behind : (part whole before : List ℕ) → StandsIn part whole → StandsIn part (before ++ whole)
 behind part whole before is = (before ++ is.0, is.1, ap (λ v. before ++ v) is.2 ∙ simp append_assoc)
 
@@ -141,14 +141,14 @@ one_stands left (b ∷ before) s after =
     further : (s : Section) (first rest : List ℕ) → StandsIn s.told rest ⊎ StandsIn s.instead rest → StandsIn s.told (first ++ rest) ⊎ StandsIn s.instead (first ++ rest)
     further s first rest is = elim is [ inl told ↦ inl (behind s.told rest first told) | inr other ↦ inr (behind s.instead rest first other) ]
 
--- ---- which are left out
+-- ---- which sections are replaced
 
--- of a section that needs more its room has no place for it
+-- For a section that needs more than its own room, this room is reserved for its replacement.
 sure_instead : (s : Section) → 0 < more s → sure s ≡ s.instead
 sure_instead s needs =
     cond_both (nat_le (length s.told) s.room) s.told s.instead (λ xs. 0 < length s.told - length xs → xs ≡ s.instead) (λ _ none. absurd (omega arith)) (λ _ _. refl) needs
 
--- what stands is what is sure at least
+-- What is written takes at least the reserved bytes.
 standing_least : (left : ℕ) (ss : List Section) → AllByRecursion IsRoomy ss → sure_bytes ss ≤ bytes_of (standing left ss)
 unfolding sure_bytes
 standing_least left [] each = omega arith
@@ -164,7 +164,7 @@ standing_least left (s ∷ ss) each =
     let rest = standing_least left ss each.1 in
     omega arith)
 
--- so many bytes are left, but for what is sure
+-- A section is replaced only if its text is longer than the bytes that remain for it.
 abbrev IsLeftOut : ℕ → List Section → Section → List Section → List (List ℕ) → Type 0
 IsLeftOut room before s after texts =
     (ahead : List (List ℕ)) × (own : List ℕ) × (behind : List (List ℕ)) × (length ahead ≡ length before) × (texts ≡ ahead ++ own ∷ behind) × IsToldOrTooLong room s ahead own behind
@@ -214,7 +214,7 @@ in_room room before s after each =
     let left = left_is room all in
     (is.0, is.1, is.2, is.3, is.4, elim is.5 [ inl told ↦ inl told | inr long ↦ inr (long.0, (let large = long.1 in omega arith)) ])
 
--- ---- content
+-- ---- the sections are well-formed content
 
 section_content : (title told : List ℕ) → IsContent told → IsContent (section title told)
 section_content title [] c = text [] no_text

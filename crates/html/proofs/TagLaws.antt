@@ -1,4 +1,4 @@
--- What is written is an element.
+-- Proves that a name, attributes and content form an element.
 use Rattle.std.proofs.Common.{refl, subst, sym}
 use Rattle.html.specs.Grammar.{IsContent, nested}
 use Rattle.html.specs.MarkupLaws.{ElementsAreElements}

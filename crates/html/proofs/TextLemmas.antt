@@ -1,4 +1,4 @@
--- Texts without markup, put together.
+-- Lemmas about joining texts without markup.
 use Rattle.std.proofs.Common.{ℕ, zero, suc, ◌+◌, ◌/◌, ◌%◌, ◌<◌, ◌≤◌, ◌≡◌, ◌≢◌, Bool, true, false, not, ◌&&◌, ◌||◌, cond, List, [], ◌∷◌, ◌++◌, sym, ap, subst, append_assoc, arith}
 use Rattle.std.specs.Prelude.{◌==◌}
 use Rattle.std.specs.Fmt.{decimal, digits, digit_glyph, digits_onto}
@@ -8,7 +8,7 @@ use Rattle.html.specs.Escaped.{is_character, is_within}
 use Rattle.html.specs.Grammar.{IsText, character, no_text, referred}
 use Rattle.html.specs.MarkupLaws.{is_plain}
 
--- one behind the other
+-- A text without tags, followed by another one, is a text without tags.
 pub text-append : {a : List ℕ} (b : List ℕ) → IsText a → IsText b → IsText (a ++ b)
 text-append b no_text t = t
 text-append b (character c rest h n38 n60 n62 n34 r) t = character c (rest ++ b) h n38 n60 n62 n34 (text-append b r t)
@@ -18,14 +18,14 @@ pub text-flat_map : {A : Type 0} (f : A → List ℕ) (xs : List A) → ((x : A)
 text-flat_map f [] h = no_text
 text-flat_map f (x ∷ xs) h = text-append (flat_map f xs) (h x) (text-flat_map f xs h)
 
--- plain, and no ampersand
+-- The character is plain and not an ampersand.
 abbrev pub is_bare : ℕ → Bool
 is_bare c = is_plain c && not (c == 38)
 
 apart : (c d : ℕ) → not (c == d) ≡ true → c ≢ d
 apart c d h = eqb-false c d (not-true (c == d) h)
 
--- a text of such characters; of one that is written out the test computes
+-- A text of such characters is text without tags. For a given text the test is computed.
 pub bare_text : (cs : List ℕ) → list_all is_bare cs ≡ true → IsText cs
 bare_text [] h = no_text
 bare_text (c ∷ cs) h =
@@ -56,7 +56,7 @@ onto_text (suc k) n acc t =
     let here : IsText (digit_glyph false (n % 10) ∷ acc) = digit_text (n % 10) acc (omega arith) t in
     cond_both (n / 10 == 0) (digit_glyph false (n % 10) ∷ acc) (digits_onto k 10 false (n / 10) (digit_glyph false (n % 10) ∷ acc)) IsText (λ _. here) (λ _. onto_text k (n / 10) (digit_glyph false (n % 10) ∷ acc) here)
 
--- a number is text
+-- A decimal number is text without tags.
 pub decimal_text : (n : ℕ) → IsText (decimal n)
 unfolding digits
 decimal_text n = onto_text 64 n [] no_text

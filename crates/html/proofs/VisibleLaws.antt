@@ -1,4 +1,4 @@
--- Of what is shown of a text each character is seen.
+-- Proves that visible text contains no hidden character.
 use Rattle.std.proofs.Common.{ℕ, ◌+◌, ◌/◌, ◌%◌, ◌<◌, ◌≤◌, ◌≡◌, Bool, true, false, not, ◌&&◌, ◌||◌, List, [], ◌∷◌, ◌++◌, refl, ap, ◌∙◌, arith, codes}
 use Rattle.std.specs.Prelude.{nat_le, nat_lt}
 use Rattle.std.specs.List.{list_all}
@@ -21,7 +21,7 @@ above low high c h = off (nat_le low c) (nat_le c high) (lt-leb c high h)
 under : (low high c : ℕ) → c < low → is_within low high c ≡ false
 under low high c h = ap (λ b. b && nat_le c high) (lt-leb low c h)
 
--- those of ASCII that are printed
+-- No printable ASCII character is hidden.
 no_control : (c : ℕ) → 32 ≤ c → c < 127 → is_control c ≡ false
 no_control c low high = or_from _ _ (or_from _ _ (or_from _ _ (above 0 8 c (omega arith)) (above 11 12 c (omega arith))) (above 14 31 c (omega arith))) (under 127 159 c (omega arith))
 

@@ -10,7 +10,7 @@ use Rattle.html.specs.Escaped.{escaped, written}
 use Rattle.html.specs.Visible.{made_visible, visible}
 use Rattle.html.proofs.visible_text.put_shown.Goals as goal
 
--- one character more
+-- Showing one more character appends its visible and escaped form.
 more : (cs : List ℕ) (c : ℕ) (old : List ℕ)
     → (old ++ encode_utf8_all (escaped (visible cs))) ++ encode_utf8_all (escaped (made_visible c)) ≡ old ++ encode_utf8_all (escaped (visible (cs ++ c ∷ [])))
 more cs c old =
