@@ -1,4 +1,4 @@
--- What stands in a column, and what a unit sets by the stack that it leaves.
+-- Lemmas about columns: which units set a cell, found from the stack after each unit.
 use Rattle.std.proofs.Common.{◌≡◌, ◌∙◌, ℕ, zero, suc, ◌+◌, ◌<◌, List, [], ◌∷◌, ◌++◌, Bool, true, false, Option, Some, None, refl, ap, arith, length, length-append, subst, sym}
 use Rattle.std.specs.Prelude.{slice_get, nat_lt, not}
 use Rattle.std.specs.Result.{result_ok}
@@ -55,7 +55,7 @@ same_itself Byte = refl
 same_itself (Piece Stack offset) = (Decides-int_eq offset offset).1 refl
 same_itself (Piece Context offset) = (Decides-int_eq offset offset).1 refl
 
--- ---- what leaves the stack as it is
+-- ---- instructions that do not change the stack
 
 assigned_stack : (a : AbsState) (dst : ℕ) (value : Option AbsVal) → (assigned a dst value).stack ≡ a.stack
 assigned_stack a dst None = refl
@@ -81,7 +81,7 @@ changed_so cell (Some (LoadSigned part dst base offset)) (Some a) =
     kept a cell (left (LoadSigned part dst base offset) a).stack (assigned_stack a dst (result_ok (signed_load_given a.stack part (known_at a.registers base) offset)))
 changed_so cell (Some i) (Some a) = kept a cell a.stack refl
 
--- ---- by the lists
+-- ---- the flag of a unit, found from the lists
 
 pub sets_so : (program : List Insn) (survey : KnownByUnit) (stacks : List (Option Known)) (cell unit units : ℕ) (known : Option AbsState) (behind : Option Known) (flag : Bool) →
     unit < units → stacks ≡ stacks_behind program survey units → known ≡ known_by (survey unit) → behind ≡ stack_at (slice_get stacks unit) → flag ≡ changed_in cell known behind →
@@ -96,7 +96,7 @@ pub flag_so : (program : List Insn) (survey : KnownByUnit) (items : List Bool) (
 flag_so program survey items cell unit units flag lt all so =
     so ∙ ap flag_at (ap (λ (s : List Bool). slice_get s unit) all ∙ of_units_at (λ n. set_by (Cell cell) (instruction_at program n) (known_by (survey n))) units unit lt)
 
--- one column more
+-- With one more column, each column is still that of its cell.
 pub columns_more : (program : List Insn) (survey : KnownByUnit) (columns : List Column) (column : Column) (n : ℕ) → length columns ≡ n →
     ((cell : ℕ) (c : Column) → slice_get columns cell ≡ Some c → IsColumn program survey cell c) → IsColumn program survey n column →
     (cell : ℕ) (c : Column) → slice_get (columns ++ column ∷ []) cell ≡ Some c → IsColumn program survey cell c

@@ -1,4 +1,4 @@
--- What is left by an instruction that may run is what the transfer leaves.
+-- Proves that `left` gives the same state as the verifier for every instruction that may run.
 use Rattle.std.proofs.Common.{◌≡◌, ◌+◌, ◌*◌, ◌≤◌, Bool, true, false, Option, Some, None, refl, ap, arith}
 use Rattle.std.specs.Prelude.{ℤ, nat_lt, if◌then◌else◌}
 use Rattle.std.proofs.lemmas.Bool.{le-leb}

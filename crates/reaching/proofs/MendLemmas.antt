@@ -1,4 +1,4 @@
--- Programs with an edit grow with their instructions, and their instructions are well formed.
+-- Lemmas about a program that is changed at one instruction: it is made instruction by instruction, and is well-formed.
 use Rattle.std.proofs.Common.{◌≡◌, ◌∙◌, ℕ, ◌+◌, ◌*◌, ◌<◌, ◌≤◌, List, [], ◌∷◌, ◌++◌, Bool, true, false, Some, None, ap, append_assoc, append-nil, arith, get_or, length, sym, take, refl}
 use Rattle.std.specs.Prelude.{◌==◌, nat_lt, if◌then◌else◌}
 use Rattle.std.specs.List.{AllByRecursion}
@@ -12,7 +12,7 @@ use Rattle.reaching.specs.declared.edits.Edit.{Edit}
 use Rattle.reaching.specs.declared.edits.Edit.TheVariants.{Before, Instead, Moved}
 use Rattle.reaching.specs.Mends.{grown, stretched, put_at, passed, edited, mended}
 
--- one more instruction
+-- One more instruction appends the instructions that it becomes.
 mended-push : (edit : Edit) (place unit : ℕ) (xs : List Insn) (i : Insn)
     → mended edit place unit (xs ++ i ∷ []) ≡ mended edit place unit xs ++ edited edit place (unit + length (slots_of xs)) i
 mended-push edit place unit [] i =
@@ -31,11 +31,11 @@ mended_so_far out new xs edit place k unit i lt at here so_far more =
     let e : unit ≡ 0 + length (slots_of (take k xs)) = omega arith in
     rw (take_more xs k i lt, ← at, mended-push edit place 0 (take k xs) i, ← e, more, so_far) refl
 
--- an instruction starts within the units of all
+-- The unit at which an instruction begins is less than the number of units of the program.
 pub starts_inside : (xs : List Insn) (k unit : ℕ) (i : Insn) → k < length xs → i ≡ get_or xs k i → unit ≡ length (slots_of (take k xs)) → unit < length (slots_of xs)
 starts_inside xs k unit i lt at here = omega (arith, units_bound xs k unit (units_of i) i lt at here refl, units_some i)
 
--- ---- well formed
+-- ---- the instructions are well-formed
 
 insn_well : (i : Insn) → IsInsn i → IsWell i
 insn_well (SignExtend w part dst src) h = h.0
@@ -63,7 +63,7 @@ pub mended_well : (edit : Edit) (place unit : ℕ) (is : List Insn) → AllByRec
 mended_well edit place unit [] h = tt
 mended_well edit place unit (i ∷ is) h = edited_well edit place unit i (mended edit place (unit + units_of i) is) h.0 (mended_well edit place (unit + units_of i) is h.1)
 
--- ---- few
+-- ---- the number of instructions
 
 put_few : (edit : Edit) (i : Insn) → length (put_at edit i) ≤ 3
 put_few (Before operation dst operand) i = omega arith
@@ -78,6 +78,6 @@ edited_few edit place unit i = by_test (unit == place)
     by_test true = put_few edit i
     by_test false = omega arith
 
--- of each instruction at most three are made
+-- Each instruction becomes at most three.
 pub few_more : (out new more : List Insn) (k : ℕ) → length out ≤ 3 * k → length more ≤ 3 → new ≡ out ++ more → length new ≤ 3 * (k + 1)
 few_more out new more k less three e = rw e (omega (arith, length-append out more))

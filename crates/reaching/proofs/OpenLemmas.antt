@@ -1,4 +1,4 @@
--- A unit that a distance leads to.
+-- Lemmas about the unit to which a jump leads.
 use Rattle.std.proofs.Common.{◌≡◌, ◌≢◌, ℕ, List, Bool, false, refl, subst}
 use Rattle.std.specs.Prelude.{ℤ, pos, negsuc, slice_get}
 use Rattle.reaching.specs.declared.mark.UnitMark.{UnitMark}
