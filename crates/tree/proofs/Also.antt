@@ -1,4 +1,4 @@
--- One message more: the levels, but for the place of its label.
+-- Lemmas about receiving one more order: only the entry of its label changes.
 use Rattle.std.proofs.Common.{ℕ, zero, suc, ◌+◌, ◌<◌, ◌≤◌, ◌≡◌, List, [], ◌∷◌, map, refl, ap, ◌∙◌, arith, Some, Option}
 use Rattle.std.proofs.Math.ListN.{set}
 use Rattle.std.specs.Prelude.{slice_get, bytes_eq}
@@ -16,13 +16,13 @@ pub also-other : (M : Messages) (w : List ℕ) (v : Option ℕ) (u : List ℕ) (
 unfolding told_also
 also-other M w v u p ne = cond-false (bytes_eq u w) v (M u p) (false_from_ne_true (bytes_eq u w) (λ t. ne ((bytes_eq-Decides u w).0 t)))
 
--- a list that lacks the label
+-- A list without the label is unchanged.
 pub also-absent : (M : Messages) (w : List ℕ) (v : Option ℕ) (p : ℕ) (ws : List (List ℕ)) → ((i : ℕ) → slice_get ws i ≡ Some w → ⊥) → map (λ u. told_also M w v u p) ws ≡ map (λ u. M u p) ws
 also-absent M w v p [] away = refl
 also-absent M w v p (u ∷ ws) away =
     rw (also-other M w v u p (λ e. away 0 (ap Some e)), also-absent M w v p ws (λ i e. away (suc i) e)) refl
 
--- a list that has it once
+-- A list that has the label once changes only at its index.
 pub also-once : (M : Messages) (w : List ℕ) (v : Option ℕ) (p : ℕ) (ws : List (List ℕ)) (r : ℕ) → slice_get ws r ≡ Some w → ((i : ℕ) → slice_get ws i ≡ Some w → i ≡ r) → map (λ u. told_also M w v u p) ws ≡ set (map (λ u. M u p) ws) r v
 also-once M w v p [] r at only = cc
 also-once M w v p (u ∷ ws) zero at only =
@@ -41,18 +41,18 @@ also-once M w v p (u ∷ ws) (suc r) at only =
     nearer : (i : ℕ) → suc i ≡ suc r → i ≡ r
     nearer i z = omega arith
 
--- levels that lack the label stay
+-- Levels without the label are unchanged.
 pub levels-away : (n c p : ℕ) (M : Messages) (w : List ℕ) (v : Option ℕ) (k l : ℕ) → ((j i : ℕ) → k ≤ j → j < k + l → slice_get (labels n c p j) i ≡ Some w → ⊥) → levels_from n c p (told_also M w v) k l ≡ levels_from n c p M k l
 unfolding levels_from
 levels-away n c p M w v k zero away = refl
 levels-away n c p M w v k (suc l) away =
     rw (also-absent M w v p (labels n c p k) (λ i e. away k i (omega arith) (omega arith) e), levels-away n c p M w v (suc k) l (λ j i low high e. away j i (omega arith) (omega arith) e)) refl
 
--- longer labels' levels stay
+-- Levels for longer labels are unchanged.
 pub levels-stay : (n c p : ℕ) (M : Messages) (w : List ℕ) (v : Option ℕ) (k l : ℕ) → ((j i : ℕ) → slice_get (labels n c p j) i ≡ Some w → j < k) → levels_from n c p (told_also M w v) k l ≡ levels_from n c p M k l
 levels-stay n c p M w v k l below = levels-away n c p M w v k l (λ j i low high e. let h : j < k = below j i e in omega arith)
 
--- the level of its length has it at its rank
+-- The level for labels of the same length changes at the rank of the label.
 pub levels-set : (n c p : ℕ) (M : Messages) (w : List ℕ) (v : Option ℕ) (r : ℕ) (k l i : ℕ) → i < l → slice_get (labels n c p (k + i)) r ≡ Some w → ((j : ℕ) → slice_get (labels n c p (k + i)) j ≡ Some w → j ≡ r) → ((j q : ℕ) → slice_get (labels n c p j) q ≡ Some w → j ≡ k + i)
     → levels_from n c p (told_also M w v) k l ≡ set (levels_from n c p M k l) i (set (level_told n c p M (k + i)) r v)
 unfolding levels_from

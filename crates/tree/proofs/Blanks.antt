@@ -1,4 +1,4 @@
--- A level in which nothing is told any more.
+-- Lemmas about clearing a level, so that nothing is received for its labels.
 use Rattle.std.proofs.Common.{ℕ, zero, suc, ◌+◌, ◌-◌, ◌<◌, ◌≤◌, ◌≡◌, List, [], ◌∷◌, map, length, replicate, refl, sym, ap, subst, ◌∙◌, arith, Some, None, Option}
 use Rattle.std.proofs.Math.ListN.{set}
 use Rattle.std.specs.Prelude.{slice_get, get_or}
@@ -12,7 +12,7 @@ use Rattle.tree.specs.LieutenantTree.{IsFilled, levels_from, blank}
 use Rattle.tree.specs.Fields.{kept, IsFilledBySome}
 use Rattle.tree.proofs.Levels.{row-long}
 
--- labels of a length are that long
+-- The labels of a level have the length of this level.
 abbrev AreLong : ℕ → ℕ → ℕ → Type 0
 AreLong n c p = (j i : ℕ) (w : List ℕ) → slice_get (labels n c p j) i ≡ Some w → length w ≡ j
 
@@ -32,14 +32,14 @@ none-blank : (M : Messages) (k p : ℕ) (ws : List (List ℕ)) → ((i : ℕ) (w
 none-blank M k p [] long = refl
 none-blank M k p (w ∷ ws) long = (λ i. blank-other M k w p (long 0 w refl) i ∷ none-blank M k p ws (λ j u e. long (suc j) u e) i)
 
--- levels of other lengths stay
+-- Levels for other lengths are unchanged.
 levels-kept : (n c p : ℕ) (M : Messages) (k j l : ℕ) → AreLong n c p → ((q : ℕ) → j ≤ q → q < j + l → q ≡ k → ⊥) → levels_from n c p (blank M k) j l ≡ levels_from n c p M j l
 unfolding levels_from
 levels-kept n c p M k j zero long away = refl
 levels-kept n c p M k j (suc l) long away =
     (λ i. none-blank M k p (labels n c p j) (λ q w at e. away j (omega arith) (omega arith) (sym (long j q w at) ∙ e)) i ∷ levels-kept n c p M k (suc j) l long (λ q low high. away q (omega arith) (omega arith)) i)
 
--- the level of that length alone is blank
+-- Only the level for this length is cleared.
 levels-blank : (n c p : ℕ) (M : Messages) (k l i j : ℕ) → AreLong n c p → i < l → k + i ≡ j → levels_from n c p (blank M j) k l ≡ set (levels_from n c p M k l) i (replicate (length (labels n c p j)) None)
 unfolding levels_from
 levels-blank n c p M k zero i j long less e = absurd (omega arith)
@@ -53,11 +53,11 @@ levels-blank n c p M k (suc l) (suc i) j long less e =
 long-labels : (s : Space) → IsSpace s → AreLong s.generals s.commander s.general
 long-labels s is j q w at = (proved_labels_are_exact.only s.generals s.commander s.general j q w is.commander is.general is.lieutenant at).2
 
--- without a level of that length nothing changes
+-- If the tree has no level for this length, nothing changes.
 pub away-blank : (s : Space) (m : ℕ) (ls : List (List (Option ℕ))) (M : Messages) (k : ℕ) → IsFilledBySome s m ls → IsFilled (kept s m ls) M → ((q : ℕ) → 1 ≤ q → q < m + 2 → q ≡ k → ⊥) → IsFilled (kept s m ls) (blank M k)
 away-blank s m ls M k i f away = f ∙ sym (levels-kept s.generals s.commander s.general M k 1 (m + 1) (long-labels s i.space) (λ q low high. away q low (omega arith)))
 
--- the row of a length is written over with nothing
+-- The level for this length is cleared by writing over it.
 pub row-blank : (s : Space) (m : ℕ) (ls : List (List (Option ℕ))) (M : Messages) (k : ℕ) (row new : List (Option ℕ)) → IsFilledBySome s m ls → IsFilled (kept s m ls) M → 0 < k → k ≤ m + 1 → row ≡ get_or ls (k - 1) row → new ≡ replicate (length row) None
     → IsFilled (kept s m (set ls (k - 1) new)) (blank M k)
 row-blank s m ls M k row new i f some short er en =
@@ -65,6 +65,6 @@ row-blank s m ls M k row new i f some short er en =
     ∙ (ap (λ ys. set ys (k - 1) (replicate (length (labels_of s k)) None)) f
     ∙ sym (levels-blank s.generals s.commander s.general M 1 (m + 1) (k - 1) k (long-labels s i.space) (omega arith) (omega arith)))
 
--- and the tree is whole again
+-- The tree with the cleared level has the orders of a message function.
 pub whole-blank : (s : Space) (m : ℕ) (ls : List (List (Option ℕ))) (k : ℕ) (row new : List (Option ℕ)) → IsFilledBySome s m ls → 0 < k → k ≤ m + 1 → row ≡ get_or ls (k - 1) row → new ≡ replicate (length row) None → IsFilledBySome s m (set ls (k - 1) new)
 whole-blank s m ls k row new i some short er en = record { space = i.space; small = i.small; M = blank i.M k; filled = row-blank s m ls i.M k row new i i.filled some short er en }

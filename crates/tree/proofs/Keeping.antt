@@ -1,4 +1,4 @@
--- A level keeps its values as orders and flags.
+-- Lemmas about storing the orders of a level as a list of orders and a list of flags.
 use Rattle.std.proofs.Common.{ℕ, zero, suc, ◌+◌, ◌<◌, ◌≡◌, Bool, true, false, List, [], ◌∷◌, ◌++◌, map, length, get_or, replicate, refl, sym, ap, ◌∙◌, arith, Some, None, Option}
 use Rattle.std.specs.Prelude.{is_some, slice_get, unwrap_or, Vec}
 use Rattle.std.specs.Vec.{with_items}
@@ -11,7 +11,7 @@ use Rattle.tree.specs.Flags.{values_in, AreValues}
 use Rattle.tree.specs.LieutenantTree.{run_written}
 use Rattle.tree.proofs.Runs.{run-long, run-map, run-more}
 
--- what values' flags and orders say
+-- The flags and orders of a list of values give these values.
 pub values-in : (vs : List (Option ℕ)) → values_in (map is_some vs) (map order_of vs) ≡ vs
 unfolding values_in
 values-in [] = refl
@@ -30,14 +30,14 @@ orders-kept told orders kept = kept.orders_is ∙ ap (map order_of) (sym (values
 pub told-kept : (told : List Bool) (orders : List ℕ) → AreValues told orders → told ≡ map is_some (values_in told orders)
 told-kept told orders kept = kept.told_is ∙ ap (map is_some) (sym (values-kept told orders kept))
 
--- each list is as long as there are values
+-- Both lists are as long as the list of values.
 pub orders-long : (told : List Bool) (orders : List ℕ) → AreValues told orders → length orders ≡ length (values_in told orders)
 orders-long told orders kept = ap length (orders-kept told orders kept) ∙ length-map (values_in told orders) order_of
 
 pub told-long : (told : List Bool) (orders : List ℕ) → AreValues told orders → length told ≡ length (values_in told orders)
 told-long told orders kept = ap length (told-kept told orders kept) ∙ length-map (values_in told orders) is_some
 
--- a level in which nothing is told
+-- The lists of a level for which nothing was received.
 none-flags : (n : ℕ) → replicate n false ≡ map is_some (replicate {A = Option ℕ} n None)
 none-flags zero = refl
 none-flags (suc n) = ap (λ flags. false ∷ flags) (none-flags n)
@@ -52,7 +52,7 @@ nothing-kept told orders n m e et eo = record { values = replicate n None; told_
 pub nothing-in : (told : List Bool) (orders : List ℕ) (n m : ℕ) → n ≡ m → told ≡ replicate n false → orders ≡ replicate m 0 → values_in told orders ≡ replicate n None
 nothing-in told orders n m e et eo = values-made told orders (replicate n None) (et ∙ none-flags n) (eo ∙ (ap (λ (k : ℕ). replicate k 0) (sym e) ∙ none-orders n))
 
--- the value at a place
+-- The order that is stored at an index.
 told-there : (vs : List (Option ℕ)) (place : ℕ) (flag : Bool) (order : ℕ) → place < length vs → flag ≡ get_or (map is_some vs) place flag → flag ≡ true → order ≡ get_or (map order_of vs) place order → slice_get vs place ≡ Some (Some order)
 told-there [] place flag order within ef it eo = absurd (omega arith)
 told-there (None ∷ vs) zero flag order within ef it eo = absurd (true≢false (sym it ∙ ef))
@@ -78,7 +78,7 @@ order-is : (value : Option ℕ) → unwrap_or value 0 ≡ order_of value
 order-is None = refl
 order-is (Some v) = refl
 
--- a value put at a place
+-- Storing an order at an index.
 pub put-flags : (told new : List Bool) (orders : List ℕ) (place : ℕ) (value : Option ℕ) (flag : Bool) → AreValues told orders → flag ≡ is_some value → new ≡ set told place flag → new ≡ map is_some (set (values_in told orders) place value)
 put-flags told new orders place value flag kept ef en =
     en ∙ ((λ i. set (told-kept told orders kept i) place (ef i)) ∙ sym (map-set is_some (values_in told orders) place value))
@@ -87,7 +87,7 @@ pub put-orders : (told : List Bool) (orders new : List ℕ) (place : ℕ) (value
 put-orders told orders new place value order kept eo en =
     en ∙ ((λ i. set (orders-kept told orders kept i) place ((eo ∙ order-is value) i)) ∙ sym (map-set order_of (values_in told orders) place value))
 
--- values put in a run
+-- Storing several orders, one after the other.
 pub run-flags : (told new : List Bool) (orders : List ℕ) (first : ℕ) (values : List (Option ℕ)) → AreValues told orders → new ≡ run_written first (map is_some values) told → new ≡ map is_some (run_written first values (values_in told orders))
 run-flags told new orders first values kept en =
     en ∙ (ap (run_written first (map is_some values)) (told-kept told orders kept) ∙ run-map is_some first values (values_in told orders))
@@ -96,7 +96,7 @@ pub run-orders : (told : List Bool) (orders new : List ℕ) (first : ℕ) (value
 run-orders told orders new first values kept en =
     en ∙ (ap (run_written first (map order_of values)) (orders-kept told orders kept) ∙ run-map order_of first values (values_in told orders))
 
--- one more of a run
+-- Storing one more of several orders.
 pub order-more : (first n : ℕ) (vs : List (Option ℕ)) (row now : List ℕ) (v : Option ℕ) (order : ℕ) → length vs ≡ n → now ≡ run_written first (map order_of vs) row → order ≡ unwrap_or v 0 → set now (first + n) order ≡ run_written first (map order_of (vs ++ v ∷ [])) row
 order-more first n vs row now v order long en eo =
     (λ i. set (en i) (first + n) ((eo ∙ order-is v) i))
@@ -107,7 +107,7 @@ flag-more first n vs row now v flag long en ef =
     (λ i. set (en i) (first + n) (ef i))
     ∙ (sym (run-more first n (map is_some vs) row (is_some v) (length-map vs is_some ∙ long)) ∙ ap (λ (us : List Bool). run_written first us row) (sym (map-append is_some vs (v ∷ []))))
 
--- a vector with a run in it
+-- A vector to which several elements were written.
 pub written : {A : Type 0} (row : Vec A Global) (first : ℕ) (vs old new : List A) → old ≡ row.items → new ≡ run_written first vs old → (with_items row new).items ≡ run_written first vs row.items
 written row first vs old new eo en =
     let e : new ≡ run_written first vs row.items = en ∙ ap (run_written first vs) eo in

@@ -1,4 +1,4 @@
--- The levels of a tree, place by place.
+-- Lemmas about the levels of a tree, index by index.
 use Rattle.std.proofs.Common.{ℕ, zero, suc, ◌+◌, ◌-◌, ◌<◌, ◌≤◌, ◌≡◌, List, [], ◌∷◌, ◌++◌, map, length, get_or, replicate, refl, sym, ap, ◌∙◌, arith, Some, None, Option, add-one}
 use Rattle.std.specs.Prelude.{slice_get, unwrap_or, option_map}
 use Rattle.std.proofs.lemmas.List.{length-map}
@@ -10,7 +10,7 @@ use Rattle.label.specs.declared.space.Space.{Space}
 use Rattle.tree.specs.LieutenantTree.{level_told, levels_from, IsFilled, silence}
 use Rattle.tree.specs.Fields.{kept, IsFilledBySome}
 
--- two readings of one place
+-- Two elements that are found at the same index are equal.
 pub same_some : {A : Type 0} {o : Option A} {a b : A} → o ≡ Some a → o ≡ Some b → a ≡ b
 same_some e f = cc
 
@@ -34,7 +34,7 @@ pub told-silence : (p : ℕ) (ws : List (List ℕ)) → map (λ w. silence w p) 
 told-silence p [] = refl
 told-silence p (w ∷ ws) = ap (λ vs. None ∷ vs) (told-silence p ws)
 
--- a row of the fields
+-- A row of the fields is a level of the tree.
 pub row-at : (ls : List (List (Option ℕ))) (i : ℕ) (row : List (Option ℕ)) → i < length ls → row ≡ get_or ls i row → slice_get ls i ≡ Some row
 row-at [] i row s e = absurd (omega arith)
 row-at (x ∷ ls) zero row s e = ap Some (sym e)
@@ -43,7 +43,7 @@ row-at (x ∷ ls) (suc i) row s e = row-at ls i row (omega arith) e
 pub levels-there : {s : Space} {m : ℕ} {ls : List (List (Option ℕ))} → IsFilledBySome s m ls → length ls ≡ m + 1
 levels-there {s} {m} {ls} w = ap length w.filled ∙ levels-long s.generals s.commander s.general w.M 1 (m + 1)
 
--- the row of a length is what was told
+-- The level for a length has the orders that were received.
 pub row-told : (s : Space) (m : ℕ) (ls : List (List (Option ℕ))) (M : Messages) (k : ℕ) (row : List (Option ℕ)) → IsFilledBySome s m ls → IsFilled (kept s m ls) M → 0 < k → k ≤ m + 1 → row ≡ get_or ls (k - 1) row → row ≡ level_told s.generals s.commander s.general M k
 row-told s m ls M k row w f some short e =
     let there : length ls ≡ m + 1 = levels-there w in
@@ -60,7 +60,7 @@ row-value s m ls k row w some short e =
 pub row-long : (s : Space) (m : ℕ) (ls : List (List (Option ℕ))) (k : ℕ) (row : List (Option ℕ)) → IsFilledBySome s m ls → 0 < k → k ≤ m + 1 → row ≡ get_or ls (k - 1) row → length row ≡ length (labels_of s k)
 row-long s m ls k row w some short e = ap length (row-told s m ls w.M k row w w.filled some short e) ∙ length-map (labels_of s k) (λ u. w.M u s.general)
 
--- its orders
+-- The orders of a level.
 pub row-orders : (s : Space) (m : ℕ) (ls : List (List (Option ℕ))) (M : Messages) (k : ℕ) (row : List (Option ℕ)) (orders : List ℕ) → IsFilledBySome s m ls → IsFilled (kept s m ls) M → 0 < k → k ≤ m + 1 → row ≡ get_or ls (k - 1) row → orders ≡ map order_of row → orders ≡ map order_of (level_told s.generals s.commander s.general M k)
 row-orders s m ls M k row orders w f some short e eo = eo ∙ ap (map order_of) (row-told s m ls M k row w f some short e)
 
@@ -70,7 +70,7 @@ row-order-value s m ls k row orders w some short e eo = eo ∙ ap (map order_of)
 pub row-orders-long : (s : Space) (m : ℕ) (ls : List (List (Option ℕ))) (k : ℕ) (row : List (Option ℕ)) (orders : List ℕ) → IsFilledBySome s m ls → 0 < k → k ≤ m + 1 → row ≡ get_or ls (k - 1) row → orders ≡ map order_of row → length orders ≡ length (labels_of s k)
 row-orders-long s m ls k row orders w some short e eo = ap length eo ∙ (length-map row order_of ∙ row-long s m ls k row w some short e)
 
--- what stands at the rank of a label
+-- The order at the rank of a label is the one that was received for it.
 pub told-at : (n c p k r : ℕ) (M : Messages) (w : List ℕ) (vs : List (Option ℕ)) → vs ≡ level_told n c p M k → slice_get (labels n c p k) r ≡ Some w → slice_get vs r ≡ Some (M w p)
 told-at n c p k r M w vs e at = ap (λ xs. slice_get xs r) e ∙ (slice_get-map (λ u. M u p) (labels n c p k) r ∙ ap (option_map (λ u. M u p)) at)
 
@@ -78,7 +78,7 @@ pub levels-none : (n c p : ℕ) (M : Messages) (ls : List (List (Option ℕ))) �
 unfolding levels_from
 levels-none n c p M ls e = e
 
--- one level more in which nothing is told
+-- Adding one more level for which nothing was received.
 pub one-more : (n c p : ℕ) (ls longer : List (List (Option ℕ))) (l count : ℕ) (row : List (Option ℕ)) → ls ≡ levels_from n c p silence 1 l → longer ≡ ls ++ row ∷ [] → row ≡ replicate count None → count ≡ length (labels n c p (l + 1))
     → longer ≡ levels_from n c p silence 1 (l + 1)
 one-more n c p ls longer l count row e el er ec =

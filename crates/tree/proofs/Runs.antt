@@ -1,4 +1,4 @@
--- A run of messages more: the levels, but for the places of its labels.
+-- Lemmas about receiving several orders for consecutive labels: only the entries of these labels change.
 use Rattle.std.proofs.Common.{ℕ, zero, suc, ◌+◌, ◌-◌, ◌<◌, ◌≤◌, ◌≡◌, List, [], ◌∷◌, ◌++◌, map, length, drop, get_or, refl, sym, ap, subst, ◌∙◌, arith, Some, None, Option}
 use Rattle.std.proofs.Math.ListN.{set}
 use Rattle.std.proofs.Math.Seq.{drop-cons}
@@ -15,7 +15,7 @@ use Rattle.tree.specs.Fields.{kept, IsFilledBySome}
 use Rattle.tree.proofs.Also.{also-once, levels-set}
 use Rattle.tree.proofs.Levels.{levels-at, row-told}
 
--- the row stays as long
+-- The level keeps its length.
 pub run-long : {A : Type 0} (first : ℕ) (vs row : List A) → length (run_written first vs row) ≡ length row
 unfolding run_written
 run-long first [] row = refl
@@ -25,7 +25,7 @@ pub run-none : {A : Type 0} (first : ℕ) (row : List A) → row ≡ run_written
 unfolding run_written
 run-none first row = refl
 
--- one value more
+-- Writing one more value.
 pub run-more : {A : Type 0} (first n : ℕ) (vs row : List A) (v : A) → length vs ≡ n → run_written first (vs ++ v ∷ []) row ≡ set (run_written first vs row) (first + n) v
 unfolding run_written
 run-more first n [] row v e = (let same : first ≡ first + n = omega arith in ap (λ (i : ℕ). set row i v) same)
@@ -34,13 +34,13 @@ run-more first (suc n) (u ∷ vs) row v e =
     let next : suc first + n ≡ first + suc n = omega arith in
     run-more (suc first) n vs (set row first u) v (omega arith) ∙ ap (λ (i : ℕ). set (run_written (suc first) vs (set row first u)) i v) next
 
--- a run of what values are mapped to
+-- Applying a function to the values and then writing them is the same as writing them first.
 pub run-map : {A B : Type 0} (f : A → B) (first : ℕ) (vs row : List A) → run_written first (map f vs) (map f row) ≡ map f (run_written first vs row)
 unfolding run_written
 run-map f first [] row = refl
 run-map f first (v ∷ vs) row = ap (run_written (suc first) (map f vs)) (sym (map-set f row first v)) ∙ run-map f (suc first) vs (set row first v)
 
--- an answer more
+-- One more answer.
 pub answers-none : (P : ℕ → Option ℕ → Type 0) → AreAnswers P 0 []
 answers-none P = record { long = refl; each = λ place v at. absurd (none at) }
   where
@@ -69,11 +69,11 @@ set-twice [] i a b = refl
 set-twice (x ∷ xs) zero a b = refl
 set-twice (x ∷ xs) (suc i) a b = ap (λ ys. x ∷ ys) (set-twice xs i a b)
 
--- labels of one length stand at one place each
+-- Two labels of one length with the same generals have the same rank.
 abbrev AreApart : ℕ → ℕ → ℕ → Type 0
 AreApart n c p = (k j r : ℕ) (w : List ℕ) → slice_get (labels n c p k) j ≡ Some w → slice_get (labels n c p k) r ≡ Some w → j ≡ r
 
--- a label stands in the level of its length alone
+-- A label is only in the level for its length.
 abbrev AreOfOne : ℕ → ℕ → ℕ → Type 0
 AreOfOne n c p = (k j r q : ℕ) (w : List ℕ) → slice_get (labels n c p k) r ≡ Some w → slice_get (labels n c p j) q ≡ Some w → j ≡ k
 
@@ -90,7 +90,7 @@ level-stays n c p M k l i j less e =
     let there : slice_get (levels_from n c p M k l) i ≡ Some (level_told n c p M j) = levels-at n c p M k l i less ∙ ap (λ (q : ℕ). Some (level_told n c p M q)) e in
     ap (λ row. set (levels_from n c p M k l) i row) (sym (get_or_from_slice_get (levels_from n c p M k l) i (level_told n c p M j) [] there)) ∙ set-get_or (levels_from n c p M k l) i []
 
--- the level of that length has the values, each at its label's rank
+-- The level for this length has the values, each at the rank of its label.
 pub levels-run : (n c p : ℕ) (M : Messages) (k l i j first : ℕ) (vs : List (Option ℕ)) → AreApart n c p → AreOfOne n c p → i < l → k + i ≡ j → first + length vs ≤ length (labels n c p j)
     → levels_from n c p (told_run M (drop first (labels n c p j)) vs) k l ≡ set (levels_from n c p M k l) i (run_written first vs (level_told n c p M j))
 unfolding run_written told_run
@@ -110,7 +110,7 @@ levels-run n c p M k l i j first (v ∷ vs) apart one less e fits =
     ∙ (set-twice (levels_from n c p M k l) i (set (level_told n c p M j) first v) (run_written (suc first) vs (level_told n c p N j))
     ∙ ap (λ row. set (levels_from n c p M k l) i (run_written (suc first) vs row)) level)))
 
--- the row of a length with the values in it
+-- The level for this length after the values were written.
 pub row-run : (s : Space) (m : ℕ) (ls : List (List (Option ℕ))) (M : Messages) (k first : ℕ) (vs : List (Option ℕ)) (row new : List (Option ℕ)) → IsFilledBySome s m ls → IsFilled (kept s m ls) M → 0 < k → k ≤ m + 1 → row ≡ get_or ls (k - 1) row →
     new ≡ run_written first vs row → first + length vs ≤ length (labels_of s k) → IsFilled (kept s m (set ls (k - 1) new)) (told_run M (drop first (labels_of s k)) vs)
 row-run s m ls M k first vs row new i f some short er en fits =
@@ -118,7 +118,7 @@ row-run s m ls M k first vs row new i f some short er en fits =
     ∙ (ap (λ ys. set ys (k - 1) (run_written first vs (level_told s.generals s.commander s.general M k))) f
     ∙ sym (levels-run s.generals s.commander s.general M 1 (m + 1) (k - 1) k first vs (labels-apart s i.space) (labels-of_one s i.space) (omega arith) (omega arith) fits))
 
--- and the tree is whole again
+-- The tree with the changed level has the orders of a message function.
 pub whole-run : (s : Space) (m : ℕ) (ls : List (List (Option ℕ))) (k first : ℕ) (vs : List (Option ℕ)) (row new : List (Option ℕ)) → IsFilledBySome s m ls → 0 < k → k ≤ m + 1 → row ≡ get_or ls (k - 1) row →
     new ≡ run_written first vs row → first + length vs ≤ length (labels_of s k) → IsFilledBySome s m (set ls (k - 1) new)
 whole-run s m ls k first vs row new i some short er en fits =
