@@ -1,4 +1,4 @@
--- Decimals that are printed are read again, in each of their forms.
+-- Proves that a decimal number that is printed is read back, by each function that reads numbers.
 use Rattle.std.proofs.Common.{◌≡◌, ℕ, ◌+◌, ◌/◌, ◌%◌, ◌^◌, ◌<◌, ◌≤◌, true, false, List, [], ◌∷◌, ◌++◌, Some, None, length, get_or, refl, ap, arith, inl, inr}
 use Rattle.std.specs.Prelude.{decimal, ◌==◌, if◌then◌else◌}
 use Rattle.std.specs.List.{list_all}
@@ -10,7 +10,7 @@ use Rattle.text.specs.Number.{digits_on, decimal_of, is_hex, magnitude_of}
 use Rattle.text.proofs.BytesLemmas.{all-append}
 use Rattle.text.proofs.DigitLemmas.{decimal_again}
 
--- digits alone
+-- The text contains only decimal digits.
 abbrev pub AreDigits : List ℕ → Type 0
 AreDigits ds = list_all (is_within 48 57) ds ≡ true
 
@@ -32,11 +32,11 @@ pub digits-decimal : (n : ℕ) → n < 2 ^ 64 → AreDigits (decimal n)
 unfolding Numeral
 digits-decimal n lt = decimal_by_steps Numeral first_digit more_digits n lt
 
--- a digit is no other byte
+-- A digit is not a byte greater than 57.
 pub digit_is_not : (c other : ℕ) → is_within 48 57 c ≡ true → 57 < other → c == other ≡ false
 digit_is_not c other h lt = grind (arith, nat_tests)
 
--- digits are no hex number
+-- A text of digits does not begin with `0x`.
 pub is_hex-digits : (ds : List ℕ) → AreDigits ds → is_hex ds ≡ false
 is_hex-digits [] h = refl
 is_hex-digits (c ∷ []) h = and_right (c == 48) false refl
@@ -53,7 +53,7 @@ pub magnitude_of-decimal : (n : ℕ) → n < 2 ^ 64 → magnitude_of (decimal n)
 unfolding magnitude_of
 magnitude_of-decimal n lt = rw (is_hex-digits (decimal n) (digits-decimal n lt)) (some_digits (decimal n) n (decimal_nonempty n lt) (decimal_again n lt))
 
--- digits without a leading zero
+-- A text of digits without a leading zero is read as a decimal number.
 plain_decimal : (ds : List ℕ) (n : ℕ) → 0 < length ds → (2 ≤ length ds → 48 < get_or ds 0 0) → digits_on 10 0 ds ≡ Some n → decimal_of ds ≡ Some n
 unfolding decimal_of
 plain_decimal [] n some above h = absurd (omega (arith, some))

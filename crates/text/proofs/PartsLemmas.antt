@@ -1,4 +1,4 @@
--- The pieces of a text from the front.
+-- Lemmas about the first piece and the first line of a text.
 use Rattle.std.proofs.Common.{◌≡◌, ℕ, suc, ◌-◌, ◌<◌, ◌≤◌, Bool, true, false, cond, List, [], ◌∷◌, length, take, drop, refl, ap, ◌∙◌, arith}
 use Rattle.std.proofs.lemmas.List.{take_all}
 use Rattle.text.specs.declared.stop.Stop.{Stop}
@@ -28,11 +28,11 @@ piece_first stop bytes front (c ∷ cs) e f le =
     let all : take (length (c ∷ cs) - 1) cs ≡ cs = take_all _ _ (omega arith) in
     pieces_is stop bytes ∙ rw (← f, ← e, all) refl
 
--- a text that is one piece is one line
+-- A text that is one piece, and is not empty, is one line.
 pub line_last : (text front : List ℕ) → pieces feed text ≡ front ∷ [] → 1 ≤ length front → lines_of text ≡ front ∷ []
 line_last text [] h some = absurd (omega (arith, some))
 line_last text (c ∷ cs) h some = ap closed h
 
--- the first line is the first piece
+-- The first line of a text is its first piece.
 pub line_first : (text front rest : List ℕ) → pieces feed text ≡ front ∷ pieces feed rest → lines_of text ≡ front ∷ lines_of rest
 line_first text front rest h = ap closed h ∙ rw (pieces_is feed rest) refl

@@ -1,4 +1,4 @@
--- What digits are worth.
+-- Proves the law about the values of digits and numbers.
 use Rattle.std.proofs.Common.{◌≡◌, ℕ, zero, suc, ◌+◌, ◌-◌, ◌*◌, ◌^◌, ◌<◌, ◌≤◌, ◌⊎◌, inl, inr, Bool, true, false, cond, List, [], ◌∷◌, Option, Some, None, length, refl, sym, ap, subst, ◌∙◌, arith}
 use Rattle.std.specs.Prelude.{codes, slice_get, min}
 use Rattle.std.proofs.Math.Nat.{pow-suc, pow-zero}
@@ -15,7 +15,7 @@ use Rattle.std.proofs.lemmas.Option.{cond_some}
 within : (low high c : ℕ) → is_within low high c ≡ true → (low ≤ c) × (c ≤ high)
 within low high c e = (grind (arith, nat_tests), grind (arith, nat_tests))
 
--- a digit's character is this one
+-- The character at the index of a digit is that of the digit.
 stands : (text : List ℕ) (k n c d : ℕ) → slice_get text k ≡ Some n → k ≡ d → n ≡ c → slice_get text d ≡ Some c
 stands text k n c d e same is = rw (← same, ← is) e
 
@@ -164,9 +164,9 @@ hex_read : (c d : ℕ) → (slice_get (codes "0123456789abcdef") d ≡ Some c) �
 hex_read c d (inl e) = low_read c d e
 hex_read c d (inr e) = high_read c d e
 
--- ---- numbers
+-- ---- numbers of several digits
 
--- what is past 64 bits stays there
+-- A number of 2^64 or more stays capped when a digit is appended.
 grows : (b m d : ℕ) → capped (capped m * suc b + d) ≡ capped (m * suc b + d)
 grows b m d = elim (cases_lt m (2 ^ 64)) [
   | inl small ↦ let same : capped m ≡ m = omega arith in ap (λ k. capped (k * suc b + d)) same
