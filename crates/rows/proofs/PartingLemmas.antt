@@ -1,4 +1,4 @@
--- Texts part nowhere exactly where they are the same.
+-- Lemmas about the first line in which two texts differ: there is none exactly if they are equal.
 use Rattle.std.proofs.Common.{◌≡◌, ◌↔◌, ℕ, suc, ◌-◌, ◌<◌, ◌≤◌, Bool, true, false, cond, List, [], ◌∷◌, length, drop, Option, Some, None, refl, arith}
 use Rattle.std.specs.Prelude.{◌==◌, if◌then◌else◌}
 use Rattle.std.proofs.lemmas.Bool.{eqb-true, eq-eqb}
@@ -31,7 +31,7 @@ by : (told stored : List ℕ) (line : Option ℕ) → parting 1 told stored ≡ 
 by told stored None e = ((λ h. same 1 told stored e), (λ h. refl))
 by told stored (Some line) e = ((λ h. absurd cc), (λ h. let n : parting 1 told stored ≡ None = nowhere_between 1 told stored h in absurd cc))
 
--- a text is as stored exactly where it is the same
+-- The comparison returns `AsStored` exactly if the two texts are equal.
 pub as_stored : (told stored : List ℕ) (found line : Option ℕ) → found ≡ parting 1 told stored → found ≡ line → outcome_by line ≡ AsStored ↔ told ≡ stored
 as_stored told stored found line e f = by told stored line (rw (← e) f)
 
@@ -40,7 +40,7 @@ ended line [] stored lt le = absurd (omega (arith, le))
 ended line (c ∷ cs) [] lt le = refl
 ended line (c ∷ cs) (d ∷ ds) lt le = absurd (omega (arith, lt))
 
--- nothing is left of the stored text
+-- The stored text ends before the other one.
 pub ends_before : (line at : ℕ) (told stored rest : List ℕ) → parting line (drop at told) rest ≡ parting 1 told stored → length rest < 1 → at < length told
     → Some line ≡ parting 1 told stored
 ends_before line at told stored rest e lt le =

@@ -3,7 +3,7 @@ use denote.Text.{Utf8}
 use denote.Shadow.{shadow}
 use Rattle.rows.proofs.rebuilt_lines.put_line.Given as goal
 
--- what stands before the next word is text
+-- The text that is written before the next word is UTF-8.
 abbrev pub invariant-loop-word : goal.invariant-loop-word
 invariant-loop-word l =
     (goal.iterator-loop-word).can_next l.word-iterator ×
