@@ -1,4 +1,4 @@
--- What is drawn of the loyal generals of a signed campaign.
+-- In the picture of a signed campaign, every message of a loyal general is drawn as one that follows the protocol.
 use Rattle.std.proofs.Common.{ℕ, suc, ◌+◌, ◌<◌, ◌≡◌, ◌∙◌, Bool, true, false, not, List, [], ◌∷◌, ◌++◌, ap, subst, sym, refl, arith}
 use Rattle.std.proofs.lemmas.List.Elements.{All-from_recursion}
 use Rattle.std.specs.Prelude.{filter, map}
@@ -41,7 +41,7 @@ module _ (traitor : ℕ → Bool) where
   abbrev IsHonest : Stroke → Type 0
   IsHonest stroke = traitor stroke.teller ≡ false → IsDrawnHonest stroke
 
-  -- whatever its row, which says nothing of it
+  -- The row in which a message is drawn does not matter for this.
   abbrev IsHonestDrawn : Drawn → Type 0
   IsHonestDrawn x = IsHonest x.stroke
 
@@ -52,7 +52,7 @@ module _ (traitor : ℕ → Bool) where
   grouped_honest : (w : Way) (chains : List Chain) → (traitor w.teller ≡ false → w.differs ≡ false) → AllByRecursion IsHonestDrawn (grouped w chains)
   grouped_honest w chains h = made_honest w chains (orders (firsts [] chains)) h
 
-  -- of a traitor nothing is said
+  -- The claim is about loyal generals only, so it holds for the messages of a traitor.
   of_traitor : (round p g : ℕ) (sent owed : List Chain) → traitor g ≡ true → AllByRecursion IsHonestDrawn (told_between round p g sent owed)
   of_traitor round p g sent owed is =
       let same : List Chain = filter (is_among owed) sent in
@@ -64,7 +64,7 @@ module _ (traitor : ℕ → Bool) where
       (grouped_honest (way round p g true true) other (λ loyal. sym is ∙ loyal)))
       (grouped_honest (way round p g false true) withheld (λ loyal. sym is ∙ loyal))
 
-  -- and a loyal general's are all drawn in one way
+  -- All messages of a loyal general are drawn in the same way.
   of_loyal : (round p g : ℕ) (sent : List Chain) (xs : List Drawn) → xs ≡ grouped (way round p g true false) sent → AllByRecursion IsHonestDrawn xs
   of_loyal round p g sent xs is = subst (AllByRecursion IsHonestDrawn) (sym is) (grouped_honest (way round p g true false) sent (λ loyal. refl))
 
@@ -76,7 +76,7 @@ module _ (traitor : ℕ → Bool) where
   numbered_honest [] row h = tt
   numbered_honest (x ∷ xs) row h = (h.0, numbered_honest xs (suc row) h.1)
 
--- so it is of the whole picture
+-- If the claim holds for each pair of generals in each round, it holds for the whole picture.
 module _ (c : Chronicle)
     (pairs : (round p g : ℕ) → p < c.scenario.generals → g < c.scenario.generals → AllByRecursion (IsHonestDrawn (is_traitor c.scenario)) (between c round p g)) where
   abbrev IsSo : Drawn → Type 0
@@ -98,7 +98,7 @@ module _ (c : Chronicle)
   unfolding strokes_of
   all_honest = record { honest = All-from_recursion IsSo (strokes_of c) (all_flat IsSo (behind c) (range_with_len 0 (c.scenario.bound + 1)) (λ before on. round_honest (before + 1))) }
 
--- that of a complete list of events of a signed campaign
+-- The claim holds for the chronicle of a complete list of events of a signed campaign.
 complete_blames : (s : Scenario) (events : List Event) → IsScenario s → IsComplete signed_kind s events → BlamesSignedTraitors (signed_chronicle_of (played s events))
 complete_blames s events is complete =
     let c : Chronicle = signed_chronicle_of (played s events) in

@@ -1,4 +1,4 @@
--- What is known of the texts of campaigns.
+-- Lemmas about the texts that `play`, `muster` and `audit` print.
 use Rattle.std.proofs.Common.{ℕ, suc, ◌≡◌, ◌∙◌, ◌++◌, ◌∷◌, [], List, Option, None, Some, ap, append_assoc, append-nil, refl, subst, sym}
 use Rattle.cli_words.specs.declared.tasks.Account.{Account}
 use Rattle.cli_words.specs.declared.tasks.Lieutenants.{Lieutenants}
@@ -30,7 +30,7 @@ use Rattle.cli_tasks.specs.Campaigns.{IsAccount, IsFollowed, IsMustered, IsOralA
 use Rattle.cli_tasks.specs.Promises.{IsCompleteRun}
 use Rattle.cli_tasks.specs.Schedules.{played, signed_played}
 
--- the account of the chronicle that is played, and what is behind it
+-- The text that `play` prints, from its parts: the chronicle or table, the explanation, and the facts about the run.
 pub is_played : (s : Scenario) (schedule : List (List Repeat)) (account : Account) (explained : Option Lieutenants) (chronicle : Chronicle) (front text : List ℕ) → chronicle ≡ played s schedule
     → IsComplete oral_kind s (listed s (lines_by schedule)) → AreSafeThroughout oral_kind s (listed s (lines_by schedule)) → AreWhole oral_kind s chronicle.accesses chronicle.letters
     → AgreeUnderBound s chronicle.decisions → IsVerdictOn s chronicle.decisions chronicle.verdict → IsWellUnderBound chronicle.verdict
@@ -45,20 +45,20 @@ is_played s schedule account explained chronicle front text listed complete safe
   well = subst (λ (c : Chronicle). IsWellUnderBound c.verdict) listed well;
 }
 
--- the chronicle that is played is whole
+-- The chronicle of a campaign that is played by a schedule is whole.
 pub played_wholly : (s : Scenario) (schedule : List (List Repeat)) (c : Chronicle) → IsScenario s → c ≡ played s schedule → IsWhole c
 played_wholly s schedule c inside is = played_whole s (lines_by schedule) c inside is
 
--- so is that of threads
+-- The chronicle of a run with threads is whole.
 pub mustered_wholly : (s : Scenario) (c : Chronicle) → IsScenario s → c ≡ chronicle_of (replay_of s c.accesses) → IsWhole c
 mustered_wholly s c inside is = replayed_whole s (names_in 1 c.accesses (suc s.bound)) c inside is
 
--- and that of an audit
+-- The chronicle in a text that is audited is whole.
 pub told_wholly : (s : Scenario) (bytes : List ℕ) (c : Chronicle) → IsScenario s → c ≡ chronicle_told s bytes → IsWhole c
 unfolding chronicle_told
 told_wholly s bytes c inside is = replayed_whole s (names_of bytes) c inside is
 
--- the text of threads
+-- The text that `muster` prints, from its parts: the chronicle, the explanation, and the facts about the run.
 pub is_mustered : (s : Scenario) (explained : Option Lieutenants) (c : Chronicle) (front text : List ℕ) → front ≡ chronicle_text c → IsFollowed explained c front text
     → c ≡ chronicle_of (replay_of s c.accesses) → IsComplete oral_kind s (replayed oral_kind s (names_in 1 c.accesses (suc s.bound)))
     → AreSafeThroughout oral_kind s (replayed oral_kind s (names_in 1 c.accesses (suc s.bound))) → AreWhole oral_kind s c.accesses c.letters
@@ -73,7 +73,7 @@ is_mustered s explained c front text is behind replay complete safe whole agree 
   well = well;
 }
 
--- the run of the accesses that a text lists
+-- The replay of the accesses that a chronicle lists is a complete run.
 audited_run : (s : Scenario) (bytes : List ℕ) → IsScenario s → IsCompleteRun oral_kind s (replayed oral_kind s (names_of bytes)) (chronicle_told s bytes)
 unfolding chronicle_told
 audited_run s bytes inside =
@@ -85,7 +85,7 @@ audited_run s bytes inside =
       whole = whole_letters oral_kind oral_campaigns s events inside complete;
     }
 
--- the same of a signed campaign
+-- The replay of the accesses that a signed chronicle lists is a complete run.
 signed_audited_run : (s : Scenario) (bytes : List ℕ) → IsScenario s → IsCompleteRun signed_kind s (replayed signed_kind s (names_of bytes)) (signed_chronicle_told s bytes)
 unfolding signed_chronicle_told
 signed_audited_run s bytes inside =
@@ -97,7 +97,7 @@ signed_audited_run s bytes inside =
       whole = whole_letters signed_kind signed_campaigns s events inside complete;
     }
 
--- the lines of an audit
+-- The text that `audit` prints for an oral campaign, from its parts: the two lines and the explanation.
 pub is_audited : (s : Scenario) (explained : Option Lieutenants) (bytes : List ℕ) (c : Chronicle) (front text : List ℕ) → IsScenario s → IsSoundText s bytes → c ≡ chronicle_told s bytes
     → front ≡ sound_lines c.verdict → IsFollowed explained c front text → IsOralAudited s explained bytes text
 is_audited s explained bytes c front text inside sound is lines behind =
@@ -105,22 +105,23 @@ is_audited s explained bytes c front text inside sound is lines behind =
     let same : front ≡ sound_lines (chronicle_told s bytes).verdict = lines ∙ ap (λ (x : Chronicle). sound_lines x.verdict) is in
     record { sound = sound; run = audited_run s bytes inside; told = subst (λ (f : List ℕ). IsFollowed explained (chronicle_told s bytes) f text) same first }
 
--- nothing behind a text
+-- If no explanation is asked for, the text is unchanged.
 pub alone : (c : Chronicle) (front : List ℕ) → IsFollowed None c front front
 alone c front = ([], sym (append-nil front), refl)
 
--- the same of a signed campaign
+-- If no explanation is asked for, the text of a signed campaign is unchanged.
 pub signed_alone : (c : Chronicle) (front : List ℕ) → front ≡ front ++ signed_behind None c
 signed_alone c front = sym (append-nil front)
 
 pub signed_followed : (who : Lieutenants) (c : Chronicle) (front lines text : List ℕ) → lines ≡ signed_explained c (asked who) → text ≡ front ++ 10 ∷ lines → text ≡ front ++ signed_behind (Some who) c
 signed_followed who c front lines text explains is = is ∙ ap (λ (xs : List ℕ). front ++ 10 ∷ xs) explains
 
--- an empty line and an explanation
+-- A text that is followed by an empty line and the explanation is what `IsFollowed` states.
 pub followed : (who : Lieutenants) (c : Chronicle) (front lines text : List ℕ) → Explains c (asked who) lines → text ≡ front ++ 10 ∷ lines → IsFollowed (Some who) c front text
 followed who c front lines text explains is = (10 ∷ lines, is, (lines, refl, explains))
 
--- the same of a signed campaign
+-- The text that `play` prints for a signed campaign, from its parts: the chronicle, the explanation, and the facts
+-- about the run.
 pub is_signed_played : (s : Scenario) (schedule : List (List Repeat)) (explained : Option Lieutenants) (chronicle : Chronicle) (front text : List ℕ) → chronicle ≡ signed_played s schedule
     → IsComplete signed_kind s (listed s (lines_by schedule))
     → AreSafeThroughout signed_kind s (listed s (lines_by schedule)) → AreWhole signed_kind s chronicle.accesses chronicle.letters
@@ -134,7 +135,7 @@ is_signed_played s schedule explained chronicle front text listed complete safe 
   well = subst (λ (c : Chronicle). IsWellUnderBound c.verdict) listed well;
 }
 
--- the lines of its audit
+-- The text that `audit` prints for a signed campaign, from its parts: the two lines and the explanation.
 pub is_signed_audited : (s : Scenario) (explained : Option Lieutenants) (bytes : List ℕ) (c : Chronicle) (front text : List ℕ) → IsScenario s → IsSoundSignedText s bytes → c ≡ signed_chronicle_told s bytes
     → front ≡ sound_lines c.verdict → text ≡ front ++ signed_behind explained c → IsSignedAudited s explained bytes text
 is_signed_audited s explained bytes c front text inside sound is lines behind = record {
@@ -143,6 +144,6 @@ is_signed_audited s explained bytes c front text inside sound is lines behind = 
   told = behind ∙ (ap (λ (f : List ℕ). f ++ signed_behind explained c) lines ∙ ap (λ (x : Chronicle). sound_lines x.verdict ++ signed_behind explained x) is);
 }
 
--- an empty line and lines behind a text
+-- Appending a line feed and then lines to a text gives the text, the line feed and the lines.
 pub behind_lines : (front lines text : List ℕ) → text ≡ (front ++ 10 ∷ []) ++ lines → text ≡ front ++ 10 ∷ lines
 behind_lines front lines text is = is ∙ append_assoc front (10 ∷ []) lines

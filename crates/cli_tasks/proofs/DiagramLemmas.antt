@@ -1,4 +1,4 @@
--- The picture of a chronicle.
+-- Lemmas about the picture of an oral campaign's chronicle.
 use Rattle.std.proofs.Common.{ℕ, ◌≡◌, ◌∙◌, true, List, Ok, ap, subst, sym}
 use Rattle.combine.specs.Rule.{combined_by}
 use Rattle.book.specs.Grammar.{table_told}
@@ -32,7 +32,7 @@ use Rattle.cli_tasks.specs.Promises.{AreFaithful}
 use Rattle.cli_tasks.proofs.BlameLemmas.{signed_played_blames, signed_told_blames}
 use Rattle.cli_tasks.proofs.PromiseLemmas.{played_faithful, played_kept, signed_played_kept, signed_told_kept, told_faithful, told_kept}
 
--- a chronicle that is played is whole, and one that is told
+-- A chronicle is whole if it comes from playing a schedule, or from a text that is audited.
 pub played_wholly : (s : Scenario) (schedule : List (List Repeat)) (c : Chronicle) → IsScenario s → c ≡ played s schedule → IsWhole c
 played_wholly s schedule c inside is = played_whole s (lines_by schedule) c inside is
 
@@ -43,7 +43,7 @@ told_wholly s bytes c inside is = replayed_whole s (names_of bytes) c inside is
 one_table : (text : List ℕ) (a b : MessageTable) → table_told text ≡ Ok a → table_told text ≡ Ok b → a ≡ b
 one_table text a b e f = cc
 
--- the table that the text of a chronicle's is read as has the messages of its letters
+-- The message table that is written from a chronicle is read back with the messages of the chronicle's letters.
 pub table_is : (c : Chronicle) (h : ToldSeen) (t : MessageTable) → IsScenario c.scenario → WasTold c.scenario c.letters h → AreOrders (heard h.trees)
     → table_told (table_of c) ≡ Ok t → IsTableOf (messages c.letters) c.scenario.generals c.scenario.bound c.scenario.commander c.scenario.rule t
 table_is c h t inside was orders told =
@@ -65,7 +65,7 @@ table_is c h t inside was orders told =
       decides = λ p l ne. is.decides p l ne ∙ decides_same (combined_by s.rule) s.generals s.bound s.commander p (heard h.trees) (messages c.letters) inside.commander l ne same;
     }
 
--- in that of a chronicle whose loyal generals are faithful only traitors differ
+-- If the loyal generals of a chronicle are faithful, only traitors differ from the protocol in its message table.
 pub blames : (c : Chronicle) (s : Scenario) (h : ToldSeen) (trees : List LieutenantTree) (t : MessageTable) → s ≡ c.scenario → IsScenario s → AreFaithful c → WasTold c.scenario c.letters h
     → trees ≡ h.trees → AreOrders (heard trees) → table_told (table_of c) ≡ Ok t → BlamesTraitors c.scenario t
 blames c s h trees t own inside faithful was same orders told =
@@ -90,7 +90,7 @@ signed_told_drawn s text bytes c picture is same sound told drawn =
     subst (λ (b : List ℕ). IsRecordDrawn (Signed s) b picture) same
     (sound, (signed_told_blames s text is, of_signed c (signed_chronicle_told s text) picture told drawn), signed_told_kept s text is)
 
--- of a picture by a schedule, and of one of a chronicle's text
+-- The rules for a picture of a campaign that is played by a schedule, and for a picture of a chronicle that is read.
 pub ruleset played_drawn = (played_wholly, of_same, played_faithful, played_kept)
 
 pub ruleset told_drawn = (told_wholly, of_same, told_faithful, told_kept)

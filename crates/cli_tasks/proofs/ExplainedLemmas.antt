@@ -1,4 +1,4 @@
--- Campaigns of which decisions are explained.
+-- Lemmas about reading campaigns whose decisions may be explained.
 use Rattle.std.proofs.Common.{ℕ, ◌≡◌, Bool, true, false, List, sym}
 use Rattle.std.specs.Prelude.{None, Option}
 use Rattle.cli_words.specs.declared.tasks.Lieutenants.{Lieutenants}
@@ -13,11 +13,11 @@ use Rattle.cli_tasks.specs.Strangers.{IsOf}
 use Rattle.cli_tasks.specs.declared.refusal.InputRefusal.{InputRefusal}
 use Rattle.cli_tasks.specs.declared.refusal.InputRefusal.TheVariants.{Codec, Object, Verifier, Assembly, Table, Scenario, Setting, Trace, Threads, Accesses, Stranger, Tolerated, NotText, Memory}
 
--- a campaign whose lieutenant is one
+-- A campaign is accepted if the general whose decision is explained is a lieutenant.
 pub told_asked : (any : Bool) (explained : Option Lieutenants) (bytes : List ℕ) (c : Campaign) → TellsCampaign any bytes c → stranger_asked (scenario_of c) explained ≡ None → TellsAsked any explained bytes c
 told_asked any explained bytes c tells none = (tells, none)
 
--- a text that is no campaign
+-- A text that is not a campaign is rejected.
 pub unread_asked : (any : Bool) (explained : Option Lieutenants) (bytes : List ℕ) (refusal : InputRefusal) → RefusesText (RefusesAsked any) bytes refusal → RefusesText (RefusesExplained any explained) bytes refusal
 unread_asked any explained bytes (Codec error) refuses = refuses
 unread_asked any explained bytes (Object fault) refuses = refuses
@@ -35,7 +35,7 @@ unread_asked any explained bytes Tolerated refuses = refuses
 unread_asked any explained bytes NotText refuses = refuses
 unread_asked any explained bytes Memory refuses = refuses
 
--- a general who is no lieutenant
+-- A campaign is rejected if the general whose decision is explained is not a lieutenant.
 pub strange_asked : (any : Bool) (explained : Option Lieutenants) (bytes : List ℕ) (c : Campaign) (refusal : InputRefusal) → TellsCampaign any bytes c → IsOf (scenario_of c).generals (stranger_asked (scenario_of c) explained) refusal
     → RefusesText (RefusesExplained any explained) bytes refusal
 strange_asked any explained bytes c (Codec error) tells strange = absurd strange
@@ -53,7 +53,7 @@ strange_asked any explained bytes c Tolerated tells strange = absurd strange
 strange_asked any explained bytes c NotText tells strange = absurd strange
 strange_asked any explained bytes c Memory tells strange = absurd strange
 
--- the same of an oral campaign
+-- A text with an oral campaign is accepted or rejected for the same reasons.
 pub told_oral : (explained : Option Lieutenants) (bytes : List ℕ) (s : OralScenario) → Tells bytes s → stranger_asked s explained ≡ None → TellsAsked false explained bytes (Oral s)
 told_oral explained bytes s tells none = (tells, none)
 

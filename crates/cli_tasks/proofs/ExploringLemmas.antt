@@ -1,4 +1,4 @@
--- What is known of the text of a campaign's orders.
+-- The text that `explore` prints is what `IsExplored` states.
 use Rattle.std.proofs.Common.{ℕ, ◌≡◌, List, Option, subst}
 use Rattle.campaign_orders.specs.Agreeing.{FindingsAgree}
 use Rattle.campaign_orders.specs.Exploring.{Exploration, IsExploration}

@@ -1,4 +1,4 @@
--- How a fault ends a task.
+-- Lemmas about how a task ends whose file or output fails.
 use Rattle.std.proofs.Common.{ℕ, ◌≡◌, ◌≢◌, ◌⊎◌, ◌++◌, List, [], ◌∷◌, arith, codes, inl, inr, refl, subst}
 use Rattle.std.specs.Prelude.{Option, None, Some, IfSome, Result, Ok, Err, OnErr, OnOk}
 use Rattle.std.specs.Fmt.{◌++?◌, with_newline}
@@ -18,12 +18,12 @@ use Rattle.cli_tasks.specs.TaskFaults.{Undoes, Prevents}
 use Rattle.streams.specs.Names.{shown}
 use Rattle.cli_tasks.specs.Serving.{Files, IsFault, IsRefused, IsTaken, IsToldLater, IsTurnedDown, Tells, TellsName, TellsRefusal, first_name, second_name}
 
--- a write that failed, or what it wrote
+-- A write either failed, or wrote what it should.
 pub written : {E : Type 0} (r : Result (Unit {0}) E) (P Q : Type 0) → OnOk r P → OnErr r Q → Q ⊎ P
 written (Ok x) P Q p q = inr p
 written (Err e) P Q p q = inl q
 
--- what is said of a refusal
+-- The text about a refusal fulfils `TellsRefusal`, unless the refusal is that a file is not UTF-8.
 refusal_told : (name : List ℕ) (tells : List ℕ → Type 0) (cause : InputRefusal) (hint : Option Hint) → cause ≢ refusal.NotText
     → tells (codes "refused " ++ refusal_text cause ++ hint_behind hint) → TellsRefusal name tells cause hint
 refusal_told name tells (refusal.Codec error) hint other told = told
@@ -41,13 +41,13 @@ refusal_told name tells (refusal.Stranger general generals) hint other told = to
 refusal_told name tells refusal.NotText hint other told = absurd (other refl)
 refusal_told name tells refusal.Memory hint other told = told
 
--- the line of some words and a name, where it is known how the name is told
+-- The line with some words and the name of a file is printed if it is known how the name is displayed.
 named_line : (fails : Type 0) (old new : Option (List ℕ)) (words : List ℕ) (told : Option (List ℕ))
     → fails ⊎ IfSome (with_newline (Some words ++? told)) (Appends old new) → IfSome told (λ name. fails ⊎ Appends old new ((words ++ name) ++ 10 ∷ []))
 named_line fails old new words None line = tt
 named_line fails old new words (Some name) line = line
 
--- a file that stops a task, but for want of memory
+-- If a file stops a task and the exit status is 1, the error about the file is printed.
 turned_down : (unread : Type 0) (refused : InputRefusal → Option Hint → Type 0) (name : List ℕ) (fails : Type 0) (old new : Option (List ℕ)) (fault : TaskFailure)
     → Stops unread refused name fault → fails ⊎ IfSome (with_newline (fault_text fault)) (Appends old new) → status_of fault ≡ 1
     → IsTurnedDown unread refused name (Tells fails old new)
@@ -63,7 +63,7 @@ turned_down unread refused name fails old new Write why told one = absurd why
 turned_down unread refused name fails old new Memory why told one =
     let no : ⊥ = omega (arith, one) in absurd no
 
--- the first file, or the second
+-- If the first or the second file stops a task and the exit status is 1, the error about this file is printed.
 prevented : (unread second_unread fails : Type 0) (task : Task) (files : Files) (old new : Option (List ℕ)) (fault : TaskFailure)
     → Prevents unread second_unread task files fault → fails ⊎ IfSome (with_newline (fault_text fault)) (Appends old new) → status_of fault ≡ 1
     → IsTurnedDown unread (IsRefused task files.first) (first_name task) (Tells fails old new)
@@ -73,7 +73,7 @@ prevented unread second_unread fails task files old new fault (inl why) told one
 prevented unread second_unread fails task files old new fault (inr (more, taken, why)) told one =
     inr (more, taken, turned_down second_unread (IsToldLater (is_explained task) (second_name task) files.second more) (second_name task) fails old new fault why told one)
 
--- each fault but want of memory
+-- If a task fails with exit status 1, the error is printed.
 pub fault_ends : (unread second_unread unwritten fails : Type 0) (begun : List ℕ → Type 0) (task : Task) (files : Files) (old new : Option (List ℕ)) (kept : Type 0) (fault : TaskFailure)
     → Undoes unread second_unread unwritten begun task files fault → (fault ≢ Write → kept)
     → fails ⊎ IfSome (with_newline (fault_text fault)) (Appends old new) → status_of fault ≡ 1

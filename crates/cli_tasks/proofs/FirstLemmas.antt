@@ -1,4 +1,4 @@
--- A first file that is refused.
+-- Lemmas about a first file that is rejected, and its hint.
 use Rattle.std.proofs.Common.{ℕ, ◌≡◌, ◌≢◌, ◌∙◌, Bool, List, inl, inr, refl, subst, sym, true, false}
 use Rattle.std.specs.Borrow.{Bor}
 use Rattle.std.specs.declared.alloc.Global.{Global}
@@ -32,18 +32,18 @@ use Rattle.cli_tasks.specs.declared.refusal.InputRefusal.TheVariants.{Codec, Obj
 use Rattle.verify.specs.declared.error.VerifyError.{VerifyError}
 use Rattle.cli_tasks.proofs.WhyLemmas.{nothing_said}
 
--- what is said behind it
+-- The hint is the one for the file's bytes, if these are known.
 hint_known : (task : Task) (known : Option (List ℕ)) (bytes : List ℕ) (refusal : InputRefusal) (hint : Option Hint) → AreBytes known bytes → IsHint refusal task bytes hint
     → IfSome known (λ all. IsHint refusal task all hint)
 hint_known task None bytes refusal hint are is = tt
 hint_known task (Some all) bytes refusal hint are is = subst (λ (own : List ℕ). IsHint refusal task own hint) are is
 
--- the refusal, with what is said behind it
+-- A refusal with its hint stops the task.
 pub refused_first : (task : Task) (known : Option (List ℕ)) (bytes : List ℕ) (refusal : InputRefusal) (hint : Option Hint) → AreBytes known bytes → Refuses task bytes refusal → refusal ≢ Memory
     → IsHint refusal task bytes hint → IsRefused task known refusal hint
 refused_first task known bytes refusal hint are refuses other is = (other, (bytes, are, refuses), hint_known task known bytes refusal hint are is)
 
--- the same of a file of which no more is said than what its bytes seem to be, or the sentence of an object's fault
+-- A refusal stops the task also if its hint says only what the bytes seem to be, or why an ELF object is at fault.
 pub stopped_first : (task : Task) (known : Option (List ℕ)) (bytes own : List ℕ) (refusal : InputRefusal) (file : Bor (List ℕ)) → AreBytes known bytes
     → file.now ≡ first_name task → Refuses task bytes refusal → IsHint refusal task bytes (seems_behind refusal own)
     → Stops ⊥ (IsRefused task known) (first_name task) (fault_of_bytes refusal file own)
@@ -62,9 +62,9 @@ stopped_first task known bytes own (Stranger general generals) file are named re
 stopped_first task known bytes own NotText file are named refuses is = (refused_first task known bytes NotText _ are refuses (λ e. cc) is, named)
 stopped_first task known bytes own Memory file are named refuses is = tt
 
--- ---- an explanation that is asked for
+-- ---- the explanation of a program
 
--- it is of a task that explains what it refuses
+-- A task that must explain a program must explain its errors.
 asks : (task : Task) (notation : Notation) → explained_in task ≡ Some notation → is_explained task ≡ true
 asks (task.Check file own context true traced) notation is = refl
 asks (task.Check file own context false traced) notation is = absurd cc
@@ -107,14 +107,14 @@ explained_first task notation known bytes (Stranger general generals) text are r
 explained_first task notation known bytes NotText text are refuses is why = absurd cc
 explained_first task notation known bytes Memory text are refuses is why = absurd cc
 
--- no more is asked for
+-- If no report is asked for, the hint is the one that is always printed.
 pub unexplained : (task : Task) (bytes : List ℕ) (refusal : InputRefusal) → is_reported task refusal ≡ false → IsHint refusal task bytes (seems_behind refusal (bytecode_in task bytes))
 unexplained task bytes refusal none =
     subst (λ (own : Bool). IsHintBy own refusal task bytes (bytecode_in task bytes) (seems_behind refusal (bytecode_in task bytes))) (sym none) refl
 
--- ---- a report that is asked for
+-- ---- the report on a fault
 
--- it is not the verifier that refuses
+-- The refusal does not come from the verifier.
 abbrev pub IsNotJudged : InputRefusal → Type 0
 IsNotJudged (Verifier fault) = ⊥
 IsNotJudged _ = Unit {0}
@@ -154,7 +154,7 @@ told_first task known bytes cause file (Refused own hint) are named refuses is n
 told_first task known bytes cause file Write are named refuses is not told = absurd told
 told_first task known bytes cause file FaultMemory are named refuses is not told = tt
 
--- with the report or without it
+-- A refusal stops the task, with or without the report in its hint.
 unjudged_first : (task : Task) (known : Option (List ℕ)) (bytes : List ℕ) (cause : InputRefusal) (file : Bor (List ℕ)) (fault : TaskFailure) → AreBytes known bytes
     → file.now ≡ first_name task → Refuses task bytes cause → (is_reported task cause ≡ true → IsNotJudged cause)
     → IsUnjudged (is_reported task cause) cause file (bytecode_in task bytes) fault → Stops ⊥ (IsRefused task known) (first_name task) fault
@@ -165,14 +165,14 @@ unjudged_first task known bytes cause file fault are named refuses not told = by
       (stopped_first task known bytes (bytecode_in task bytes) cause file are named refuses (unexplained task bytes cause is))
   by_report true is says = told_first task known bytes cause file fault are named refuses is (not is) says
 
--- ---- what no explanation of a program is asked for
+-- ---- refusals for which no program is explained
 
--- the verifier refuses no campaign
+-- Reading a campaign never fails with a refusal of the verifier.
 no_campaign : (plain : Bool) (bytes : List ℕ) (fault : VerifyError) → RefusesAsked plain bytes (Verifier fault) → ⊥
 no_campaign true bytes fault refuses = refuses
 no_campaign false bytes fault refuses = refuses
 
--- nor bytes that spell none
+-- Reading a program never fails with a refusal of the verifier.
 not_spelt : (code : List ℕ) (fault : VerifyError) → RefusesDisassembly code (Verifier fault) → ⊥
 not_spelt code fault refuses = refuses
 
@@ -182,19 +182,19 @@ no_program Texts bytes fault refuses = refuses
 no_program (Objects entry) bytes fault (inl (other, is, none)) = absurd cc
 no_program (Objects entry) bytes fault (inr (code, is, refuses)) = not_spelt code fault refuses
 
--- nor a table
+-- Reading a message table never fails with a refusal of the verifier.
 no_tree : (own : Bool) (general : ℕ) (traitors bytes : List ℕ) (fault : VerifyError) → RefusesTreeIn own general traitors bytes (Verifier fault) → ⊥
 no_tree true general traitors bytes fault refuses = refuses
 no_tree false general traitors bytes fault refuses = refuses
 
--- nor code that is cut
+-- Reading code that need not be a program never fails with a refusal of the verifier.
 no_parts : (notation : Notation) (bytes : List ℕ) (fault : VerifyError) → RefusesParts notation bytes (Verifier fault) → ⊥
 no_parts Bytecode bytes fault refuses = refuses
 no_parts Texts bytes fault refuses = refuses
 no_parts (Objects entry) bytes fault (inl (other, is, none)) = absurd cc
 no_parts (Objects entry) bytes fault (inr (code, is, refuses)) = refuses
 
--- so it refuses only the program of a check, which is explained where more is asked for
+-- So only `check` fails with a refusal of the verifier, and then it explains the program if a report is asked for.
 pub not_judged : (task : Task) (bytes : List ℕ) (refusal : InputRefusal) → Refuses task bytes refusal → is_reported task refusal ≡ true → asked_of refusal task ≡ None → IsNotJudged refusal
 not_judged (task.Check file own context true traced) bytes (Verifier fault) refuses is none = absurd cc
 not_judged (task.Check file own context false traced) bytes (Verifier fault) refuses is none = absurd cc
@@ -236,9 +236,9 @@ pub unasked_first : (task : Task) (known : Option (List ℕ)) (bytes : List ℕ)
 unasked_first task known bytes cause file fault are named refuses none told =
     unjudged_first task known bytes cause file fault are named refuses (λ is. not_judged task bytes cause refuses is none) told
 
--- ---- a program that is read once more
+-- ---- a rejected program that is read once more
 
--- it is asked for of a program that the verifier refuses
+-- The program is read once more only if the verifier rejected it and the task must explain it.
 asked_in : (task : Task) (notation : Notation) (refusal : InputRefusal) → asked_of refusal task ≡ Some notation → explained_in task ≡ Some notation
 asked_in task notation (Verifier fault) is = is
 asked_in task notation (Codec error) is = absurd cc
@@ -255,7 +255,7 @@ asked_in task notation (Stranger general generals) is = absurd cc
 asked_in task notation NotText is = absurd cc
 asked_in task notation Memory is = absurd cc
 
--- bytes that spell no program
+-- Code that is not the bytecode of a program is not rejected by the verifier.
 unspelt : (code : List ℕ) (refusal : InputRefusal) → RefusesDisassembly code refusal → RefusesCheck code refusal × IsNotJudged refusal
 unspelt code (Codec error) refuses = (refuses, tt)
 unspelt code Memory refuses = (tt, tt)
@@ -272,7 +272,7 @@ unspelt code Tolerated refuses = absurd refuses
 unspelt code (Stranger general generals) refuses = absurd refuses
 unspelt code NotText refuses = absurd refuses
 
--- the file has no program
+-- A file without a program is not rejected by the verifier.
 by_notation : (notation : Notation) (bytes : List ℕ) (refusal : InputRefusal) → RefusesNotation notation bytes refusal → RefusesCheckIn notation bytes refusal × IsNotJudged refusal
 by_notation Bytecode bytes refusal refuses = unspelt bytes refusal refuses
 by_notation Texts bytes (Assembly error) refuses = (refuses, tt)
@@ -313,7 +313,7 @@ checks_in (task.Draw scenario course) notation bytes refusal is refuses = absurd
 checks_in (task.Page scenario course target) notation bytes refusal is refuses = absurd cc
 checks_in (task.Retrace scenario chronicle) notation bytes refusal is refuses = absurd cc
 
--- it cannot be told, since the file has no program
+-- If reading the program once more fails, this failure stops the task too.
 pub unread_first : (task : Task) (notation : Notation) (known : Option (List ℕ)) (bytes : List ℕ) (first refusal : InputRefusal) (file : Bor (List ℕ)) (fault : TaskFailure) → AreBytes known bytes
     → file.now ≡ first_name task → asked_of first task ≡ Some notation → RefusesNotation notation bytes refusal
     → IsUnjudged (is_reported task refusal) refusal file (bytecode_in task bytes) fault → Stops ⊥ (IsRefused task known) (first_name task) fault
@@ -321,7 +321,7 @@ unread_first task notation known bytes first refusal file fault are named is ref
     let both = by_notation notation bytes refusal refuses in
     unjudged_first task known bytes refusal file fault are named (checks_in task notation bytes refusal (asked_in task notation first is) both.0) (λ reported. both.1) told
 
--- ---- why the task has no answer then
+-- ---- why the task has no answer
 
 stops_for : (unread : Type 0) (refused : InputRefusal → Option Hint → Type 0) (name : List ℕ) (fault : TaskFailure) → Stops ⊥ refused name fault → Stops unread refused name fault
 stops_for unread refused name (Read file) stops = absurd stops.0
@@ -334,7 +334,7 @@ pub prevented_first : (task : Task) (files : Files) (unread second_unread : Type
     → StopsFirst task bytes fault → Prevents unread second_unread task files fault
 prevented_first task files unread second_unread bytes fault are stops = inl (stops_for unread (IsRefused task files.first) (first_name task) fault (stops files.first are))
 
--- ---- a refusal of which nothing is reported
+-- ---- a refusal without a report
 
 pub quiet_first : (cause : InputRefusal) (file : Bor (List ℕ)) (own : List ℕ) (fault : TaskFailure) → cause ≢ Memory → fault ≡ fault_of_bytes cause file own → fault ≢ FaultMemory
 quiet_first (Codec error) file own told other is e = (let z : FaultMemory ≡ Refused (Codec error) (seems_behind (Codec error) own) = sym e ∙ is in cc)

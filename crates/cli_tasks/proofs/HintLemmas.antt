@@ -1,4 +1,4 @@
--- Refusals with a report behind their line.
+-- Lemmas about refusals whose hint is a report.
 use Rattle.std.proofs.Common.{ℕ, ◌≡◌, List, refl, subst}
 use Rattle.std.specs.Borrow.{Bor}
 use Rattle.std.specs.declared.alloc.Global.{Global}
@@ -7,12 +7,12 @@ use Rattle.cli_tasks.specs.Faults.{IsTold, text_fault}
 use Rattle.cli_tasks.specs.declared.refusal.InputRefusal.{InputRefusal}
 use Rattle.cli_tasks.specs.declared.refusal.InputRefusal.TheVariants as refusal
 
--- what is said with the name that was made for the file
+-- What holds for the name that was made for a file holds for the file's name as it is displayed.
 pub told_named : (name : Option (List ℕ)) (own : List ℕ) (P : List ℕ → Type 0) → IfSome name (λ n. own ≡ n) → P own → IfSome name P
 told_named None own P is p = tt
 told_named (Some n) own P is p = subst P is p
 
--- a text behind the line
+-- A failure with a text as its hint is what `IsTold` states.
 pub by_text : (cause : InputRefusal) (file : Bor (List ℕ)) (text : String Global) (tells : List ℕ → Type 0) → tells (string_bytes text) → IsTold cause file tells (text_fault cause file text)
 by_text (refusal.Codec error) file text tells t = (refl, (λ e. cc), (λ e. cc), t)
 by_text (refusal.Object fault) file text tells t = (refl, (λ e. cc), (λ e. cc), t)

@@ -1,4 +1,4 @@
--- Accesses that are listed, and why they are refused.
+-- A campaign that cannot be read is also rejected when it is read together with a list of accesses.
 use Rattle.std.proofs.Common.{◌≡◌, List, ℕ, subst, sym}
 use Rattle.round.specs.Scenario.{Scenario as OralScenario}
 use Rattle.campaign_schedules.specs.Arranged.{IfFault, IsUnarranged}

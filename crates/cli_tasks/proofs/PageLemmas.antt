@@ -1,4 +1,4 @@
--- The page of a chronicle.
+-- Lemmas about the page of an oral campaign's chronicle.
 use Rattle.std.proofs.Common.{ℕ, ◌≡◌, ◌≤◌, ◌∙◌, List, None, Option, Ok, Some, ap, length, subst, sym}
 use Rattle.book.specs.Grammar.{table_told}
 use Rattle.book.specs.Table.{MessageTable}
@@ -29,7 +29,7 @@ use Rattle.cli_tasks.proofs.BlameLemmas.{signed_played_blames, signed_told_blame
 use Rattle.cli_tasks.proofs.DiagramLemmas.{blames, played_wholly, told_wholly}
 use Rattle.cli_tasks.proofs.PromiseLemmas.{played_faithful, played_kept, signed_played_kept, signed_told_kept, told_faithful, told_kept}
 
--- ---- how long it is
+-- ---- the length of the page
 
 short : (scenario : List ℕ) (schedule : Option (List (List Repeat))) (t : MessageTable) (c : Chronicle) (s : Scenario) (page : List ℕ) → s ≡ c.scenario → IsScenario s → page ≡ page_text scenario schedule t c → length page ≤ longest_page
 short scenario schedule t c s page own inside is =
@@ -46,7 +46,7 @@ told_scenario : (s : Scenario) (bytes : List ℕ) → (signed_chronicle_told s b
 unfolding signed_chronicle_told
 told_scenario s bytes = same_scenario s (replayed signed_kind s (names_of bytes))
 
--- ---- what it is of
+-- ---- the content of the page
 
 pub is_page : (scenario : List ℕ) (schedule : Option (List (List Repeat))) (c : Chronicle) (s : Scenario) (h : ToldSeen) (trees : List LieutenantTree) (t : MessageTable) (page : List ℕ)
     → s ≡ c.scenario → IsScenario s → AreFaithful c → WasTold c.scenario c.letters h → trees ≡ h.trees → AreOrders (heard trees) → table_told (table_of c) ≡ Ok t
@@ -73,7 +73,7 @@ signed_told_paged s text record_text bytes c page is same sound comes told =
     subst (λ (b : List ℕ). IsRecordTold (Signed s) text b page) same
     (sound, (signed_told_blames s record_text is, own, signed_short text None (signed_chronicle_told s record_text) s page (told_scenario s record_text) is own), signed_told_kept s record_text is)
 
--- of a page by a schedule, and of one of a chronicle's text
+-- The rules for a page of a campaign that is played by a schedule, and for a page of a chronicle that is read.
 pub ruleset played_paged = (played_wholly, of_same, played_faithful, played_kept)
 
 pub ruleset told_paged = (told_wholly, of_same, told_faithful, told_kept)

@@ -1,4 +1,4 @@
--- Bytes that a text says, and which are no whole units.
+-- A text whose bytes are not whole units of 8 is rejected.
 use Rattle.std.proofs.Common.{ℕ, ◌≡◌, List, Ok}
 use Rattle.asm.specs.Reading.{bytes_said}
 use Rattle.cli_tasks.specs.ProgramRefusals.{RefusesSaid, RefusesUnits}

@@ -1,4 +1,4 @@
--- What is drawn of a text that is a message table or a campaign's.
+-- Lemmas about the tree of a text that is a message table or an oral campaign.
 use Rattle.std.proofs.Common.{ℕ, ◌≡◌, ◌∙◌, ◌++◌, Bool, true, false, List, [], Ok, ap, subst, sym}
 use Rattle.book.specs.Grammar.{table_told}
 use Rattle.book.specs.Table.{MessageTable}
@@ -30,7 +30,8 @@ module _ (text traitors : List ℕ) (view : View) (form : TreeForm) (general : �
   pub is_drawn : (c : Chronicle) (t : MessageTable) → table_told (table_of c) ≡ Ok t → picture ≡ drawn t traitors view form general → DrawsTable (table_of c) traitors view form general picture
   is_drawn c t told draws = (t, told, draws)
 
-  -- of the campaign's own chronicle, where its own traitors are named besides
+  -- The picture of the campaign's own chronicle, with its own traitors and the named ones, is the picture of the
+  -- campaign.
   pub of_same : (s : Scenario) (c : Chronicle) (own all : List ℕ) (seen : View) → c ≡ played s [] → own ≡ traitors_of s → all ≡ own ++ traitors → seen ≡ ordered s.order view
       → DrawsTable (table_of c) all seen form general picture → DrawsTable (table_of (played s [])) (traitors_of s ++ traitors) (ordered s.order view) form general picture
   of_same s c own all seen same are is known drawn =
@@ -39,7 +40,7 @@ module _ (text traitors : List ℕ) (view : View) (form : TreeForm) (general : �
       (subst (λ (ts : List ℕ). DrawsTable (table_of (played s [])) ts seen form general picture) marked
       (subst (λ (x : Chronicle). DrawsTable (table_of x) all seen form general picture) same drawn))
 
--- the chronicle that is played is whole
+-- The chronicle of a campaign that is played by a schedule is whole.
 pub played_wholly : (s : Scenario) (schedule : List (List Repeat)) (c : Chronicle) → IsScenario s → c ≡ played s schedule → IsWhole c
 played_wholly s schedule c inside is = played_whole s (lines_by schedule) c inside is
 

@@ -1,4 +1,4 @@
--- What every campaign promises, by whatever schedule it is played, and each that is replayed.
+-- The promises of the theorems hold for every campaign that is played by a schedule or replayed.
 use Rattle.std.proofs.Common.{ℕ, ◌<◌, ◌≡◌, false, List, refl, subst, sym}
 use Rattle.label.specs.Oral.{IsFaithful, Messages}
 use Rattle.round.specs.Letters.{messages}
@@ -27,7 +27,7 @@ use Rattle.signed.specs.Kind as signed
 use Rattle.cli_tasks.specs.Schedules.{played, signed_played}
 use Rattle.cli_tasks.specs.Promises.{AreFaithful, KeepsPromises, KeepsSignedPromises}
 
--- a finished world's chronicle keeps them
+-- They hold for the chronicle of a finished world.
 finished_kept : (s : Scenario) (events : List Event) → IsScenario s → IsFinished (run (opening s) events) → KeepsPromises s (chronicle_of (run (opening s) events))
 finished_kept s events is done =
     let c = chronicle_of (run (opening s) events) in
@@ -41,7 +41,7 @@ unfolding chronicle_told
 told_kept s bytes is =
     finished_kept s (replayed s (names_of bytes)) is (replayed_finished oral_kind oral_campaigns s (names_of bytes) (run (opening s) (replayed s (names_of bytes))) is refl)
 
--- and its loyal generals are faithful
+-- In the chronicle of a finished world the loyal generals are faithful.
 finished_faithful : (s : Scenario) (events : List Event) → IsScenario s → IsFinished (run (opening s) events) → AreFaithful (chronicle_of (run (opening s) events))
 finished_faithful s events is done =
     let M : Messages = messages (run (opening s) events).closed in
@@ -57,7 +57,7 @@ told_faithful s bytes c is same =
     subst AreFaithful (sym same)
     (finished_faithful s (replayed s (names_of bytes)) is (replayed_finished oral_kind oral_campaigns s (names_of bytes) (run (opening s) (replayed s (names_of bytes))) is refl))
 
--- so does that of a complete list of events of a signed campaign
+-- They hold for the chronicle of a complete list of events of a signed campaign.
 complete_kept : (s : Scenario) (events : List Event) → IsScenario s → generic.IsComplete signed_kind s events → KeepsSignedPromises s (signed_chronicle_of (signed.played s events))
 complete_kept s events is complete =
     let c = signed_chronicle_of (signed.played s events) in

@@ -1,4 +1,4 @@
--- Bytecode that is longer than any program.
+-- Lemmas about bytecode that is longer than any program.
 use Rattle.std.proofs.Common.{ℕ, ◌≡◌, ◌∙◌, ◌++◌, ◌*◌, ◌≢◌, Bool, true, false, List, length, take, drop, ap, refl, subst, sym}
 use Rattle.std.specs.Borrow.{Bor}
 use Rattle.std.specs.declared.alloc.Global.{Global}
@@ -29,19 +29,19 @@ use Rattle.streams.specs.Names.{shown}
 use Rattle.streams.specs.Reading.{AreBytes}
 use Rattle.cli_report.specs.Bytecode.{bytecode_told, unit_told}
 
--- bytes of which their number is known
+-- There are bytes of the given number that agree with what is known of the file.
 pub bytes_of : (known : Option (List ℕ)) (number : ℕ) (front : List ℕ) → IfSome known (λ all. (length all ≡ number) × (take 32768 front ≡ take 32768 all)) → (bytes : List ℕ) × AreBytes known bytes × (length bytes ≡ number)
 bytes_of None number front is = (replicate number 0, tt, length-replicate number 0)
 bytes_of (Some all) number front is = (all, refl, is.0)
 
--- ---- bytes that begin as these do
+-- ---- bytes that agree with the file in the first 32,768
 
--- they seem to be the same
+-- Both seem to be the same.
 seems_same : (front all : List ℕ) → take 32768 front ≡ take 32768 all → seems_at_first front ≡ seems_at_first all
 unfolding seems_at_first
 seems_same front all same = ap seems_of same
 
--- the same is said of a unit
+-- The report on a unit is the same for both.
 unit_same : (name front all : List ℕ) (f : CodecFault) (unit : ℕ) → take 32768 front ≡ take 32768 all → bytecode_told name front f unit ≡ bytecode_told name all f unit
 unfolding bytecode_told
 unit_same name front all f unit same = ap (λ bytes. unit_told name f unit (encode_lower (take 8 (drop (8 * unit) bytes)))) same
@@ -53,7 +53,7 @@ front_says (At f unit) (Some n) front all text same says =
     says ∙ (ap (λ l. seems_line l ++ bytecode_told n front f unit) (seems_same front all same) ∙ ap (λ t. seems_line (seems_at_first all) ++ t) (unit_same n front all f unit same))
 front_says NoMemory (Some n) front all text same says = says
 
--- ---- their refusal
+-- ---- why they are rejected
 
 hint_told : (task : Task) (known : Option (List ℕ)) (number : ℕ) (front : List ℕ) (error : CodecError) (hint : Option Hint) → is_explained task ≡ true
     → IfSome known (λ all. (length all ≡ number) × (take 32768 front ≡ take 32768 all)) → TellsWhyOf (Codec error) Nothing (first_name task) front (hint_behind hint)
@@ -68,7 +68,7 @@ hint_plain task None number front error is same = tt
 hint_plain task (Some all) number front error is same =
     subst (λ (own : Bool). IsHintBy own (Codec error) task all all (seems_behind (Codec error) front)) (sym is) (ap (option_map Seems) (seems_same front all same.1))
 
--- bytes that are too many, by their number
+-- Bytes that are too many stop the task, without a report. Only their number matters.
 long_plain : (unread : Type 0) (task : Task) (known : Option (List ℕ)) (number : ℕ) (front : List ℕ) (error : CodecError) (file : Bor (List ℕ)) → is_explained task ≡ false
     → IfSome known (λ all. (length all ≡ number) × (take 32768 front ≡ take 32768 all)) → ((bytes : List ℕ) → length bytes ≡ number → RefusesBytes bytes error)
     → Stops unread (IsTooLong task known) file.now (fault_of_bytes (Codec error) file front)
@@ -103,7 +103,7 @@ long_first unread task known number front error file fault named same refuses to
       subst (λ (f : TaskFailure). Stops unread (IsTooLong task known) file.now f) (sym plain) (long_plain unread task known number front error file is same refuses)
   by_report true is says = long_told unread task known number front error file fault named is same refuses says
 
--- ---- of a task whose first file is bytecode
+-- ---- tasks whose first file is bytecode
 
 pub check_long : (unread : Type 0) (file : String Global) (context : Option (String Global)) (explained traced : Bool) (known : Option (List ℕ)) (name : List ℕ) (fault : TaskFailure)
     → Stops unread (IsTooLong (Check file Bytecode context explained traced) known) name fault → Stops unread (IsRefused (Check file Bytecode context explained traced) known) name fault

@@ -1,4 +1,4 @@
--- What the first bytes of a schedule's file tell of all.
+-- Lemmas about reading a schedule from the front of its file.
 use Rattle.std.proofs.Common.{ℕ, ◌≡◌, ◌∙◌, ◌<◌, ◌≤◌, Bool, true, false, List, [], length, take, ap, arith, refl, subst, sym}
 use Rattle.std.specs.Borrow.{Bor}
 use Rattle.std.specs.Prelude.{nat_le, Option, None, Some, IfSome, Ok, option_map}
@@ -21,12 +21,12 @@ use Rattle.cli_tasks.specs.declared.refusal.InputRefusal.TheVariants as refusal
 use Rattle.cli_tasks.proofs.FilesLemmas.{second_told}
 use Rattle.cli_tasks.proofs.WhyLemmas.{stops_later, told_weaker}
 
--- all that a file may have which begins so
+-- There is a whole file that begins with the front that was read.
 all_of : (most : ℕ) (known : Option (List ℕ)) (front : List ℕ) → IsFront most known front → (all : List ℕ) × AreBytes known all × BeginsSo most all front
 all_of most None front begins = (front, tt, record { rest = []; split = sym (append-nil front); whole = λ few. refl })
 all_of most (Some all) front begins = (all, refl, begins)
 
--- the schedule that the second file tells, whose first bytes are these
+-- If every file with this front gives the same schedule, it is the schedule in the second file.
 pub front_told : {R : Type 0} (bytes : R → Option (List ℕ)) (second : Option R) (own : R) (front : List ℕ) (schedule : List (List Repeat))
     → second ≡ Some own → IsFront 1048576 (bytes own) front → ((all : List ℕ) → BeginsSo 1048576 all front → schedule_told all ≡ Ok schedule)
     → IsScheduleOf (option_map bytes second) schedule
@@ -34,9 +34,9 @@ front_told bytes second own front schedule is begins told =
     let all = all_of 1048576 (bytes own) front begins in
     second_told bytes second own all.0 schedule is all.1 (told all.0 all.2)
 
--- ---- why it tells none
+-- ---- why the front gives no schedule
 
--- as many bytes as a schedule has, of those that begin so
+-- The front and the whole file agree in the first 1,048,576 bytes.
 same_front : (all front : List ℕ) → BeginsSo 1048576 all front → take 1048576 front ≡ take 1048576 all
 same_front all front begins = by_length (nat_le (length front) 1048576) refl where
   by_length : (few : Bool) → nat_le (length front) 1048576 ≡ few → take 1048576 front ≡ take 1048576 all
@@ -44,7 +44,7 @@ same_front all front begins = by_length (nat_le (length front) 1048576) refl whe
   by_length false is = let more : 1048576 < length front = leb-false (length front) 1048576 is in
       let long : 1048576 ≤ length front = omega (arith, more) in rw (begins.split, take-append-le 1048576 front begins.rest long) refl
 
--- what is said of them is said of all
+-- A report on the front is also a report on the whole file.
 front_says : (cause : InputRefusal) (name : Option (List ℕ)) (front all text : List ℕ) → take 1048576 front ≡ take 1048576 all → RefusesText RefusesSchedule all cause
     → IfSome name (λ n. TellsWhy cause Schedule n front text) → IfSome name (λ n. TellsWhy cause Schedule n all text)
 unfolding schedule_why

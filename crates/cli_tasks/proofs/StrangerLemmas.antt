@@ -1,4 +1,4 @@
--- Generals who are named, by what is read of a text.
+-- Lemmas about the generals who are named on the command line.
 use Rattle.std.proofs.Common.{ℕ, zero, suc, ◌≡◌, ◌≢◌, ◌∙◌, Bool, true, false, List, [], ◌∷◌, take, ap, inl, inr, refl, sym, subst}
 use Rattle.std.specs.Prelude.{None, Ok, Option, Some, find, slice_get}
 use Rattle.std.proofs.lemmas.Bool.{cases_Bool, cond-false, cond-true}
@@ -50,7 +50,7 @@ strange_to_table text named table (Stranger g n) is strange = ((table, is, sym s
 strange_to_table text named table NotText is strange = absurd strange
 strange_to_table text named table Memory is strange = absurd strange
 
--- ---- whose tree is drawn, and who is named in it
+-- ---- the lieutenant whose tree is drawn, and the named traitors
 
 module _ (text : List ℕ) (general : ℕ) (traitors : List ℕ) where
   pub tree_of_table : (table : MessageTable) → table_told text ≡ Ok table → stranger_to_tree table.generals table.commander general traitors ≡ None → KnowsTree false text general traitors
@@ -117,7 +117,7 @@ module _ (text : List ℕ) (general : ℕ) (traitors : List ℕ) where
   pub strange_to_campaign : (s : Campaign) (refusal : InputRefusal) → Tells text s → IsStrangerToTree s.generals s.commander general traitors refusal → RefusesTreeIn true general traitors text refusal
   strange_to_campaign s refusal tells strange = strange_in true s.generals s.commander refusal (s, tells, refl, refl) strange
 
--- ---- the liar of a table that is filled in
+-- ---- the liar in a table that is filled in
 
 pub of_numbers : (n m c : List ℕ) (liar : Option ℕ) (generals : ℕ) → AreNumbersOf n m c generals → stranger_among generals (liars liar) ≡ None → KnowsLiar n m c liar
 of_numbers n m c liar generals are none = (generals, are, none)
@@ -175,7 +175,7 @@ pub faulty_numbers : (error : TableError) → error ≢ table.Memory → table_r
 faulty_numbers (table.At fault line) apart = λ e. cc
 faulty_numbers table.Memory apart = absurd (apart refl)
 
--- ---- the first that is a stranger
+-- ---- the first general who does not belong to the campaign
 
 some_none : {A : Type 0} {a : A} → Some a ≡ None → ⊥
 some_none e = cc
@@ -200,7 +200,7 @@ none_more p (y ∷ xs) (suc i) x none at e = elim (cases_Bool (p y)) [
   | inr apart ↦ cond-false (p y) (Some y) (find p (take (suc i) xs)) apart ∙ none_more p xs i x (sym (cond-false (p y) (Some y) (find p (take i xs)) apart) ∙ none) at e
 ]
 
--- of a table that is explained or drawn, of a campaign that is drawn, and of the words of a form
+-- The rules for a table that is explained, a table and a campaign that are drawn, and a table that is filled in.
 pub ruleset table_explained = (of_table, unread_table, strange_to_table)
 
 pub ruleset table_known = (tree_of_table, no_table_to_draw, strange_to_tree)

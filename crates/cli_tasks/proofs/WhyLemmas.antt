@@ -1,4 +1,4 @@
--- Refusals with a report behind their line.
+-- Lemmas about the reports on refusals.
 use Rattle.std.proofs.Common.{ℕ, ◌≡◌, ◌≢◌, Bool, true, false, List, [], refl, subst, sym}
 use Rattle.std.specs.Borrow.{Bor}
 use Rattle.std.specs.Prelude.{Option, None, Some, IfSome}
@@ -17,12 +17,12 @@ use Rattle.cli_tasks.specs.declared.hint.Hint.{Hint}
 use Rattle.cli_tasks.specs.declared.refusal.InputRefusal.{InputRefusal}
 use Rattle.cli_tasks.specs.declared.refusal.InputRefusal.TheVariants as refusal
 
--- nothing, whatever the name
+-- An empty report is the same for every name.
 pub nothing_said : (name : Option (List ℕ)) → IfSome name (λ n. ◌≡◌ {A = List ℕ} [] [])
 nothing_said None = tt
 nothing_said (Some n) = refl
 
--- another fact of the text
+-- A failure whose hint fulfils a property also fulfils a weaker one.
 weaker : (cause : InputRefusal) (file : Bor (List ℕ)) (P Q : List ℕ → Type 0) (fault : TaskFailure) → ((text : List ℕ) → P text → Q text) → IsTold cause file P fault → IsTold cause file Q fault
 weaker cause file P Q (Read own) f told = told
 weaker cause file P Q (Text own) f told = told
@@ -35,7 +35,7 @@ pub told_weaker : (explained : Bool) (cause : InputRefusal) (file : Bor (List �
 told_weaker false cause file P Q fault f told = told
 told_weaker true cause file P Q fault f told = weaker cause file P Q fault f told
 
--- ---- of a second file
+-- ---- a refusal of the second file
 
 known_bytes : (known : Option (Option (List ℕ))) (bytes : List ℕ) (P : List ℕ → Type 0) → AreSecondBytes known bytes → P bytes → IfKnown known P
 known_bytes None bytes P are p = subst P are p
@@ -79,7 +79,7 @@ stops_later unread false known R of bytes cause file fault are refused told =
     subst (λ (f : TaskFailure). Stops unread (λ r h. R r × IsHintLater false file.now known of r h) file.now f) (sym told) (plain unread known R of cause file refused)
 stops_later unread true known R of bytes cause file fault are refused told = reported unread known R of bytes cause file fault are refused told
 
--- ---- of threads
+-- ---- a run with threads that made no chronicle
 
 any_bytes : (known : Option (Option (List ℕ))) (P : Type 0) → P → IfKnown known (λ all. P)
 any_bytes None P p = p

@@ -24,7 +24,7 @@ fault_of refusal.NotText file = Text file
 fault_of other file = Refused other None
 
 -- Returns the failure of a task that rejects the file with this name and these bytes. If the bytes are not bytecode,
--- the hint says what they seem to be. If an ELF object has no code for the entry, the hint says why.
+-- the hint says what they seem to be. If an ELF object has no code for the entry function, the hint says why.
 abbrev pub fault_of_bytes : InputRefusal → Bor (List ℕ) → List ℕ → TaskFailure
 fault_of_bytes refusal.Memory file bytes = Memory
 fault_of_bytes refusal.NotText file bytes = Text file

@@ -1,4 +1,4 @@
--- The lines of the audit.
+-- The result has the lines that an audit prints.
 use Rattle.std.proofs.Common.{◌∙◌, ap}
 use Rattle.world.specs.declared.verdict.Verdict.{Verdict}
 use Rattle.cli_tasks.specs.AuditLines.{sound_lines}

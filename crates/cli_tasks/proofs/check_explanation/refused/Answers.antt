@@ -1,4 +1,4 @@
--- Each way out.
+-- The contract holds for each way in which the function returns.
 use Rattle.std.proofs.Common.{Bool, true, false, ◌≡◌, ◌∙◌, refl, subst, sym}
 use Rattle.cli_tasks.specs.Faults.{IsUnjudged}
 use Rattle.cli_tasks.proofs.FilesLemmas.{first_named}

@@ -1,4 +1,4 @@
--- The trial on the bench.
+-- The result is that of the run in the bench setting.
 use Rattle.std.proofs.Common.{◌∙◌, List, length, ap, sym, refl}
 use Rattle.insn.specs.declared.insn.Insn.{Insn}
 use Rattle.insn.specs.Program.{slots_of}
