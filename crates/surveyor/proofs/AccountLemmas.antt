@@ -1,4 +1,4 @@
--- The accounts of a survey, piece by piece.
+-- Lemmas about playing a survey with `--lines --details`, piece by piece.
 use Rattle.std.proofs.Common.{ℕ, ◌+◌, ◌-◌, ◌<◌, ◌≤◌, ◌≡◌, List, [], ◌∷◌, ◌++◌, length, map, take, get_or, refl, sym, ap, subst, ◌∙◌, arith, append_assoc, append-nil, Option}
 use Rattle.std.specs.Prelude.{flat_map}
 use Rattle.std.specs.List.{AllZip, range_with_len}
@@ -33,7 +33,7 @@ texts_both : (xs ys : List Account) → flat_map account_text (xs ++ ys) ≡ fla
 texts_both [] ys = refl
 texts_both (x ∷ xs) ys = ap (λ (l : List ℕ). account_text x ++ l) (texts_both xs ys) ∙ sym (append_assoc (account_text x) (flat_map account_text xs) (flat_map account_text ys))
 
--- the campaigns up to the next seed are played, their lines are printed, and those that are broken are kept
+-- The campaigns before the seed `next` are played, their lines are printed, and those to keep are written to files.
 pub record IsAccountedSoFar (s : Survey) (f : Family) (start now : Option (List ℕ)) (empty full : Option (List File)) (next : ℕ) : Type 0 where
   pub from : s.first ≤ next
   pub until : next ≤ s.last + 1

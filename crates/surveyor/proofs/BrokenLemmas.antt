@@ -1,4 +1,4 @@
--- What `--break` prints, entry by entry.
+-- Lemmas about what `--break` prints, entry by entry.
 use Rattle.std.proofs.Common.{ℕ, ◌+◌, ◌-◌, ◌≤◌, ◌≡◌, Bool, true, false, List, [], ◌∷◌, ◌++◌, map, refl, sym, ap, subst, ◌∙◌, arith, append_assoc, append-nil, Option, None, Some}
 use Rattle.std.specs.Prelude.{flat_map, min, IfNone, IfSome}
 use Rattle.std.specs.List.{AllZip, range_with_len}
@@ -14,7 +14,7 @@ use Rattle.surveyor.specs.declared.task.Survey.{Survey}
 use Rattle.surveyor.specs.Broken.{Entry, IsBroken, IsEntry, IsSearched, break_header, cut_to, entries_text, entry_text, gap, later_text, sizes_of, sizes_with}
 use Rattle.surveyor.proofs.Going.{range_both}
 
--- one entry more
+-- Adding one more element appends its text.
 flat_more : {A : Type 0} (F : A → List ℕ) (xs : List A) (x : A) → flat_map F (xs ++ x ∷ []) ≡ flat_map F xs ++ F x
 flat_more F [] x = append-nil (F x)
 flat_more F (y ∷ xs) x = ap (λ (l : List ℕ). F y ++ l) (flat_more F xs x) ∙ sym (append_assoc (F y) (flat_map F xs) (F x))
@@ -37,7 +37,7 @@ unfolding is_none
 still_some [] e = refl
 still_some (x ∷ es) e = refl
 
--- the entries of these sizes are printed
+-- The entries of these sizes are printed.
 pub record IsPrintedSoFar (s : Survey) (f : Family) (t : Bool) (start now : Option (List ℕ)) (is_first : Bool) (sizes : List (ℕ × ℕ)) : Type 0 where
   pub entries : List Entry
   pub all : AllZip (IsEntry s f) sizes entries
@@ -77,7 +77,7 @@ so_same s f t start now is_first sizes more is h = subst (IsPrintedSoFar s f t s
 pub so_ends : (s : Survey) (f : Family) (t : Bool) (start now : Option (List ℕ)) (is_first : Bool) (sizes : List (ℕ × ℕ)) → sizes ≡ sizes_of s.generals s.bound → IsPrintedSoFar s f t start now is_first sizes → IsBroken s f t start now
 so_ends s f t start now is_first sizes is h = record { entries = h.entries; all = subst (λ (l : List (ℕ × ℕ)). AllZip (IsEntry s f) l h.entries) is h.all; written = h.written }
 
--- ---- sizes
+-- ---- sizes: pairs of a number of generals and a bound
 
 one_more_in : (a b j k : ℕ) → a ≤ b → j ≡ b - a → k ≡ b + 1 - a → range_with_len a k ≡ range_with_len a j ++ b ∷ []
 one_more_in a b j k le e d =
@@ -93,7 +93,7 @@ flat_one_more : {A : Type 0} (F : ℕ → List A) (xs : List ℕ) (x : ℕ) → 
 flat_one_more F [] x = append-nil (F x)
 flat_one_more F (y ∷ xs) x = ap (λ l. F y ++ l) (flat_one_more F xs x) ∙ sym (append_assoc (F y) (flat_map F xs) (F x))
 
--- the sizes of fewer generals, and of these with lesser bounds
+-- The sizes with fewer generals, and those with as many generals and a lesser bound.
 abbrev pub sizes_upto : CountRange → ℕ → ℕ → List (ℕ × ℕ)
 sizes_upto bound low count = flat_map (sizes_with bound) (range_with_len low count)
 
@@ -108,7 +108,7 @@ pub sizes_more : (bound : CountRange) (low n j k i : ℕ) → low ≤ n → j �
 sizes_more bound low n j k i le e d is =
     ap (λ (x : ℕ). sizes_upto bound low j ++ bounds_upto n bound.low x) is ∙ (sym (flat_one_more (sizes_with bound) (range_with_len low j) n) ∙ ap (flat_map (sizes_with bound)) (sym (one_more_in low n j k le e d)))
 
--- what is found, or that nothing is
+-- The result of a search is what `IsSearched` states, whether or not something was found.
 pub searched_is : (s : Survey) (f : Family) (n m : ℕ) (span : CountRange) (end : ℕ) (o : Option Breaking) → span ≡ cut_to n s.traitors → end ≡ s.last + 1 → IfSome o (IsBreaking f n m span s.first end) → IfNone o (NoneBreaks f n m span s.first end) → IsSearched s f n m o
 searched_is s f n m span end None is e some none = subst (λ (x : CountRange). NoneBreaks f n m x s.first (s.last + 1)) is (subst (λ (x : ℕ). NoneBreaks f n m span s.first x) e none)
 searched_is s f n m span end (Some b) is e some none = subst (λ (x : CountRange). IsBreaking f n m x s.first (s.last + 1) b) is (subst (λ (x : ℕ). IsBreaking f n m span s.first x b) e some)

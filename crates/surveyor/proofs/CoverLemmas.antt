@@ -1,4 +1,4 @@
--- Whether each seed is told once.
+-- Lemmas about whether each seed occurs exactly once.
 use Rattle.std.proofs.Common.{ℕ, ◌+◌, ◌<◌, ◌≤◌, ◌≡◌, ◌≢◌, Bool, true, false, cond, List, [], ◌∷◌, ◌++◌, length, refl, sym, ap, subst, ◌∙◌, arith, append_assoc, append-nil, Option, None, Some, Ok, Err, ◌⊎◌, ⊎_elim, inl, inr}
 use Rattle.std.specs.Prelude.{nat_le, min, max, ◌==◌, ◌&&◌, OnErr, OnOk}
 use Rattle.std.specs.List.{fold}
@@ -17,7 +17,7 @@ use Rattle.std.proofs.KnownBytes.{Appends-nil}
 use Rattle.surveyor.specs.Statuses.{IsReported}
 use Rattle.surveyor.specs.Summed.{AreEnds, IsAskedFor, IsCoveredBy, IsSeedReport, AreLeastAndGreatest, IsToldOf, report_text, span_of, with_seed}
 
--- one campaign more
+-- How often a seed occurs with one more campaign.
 times_push : (x : ℕ) (found : List Finding) (f : Finding) → times x (seeds_in (found ++ f ∷ [])) ≡ times x (seeds_in found) + cond (f.seed == x) 1 0
 times_push x found f = ap (times x) (map-append (λ (g : Finding). g.seed) found (f ∷ [])) ∙ sum_by_push (λ (s : ℕ). cond (s == x) 1 0) (seeds_in found) f.seed
 
@@ -37,7 +37,7 @@ told_by x found f false e h = inl (omega (arith, h))
 told_so : (x : ℕ) (found : List Finding) (f : Finding) → IsToldOf x (found ++ f ∷ []) → IsToldOf x found ⊎ (f.seed ≡ x)
 told_so x found f h = told_by x found f (f.seed == x) refl (subst (λ (n : ℕ). 1 ≤ n) (times_push x found f) h)
 
--- the ends with one campaign more
+-- The least and the greatest seed with one more campaign.
 lesser_told : (found : List Finding) (a s : ℕ) → IsToldOf a found → IsToldOf s found → IsToldOf (min a s) found
 lesser_told found a s p q = ⊎_elim before behind (cases_lt a s)
   where
@@ -86,7 +86,7 @@ ends_more : (found : List Finding) (ends : Option (ℕ × ℕ)) (f : Finding) �
 ends_more found None f h = spread_one found f h
 ends_more found (Some e) f h = spread_more found e f h
 
--- the ends of all of them, one behind the other
+-- The least and the greatest seed of all campaigns, found one campaign after the other.
 abbrev pub ends_of : List Finding → Option (ℕ × ℕ)
 ends_of found = fold (λ (e : Option (ℕ × ℕ)) (f : Finding). with_seed e f.seed) None found
 
@@ -99,7 +99,7 @@ ends_on seen (f ∷ found) ends h =
 pub ends_are : (found : List Finding) → AreEnds found (ends_of found)
 ends_are found = ends_on [] found None refl
 
--- where no seed lacks and none is double, each is told once
+-- If no seed is missing and none occurs twice, each occurs once.
 told_once : (first last x t : ℕ) → first ≤ x → x ≤ last → false ≡ (nat_le first x && (nat_le x last && (t == 0))) → false ≡ nat_le 2 t → t ≡ 1
 told_once first last x t low high some few = grind (arith, nat_tests)
 
@@ -107,7 +107,7 @@ empty : (xs : List Stretch) → length xs ≡ 0 → xs ≡ []
 empty [] e = refl
 empty (x ∷ xs) e = absurd (omega arith)
 
--- each from the first to the last is told just once
+-- Each seed from the first to the last occurs exactly once.
 abbrev AreOnce : ℕ → ℕ → List Finding → Type 0
 AreOnce first last found = (x : ℕ) → first ≤ x → x ≤ last → times x (seeds_in found) ≡ 1
 
@@ -117,7 +117,7 @@ once_by first last found holes doubles h d lacks twice x low high =
     let double : false ≡ nat_le 2 (times x (seeds_in found)) = ap (is_in x) (sym (empty doubles twice)) ∙ d x in
     told_once first last x (times x (seeds_in found)) low high hole double
 
--- the first seed of stretches is in them
+-- The first seed of a list of ranges is in one of them.
 first_in : (s : Stretch) (ss : List Stretch) → AreApart (s ∷ ss) → is_in s.first (s ∷ ss) ≡ true
 first_in s ss h = rw (le-leb s.first s.first (omega arith), le-leb s.first s.last h.1) refl
 
@@ -141,7 +141,7 @@ no_doubles found (s ∷ ss) d apart once =
     let one = once s.first told in
     absurd (omega (arith, twice, one))
 
--- a seed that is told is one of those that may be told
+-- A seed that occurs is one of those that may occur.
 told_within : (first last x : ℕ) (found : List Finding) → AreOf first last found → IsToldOf x found → (first ≤ x) × (x ≤ last)
 told_within first last x [] all told = absurd (omega (arith, told))
 told_within first last x (f ∷ found) all told =
@@ -151,7 +151,7 @@ told_within first last x (f ∷ found) all told =
     by true e h more = let same = eqb-true f.seed x e in let low = all.0.0 in let high = all.0.1 in (omega (arith, same, low), omega (arith, same, high))
     by false e h more = more (omega (arith, h))
 
--- the status is 0 just where all are told once
+-- The exit status is 0 exactly if each seed occurs once.
 pub status_by : (seeds : Option (ℕ × ℕ)) (found : List Finding) (first last status : ℕ) (span : Option (ℕ × ℕ)) (holes doubles : List Stretch) → AreOf (span_of seeds).0 (span_of seeds).1 found → IsAskedFor seeds found span → span ≡ Some (first, last)
     → AreHoles first last (seeds_in found) holes → AreApart holes → AreDoubles (seeds_in found) doubles → AreApart doubles
     → (status ≡ 0 → (length holes ≡ 0) × (length doubles ≡ 0)) → (length holes ≡ 0 → length doubles ≡ 0 → status ≡ 0) → (status ≢ 0 → status ≡ 1) → IsCoveredBy seeds found status
@@ -175,7 +175,7 @@ status_by (Some s) found first last status span holes doubles all asked is h ha 
       ill = ill;
     }
 
--- where nothing is told and no seeds are said, none is asked for
+-- If there are no campaigns and `--seeds` is not given, no seed should occur.
 pub none_asked : (seeds : Option (ℕ × ℕ)) (found : List Finding) (span : Option (ℕ × ℕ)) (status : ℕ) → IsAskedFor seeds found span → span ≡ None → status ≡ 0 → IsCoveredBy seeds found status
 none_asked None found span status asked is zero =
     let none : found ≡ [] = subst (AreEnds found) is asked in
@@ -186,7 +186,7 @@ none_asked None found span status asked is zero =
     }
 none_asked (Some s) found span status asked is zero = absurd (let e : Some s ≡ None = sym asked ∙ is in cc)
 
--- what is reported of seeds
+-- The report on seeds is what `IsSeedReport` states.
 pub seeds_reported : (seeds : Option (ℕ × ℕ)) (found : List Finding) (first last : ℕ) (span : Option (ℕ × ℕ)) (holes doubles : List Stretch) (Reports : Option (List ℕ) → Type 0) → IsAskedFor seeds found span → span ≡ Some (first, last)
     → AreHoles first last (seeds_in found) holes → AreDoubles (seeds_in found) doubles → Reports (Some (report_text holes doubles)) → IsSeedReport seeds found Reports
 seeds_reported seeds found first last span holes doubles Reports asked is h d told =
@@ -206,7 +206,7 @@ nothing_reported None found span Fails old asked is =
     }
 nothing_reported (Some s) found span Fails old asked is = absurd (let e : Some s ≡ None = sym asked ∙ is in cc)
 
--- a text that is written, or whose stream fails
+-- A text is written, or its stream fails.
 pub put_reported : {T E : Type 0} (r : Result T E) (Fails : Type 0) (old new : Option (List ℕ)) (text told : List ℕ) → OnOk r (Appends old new text) → OnErr r Fails → text ≡ told → IsReported Fails old new (Some told)
 put_reported (Ok x) Fails old new text told ok err is = inr (subst (Appends old new) is ok)
 put_reported (Err e) Fails old new text told ok err is = inl err

@@ -1,4 +1,4 @@
--- Why a survey comes to no end.
+-- Lemmas about why a survey cannot be finished.
 use Rattle.std.proofs.Common.{ℕ, ◌+◌, ◌-◌, ◌<◌, ◌≤◌, ◌≡◌, ◌≢◌, arith, refl, subst, sym, true, is_some, Bool, List, None, Some, get_or, length}
 use Rattle.std.specs.Prelude.{String, string_bytes}
 use Rattle.std.specs.Global.{Global}
@@ -48,7 +48,7 @@ campaign_told s R first end e fault ne told refuses from some up_to =
     let whole : end ≡ end - 1 + 1 = omega arith in
     subst (IsStopped s R) (sym (told ne)) (record { from = from; up_to = last; refused = subst (λ (k : ℕ). R first k e) whole (refuses ne) })
 
--- one of the campaigns of some of the seeds is refused, or memory is
+-- If a campaign of some seeds is rejected or memory runs out, the survey is stopped.
 pub stopped_campaign : (s : Survey) (R : ℕ → ℕ → ScenarioError → Type 0) (first end : ℕ) (e : ScenarioError) (fault : SurveyFailure) → (e ≡ scenario.Memory → fault ≡ Memory) → (e ≢ scenario.Memory → fault ≡ Campaign first (end - 1) e) → (e ≢ scenario.Memory → R first end e)
     → s.first ≤ first → first < end → end ≤ s.last + 1 → IsStopped s R fault
 stopped_campaign s R first end scenario.Memory fault memory told refuses from some up_to = stopped_by_memory s R fault (memory refl)
@@ -57,7 +57,7 @@ stopped_campaign s R first end (scenario.Unknown at key) fault memory told refus
 stopped_campaign s R first end (scenario.At why place) fault memory told refuses from some up_to = campaign_told s R first end (scenario.At why place) fault (λ x. cc) told refuses from some up_to
 stopped_campaign s R first end (scenario.Program general why) fault memory told refuses from some up_to = campaign_told s R first end (scenario.Program general why) fault (λ x. cc) told refuses from some up_to
 
--- with the family that is asked for
+-- A failure that stops a survey with a known family keeps it from being finished.
 pub unended : (s : Survey) (R : Family → ℕ → ℕ → ScenarioError → Type 0) (f : Family) (fault : SurveyFailure) → IsFamilyOf s f → IsStopped s (R f) fault → IsUnended s R fault
 unended s R f (Unwritten None) family h = tt
 unended s R f (Unwritten (Some name)) family h = h
@@ -68,7 +68,7 @@ unended s R f (Refused line) family h = absurd h
 unended s R f (Campaign first last e) family h = (f, family, h)
 unended s R f Words family h = absurd h
 
--- or the campaign is not printed
+-- A standard output that cannot be written keeps a survey from being finished.
 pub unended_printing : (s : Survey) (R : Family → ℕ → ℕ → ScenarioError → Type 0) (fault : SurveyFailure) → IsUnprinted fault → IsUnended s R fault
 unended_printing s R (Unwritten None) h = tt
 unended_printing s R (Unwritten (Some name)) h = absurd h
@@ -82,7 +82,7 @@ unended_printing s R Words h = absurd h
 pub unended_by_memory : (s : Survey) (R : Family → ℕ → ℕ → ScenarioError → Type 0) (fault : SurveyFailure) → fault ≡ Memory → IsUnended s R fault
 unended_by_memory s R fault is = subst (IsUnended s R) (sym is) tt
 
--- or without one
+-- A file with the traitors' program that cannot be used keeps a survey from being finished.
 pub untaken : (s : Survey) (R : Family → ℕ → ℕ → ScenarioError → Type 0) (fault : SurveyFailure) → IsFile (string_bytes s.adversary) → IsUntaken (string_bytes s.adversary) fault → IsUnended s R fault
 untaken s R (Unwritten None) file h = absurd h
 untaken s R (Unwritten (Some name)) file h = absurd h
@@ -93,7 +93,7 @@ untaken s R (Refused line) file h = (file, h.0, h.1)
 untaken s R (Campaign first last e) file h = absurd h
 untaken s R Words file h = absurd h
 
--- a file of a campaign that is kept
+-- The failure for one file with a campaign is a failure for some such file.
 pub unkept_one : (name beside : List ℕ) (fault : SurveyFailure) → IsUnkept name beside fault → IsUnkeptIn fault
 unkept_one name beside (Unwritten None) h = absurd h
 unkept_one name beside (Unwritten (Some own)) h = tt
@@ -117,7 +117,7 @@ kept_where is_kept (Refused line) some h = absurd h
 kept_where is_kept (Campaign first last e) some h = absurd h
 kept_where is_kept Words some h = absurd h
 
--- a folder that is named takes no file
+-- A folder to which no file can be written keeps a survey from being finished.
 pub unopened : (s : Survey) (R : Family → ℕ → ℕ → ScenarioError → Type 0) (name beside : List ℕ) (fault : SurveyFailure) → is_some s.keep ≡ true → IsUnkept name beside fault → IsUnended s R fault
 unopened s R name beside (Unwritten None) some h = absurd h
 unopened s R name beside (Unwritten (Some own)) some h = some
@@ -128,7 +128,7 @@ unopened s R name beside (Refused line) some h = absurd h
 unopened s R name beside (Campaign first last e) some h = absurd h
 unopened s R name beside Words some h = absurd h
 
--- campaigns that are lessened, and as they are drawn
+-- A failure with `--shrink`, and a failure without it, keep a survey from being finished.
 pub unended_least : (s : Survey) (f : Family) (fault : SurveyFailure) → s.shape ≡ Least → IsFamilyOf s f → IsStopped s (Lessened.IsRefusedIn (plot_of f)) fault → IsUnsurveyed s fault
 unended_least s f fault is family h = unended s (IsDrawnRefused s.shape) f fault family (subst (λ (shape : ReportKind). IsStopped s (IsDrawnRefused shape f) fault) (sym is) h)
 
@@ -147,7 +147,7 @@ unended_drawn s f fault not family h = unended s (IsDrawnRefused s.shape) f faul
 pub unended_accounts : (s : Survey) (f : Family) (fault : SurveyFailure) → s.shape ≡ Accounts → IsFamilyOf s f → IsStopped s (IsRefusedIn f) fault → IsUnsurveyed s fault
 unended_accounts s f fault is family h = unended s (IsDrawnRefused s.shape) f fault family (subst (λ (shape : ReportKind). IsStopped s (IsDrawnRefused shape f) fault) (sym is) h)
 
--- one of the files that are summed cannot be read
+-- A file that cannot be read keeps `--sum` from reading all files.
 pub unread_one : (m : Merge) (k : ℕ) (own : String Global) (fault : SurveyFailure) → k < length m.names.items → get_or m.names.items k own ≡ own → IsUnread (string_bytes own) fault → IsUntold m fault
 unread_one m k own (Unread name) less at h = (k, own, less, at, sym h)
 unread_one m k own (NotText name) less at h = absurd h
@@ -157,7 +157,7 @@ unread_one m k own (Refused line) less at h = absurd h
 unread_one m k own (Campaign first last e) less at h = absurd h
 unread_one m k own Words less at h = absurd h
 
--- or their sums are not printed
+-- A failure while the files are read keeps `--sum` from being finished.
 pub untold_summed : (m : Merge) (fault : SurveyFailure) → IsUntold m fault → IsUnsummed m fault
 untold_summed m (Unread name) h = h
 untold_summed m (NotText name) h = absurd h

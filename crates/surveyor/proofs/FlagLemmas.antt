@@ -1,4 +1,4 @@
--- What `clap` is told of, flag by flag, and what it has found of a name.
+-- Lemmas about declaring the options to `clap`, one after the other, and about the values that it finds.
 use Rattle.std.proofs.Common.{◌≡◌, ◌∙◌, ◌+◌, ◌<◌, ℕ, Bor, List, [], ◌∷◌, ◌++◌, Option, None, Some, ap, append_assoc, codes, cond, find, get_or, length, map, option_map, refl, sym, take, true}
 use Rattle.std.proofs.lemmas.List.{map_more}
 use Rattle.std.specs.Option.{option_map_or}
@@ -15,7 +15,7 @@ use Rattle.surveyor.specs.declared.flags.Flag.{Flag}
 use Rattle.surveyor.specs.Flags.{bare_app, given, given_value, is_given, rule_for, survey_app, with_rules}
 use Rattle.surveyor.specs.Meant.{names_in}
 
--- one flag more, behind those at the front
+-- If the first options are declared and one more is, one more of the list is declared.
 pub flag_more : (app here next : App) (rule : Rule) (flags : List Flag) (i : ℕ) (d : Flag) → i < length flags → rule ≡ rule_for (get_or flags i d)
     → here ≡ with_rules app (map rule_for (take i flags)) → next ≡ with_rule here rule → next ≡ with_rules app (map rule_for (take (i + 1) flags))
 flag_more app here next rule flags i d less is so same =
@@ -34,7 +34,7 @@ first_text : (vs : List (Bor Text)) → option_map (λ s. s.now) (slice_get vs 0
 first_text [] = refl
 first_text (v ∷ vs) = refl
 
--- what the words gave to a name is its first value, if that is no default
+-- The value of an option is the first one that `clap` found, unless it is a default.
 pub value_given : (f : Found) (id : Text)
     → given id (rows_of f) ≡ cond (is_given (option_and_then (λ a. a.source) (matched_of f id))) (first_value f id) None
 value_given f id = ap (λ o. option_map_or given_value o None) (find_row f.entries.items id) ∙ go (find (λ e. bytes_eq e.0.now id) f.entries.items)
@@ -45,7 +45,7 @@ value_given f id = ap (λ o. option_map_or given_value o None) (find_row f.entri
     go None = refl
     go (Some e) = ap (λ (text : Option Text). cond (is_given e.1.source) text None) (sym (first_text e.1.vals.items))
 
--- the names behind `--sum` are its values
+-- The names of the files for `--sum` are the values that `clap` found.
 pub names_given : (f : Found) → option_map raw_values (matched_of f (codes "sum")) ≡ names_in (rows_of f)
 names_given f = sym (ap (λ o. option_map (λ row. row.values) o) (find_row f.entries.items (codes "sum")) ∙ go (find (λ e. bytes_eq e.0.now (codes "sum")) f.entries.items))
   where
@@ -53,7 +53,7 @@ names_given f = sym (ap (λ o. option_map (λ row. row.values) o) (find_row f.en
     go None = refl
     go (Some e) = refl
 
--- ---- what a survey may be asked for, flag by flag
+-- ---- the whole command, option by option
 
 pub survey_is : (start family ruled manner shaped whole : App) (one two three : List Rule) (rule sum : Rule) → start ≡ bare_app → family ≡ with_rules start one → ruled ≡ with_rule family rule
     → manner ≡ with_rules ruled two → shaped ≡ with_rules manner three → whole ≡ with_rule shaped sum

@@ -1,4 +1,4 @@
--- A survey goes on piece by piece.
+-- Lemmas about playing a survey piece by piece.
 use Rattle.std.proofs.Common.{ℕ, zero, suc, ◌+◌, ◌-◌, ◌≤◌, ◌≡◌, ◌≢◌, List, [], ◌∷◌, ◌++◌, refl, sym, ap, subst, ◌∙◌, arith, append_assoc, append-nil, Option}
 use Rattle.std.specs.Prelude.{flat_map}
 use Rattle.std.specs.List.{AllZip, range_with_len}
@@ -16,7 +16,7 @@ use Rattle.surveyor.specs.Kept.{File, Gains, campaign_files}
 use Rattle.surveyor.specs.Printed.{IsPlayed, IsPrinted, IsToldIn, added, head_in, kept_seeds, lines_in, summary_text}
 use Rattle.surveyor.proofs.KeptLemmas.{campaigns_gained, no_campaigns, none_gained}
 
--- numbers up to a middle, and from there on
+-- A range of numbers is its first part followed by its second.
 pub range_both : (a n m : ℕ) → range_with_len a (n + m) ≡ range_with_len a n ++ range_with_len (a + n) m
 range_both a zero m = (let e : a ≡ a + 0 = omega arith in let f : 0 + m ≡ m = omega arith in λ i. range_with_len (e i) (f i))
 range_both a (suc n) m =
@@ -80,7 +80,7 @@ summed_added Csv found = refl
 summed_added Picture found = refl
 summed_added Least found = refl
 
--- the campaigns up to the next seed are played, and what there is to print and to keep of them so far is printed and kept
+-- The campaigns before the seed `next` are played. Their lines are printed, and those to keep are written to files.
 pub record IsUnderWay (s : Survey) (f : Family) (start now : Option (List ℕ)) (empty full : Option (List File)) (next : ℕ) (all : List Finding) : Type 0 where
   pub from : s.first ≤ next
   pub until : next ≤ s.last + 1

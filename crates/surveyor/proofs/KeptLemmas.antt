@@ -1,4 +1,4 @@
--- Files that are kept, one behind the other.
+-- Lemmas about writing campaigns to files, one after the other.
 use Rattle.std.proofs.Common.{ℕ, ◌+◌, ◌<◌, ◌≡◌, List, [], ◌∷◌, ◌++◌, length, map, take, get_or, refl, sym, ap, subst, ◌∙◌, append_assoc, append-nil, Option, None, Some, Bool, true, false}
 use Rattle.std.specs.Prelude.{String, cond, flat_map, string_bytes}
 use Rattle.std.specs.Global.{Global}
@@ -20,7 +20,7 @@ pub both_gained : (a b c : Option (List File)) (xs ys : List File) → Gains a b
 both_gained None b c xs ys p q = tt
 both_gained (Some x) b c xs ys p q = subst (λ (o : Option (List File)). Gains o c ys) p q ∙ ap Some (append_assoc x xs ys)
 
--- the campaign of one more seed
+-- Writing the campaign of one more seed adds its file.
 pub campaign_gained : (folder : List ℕ) (f : Family) (seeds : List ℕ) (i seed : ℕ) (text : List ℕ) (a b c : Option (List File)) → i < length seeds → seed ≡ get_or seeds i seed
     → text ≡ campaign_text f seed → Gains a b (map (campaign_file folder f) (take i seeds)) → Gains b c ((kept_name folder seed, text) ∷ []) → Gains a c (map (campaign_file folder f) (take (i + 1) seeds))
 campaign_gained folder f seeds i seed text a b c less at is p q =
@@ -33,7 +33,7 @@ breaches_both : (folder : List ℕ) (xs ys : List (Option Breach)) → flat_map 
 breaches_both folder [] ys = refl
 breaches_both folder (x ∷ xs) ys = ap (λ (l : List File). breach_file folder x ++ l) (breaches_both folder xs ys) ∙ sym (append_assoc (breach_file folder x) (flat_map (breach_file folder) xs) (flat_map (breach_file folder) ys))
 
--- what is left of one more campaign
+-- Writing one more reduced campaign adds its file, or no file if there is no such campaign.
 pub breach_gained : (folder : List ℕ) (all : List (Option Breach)) (i : ℕ) (o : Option Breach) (a b c : Option (List File)) → i < length all → o ≡ get_or all i o
     → Gains a b (flat_map (breach_file folder) (take i all)) → Gains b c (breach_file folder o) → Gains a c (flat_map (breach_file folder) (take (i + 1) all))
 breach_gained folder all i o a b c less at p q =
@@ -44,7 +44,7 @@ breach_gained folder all i o a b c less at p q =
     (λ j. front ++ breach_file folder (at j)) ∙ (ap (λ (l : List File). front ++ l) (sym (append-nil (breach_file folder here))) ∙ sym more) in
     subst (λ (l : List File). Gains a c l) whole (both_gained a b c front (breach_file folder o) p q)
 
--- of campaigns behind others
+-- The broken seeds of two lists of campaigns are those of the first and then those of the second.
 cond_both : (b : Bool) (seed : ℕ) (xs ys : List ℕ) → cond b (xs ++ ys) (seed ∷ (xs ++ ys)) ≡ cond b xs (seed ∷ xs) ++ ys
 cond_both true seed xs ys = refl
 cond_both false seed xs ys = refl

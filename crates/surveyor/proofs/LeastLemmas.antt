@@ -1,4 +1,4 @@
--- The least of what is left, piece by piece.
+-- Lemmas about finding the least reduced campaign, piece by piece.
 use Rattle.std.proofs.Common.{ℕ, ◌+◌, ◌-◌, ◌≤◌, ◌≡◌, List, [], ◌++◌, sym, subst, arith, Option, None}
 use Rattle.std.specs.List.{AllZip, range_with_len}
 use Rattle.std.proofs.lemmas.List.Elements.{All-nil}
@@ -13,7 +13,7 @@ use Rattle.surveyor.specs.Printed.{IsLeastKept}
 use Rattle.surveyor.proofs.Going.{zip_both}
 use Rattle.surveyor.proofs.KeptLemmas.{breaches_gained, no_breaches, none_gained}
 
--- the campaigns up to the next seed are lessened, and what is left of the broken ones is kept
+-- The campaigns before the seed `next` are reduced, and the reduced ones are written to files.
 pub record IsLeastSoFar (s : Survey) (f : Family) (empty full : Option (List File)) (next : ℕ) (so_far : Option Breach) : Type 0 where
   pub from : s.first ≤ next
   pub until : next ≤ s.last + 1

@@ -1,4 +1,4 @@
--- Words that ask for nothing.
+-- Lemmas about options that describe no task.
 use Rattle.std.proofs.Common.{ℕ, ◌<◌, ◌≤◌, ◌≡◌, ◌∙◌, Bool, true, false, ap, arith, codes, refl, sym, subst, is_some, ◌⊎◌, inl, inr, [], List, Option, None, Some}
 use Rattle.std.specs.Prelude.{IfErr, IfOk, IsErrAnd, IsSomeAnd, Result, Ok, Err, String, count_by, option_map, string_bytes, unwrap_or}
 use Rattle.std.specs.Global.{Global}
@@ -37,26 +37,26 @@ other_within least most word own told apart s w =
     let up_to = w.up_to in
     apart (omega arith) (omega arith)
 
--- what refuses a part refuses the whole
+-- An error that rejects a part of the task rejects the whole task.
 pub refused_so : (rows : List Row) (P Q : Type 0) (e : AskedError) → (P → Q) → IsRefused rows P e → IsRefused rows Q e
 refused_so rows P Q (Words refusal) f h = h
 refused_so rows P Q (Value why) f h = (h.0, f h.1)
 refused_so rows P Q Rule f h = (h.0, f h.1)
 refused_so rows P Q Memory f h = tt
 
--- a text that is told is so
+-- An error with a given message is correct if what the message says is true.
 said_so : (rows : List Row) (text : Text) (P Q : Type 0) (e : AskedError) → ((why : Text) → why ≡ text → P → IsWrong rows why) → (P → Q) → IsSaid text P e → IsRefused rows Q e
 said_so rows text P Q (Words refusal) wrong f h = absurd h
 said_so rows text P Q (Value why) wrong f h = (wrong why.now h.0 h.1, f h.1)
 said_so rows text P Q Rule wrong f h = absurd h
 said_so rows text P Q Memory wrong f h = absurd h
 
--- what `?` hands on
+-- The error that `?` returns has the same property.
 pub handed_on : {T : Type 0} (P : AskedError → Type 0) (r : Result T AskedError) (e : AskedError) → IsErrAnd r (λ own. own ≡ e) → P e → IfErr r P
 handed_on P (Ok done) e is h = tt
 handed_on P (Err own) e is h = subst P (sym is) h
 
--- ---- a part without which there is no survey
+-- ---- an option without which there is no survey
 
 abbrev pub NoSurvey : List Row → Type 0
 NoSurvey rows = (s : Survey) → IsSurveying rows s → ⊥
@@ -133,7 +133,7 @@ no_shape rows e h = said_so rows (complaint_in rows) (shape_in rows ≡ None) (N
 pub no_keeping : (rows : List Row) (e : AskedError) → IsSaid (codes "--keep-all cannot be used with --keep or --shrink") (bars_keeping rows ≡ true) e → IsRefused rows (NoSurvey rows) e
 no_keeping rows e h = said_so rows (codes "--keep-all cannot be used with --keep or --shrink") (bars_keeping rows ≡ true) (NoSurvey rows) e (λ why same bars. every same bars) (λ bars s told. (let both = sym bars ∙ told.every.single in cc)) h
 
--- ---- nothing that breaks agreement
+-- ---- options that cannot be used with `--break`
 
 abbrev pub NoBreak : List Row → Type 0
 NoBreak rows = (s : Survey) (is_table : Bool) → IsBreaking rows s is_table → ⊥
@@ -164,7 +164,7 @@ no_break_shape rows own e has_it is (inr h) = said_so rows (codes "--break canno
     (λ why same kept. keep same has_it (has_kept own.keep (folder_in rows) is.keep kept))
     (λ kept s is_table told. is_kept own.keep s.keep (folder_in rows) is.keep told.survey.keep kept told.keep) h
 
--- ---- no campaign of one seed
+-- ---- options that cannot be used with `--campaign`
 
 abbrev pub NoCampaign : Text → List Row → Type 0
 NoCampaign word rows = (c : OneCampaign) → IsShowing word rows c → ⊥
@@ -179,7 +179,7 @@ no_shown_seed word rows e is (inl h) = said_so rows (codes "--campaign prints on
 no_shown_seed word rows e is (inr h) = said_so rows (codes "--campaign takes a seed below 18446744073709551615") (IsNoSeed word) (NoCampaign word rows) e
     (λ why same none. campaign same word is none) (λ none c told. none c.seed told.seed) h
 
--- ---- no sums of files
+-- ---- options that cannot be used with `--sum`
 
 abbrev pub NoMerge : List Text → List Row → Type 0
 NoMerge names rows = (m : Merge) → IsMerging names rows m → ⊥
@@ -210,7 +210,7 @@ no_merge_sum names rows e is (inl h) = said_so rows (codes "--sum plays nothing:
 no_merge_sum names rows e is (inr h) = said_so rows (codes "standard input can be read only once") (AreTwice names) (NoMerge names rows) e
     (λ why same more. twice same names is more) (λ more m told. (let once = told.once in omega arith)) h
 
--- ---- nothing at all
+-- ---- options that describe no task at all
 
 pub no_merge_asked : (names : List Text) (rows : List Row) (e : AskedError) → names_in rows ≡ Some names → IsRefused rows (NoMerge names rows) e → IsRefused rows (AsksNothing rows) e
 no_merge_asked names rows e is h = refused_so rows (NoMerge names rows) (AsksNothing rows) e go h
@@ -254,7 +254,7 @@ no_survey_asked rows e is many plain h = refused_so rows (NoSurvey rows) (AsksNo
     go bars (Break s is_table) told = (let both = sym plain ∙ told.2 in cc)
     go bars (Merges m) told = (let both = sym is ∙ told.1 in cc)
 
--- ---- what `clap` has found, and what it refuses
+-- ---- the values that `clap` finds, and the command lines that it rejects
 
 pub meant_found : (app : App) (words : List Text) (rows : List Row) (r : Result Asked AskedError) → app ≡ survey_app → (is_simple app ≡ true → rows ≡ matches_of app words) → IfOk r (Asks rows)
     → IfOk r (Asks (matches_of survey_app words))

@@ -1,4 +1,4 @@
--- A word tells two numbers in one way at most.
+-- A word is a range of numbers in at most one way.
 use Rattle.std.proofs.Common.{ℕ, ◌+◌, ◌*◌, ◌≤◌, ◌<◌, ◌≡◌, ◌≢◌, inl, inr, List, [], ◌∷◌, ◌++◌, refl, sym, ap, ◌∙◌, arith, Option, None, Some, codes, cond, true, false, Bool, nat_eq, append_assoc, subst}
 use Rattle.std.specs.Prelude.{IfNone, IfSome, ◌==◌}
 use Rattle.std.proofs.lemmas.Bool.Decides.{nat_tests}
@@ -6,7 +6,7 @@ use Rattle.text.specs.Number.{capped, decimal_of, digit_in, digits_on}
 use Rattle.text.specs.Options.{◌>>=◌}
 use Rattle.surveyor.specs.Numbers.{AreTold, IsNoSpan, IsSpread, IsTold}
 
--- no full stop stands in it
+-- The text contains no full stop.
 abbrev pub Dotless : List ℕ → Type 0
 Dotless [] = Unit {0}
 Dotless (c ∷ cs) = (c ≢ 46) × Dotless cs
@@ -42,7 +42,7 @@ head_is a b xs ys e = cc
 tail_is : (a b : ℕ) (xs ys : List ℕ) → a ∷ xs ≡ b ∷ ys → xs ≡ ys
 tail_is a b xs ys e = cc
 
--- there is one pair of full stops alone
+-- A text whose two parts have no full stops can be split at `..` in only one way.
 pub parts_once : (xs ys lo hi : List ℕ) → Dotless xs → Dotless ys → xs ++ 46 ∷ 46 ∷ ys ≡ lo ++ 46 ∷ 46 ∷ hi → (xs ≡ lo) × (ys ≡ hi)
 parts_once [] ys [] hi dx dy e = (refl, tail_is 46 46 ys hi (tail_is 46 46 (46 ∷ ys) (46 ∷ hi) e))
 parts_once [] ys (a ∷ []) hi dx dy e = absurd (no_dot [] hi (subst Dotless (tail_is 46 46 ys (46 ∷ hi) (tail_is 46 a (46 ∷ ys) (46 ∷ 46 ∷ hi) e)) dy))
@@ -58,13 +58,13 @@ both_told front back lo hi low high told e =
     let parts = parts_once front back lo hi (number_dotless front low told.0) (number_dotless back high told.1) e in
     (ap decimal_of (sym parts.0) ∙ told.0, ap decimal_of (sym parts.1) ∙ told.1)
 
--- what a word tells whose parts are these
+-- A word `LO..HI` is the range with the numbers LO and HI.
 pub parted : (word lo hi : List ℕ) (low high : ℕ) → word ≡ lo ++ (codes ".." ++ hi) → IsTold word low high → AreTold lo hi low high
 parted word lo hi low high whole (inl told) = absurd (no_dot lo (46 ∷ hi) (subst Dotless whole (number_dotless word low told.0)))
 parted word lo hi low high whole (inr told) =
     both_told told.front told.back lo hi low high told.told (sym (append_assoc told.front (codes "..") told.back) ∙ (sym told.whole ∙ whole))
 
--- what a word tells that has none
+-- A word without `..` is one number.
 pub whole : (word : List ℕ) (low high : ℕ) → ((xs ys : List ℕ) → word ≢ xs ++ (codes ".." ++ ys)) → IsTold word low high → AreTold word word low high
 whole word low high none (inl told) = told
 whole word low high none (inr told) = absurd (none told.front told.back (told.whole ∙ append_assoc told.front (codes "..") told.back))
@@ -85,7 +85,7 @@ told_once word a b c d (inl one) (inr other) =
     let same = told_once_spread word c d a b other (inl one) in (sym same.0, sym same.1)
 told_once word a b c d (inr one) other = told_once_spread word a b c d one other
 
--- where the parts of a word tell no span, it tells none
+-- If the parts of a word do not give a valid range, the word is not a valid range.
 pub no_span_parted : (limit : ℕ) (word : List ℕ) (r : Option (ℕ × ℕ)) (lo hi : List ℕ) → word ≡ lo ++ (codes ".." ++ hi) → IfNone r ((a b : ℕ) → AreTold lo hi a b → a ≤ b → b < limit → ⊥) → IfNone r (IsNoSpan limit word)
 no_span_parted limit word None lo hi is none = λ a b told ordered inside. none a b (parted word lo hi a b is told) ordered inside
 no_span_parted limit word (Some r) lo hi is none = tt
@@ -98,12 +98,12 @@ pub any_none : {X : Type 0} (r : Option X) (P : Type 0) → P → IfNone r P
 any_none None P h = h
 any_none (Some x) P h = tt
 
--- a word that says no number below the limit
+-- A word that is not a number less than the limit is rejected.
 pub none_below : (limit : ℕ) (word : List ℕ) (r : Option ℕ) → IfNone r ((n : ℕ) → decimal_of word ≡ Some n → limit ≤ n) → IfNone r ((n : ℕ) → decimal_of word ≡ Some n → n < limit → ⊥)
 none_below limit word None more = λ n is less. (let le = more n is in omega arith)
 none_below limit word (Some x) more = tt
 
--- orders from 0 on
+-- What holds of the result for a range of orders from 0.
 pub record AreOrders (word : List ℕ) (r : Option ℕ) : Type 0 where
   pub told : IfSome r (λ most. IsTold word 0 most)
   pub some : IfSome r (λ most. 1 ≤ most)

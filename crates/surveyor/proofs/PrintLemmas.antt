@@ -1,4 +1,4 @@
--- A campaign that is printed.
+-- The campaign that is printed is what `IsCampaignPrinted` states.
 use Rattle.std.proofs.Common.{ℕ, ◌≡◌, List, subst, Option}
 use Rattle.std.specs.Io.KnownBytes.{Appends}
 use Rattle.surveys.specs.Family.{Family}

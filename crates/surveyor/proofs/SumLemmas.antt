@@ -1,4 +1,4 @@
--- What files tell, one behind the other.
+-- Lemmas about reading the files of `--sum`, one after the other.
 use Rattle.std.proofs.Common.{ℕ, ◌+◌, ◌≡◌, ◌≢◌, List, [], ◌∷◌, ◌++◌, get_or, length, refl, sym, ap, subst, ◌∙◌, arith, append_assoc, append-nil, length-append, Option, None, Some, ◌⊎◌, ⊎_elim, inl, inr}
 use Rattle.std.specs.Prelude.{flat_map, ◌<◌, String, string_bytes}
 use Rattle.std.specs.Global.{Global}
@@ -21,7 +21,7 @@ joined_more : (parts : List (List Finding)) (part : List Finding) → joined (pa
 joined_more [] part = append-nil part
 joined_more (p ∷ parts) part = ap (λ (l : List Finding). p ++ l) (joined_more parts part) ∙ sym (append_assoc p (joined parts) part)
 
--- a part that has no head has no lines
+-- A file without a head has no lines.
 headless : (bytes h : List ℕ) (found : List Finding) → IsPart [] bytes found → IsPart h bytes found
 headless bytes h found part = by part.rows part.led part.whole part.told
   where
@@ -30,7 +30,7 @@ headless bytes h found part = by part.rows part.led part.whole part.told
     by (None ∷ rows) led whole told = absurd (let e = ap length led.line.whole in let l = length-append led.line.front (10 ∷ []) in omega arith)
     by (Some f ∷ rows) led whole told = absurd led
 
--- the first of these texts that is not empty is that of this file
+-- The first of these texts that is not empty is that of the file `first`.
 pub record IsLedBy (m : Merge) (texts : List (List ℕ)) (first : List ℕ) : Type 0 where
   pub empty : List (List ℕ)
   pub rest : List (List ℕ)
@@ -40,7 +40,7 @@ pub record IsLedBy (m : Merge) (texts : List (List ℕ)) (first : List ℕ) : Ty
   pub some : text ≢ []
   pub named : IsNameAt m (length empty) first
 
--- so many texts are parts of one survey, whatever its head, if they have none; otherwise `first` begins it
+-- The first `count` files are parts of one survey. If they have lines, `first` is the first file that does.
 pub record AreTold (m : Merge) (head first : List ℕ) (count : ℕ) (found : List Finding) : Type 0 where
   pub texts : List (List ℕ)
   pub parts : List (List Finding)
@@ -68,7 +68,7 @@ with_head : (head h bytes : List ℕ) (told : List Finding) → (head ≢ [] →
 with_head [] h bytes told same part = headless bytes h told part
 with_head (x ∷ head) h bytes told same part = subst (λ (l : List ℕ). IsPart l bytes told) (sym (same (λ e. (let n = ap length e in omega arith)))) part
 
--- a part that is not empty has a head
+-- A file that is not empty has a head.
 some_head : (head bytes : List ℕ) (found : List Finding) → IsPart head bytes found → bytes ≢ [] → head ≢ []
 some_head head bytes found part some = by part.rows part.led part.whole
   where
@@ -77,7 +77,7 @@ some_head head bytes found part some = by part.rows part.led part.whole
     by (None ∷ rows) led whole = λ none. (let e = ap length (sym none ∙ led.line.whole) in let l = length-append led.line.front (10 ∷ []) in omega (arith, e, l))
     by (Some f ∷ rows) led whole = absurd led
 
--- an empty text, or one that is not
+-- A text is empty or not.
 is_empty : (xs : List ℕ) → (xs ≡ []) ⊎ (xs ≢ [])
 is_empty [] = inl refl
 is_empty (x ∷ xs) = inr (λ e. (let n = ap length e in omega arith))
@@ -94,7 +94,7 @@ led_more m texts first bytes h =
       named = h.named;
     }
 
--- with one file more
+-- The facts about the files that are read still hold with one more file.
 still_blank : (m : Merge) (before head first bytes : List ℕ) (count : ℕ) (old new : List Finding) (all : AreTold m before first count old) → IsReadOn before head bytes (span_of m.seeds).0 (span_of m.seeds).1 old new → head ≡ [] → All (λ t. t ≡ []) (all.texts ++ bytes ∷ [])
 still_blank m before head first bytes count old new all read none = All-append (λ t. t ≡ []) all.texts (bytes ∷ []) (⊎_elim (λ e. all.blank e) (λ some. absurd (some (sym (read.further.same some) ∙ none))) (is_empty before)) (All-cons (λ t. t ≡ []) bytes [] no_bytes (All-nil (λ t. t ≡ [])))
   where
@@ -135,7 +135,7 @@ one_told m before head first name later bytes count more old new one at fresh ke
       begun = λ some. then_begun m before head first name later bytes count old new all at fresh kept read some;
     }
 
--- a file that is no part is refused, and so is what is said of it
+-- The file that sets the family is the one that the error line names.
 first_is : (m : Merge) (before first name later : List ℕ) (count : ℕ) (found : List Finding) (all : AreTold m before first count found) → (before ≡ [] → later ≡ name) → (before ≢ [] → later ≡ first) → IsFirst m all.texts name before later
 first_is m before first name later count found all fresh kept = ⊎_elim headless_so_far headed (is_empty before)
   where
@@ -165,7 +165,7 @@ line_told m before after first name later bytes line count old new e at fresh ke
       told = told;
     }
 
--- the file at this place, and the seeds that may occur
+-- One more file is read, and its seeds are among those that may occur.
 pub told_more : (m : Merge) (k more : ℕ) (own : String Global) (before head first later bytes : List ℕ) (old new : List Finding) (span : ℕ × ℕ) → k < length m.names.items → get_or m.names.items k own ≡ own → more ≡ k + 1 → (before ≡ [] → later ≡ string_bytes own) → (before ≢ [] → later ≡ first)
     → AreTold m before first k old → span ≡ span_of m.seeds → IsReadOn before head bytes span.0 span.1 old new → AreTold m head later more new
 told_more m k more own before head first later bytes old new span less at one fresh kept all is read =
