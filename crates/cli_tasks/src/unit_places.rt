@@ -13,8 +13,8 @@ use cli_words::Notation;
 use object::entry_places;
 use std::alloc::{AllocError, Global};
 
-/// Returns for each 8-byte unit of the program in a file where it is written: on which line of assembly or, for an ELF
-/// object, on which line of which source file. Returns no entries for bytecode.
+/// Returns where each 8-byte unit of the program in a file is written: on which line of assembly or, for an ELF object,
+/// on which line of which source file. Returns no entries for bytecode.
 pub(crate) fn written_in(
     alloc: Global,
     notation: &Notation,
@@ -29,8 +29,8 @@ pub(crate) fn written_in(
     }
 }
 
-/// Returns for each 8-byte unit that a text assembles to the line on which it is written. Returns no entries if the
-/// bytes are not UTF-8.
+/// Returns the line on which each 8-byte unit of an assembled text is written. Returns no entries if the bytes are not
+/// UTF-8.
 fn in_text(alloc: Global, bytes: &[u8]) -> Result<Vec<String>, AllocError>
     ensures { IfOk result (λ places. IsUtf8 bytes.now →
         AreWritten (read_on nothing 1 (lines_of bytes.now)) (map string_bytes places.items)) }
@@ -41,7 +41,7 @@ fn in_text(alloc: Global, bytes: &[u8]) -> Result<Vec<String>, AllocError>
     }
 }
 
-/// Returns for each 8-byte unit of a function in an ELF object on which line of which source file it is written. The
+/// Returns the source file and the line on which each 8-byte unit of a function in an ELF object is written. The
 /// function is the one named `entry` or, without a name, the only global one.
 fn in_object(alloc: Global, object: &[u8], entry: Option<&str>) -> Result<Vec<String>, AllocError>
     ensures { IfOk result (λ places. AreEntryPlaces object.now (function_of object.now (asked entry.entry))
@@ -53,7 +53,7 @@ fn in_object(alloc: Global, object: &[u8], entry: Option<&str>) -> Result<Vec<St
     }
 }
 
-/// Returns for each 8-byte unit of the program in a file of assembly the statement as it is written on its line.
+/// Returns the statement for each 8-byte unit of the program in a file of assembly, as it is written on its line.
 /// Returns no entries for bytecode and ELF objects.
 pub(crate) fn statements_in(
     alloc: Global,
@@ -68,8 +68,8 @@ pub(crate) fn statements_in(
     }
 }
 
-/// Returns for each 8-byte unit that a text assembles to the statement as it is written on its line. Returns no entries
-/// if the bytes are not UTF-8.
+/// Returns the statement for each 8-byte unit of an assembled text, as it is written on its line. Returns no entries if
+/// the bytes are not UTF-8.
 fn statements_of_text(alloc: Global, bytes: &[u8]) -> Result<Vec<String>, AllocError>
     ensures { IfOk result (λ statements. IsUtf8 bytes.now →
         map string_bytes statements.items ≡ statements_of bytes.now) }
