@@ -53,9 +53,9 @@ impl CallOutput {
     }
 }
 
-/// Answers a call of `byzlab` with these words. The files on the shelf are in memory, and `output` is the call's
+/// Answers a call of `byzlab` with these words. `shelf` has the row's files in memory, and `output` is the call's
 /// standard output. If the words are several requests, their answers follow one another, with the highest exit status.
-/// A file that the call writes is put on the shelf.
+/// A file that the call writes is added to the row's files.
 pub fn answered<R: Threads + Wait + Sync + AllocGlobal>(
     rt: &R,
     words: &[&str],
@@ -82,7 +82,7 @@ pub fn answered<R: Threads + Wait + Sync + AllocGlobal>(
     Ok(all)
 }
 
-/// Answers one request of a call. A file that the request writes is put on the shelf.
+/// Answers one request of a call. A file that the request writes is added to the row's files, which are in memory.
 fn answered_one<R: Threads + Wait + Sync + AllocGlobal>(
     rt: &R,
     request: &TaskRequest,
@@ -97,8 +97,8 @@ fn answered_one<R: Threads + Wait + Sync + AllocGlobal>(
     written(alloc, &request.task, shelf, told)
 }
 
-/// Puts the files on the shelf that a task writes in addition to its answer. These are the schedule that a seed gives,
-/// or a scenario and schedules for the outcomes of an exploration.
+/// Adds the files that a task writes in addition to its answer to the row's files, which are in memory. These are the
+/// schedule that a seed gives, or a scenario and schedules for the outcomes of an exploration.
 fn keep(alloc: Global, request: &TaskRequest, shelf: &mut Shelf) -> Result<()> {
     let task = &request.task;
     if let (Some(seed), Some(name)) = (task.seed(), task.schedule_target()) {
@@ -153,7 +153,7 @@ fn refused(alloc: Global, error: TaskError) -> Result<CallOutput> {
     }
 }
 
-/// Finds the files of the task on the shelf, and does the task. The answer reports a file that does not exist.
+/// Finds the files of the task among the row's files, and does the task. The answer reports a file that does not exist.
 fn opened<R: Threads + Wait + Sync + AllocGlobal>(
     rt: &R,
     request: &TaskRequest,
@@ -184,8 +184,8 @@ fn opened<R: Threads + Wait + Sync + AllocGlobal>(
     completed(rt, request, shelf, first, second, output)
 }
 
-/// Does the task with these files. If the first file is a scenario, the files that it names are read from the shelf
-/// first, and their contents replace their names.
+/// Does the task with these files. If the first file is a scenario, the files that it names are first looked up among
+/// the row's files, and their contents replace their names.
 fn completed<R: Threads + Wait + Sync + AllocGlobal>(
     rt: &R,
     request: &TaskRequest,
@@ -290,8 +290,8 @@ fn served<R: Threads + Wait + Sync + AllocGlobal>(
     CallOutput { out, err, status }
 }
 
-/// Handles a task whose answer goes to a file: moves its standard output into that file on the shelf. Makes no file if
-/// nothing was written.
+/// Handles a task whose answer goes to a file: moves its standard output into that file, among the row's files in
+/// memory. Makes no file if nothing was written.
 fn written(alloc: Global, task: &Task, shelf: &mut Shelf, told: CallOutput) -> Result<CallOutput> {
     let name = match task.target() {
         None | Some("-") => return Ok(told),

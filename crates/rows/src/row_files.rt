@@ -1,4 +1,4 @@
-//! Makes the files that the items of a row describe, and keeps them in memory on a shelf.
+//! Makes the files that the items of a row describe, and keeps them in memory.
 use crate::item::{Item, ItemKey};
 use crate::shelf::{FileContent, Shelf};
 use anyhow::{Result, bail};
@@ -6,7 +6,7 @@ use std::alloc::Global;
 use std::fs;
 use std::rt::Files;
 
-/// Makes the files that these items describe, and keeps them in memory on a shelf.
+/// Makes the files that these items of a row describe, and keeps them in memory.
 ///
 /// # Errors
 ///
@@ -19,7 +19,7 @@ pub fn shelf<R: Files + AllocGlobal>(rt: &R, items: &[Item]) -> Result<Shelf> {
     Ok(shelf)
 }
 
-/// Puts the file that an item describes on the shelf, or changes the file that was put there last.
+/// Adds the file that an item describes to the row's files, or changes the file that was added last.
 fn shelve<R: Files + AllocGlobal>(rt: &R, shelf: &mut Shelf, item: &Item) -> Result<()> {
     let alloc = rt.alloc();
     let value = item.value.as_str();
@@ -39,8 +39,8 @@ fn shelve<R: Files + AllocGlobal>(rt: &R, shelf: &mut Shelf, item: &Item) -> Res
     }
 }
 
-/// Puts a new file on the shelf. If `value` is `NAME = OTHER`, the new file NAME is a copy of the file OTHER. Otherwise
-/// `value` is the name of the new file, and `block` its content.
+/// Adds a new file to the row's files. If `value` is `NAME = OTHER`, the new file NAME is a copy of the file OTHER.
+/// Otherwise `value` is the name of the new file, and `block` its content.
 fn put<R: Files + AllocGlobal>(rt: &R, shelf: &mut Shelf, value: &str, block: &[u8]) -> Result<()> {
     let alloc = rt.alloc();
     let (name, bytes) = match value.split_once(" = ") {
@@ -51,7 +51,8 @@ fn put<R: Files + AllocGlobal>(rt: &R, shelf: &mut Shelf, value: &str, block: &[
     Ok(())
 }
 
-/// Returns the bytes of the file with this name: from the shelf or, if it has no such file, from the folder data/.
+/// Returns the bytes of the file with this name: of the row's file or, if the row has no such file, of the file in the
+/// folder data/.
 pub fn copied<R: Files + AllocGlobal>(rt: &R, shelf: &Shelf, name: &str) -> Result<Vec<u8>> {
     match shelf.bytes(name) {
         Some(bytes) => Ok(bytes.to_vec(rt.alloc())?),

@@ -5,7 +5,7 @@ use cli_tasks::Folder;
 use std::alloc::{AllocError, Global};
 use std::io::{self, ErrorKind, Read, Write};
 
-/// The content of a file on the shelf.
+/// The content of a row's file, which is kept in memory.
 #[derive(Drop)]
 pub enum FileContent {
     /// A file with these bytes.
@@ -14,7 +14,7 @@ pub enum FileContent {
     Unreadable,
 }
 
-/// A file on the shelf, with its name.
+/// A row's file, which is kept in memory, with its name.
 #[derive(Drop)]
 struct Named {
     name: String,
@@ -35,7 +35,7 @@ impl Shelf {
         }
     }
 
-    /// Puts a file on the shelf. It hides any older file with the same name.
+    /// Adds a file to the row's files. It hides any older file with the same name.
     pub fn put(
         &mut self,
         alloc: Global,
@@ -66,8 +66,8 @@ impl Shelf {
         }
     }
 
-    /// Returns the bytes of the file that was put on the shelf last. Returns `None` if the shelf is empty, or if this
-    /// file cannot be read.
+    /// Returns the bytes of the row's file that was added last. Returns `None` if the row has no files, or if this file
+    /// cannot be read.
     pub fn last(&mut self) -> Option<&mut Vec<u8>> {
         match self.files.last_mut() {
             Some(
@@ -80,7 +80,7 @@ impl Shelf {
         }
     }
 
-    /// Removes the file that was put on the shelf last.
+    /// Removes the row's file that was added last.
     pub fn drop_last(&mut self) {
         let _ = self.files.pop();
     }
@@ -98,7 +98,7 @@ impl Folder for Shelf {
     }
 }
 
-/// A file on the shelf that is open for reading.
+/// A row's file that is open for reading.
 #[derive(Clone, Copy, Drop)]
 pub enum FileInput<'a> {
     /// A reader of these bytes.
