@@ -13,7 +13,8 @@ use insn::{Size, bytes_of_part};
 use semantics::Region;
 use word::Narrow;
 
-/// Checks whether each cell of a window of the stack is known to contain a byte of a number.
+/// Checks whether each cell of a window of the stack is known to contain a byte of a number. The window has the cells
+/// that an access may touch.
 fn has_all(stack: &AbsStack, window: Window) -> bool
     requires { window.place + window.size ≤ 512 }
     ensures { result ≡ all_bytes stack.now.bytes window.place window.size }
