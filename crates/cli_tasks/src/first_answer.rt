@@ -21,8 +21,8 @@ pub enum FirstAnswer {
     /// An oral campaign to run with a thread for each general, and the lieutenants whose decisions are explained, if
     /// any.
     Muster(Scenario, Option<Lieutenants>),
-    /// A campaign of which the second file should be a chronicle, and the lieutenants whose decisions are explained, if
-    /// any.
+    /// A campaign to audit: the second file should be its chronicle. Also the lieutenants whose decisions are
+    /// explained, if any.
     Audit(Campaign, Option<Lieutenants>),
     /// A campaign to play by the schedule in the second file and to draw as a diagram.
     Draw(Campaign),

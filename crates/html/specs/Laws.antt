@@ -56,11 +56,11 @@ abbrev pub IsToldOrTooLong : ℕ → Section → List (List ℕ) → List ℕ �
 IsToldOrTooLong room s ahead own behind =
     (own ≡ s.told) ⊎ ((own ≡ s.instead) × (room < bytes_of ahead + length s.told + bytes_of behind))
 
--- States how sections share the room of a page, which is a number of bytes. If their own rooms fit into it, the
--- sections take at most the page's room and the bytes of their headings. A section that fits into its own room is
--- written in full. All sections are if the page has room for all. A section is replaced only if its text is longer than
--- what the others leave. Either its text or its replacement is in the result, which is well-formed content if each
--- section is.
+-- States how sections share the room of a page, which is a number of bytes. Each replacement must fit into its
+-- section's own room. If these rooms together fit into the page's room, the sections take at most the page's room and
+-- the bytes of their headings. A section that fits into its own room is written in full. All sections are if the page
+-- has room for all. A section is replaced only if its text is longer than what the others leave. Either its text or its
+-- replacement is in the result, which is well-formed content if each section is.
 pub record SectionsAreFitted : Type 0 where
   pub short :
       (room : ℕ) (ss : List Section) → rooms ss ≤ room → All IsRoomy ss

@@ -24,7 +24,7 @@ pub fn pages_are_elements()
 {}
 
 /// States which sections a page shows in full when it has room for only a number of bytes. Each section has a room of
-/// its own, in bytes, and a shorter replacement for its text.
+/// its own, in bytes, and a replacement for its text, which must fit into this room.
 ///
 /// - If the rooms of all sections fit into the page's room, all sections together take at most the page's room and the
 ///   bytes of their headings.

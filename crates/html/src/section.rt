@@ -1,10 +1,11 @@
-//! A section of an HTML page, which has a shorter replacement if the page has no room for it.
+//! A section of an HTML page, with a replacement for its text if the page has no room for it.
 ghost use Rattle.std.specs.Prelude.{◌≡◌, length};
 ghost use Rattle.html.specs.Sections.{more, sure};
 
 use std::marker::Model;
 
-/// A section of an HTML page: a heading, the HTML below it, and a shorter replacement if the page has no room for it.
+/// A section of an HTML page: a heading, the HTML below it, and a replacement for this HTML if the page has no room for
+/// it.
 #[derive(Drop)]
 pub struct Section {
     /// The heading of the section.

@@ -8,7 +8,7 @@ use crate::section::Section;
 use std::alloc::AllocError;
 
 /// Appends sections that together should take at most `room` bytes, not counting their headings. A section for which
-/// there is no room is replaced by its shorter text.
+/// there is no room is written as its replacement.
 ///
 /// # Errors
 ///
