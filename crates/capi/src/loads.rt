@@ -36,17 +36,18 @@ pub extern "C" fn byzlab_load(
     ensures allowed { result ≡ 0 → IsAllowed program.now helpers }
     ensures kept { result ≡ 0 → IsLoaded program.now loaded.new.place.program }
 
-    // At status 6, the program is accepted, and the fault has the first helper that is not allowed and its unit.
+    // At status 6 the program is accepted, and `fault` has the number of the first helper that is not allowed, and the
+    // unit of its call.
     ensures forbidden { result ≡ 6 → IsForbidden program.now helpers fault.new.number fault.new.unit }
 
-    // At status 1 or 2, the fault has its number and its unit.
+    // At status 1 or 2, `fault` has the number of the fault and its unit.
     ensures misspelt { result ≡ 1 → IsMisspelt program.now fault.new.number fault.new.unit }
     ensures refused { result ≡ 2 → IsRefused program.now fault.new.number fault.new.unit }
 
-    // The status is 3 only if the bytes encode a program.
+    // The status is 3 only if the bytes are the bytecode of a program.
     ensures spelt { result ≡ 3 → IsProgram program.now }
 
-    // Nothing else is written.
+    // `fault` changes only at status 1, 2 and 6, and `loaded` only at status 0.
     ensures untold { (result ≡ 1) ⊎ (result ≡ 2) ⊎ (result ≡ 6) ⊎ (fault.new ≡ fault.old) }
     ensures unwritten { (result ≡ 0) ⊎ (loaded.new ≡ loaded.old) }
 {
@@ -92,12 +93,12 @@ pub extern "C" fn byzlab_run_loaded(
     ensures none { result ≡ 5 → loaded.old.place.program ≡ None }
     ensures lacking { length context.now ≤ 4096 → loaded.old.place.program ≡ None → result ≡ 5 }
 
-    // At status 0 the program that was loaded has run as by `byzlab_run`. It stays loaded at each status.
+    // At status 0 the loaded program has run as `byzlab_run` would run it. It stays loaded at every status.
     ensures ran { result ≡ 0 → (bytes : List ℕ) → IsLoaded bytes loaded.old.place.program →
         IsRun bytes (padded context.now) board.old outcome.new.r0 outcome.new.steps board.new }
     ensures kept { loaded.new.place.program ≡ loaded.old.place.program }
 
-    // Nothing else is written.
+    // At any other status than 0, the board and the outcome are unchanged.
     ensures unwritten { (result ≡ 0) ⊎ (board.new ≡ board.old) × (outcome.new ≡ outcome.old) }
 {
     if context.len() > Context::BYTES {

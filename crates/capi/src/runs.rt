@@ -36,14 +36,14 @@ pub extern "C" fn byzlab_run(
     ensures only { IsAccepted program.now → length context.now ≡ 4096 → (result ≡ 0) ⊎ (result ≡ 3) }
     ensures ran { result ≡ 0 → IsRun program.now context.now board.old outcome.new.r0 outcome.new.steps board.new }
 
-    // At status 1 or 2, the fault has its number and its unit.
+    // At status 1 or 2, `fault` has the number of the fault and its unit.
     ensures misspelt { result ≡ 1 → IsMisspelt program.now fault.new.number fault.new.unit }
     ensures refused { result ≡ 2 → IsRefused program.now fault.new.number fault.new.unit }
 
-    // The status is 3 only if the bytes encode a program.
+    // The status is 3 only if the bytes are the bytecode of a program.
     ensures spelt { result ≡ 3 → IsProgram program.now }
 
-    // Nothing else is written.
+    // `fault` changes only at status 1 and 2, and the board and the outcome only at status 0.
     ensures untold { (result ≡ 1) ⊎ (result ≡ 2) ⊎ (fault.new ≡ fault.old) }
     ensures unwritten { (result ≡ 0) ⊎ (board.new ≡ board.old) × (outcome.new ≡ outcome.old) }
 {
@@ -87,14 +87,15 @@ pub extern "C" fn byzlab_run_many(
         (result ≡ 0) ⊎ (result ≡ 3) }
     ensures ran { result ≡ 0 → AreRuns program.now contexts.now outcomes.new }
 
-    // At status 1 or 2, the fault has its number and its unit.
+    // At status 1 or 2, `fault` has the number of the fault and its unit.
     ensures misspelt { result ≡ 1 → IsMisspelt program.now fault.new.number fault.new.unit }
     ensures refused { result ≡ 2 → IsRefused program.now fault.new.number fault.new.unit }
 
-    // The status is 3 only if the bytes encode a program.
+    // The status is 3 only if the bytes are the bytecode of a program.
     ensures spelt { result ≡ 3 → IsProgram program.now }
 
-    // Nothing else is written, except at status 3 the outcomes of runs that finished before memory ran out.
+    // `fault` changes only at status 1 and 2, and the outcomes only at status 0 and 3. At status 3, each outcome is
+    // that of its run or unchanged.
     ensures untold { (result ≡ 1) ⊎ (result ≡ 2) ⊎ (fault.new ≡ fault.old) }
     ensures unwritten { (result ≡ 0) ⊎ (result ≡ 3) ⊎ (outcomes.new ≡ outcomes.old) }
     ensures begun { result ≡ 3 → AreBegun program.now contexts.now outcomes.old outcomes.new }

@@ -30,14 +30,14 @@ pub extern "C" fn byzlab_explain(
     // At status 0 or 2, the explanation of the program is written.
     ensures text { (result ≡ 0) ⊎ (result ≡ 2) → GivesExplanation program.now text.old text.new needed.new }
 
-    // At status 1 or 2, the fault has its number and its unit.
+    // At status 1 or 2, `fault` has the number of the fault and its unit.
     ensures misspelt { result ≡ 1 → IsMisspelt program.now fault.new.number fault.new.unit }
     ensures refused { result ≡ 2 → IsRefused program.now fault.new.number fault.new.unit }
 
-    // The status is 3 only if the bytes encode a program.
+    // The status is 3 only if the bytes are the bytecode of a program.
     ensures spelt { result ≡ 3 → IsProgram program.now }
 
-    // Nothing else is written.
+    // `fault` changes only at status 1 and 2, and `text` and `needed` only at status 0 and 2.
     ensures untold { (result ≡ 0) ⊎ (result ≡ 3) → fault.new ≡ fault.old }
     ensures unwritten { (result ≡ 1) ⊎ (result ≡ 3) → (text.new ≡ text.old) × (needed.new ≡ needed.old) }
 {
@@ -66,18 +66,18 @@ pub extern "C" fn byzlab_disassemble(
     ensures known { result ≤ 3 }
     ensures unrefused { result ≢ 2 }
 
-    // The status is 0 only if the assembly text of the program is written. If the bytes encode a program, the status
-    // is 0 or 3.
+    // The status is 0 only if the assembly text of the program is written. If the bytes are the bytecode of a program,
+    // the status is 0 or 3.
     ensures text { result ≡ 0 → GivesAssembly program.now text.old text.new needed.new }
     ensures only { IsProgram program.now → (result ≡ 0) ⊎ (result ≡ 3) }
 
-    // At status 1, the fault has its number and its unit.
+    // At status 1, `fault` has the number of the fault and its unit.
     ensures misspelt { result ≡ 1 → IsMisspelt program.now fault.new.number fault.new.unit }
 
-    // The status is 3 only if the bytes encode a program.
+    // The status is 3 only if the bytes are the bytecode of a program.
     ensures spelt { result ≡ 3 → IsProgram program.now }
 
-    // Nothing else is written.
+    // `fault` changes only at status 1, and `text` and `needed` only at status 0.
     ensures untold { (result ≡ 0) ⊎ (result ≡ 3) → fault.new ≡ fault.old }
     ensures unwritten { (result ≡ 1) ⊎ (result ≡ 3) → (text.new ≡ text.old) × (needed.new ≡ needed.old) }
 {

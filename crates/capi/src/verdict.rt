@@ -19,14 +19,14 @@ pub extern "C" fn byzlab_verify(alloc: Global, program: &[u8], fault: &mut Numbe
     ensures only { IsAccepted program.now → (result ≡ 0) ⊎ (result ≡ 3) }
     ensures sound { result ≡ 0 → IsSoundProgram program.now }
 
-    // At status 1 or 2, the fault has its number and its unit.
+    // At status 1 or 2, `fault` has the number of the fault and its unit.
     ensures misspelt { result ≡ 1 → IsMisspelt program.now fault.new.number fault.new.unit }
     ensures refused { result ≡ 2 → IsRefused program.now fault.new.number fault.new.unit }
 
-    // The status is 3 only if the bytes encode a program.
+    // The status is 3 only if the bytes are the bytecode of a program.
     ensures spelt { result ≡ 3 → IsProgram program.now }
 
-    // At status 0 or 3, the fault is unchanged.
+    // At status 0 and 3, `fault` is unchanged.
     ensures untold { (result ≡ 0) ⊎ (result ≡ 3) → fault.new ≡ fault.old }
 {
     match accepted(alloc, program) {
