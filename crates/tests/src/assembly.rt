@@ -17,7 +17,7 @@ const REFUSALS: &[(&str, &str)] = &[
     ("; nothing\n\n", "A7 line 2"),
     ("ja +40000\nfoo", "A2 line 2"),
     ("ja +40000\nexit", "A6 line 1"),
-    // A line's punctuation is checked before its operands.
+    // The overall form of a line is checked before its operands.
     ("mov r0 0", "A1 line 1"),
     ("mov r0,,0", "A1 line 1"),
     ("mov! r0", "A1 line 1"),
