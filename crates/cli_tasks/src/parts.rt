@@ -51,8 +51,8 @@ pub fn assembled_partly_raw(alloc: Global, text: &str) -> Result<Vec<u8>, InputR
 ///
 /// # Errors
 ///
-/// Fails if the number of bytes of the code is not a multiple of 8, if an ELF object has no code for the entry
-/// function, if a text does not assemble or is not UTF-8, or if memory runs out.
+/// Fails if the code is not whole units of 8 bytes, if an ELF object has no code for the entry function, if a text does
+/// not assemble or is not UTF-8, or if memory runs out.
 pub fn disassembled_partly(
     alloc: Global,
     notation: &Notation,
