@@ -125,8 +125,8 @@ fn program_of(
     made(program(alloc, general, written))
 }
 
-/// Returns an empty line and the explanation of a program, or an empty text if its source has a fault. `line` is the line
-/// with the program's key.
+/// Returns an empty line and the explanation of a program, or an empty text if its source has a fault. `line` is the
+/// line with the program's key.
 #[tactic(auto, using(crate::proofs::MadeLemmas::unmade_is_silent))]
 pub(crate) fn explained_of(
     alloc: Global,
@@ -151,8 +151,8 @@ pub(crate) fn explained_of(
     format!(in alloc; "\n{told}")
 }
 
-/// Returns an empty line and the explanation of this general's program in a scenario, which `table` is. Returns an empty
-/// text if he has no program there.
+/// Returns an empty line and the explanation of this general's program in a scenario, which `table` is. Returns an
+/// empty text if he has no program there.
 fn explained_in(
     alloc: Global,
     general: u8,
