@@ -21,7 +21,7 @@ pub struct Endings {
 }
 
 impl Endings {
-    /// Returns the value for a call that has served no request yet.
+    /// Returns the endings of a call that has served no request yet.
     pub fn none() -> Endings
         ensures count { result.count ≡ 0 }
         ensures worst { result.worst ≡ 0 }

@@ -16,7 +16,7 @@ use std::io::{self, ErrorKind, Write};
 /// same time, or if a call was killed.
 const NAMES: u32 = 1000;
 
-/// A file that is being written.
+/// A file that is being written, whole or not at all.
 #[derive(Drop)]
 pub struct NewFile<'a> {
     rt: &'a HostRuntime,

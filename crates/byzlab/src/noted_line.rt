@@ -14,7 +14,7 @@ pub struct Noted<D: Display + Drop, F> {
     fault: PhantomData<F>,
 }
 
-/// Writes this line to `fault`. A failed write is ignored.
+/// Reports this line on the stream `fault`. If the write fails, ignores this.
 pub fn noted_on<D: Display + Drop, F: Output>(line: D, fault: &mut F) -> Noted<D, F>
     ensures line { result.line ≡ line }
     ensures told { IfSome (D.output line)

@@ -17,7 +17,7 @@ pub struct Stopped {
 }
 
 impl Stopped {
-    /// Returns the exit status.
+    /// Returns the exit status: 1, 2 or 3.
     pub fn status(&self) -> u8
         ensures { result ≡ self.now.status }
     {

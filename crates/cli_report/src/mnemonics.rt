@@ -7,27 +7,27 @@ use std::alloc::{AllocError, Global};
 /// The operands that a mnemonic takes.
 #[derive(Clone, Copy)]
 pub(crate) enum Takes {
-    /// A register, then a register or a number.
+    /// As for `add`: a register, and then a register or a number.
     Arithmetic,
-    /// One register.
+    /// As for `neg`: one register.
     Register,
-    /// Two registers.
+    /// As for `movsx8`: two registers.
     Registers,
-    /// The target of a jump.
+    /// As for `ja`: the target of a jump.
     Target,
-    /// A register, then a register or a number, then the target of a jump.
+    /// As for `jeq`: a register, then a register or a number, and then the target of a jump.
     Branch,
-    /// A register, then a place in memory.
+    /// As for `ldw`: a register, and then a place in memory, such as `[r1+8]`.
     Load,
-    /// A place in memory, then a register.
+    /// As for `stxw`: a place in memory, such as `[r10-8]`, and then a register.
     StoreRegister,
-    /// A place in memory, then a number.
+    /// As for `stw`: a place in memory, such as `[r10-8]`, and then a number.
     StoreNumber,
-    /// A register, then a number of 64 bits.
+    /// As for `lddw`: a register, and then a number of 64 bits.
     Wide,
-    /// The name or the number of a helper.
+    /// As for `call`: the name or the number of a helper.
     Call,
-    /// No operand.
+    /// As for `exit`: no operand.
     Nothing,
 }
 

@@ -14,9 +14,9 @@ use streams::FileName;
 /// Which campaigns a task accepts. A muster, for example, accepts only oral ones.
 #[derive(Clone, Copy)]
 pub enum Taken {
-    /// Only oral campaigns.
+    /// The task accepts only oral campaigns.
     Oral,
-    /// Oral and signed campaigns.
+    /// The task accepts oral and signed campaigns.
     Any,
 }
 

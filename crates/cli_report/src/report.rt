@@ -24,7 +24,7 @@ pub(crate) struct Mark<'a> {
 /// A help message: how a fault could be corrected.
 #[derive(Clone, Copy)]
 pub(crate) enum Help<'a> {
-    /// A sentence, which is printed as it is.
+    /// A help message that is printed as it is.
     Said(&'a str),
     /// A kind of name, such as `mnemonic`, and a name of that kind that is similar to the one in the file.
     Near(&'a str, &'a str),

@@ -63,7 +63,7 @@ fn judging(name: &str) -> Option<Subcommand<'static>>
     }
 }
 
-/// Returns the words themselves as the only request.
+/// Returns one request, which has all of these words.
 fn alone<'a>(alloc: Global, words: &[&'a str]) -> Result<Vec<Vec<&'a str>>, AllocError>
     ensures { IfOk result (λ requests. map (λ request. words_of request.items) requests.items
         ≡ words_of words.now ∷ []) }

@@ -198,9 +198,9 @@ pub enum Turns {
 /// The accesses of a campaign: the generals who use the board, in the order of their accesses.
 #[derive(Drop)]
 pub enum Accesses {
-    /// The accesses in the chronicle in this file.
+    /// The accesses that the chronicle in this file lists.
     OfChronicle(String),
-    /// The accesses that this text lists.
+    /// The accesses that this text lists, such as `5 4 / 4 5`: the generals of round 1, and then of round 2.
     Listed(String),
 }
 
@@ -218,7 +218,7 @@ pub enum Account {
 pub enum Lieutenants {
     /// All lieutenants.
     All,
-    /// Only this lieutenant.
+    /// Only the lieutenant with this number.
     One(u8),
 }
 

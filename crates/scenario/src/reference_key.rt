@@ -53,7 +53,7 @@ impl ReferenceKey {
         None
     }
 
-    /// Returns whether both kinds are the same.
+    /// Returns whether this kind of file is the same as `other`.
     pub(crate) fn is_same(self, other: ReferenceKey) -> bool
         ensures { result ≡ is_same self other }
     {

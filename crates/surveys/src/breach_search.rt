@@ -57,7 +57,7 @@ fn gathered<R: Threads + Sync>(
         .collect(rt, alloc)
 }
 
-/// The least number of campaigns for which a thread is worth its cost.
+/// The least number of campaigns for which a thread is worth its cost, if each is played and may be reduced.
 const LEAST_PIECE: usize = 8;
 
 /// Returns the values of all answers in their order, or the first error among the answers.

@@ -16,8 +16,9 @@ pub enum Lie {
     Honest(u8),
     /// Sends this receiver this order for each label.
     Sway(u8, LieValue),
-    /// Signs the order for these receivers, with bit `g` for general `g`.
+    /// Signs this order and sends it to these receivers. Bit `g` of the set is for general `g`.
     Sign(LieValue, u16),
-    /// Passes the held chain at this index on to these receivers, with bit `g` for general `g`.
+    /// Signs the chain that the traitor holds at this index and sends it to these receivers. Bit `g` of the set is for
+    /// general `g`.
     Pass(LieValue, u16),
 }

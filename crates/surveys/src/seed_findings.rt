@@ -13,7 +13,8 @@ use scenario::ScenarioError;
 use std::alloc::{AllocError, Global};
 use std::thread::Threads;
 
-/// The least number of campaigns for which a thread is worth its cost. One campaign takes 8 us to some milliseconds.
+/// The least number of campaigns for which a thread is worth its cost. To play one campaign takes 8 microseconds to
+/// some milliseconds.
 const LEAST_PIECE: usize = 32;
 
 /// Plays the campaigns of the seeds from `first` to `end` - 1 in parallel. The inner result has the campaigns' results
