@@ -105,8 +105,8 @@ fn done_each<T: Threads + Wait + Sync>(
     in_turn(rt, threads, requests.as_slice())
 }
 
-/// Serves these requests, each of which is given by its words, in order. It stops after a request whose output fails,
-/// and at words that ask for no task.
+/// Serves the requests that these lists of words make, in order. It stops after a request whose output fails, and at
+/// words that ask for no task.
 ///
 /// # Errors
 ///

@@ -104,8 +104,8 @@ fn past_ascii(code: &[u8]) -> &[u8]
     &[]
 }
 
-/// Returns the part of the code to mark if the line does not have the form of assembly: the first non-ASCII byte, or
-/// all of the code if it is ASCII. The result is the code from this part on, and the size of the part in bytes.
+/// Returns the part of the code to mark if the line does not have the form of assembly. It is the first non-ASCII byte,
+/// or all of the code if it is ASCII. The result is the code from this part on, and the size of the part in bytes.
 fn outline_part(code: &[u8]) -> (&[u8], usize)
     ensures { part_view result ≡ outline_part code.now (past_ascii code.now) }
 {
@@ -404,8 +404,8 @@ fn help(
     }
 }
 
-/// A line of assembly and its place in a file: the number and the bytes of the file's line, the bytes of that line
-/// before the assembly (in a scenario, `asm = "`, for example), and the line of assembly.
+/// A line of assembly, `code`, and its place in a file. `number` and `shown` are the number and the bytes of the file's
+/// line. `front` contains the bytes of that line before the assembly, such as `asm = "` in a scenario.
 #[derive(Clone, Copy)]
 pub(crate) struct Spot<'a> {
     pub number: u64,

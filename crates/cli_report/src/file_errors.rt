@@ -444,8 +444,8 @@ fn in_file() -> Found<'static>
     }
 }
 
-/// Returns the line from which a program's lines are counted, if its assembly is not in the scenario: a made-up line 0
-/// for an assembly file, or the line with the key of its bytecode.
+/// Returns the line from which the lines of a program are counted, if its assembly is not in the scenario. It is a
+/// made-up line 0 for an assembly file, and otherwise the line with the key of the bytecode.
 fn file_source(table: Option<usize>, own: &[u8]) -> Option<Found<'_>>
     ensures { option_map found_view result ≡ file_source table own.now }
 {

@@ -51,9 +51,9 @@ fn lieutenant_told(
     report(alloc, name, sentence.as_str(), mark, None)
 }
 
-/// Returns the report that a general named on the command line does not belong to a file: he is not a general of this
-/// message table, or not a lieutenant of this scenario. The campaign has `generals` generals, and `name` is the file's
-/// name.
+/// Returns the report that a general named on the command line does not belong to a file. For a message table, it is
+/// that he is not in the table, and for a scenario, that he is not a lieutenant. There are `generals` generals, and
+/// `name` is the file's name.
 #[tactic(auto, unfolding(crate::specs::Lieutenants::stranger_told))]
 pub fn of_stranger(
     alloc: Global,

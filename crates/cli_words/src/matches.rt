@@ -112,7 +112,7 @@ impl<'m, 'a> ParsedWords<'m, 'a> {
         }
     }
 
-    /// Returns the task that the words of the subcommand `check` name.
+    /// Builds the task of the subcommand `check` from its words.
     fn check(self, alloc: Global) -> Result<Task, TaskError>
         requires name { self.name.now ≡ codes "check" }
         requires file { has (codes "FILE") (told_by self) ≡ true }
@@ -128,7 +128,7 @@ impl<'m, 'a> ParsedWords<'m, 'a> {
         })
     }
 
-    /// Returns the task that the words of the subcommand `asm` name.
+    /// Builds the task of the subcommand `asm` from its words.
     fn assemble(self, alloc: Global) -> Result<Task, TaskError>
         requires name { self.name.now ≡ codes "asm" }
         requires file { has (codes "FILE") (told_by self) ≡ true }
@@ -146,7 +146,7 @@ impl<'m, 'a> ParsedWords<'m, 'a> {
         })
     }
 
-    /// Returns the task that the words of the subcommand `asm` with the switch `--partial` name.
+    /// Builds the task of the subcommand `asm` with the switch `--partial` from its words.
     fn assemble_partly(self, alloc: Global) -> Result<Task, TaskError>
         requires name { self.name.now ≡ codes "asm" }
         requires file { has (codes "FILE") (told_by self) ≡ true }
@@ -162,7 +162,7 @@ impl<'m, 'a> ParsedWords<'m, 'a> {
         })
     }
 
-    /// Returns the task that the words of the subcommand `dis` name.
+    /// Builds the task of the subcommand `dis` from its words.
     fn disassemble(self, alloc: Global) -> Result<Task, TaskError>
         requires name { self.name.now ≡ codes "dis" }
         requires file { has (codes "FILE") (told_by self) ≡ true }
@@ -180,8 +180,8 @@ impl<'m, 'a> ParsedWords<'m, 'a> {
         })
     }
 
-    /// Returns the task that the words of the subcommand `dis` with the switch `--partial` name. Fails if they have
-    /// `--units`, too.
+    /// Builds the task of the subcommand `dis` with the switch `--partial` from its words. Fails if they also have
+    /// `--units`.
     fn disassemble_partly(self, alloc: Global) -> Result<Task, TaskError>
         requires name { self.name.now ≡ codes "dis" }
         requires file { has (codes "FILE") (told_by self) ≡ true }
@@ -200,7 +200,7 @@ impl<'m, 'a> ParsedWords<'m, 'a> {
         })
     }
 
-    /// Returns the task that the words of the subcommand `book` name. It explains the decisions if they have
+    /// Builds the task of the subcommand `book` from its words. The task explains the decisions if they have
     /// `--explain` or `--traitors`.
     fn book(self, alloc: Global) -> Result<Task, TaskError>
         requires name { self.name.now ≡ codes "book" }
@@ -228,7 +228,7 @@ impl<'m, 'a> ParsedWords<'m, 'a> {
         }
     }
 
-    /// Returns the task that the words of the subcommand `table` name.
+    /// Builds the task of the subcommand `table` from its words.
     fn form(self, alloc: Global) -> Result<Task, TaskError>
         requires name { self.name.now ≡ codes "table" }
         requires generals { has (codes "GENERALS") (told_by self) ≡ true }
@@ -245,7 +245,7 @@ impl<'m, 'a> ParsedWords<'m, 'a> {
         })
     }
 
-    /// Returns the task that the words of the subcommand `refute` name.
+    /// Builds the task of the subcommand `refute` from its words.
     fn refute(self, alloc: Global) -> Result<Task, TaskError>
         requires name { self.name.now ≡ codes "refute" }
         requires generals { has (codes "GENERALS") (told_by self) ≡ true }
@@ -263,7 +263,7 @@ impl<'m, 'a> ParsedWords<'m, 'a> {
         })
     }
 
-    /// Returns the task that the words of the subcommand `play` name.
+    /// Builds the task of the subcommand `play` from its words.
     fn play(self, alloc: Global) -> Result<Task, TaskError>
         requires name { self.name.now ≡ codes "play" }
         requires scenario { has (codes "SCENARIO") (told_by self) ≡ true }
@@ -315,7 +315,7 @@ impl<'m, 'a> ParsedWords<'m, 'a> {
         }
     }
 
-    /// Returns the task that the words of the subcommand `muster` name.
+    /// Builds the task of the subcommand `muster` from its words.
     fn muster(self, alloc: Global) -> Result<Task, TaskError>
         requires name { self.name.now ≡ codes "muster" }
         requires scenario { has (codes "SCENARIO") (told_by self) ≡ true }
@@ -328,7 +328,7 @@ impl<'m, 'a> ParsedWords<'m, 'a> {
         })
     }
 
-    /// Returns the task that the words of the subcommand `audit` name.
+    /// Builds the task of the subcommand `audit` from its words.
     fn audit(self, alloc: Global) -> Result<Task, TaskError>
         requires name { self.name.now ≡ codes "audit" }
         requires scenario { has (codes "SCENARIO") (told_by self) ≡ true }
@@ -343,7 +343,7 @@ impl<'m, 'a> ParsedWords<'m, 'a> {
         })
     }
 
-    /// Returns the task that the words of the subcommand `explore` name.
+    /// Builds the task of the subcommand `explore` from its words.
     fn explore(self, alloc: Global) -> Result<Task, TaskError>
         requires name { self.name.now ≡ codes "explore" }
         requires scenario { has (codes "SCENARIO") (told_by self) ≡ true }
@@ -373,7 +373,7 @@ impl<'m, 'a> ParsedWords<'m, 'a> {
         }
     }
 
-    /// Returns the task that the words of the subcommand `tree` name.
+    /// Builds the task of the subcommand `tree` from its words.
     fn tree(self, alloc: Global) -> Result<Task, TaskError>
         requires name { self.name.now ≡ codes "tree" }
         requires file { has (codes "FILE") (told_by self) ≡ true }
@@ -464,7 +464,7 @@ impl<'m, 'a> ParsedWords<'m, 'a> {
         }
     }
 
-    /// Returns the task that the words of the subcommand `draw` name.
+    /// Builds the task of the subcommand `draw` from its words.
     fn draw(self, alloc: Global) -> Result<Task, TaskError>
         requires name { self.name.now ≡ codes "draw" }
         requires scenario { has (codes "SCENARIO") (told_by self) ≡ true }
@@ -477,7 +477,7 @@ impl<'m, 'a> ParsedWords<'m, 'a> {
         })
     }
 
-    /// Returns the task that the words of the subcommand `page` name.
+    /// Builds the task of the subcommand `page` from its words.
     fn page(self, alloc: Global) -> Result<Task, TaskError>
         requires name { self.name.now ≡ codes "page" }
         requires scenario { has (codes "SCENARIO") (told_by self) ≡ true }
@@ -508,7 +508,7 @@ impl<'m, 'a> ParsedWords<'m, 'a> {
         Ok(Course::Recorded(chronicle))
     }
 
-    /// Returns the task that the words of the subcommand `schedule` name.
+    /// Builds the task of the subcommand `schedule` from its words.
     fn retrace(self, alloc: Global) -> Result<Task, TaskError>
         requires name { self.name.now ≡ codes "schedule" }
         requires scenario { has (codes "SCENARIO") (told_by self) ≡ true }

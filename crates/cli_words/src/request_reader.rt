@@ -13,7 +13,7 @@ use clap::Error;
 use clap::error::ErrorKind;
 use std::alloc::Global;
 
-/// Returns the error of this crate for an error of `clap`, the parser of the command line.
+/// Converts an error of `clap`, the parser of the command line, to a `TaskError`.
 fn refused(error: Error) -> TaskError
     ensures { IsToldBy error result }
 {

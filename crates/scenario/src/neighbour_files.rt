@@ -9,8 +9,8 @@ use crate::reference_key::ReferenceKey;
 use std::alloc::{AllocError, Global};
 use std::marker::Model;
 
-/// A file that a scenario names, after it was read. It has the key and the name by which a table refers to it, the name
-/// of a function if the table names one in an object file, and the text that replaces the reference.
+/// A file that a scenario names, after it was read. It has the key and the name by which a table refers to it, and the
+/// text that replaces this reference. For an object file, it can also have the name of a function.
 #[derive(Drop)]
 pub struct LoadedFile {
     key: ReferenceKey,

@@ -1,8 +1,8 @@
 //! Laws of the pages of campaigns with oral messages. Each function does nothing, and its contract is the law.
 ghost use Rattle.show_page.specs.Laws.{CampaignPagesAreElements, CampaignPagesAreShort, FoldsHideNothing};
 
-/// Does nothing. Its contract says that the page of a campaign with oral messages consists of a document type line, one
-/// XML element, and a line feed, whatever the scenario's text, the table and the chronicle contain.
+/// Does nothing. Its contract says that the page of a campaign with oral messages is a document type line, one XML
+/// element, and a line feed. This does not depend on what the scenario's text, the table and the chronicle contain.
 pub fn campaign_pages_are_elements()
     ensures { CampaignPagesAreElements }
 {}

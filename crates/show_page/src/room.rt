@@ -50,7 +50,7 @@ pub(crate) const ROOM_FOR_UNITS: usize = 256;
 pub(crate) const NARROW_SHEET: u128 = 1300;
 
 /// Returns a section with this title, text and room in bytes. If the page has no room for the text, a paragraph
-/// replaces it: that it is too long, and in the words of `who` where to find it.
+/// replaces it. It says that the text is too long and, in the words of `who`, where to find it.
 ///
 /// # Errors
 ///
@@ -74,8 +74,8 @@ pub(crate) fn roomed(
     })
 }
 
-/// Appends `told`, a part of a section, if it has at most `room` bytes. Otherwise appends a paragraph in its place:
-/// that it is too long, and in the words of `who` where to find it.
+/// Appends `told`, a part of a section, if it has at most `room` bytes. Otherwise appends a paragraph in its place. It
+/// says that the part is too long and, in the words of `who`, where to find it.
 pub(crate) fn put_fitted(
     alloc: Global,
     out: &mut String,
@@ -92,7 +92,8 @@ pub(crate) fn put_fitted(
 }
 
 /// Returns a text as preformatted lines of HTML. If the text is longer than all sections together may be, returns a
-/// paragraph in its place: that it is longer than `room` bytes, and in the words of `who` where to find it.
+/// paragraph in its place. It says that the text is longer than `room` bytes and, in the words of `who`, where to find
+/// it.
 pub(crate) fn lines_told(
     alloc: Global,
     room: usize,

@@ -18,8 +18,8 @@ use scenario::ScenarioError;
 use std::alloc::{AllocError, Global};
 use std::thread::Threads;
 
-/// Plays the campaign that `seed` draws from `family`, and returns it reduced if it is broken: if the loyal lieutenants
-/// do not decide alike or do not obey a loyal commander. Returns `None` if it is not broken.
+/// Plays the campaign that `seed` draws from `family`. If it is broken, which means that its loyal lieutenants do not
+/// decide alike or do not obey a loyal commander, returns the reduced campaign. Otherwise returns `None`.
 ///
 /// # Errors
 ///
@@ -167,8 +167,9 @@ fn least_so_far(traitors: u8, breach: Option<Breach>, earlier: Option<Breaking>)
 ///
 /// # Errors
 ///
-/// Returns the fault of the first campaign, by its number of traitors and then by its seed, of which the text or a
-/// reduction's text is faulty. Fails with `Memory` if it runs out of memory.
+/// Returns a fault of a campaign's text or of a reduction's text. If several campaigns have one, it is from the
+/// campaign with the fewest traitors and, among these, with the least seed. Fails with `Memory` if it runs out of
+/// memory.
 pub fn breaking<R: Threads + Sync>(
     rt: &R,
     alloc: Global,

@@ -53,7 +53,7 @@ fn verdict_in(alloc: Global, campaign: Campaign) -> Result<Verdict, AllocError>
     }
 }
 
-/// Plays the campaign that the TOML text describes without a schedule, and returns the verdict on it.
+/// Plays, without a schedule, the campaign that the TOML text describes. Returns the verdict on it.
 ///
 /// # Errors
 ///

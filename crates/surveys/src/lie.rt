@@ -1,4 +1,4 @@
-//! The statements of which a traitor's program is made.
+//! The statements in a traitor's program.
 
 /// What a statement sends: an order, or the chain at an index.
 #[derive(Clone, Copy)]

@@ -45,8 +45,8 @@ fn take_head(head: &mut Vec<u8>, line: &[u8]) -> Result<(), PartError>
     Err(PartError::Family(1))
 }
 
-/// Checks whether a campaign can have these numbers: at most 13 generals, a bound that is at most 4 and at most the
-/// generals less 2, and at most as many traitors as generals.
+/// Checks whether a campaign can have these numbers. It has at most 13 generals, and at most as many traitors. Its
+/// bound is at most 4, and at most the number of generals less 2.
 fn is_sized(finding: &Finding) -> bool
     ensures { IsTrue result ↔ IsSized finding.now }
 {

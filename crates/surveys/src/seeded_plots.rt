@@ -259,8 +259,8 @@ fn traitor_of(
     })
 }
 
-/// Checks whether `general` becomes a traitor. `needed` traitors are still to be chosen at random from `left` generals,
-/// of which he is the first.
+/// Checks whether `general` becomes a traitor. `needed` traitors must still be chosen, at random, from the last `left`
+/// generals. He is the first of these.
 fn is_chosen(seed: u64, general: u8, left: u8, needed: u8) -> bool
     requires { 0 < left }
     ensures { result ≡ nat_lt (draw seed (4 + general) % left) needed }

@@ -1,4 +1,5 @@
-//! Draws in SVG in which share of a survey's campaigns agreement or obedience fails, by the number of traitors.
+//! Draws, as a picture in SVG, how often agreement or obedience fails in a survey's campaigns, by the number of
+//! traitors.
 ghost use Rattle.std.specs.Prelude.{◌≡◌, ◌++◌, ◌<◌, IfOk, None, OnOk, string_bytes};
 ghost use Rattle.surveys.specs.Groups.{groups_of};
 ghost use Rattle.surveys.specs.Pictures.{bar, base, begins, cell, cells, column, columns, counts, grounds, head, kept, label, limit, name, percent, picture_text, place, rise, rows_of, share_of, side, size, stand, start, start_of};
