@@ -29,7 +29,7 @@ use std::sync::Wait;
 use std::thread::Threads;
 use streams::{Output, Source};
 
-/// A record that it was reported that the output failed.
+/// A record of the report that the output failed.
 type NotPrinted = TurnedDown<TaskFailure<'static>>;
 
 /// How a request of a call ended.
@@ -56,7 +56,8 @@ impl Ending {
         }
     }
 
-    /// Returns the ending of a request that is not done, after the reason was reported. `said` says how that went.
+    /// Returns the ending of a request that is not done, after the reason was reported. `said` says how the report
+    /// went.
     pub fn refused(said: ReportOutcome) -> Ending
         ensures status { result.status ≡ status_said said.is_lacking }
         ensures either { IsStatus result.status }

@@ -18,16 +18,16 @@ use std::alloc::AllocError;
 use std::fmt::Display;
 use std::io::{self, ErrorKind, Stderr, Stdout};
 
-/// A record that a line was reported on the standard streams, which says why a task is not done.
+/// A record of a line that was reported on the standard streams and says why a task is not done.
 pub type TurnedDown<D> = ReportedLine<D, Stdout, Stderr>;
 
-/// A record that it was reported that a file cannot be read.
+/// A record of the report that a file cannot be read.
 pub type Unread<'a> = TurnedDown<Explained<TaskFailure<'a>>>;
 
-/// A record that it was reported that a file was not written.
+/// A record of the report that a file was not written.
 pub type NotKept = TurnedDown<Explained<Unwritten>>;
 
-/// A record that it was reported why a scenario is rejected.
+/// A record of the report that a scenario is rejected.
 #[derive(Drop)]
 pub enum Rejected<'a> {
     /// The scenario cannot be read.

@@ -7,7 +7,7 @@ use crate::noted_line::Noted;
 use crate::rejection::note;
 use std::io::{ErrorKind, Stderr};
 
-/// A record that it was reported why the program or a request cannot go on. Only `lacking` makes this value.
+/// A record of the report that the program or a request cannot go on. Only `lacking` makes this value.
 #[derive(Drop)]
 pub struct Stopped {
     /// The line that was reported.

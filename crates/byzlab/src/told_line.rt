@@ -14,7 +14,7 @@ use std::io::Write;
 use std::marker::PhantomData;
 use streams::Output;
 
-/// A record that a line was reported, which says why a task is not done. `W` is the type of standard output, and `F`
+/// A record of a line that was reported and says why a task is not done. `W` is the type of standard output, and `F` is
 /// the type of standard error. Only `told_on` makes this value.
 #[derive(Drop)]
 pub struct ReportedLine<D: Display + Drop, W, F> {

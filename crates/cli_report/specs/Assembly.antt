@@ -119,7 +119,7 @@ pub record Spot : Type 0 where
 abbrev pub spot_view : Held → Spot
 spot_view s = record { number = s.number; shown = s.shown.now; front = length s.front.now; code = s.code.now }
 
--- Returns a line of assembly with its place, if it is the whole line `number` of a file.
+-- Returns the line of assembly that is all of line `number` in a file, with its place.
 abbrev pub whole : ℕ → List ℕ → Spot
 whole number line = record { number = number; shown = line; front = 0; code = line }
 

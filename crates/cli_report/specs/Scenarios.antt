@@ -209,8 +209,8 @@ unfoldable pub line_behind : List ℕ → ℕ → ℕ → Option (ℕ × List �
 line_behind text first more = if nat_lt (first + more) (2 ^ 64)
     then option_map (λ line. (first + more, line)) (line_at text (first + more)) else None
 
--- Returns a line of a program with its place, if it begins a line of the file. It ends before the quotation marks
--- `quote`, if the line has them.
+-- Returns the line of a program that begins where a line of the file begins, with its place. It ends before the
+-- quotation marks `quote`, if the line of the file has them.
 abbrev pub line_spot : List ℕ → ℕ × List ℕ → Spot
 line_spot quote line = record { number = line.0; shown = line.1; front = 0; code = before_quote quote line.1 }
 
@@ -235,8 +235,8 @@ spot_in text number line =
     else Some (short_spot line (take 1 (value_end line.line))
     (behind_feeds (number - 1) (drop 1 (value_end line.line))))
 
--- Returns the report of an assembler's fault in the program's line at this place. Without the place, the report has no
--- excerpt.
+-- Returns the report of an assembler's fault in a line of a program, which is given with its place in the file. Without
+-- it, the report has no excerpt.
 abbrev pub spot_told : List ℕ → AsmFault → Option Spot → List ℕ
 spot_told name f None = report_text name (assembly_sentence f []) None None
 spot_told name f (Some spot) = code_told name f spot

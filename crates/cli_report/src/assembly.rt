@@ -414,7 +414,7 @@ pub(crate) struct Spot<'a> {
     pub code: &'a [u8],
 }
 
-/// Returns a line of assembly with its place, if it is the whole line `number` of a file.
+/// Returns the line of assembly that is all of line `number` in a file, with its place.
 pub(crate) fn whole(number: u64, line: &[u8]) -> Spot<'_>
     ensures { spot_view result ≡ whole number line.now }
 {

@@ -154,8 +154,8 @@ fn line_behind(text: &[u8], first: u64, more: u64) -> Option<(u64, &[u8])>
     Some((number, line))
 }
 
-/// Returns a line of a program with its place, if it begins a line of the file. It ends before the quotation marks
-/// `quote`, if the line has them.
+/// Returns the line of a program that begins where a line of the file begins, with its place. It ends before the
+/// quotation marks `quote`, if the line of the file has them.
 fn line_spot<'a>(quote: &[u8], line: Option<(u64, &'a [u8])>) -> Option<Spot<'a>>
     ensures { option_map spot_view result
         ≡ option_map (line_spot quote.now) (option_map (λ l. (l.0, l.1.now)) line.entry) }
@@ -215,8 +215,8 @@ fn spot_of<'a>(text: &'a [u8], number: u64, line: Option<Found<'a>>) -> Option<S
     }
 }
 
-/// Returns the report of an assembler's fault in the program's line at this place. If `spot` is `None`, the report has
-/// no excerpt.
+/// Returns the report of an assembler's fault in a line of a program. `spot` is that line with its place in the file.
+/// If it is `None`, the report has no excerpt.
 fn spot_told(
     alloc: Global,
     name: &str,
@@ -292,7 +292,8 @@ pub(crate) fn verifier_sentence(
     format!(in alloc; "the verifier rejects this program: {reason} at its unit {unit}")
 }
 
-/// Marks the statement in the program's line at this place. Returns `None` if `spot` is `None`.
+/// Marks the statement in a line of a program. `spot` is that line with its place in the file. If it is `None`, returns
+/// `None`.
 fn spot_shown(spot: Option<Spot<'_>>) -> Option<Mark<'_>>
     ensures { option_map mark_view result ≡ option_map unit_mark (option_map spot_view spot.entry) }
 {

@@ -18,9 +18,9 @@ struct Parts<'a> {
     files: Vec<&'a str>,
 }
 
-/// Splits the words of the command line into requests. A request has the subcommand's name, the words of the flags, `--`,
-/// and the file or files. If `check`, `play` or `audit` has the switch `--verdicts`, there is one request for each file,
-/// and for `audit` one for each scenario with its chronicle.
+/// Splits the words of the command line into requests. A request has the subcommand's name, the words of the flags,
+/// `--`, and the file or files. If `check`, `play` or `audit` has the switch `--verdicts`, there is one request for
+/// each file, and for `audit` one for each scenario with its chronicle.
 ///
 /// For other words, the words themselves are the only request. This is also so if there are no files, or if `audit` has
 /// an odd number of files.

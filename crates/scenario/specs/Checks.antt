@@ -136,7 +136,7 @@ messages_by_name Both t =
     else if bytes_eq t (codes "signed") then Ok Signed
     else Err (faulty faults.Range (places.Key names.Messages))
 
--- Returns how a scenario sends orders. It is orally if the key is missing.
+-- Returns how orders are sent in a scenario: orally if the key is missing.
 unfoldable pub messages : Kinds → Option Data → Result Messages Flaw
 messages kinds None = Ok Oral
 messages kinds (Some d) = do

@@ -101,8 +101,8 @@ impl LoadedFile {
         })
     }
 
-    /// Returns the text that replaces the name of this file, if a table refers to the file by this key, name and
-    /// function, and otherwise `None`.
+    /// Returns the text that replaces the name of this file. Returns `None` if this key, name and function refer to
+    /// another file.
     fn text_if(&self, key: ReferenceKey, name: &str, function: Option<&str>) -> Option<&str>
         ensures { option_map (λ t. t.now) result
             ≡ text_named (self.now ∷ []) key name.now (option_map (λ f. f.now) function.entry) }

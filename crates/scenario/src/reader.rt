@@ -35,8 +35,8 @@ fn rule_by_name(text: &str) -> Result<Rule, ScenarioError>
     }
 }
 
-/// Returns the rule by which a scenario combines orders. If the key `rule` is missing, and `value` is `None`, it is the
-/// default rule.
+/// Returns the rule by which a scenario combines orders. `value` is the value of the key `rule`. If the key is missing,
+/// it is `None`, and the default rule is returned.
 ///
 /// # Errors
 ///
@@ -75,7 +75,8 @@ fn messages_by_name(kinds: Kinds, text: &str) -> Result<Messages, ScenarioError>
     }
 }
 
-/// Returns how a scenario sends orders. If the key `messages` is missing, and `value` is `None`, it is orally.
+/// Returns how orders are sent in a scenario. `value` is the value of the key `messages`. If the key is missing, it is
+/// `None`, and orders are sent orally.
 ///
 /// # Errors
 ///
@@ -180,8 +181,8 @@ fn head(alloc: Global, table: &Table, kinds: Kinds) -> Result<Head, ScenarioErro
     })
 }
 
-/// Returns the elements of the list of traitors. If the key `traitor` is missing, and `value` is `None`, there are
-/// none.
+/// Returns the elements of the list of traitors. `value` is the value of the key `traitor`. If the key is missing, it
+/// is `None`, and there are no elements.
 ///
 /// # Errors
 ///

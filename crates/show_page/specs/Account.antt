@@ -185,8 +185,8 @@ picture_section is_wide svg = roomed picture_heading room_for_picture picture_pr
 abbrev pub diagram_section : MessageTable → Chronicle → Section
 diagram_section t c = picture_section (is_wide c.scenario c.accesses) (svg_text t c)
 
--- Returns how a page shows the trees of the lieutenants: with two levels below the commander's, and without the labels
--- below one for which all of these received the same.
+-- Returns how a page shows the trees of the lieutenants: with two levels of labels below the commander's. The labels
+-- below a label are left out if the lieutenant received the same for all of them.
 abbrev pub view_of : Scenario → View
 view_of s = record { depth = 2; folds = true; order = Some s.order }
 

@@ -55,8 +55,8 @@ room_for_units = 256
 abbrev pub narrow_sheet : ℕ
 narrow_sheet = 1300
 
--- Writes the words that a part of a page is longer than `room` bytes. `who` contains the words that say where to find
--- it.
+-- Writes the sentence that a part of a page is longer than `room` bytes. It ends with `who`, the words that say where
+-- to find this part.
 unfoldable pub over_words : ℕ → List ℕ → List ℕ
 over_words room who =
     codes "This part is longer than its share, " ++ (decimal room ++ (codes " bytes of HTML: " ++ who))
@@ -79,7 +79,7 @@ fitted room who told = if nat_lt room (length told) then over room who else told
 abbrev pub lines_told : ℕ → List ℕ → List ℕ → List ℕ
 lines_told room who text = if nat_lt room_for_sections (length text) then over room who else lines text
 
--- Writes the words that a program has `count` units, which are too many to be explained on a page. `who` contains the
+-- Writes the sentence that a program has `count` units, too many to be explained on a page. It ends with `who`, the
 -- words that say where to find the explanation.
 unfoldable pub units_words : ℕ → List ℕ → List ℕ
 units_words count who = decimal count ++ (codes " units are more than the 256 that a page explains: " ++ who)

@@ -125,8 +125,8 @@ pub(crate) fn put_over(
     put_paragraph(out, words.as_str())
 }
 
-/// Returns the words that a part of a page is longer than `room` bytes. `who` contains the words that say where to find
-/// it.
+/// Returns the sentence that a part of a page is longer than `room` bytes. It ends with `who`, the words that say where
+/// to find this part.
 #[tactic(auto, unfolding(crate::specs::Room::over_words))]
 fn over_words(alloc: Global, room: usize, who: &str) -> Result<String, AllocError>
     ensures { IfOk result (λ words. string_bytes words ≡ over_words room who.now) }
@@ -134,7 +134,7 @@ fn over_words(alloc: Global, room: usize, who: &str) -> Result<String, AllocErro
     format!(in alloc; "This part is longer than its share, {room} bytes of HTML: {who}")
 }
 
-/// Returns the words that a program has `count` units, which are too many to be explained on a page. `who` contains the
+/// Returns the sentence that a program has `count` units, too many to be explained on a page. It ends with `who`, the
 /// words that say where to find the explanation.
 #[tactic(auto, unfolding(crate::specs::Room::units_words))]
 pub(crate) fn units_words(alloc: Global, count: usize, who: &str) -> Result<String, AllocError>

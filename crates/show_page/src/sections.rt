@@ -80,7 +80,7 @@ fn each_program(alloc: Global, scenario: &Scenario, room: usize) -> Result<Strin
     Ok(told)
 }
 
-/// Returns the words that a campaign has no traitors.
+/// Returns the words for a campaign without traitors.
 #[tactic(auto, unfolding(crate::specs::Account::no_programs))]
 fn no_programs() -> &'static str
     ensures { result.now ≡ no_programs }
@@ -257,8 +257,8 @@ fn put_lieutenant_of<H: Heard>(
     put_fold_end(out)
 }
 
-/// Returns how a page shows the trees of the lieutenants: with two levels below the commander's, and without the labels
-/// below one for which all of these received the same. It includes the commander's order.
+/// Returns how a page shows the trees of the lieutenants: with two levels of labels below the commander's, and with the
+/// commander's order. The labels below a label are left out if the lieutenant received the same for all of them.
 fn view_of(scenario: &Scenario) -> View
     ensures { result ≡ view_of scenario.now }
 {

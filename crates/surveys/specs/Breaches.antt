@@ -14,7 +14,7 @@ use Rattle.surveys.specs.declared.breach.Breach.{Breach}
 use Rattle.surveys.specs.declared.breach.Breaking.{Breaking}
 use Rattle.surveys.specs.Shrinking.{ComesWell, IsBroken, IsLeast, IsPartOf, IsRefusedOf, ShrinksTo}
 
--- Returns how many statements the programs of a campaign's traitors have together.
+-- Returns how many statements a campaign's traitors have in all.
 abbrev pub statements : Plot → ℕ
 statements p = sum_by (λ (t : Traitor). length t.lies) p.traitors
 

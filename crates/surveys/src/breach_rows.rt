@@ -118,8 +118,8 @@ fn words_text(
 }
 
 /// Returns the result of a search as a table row if `is_table` is true, and otherwise as a comment line. It has five
-/// numbers: of generals, the bound, and the traitors, statements and seed of the campaign found, or `-` for each of
-/// these three.
+/// numbers: the generals, the bound, and the traitors, the statements and the seed of the campaign found. If none was
+/// found, the last three are `-`.
 fn numbers_text(
     alloc: Global,
     is_table: bool,

@@ -5,7 +5,7 @@ ghost use Rattle.surveys.specs.Breaches.{is_before, statements};
 use crate::breach::Breach;
 use crate::plot::Plot;
 
-/// Returns how many statements the programs of a campaign's traitors have together.
+/// Returns how many statements a campaign's traitors have in all.
 pub fn statements(plot: &Plot) -> u128
     ensures { result ≡ statements plot.now }
 {
