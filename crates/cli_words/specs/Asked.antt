@@ -65,7 +65,7 @@ abbrev pub has_turns : Told → Bool
 has_turns told = reads seed_in (codes "seed") told && excludes (codes "seed") (codes "schedule") told
     && wants (codes "schedule-out") (codes "seed") told
 
--- Checks whether `holds` is true, or the subcommand is none of `names`.
+-- Checks whether `holds` is true, or the subcommand is not in `names`.
 abbrev pub if_of : List Text → Told → Bool → Bool
 if_of names told holds = not (is_of names told) || holds
 

@@ -79,7 +79,7 @@ first_items zero (item d ds) = no_items
 first_items (suc n) (item d ds) = item d (first_items n ds)
 
 -- Returns the generals who share a traitor's table, or `None` if the table has a key `general` or no list `generals`.
--- Of more than 14 generals it returns the first 14, since a scenario with more than 13 is rejected.
+-- If there are more than 14 generals, it returns the first 14, since a scenario with more than 13 is rejected.
 abbrev pub seats : Members → Option Items
 seats ms = cond (is_some (get_member (codes "general") ms)) None
     (option_map (first_items 14) (option_and_then as_array (get_member (codes "generals") ms)))

@@ -17,7 +17,8 @@ program files ms k =
     (λ name. option_map (λ t. (key, t)) (text_named files key name (function_at key ms))) (name_at key ms))
     (key_of k)
 
--- Returns whether the key is `entry` and names the function of an object file whose code replaces both keys.
+-- Returns whether the key is `entry` and names a function in an object file that was read. The code of this function
+-- replaces both keys, `elf` and `entry`.
 abbrev pub is_spent : List File → Members → List ℕ → Bool
 is_spent files ms k =
     bytes_eq k (codes "entry") && (is_some (function_at Object ms) && is_some (program files ms (codes "elf")))

@@ -22,7 +22,7 @@ pub struct Reference {
     pub index: usize,
     pub key: ReferenceKey,
     pub name: String,
-    /// The function in an object file whose code is the program, or `None` for the only global function.
+    /// The name of the function in an object file that is the program, or `None` for the only global function.
     pub function: Option<String>,
 }
 
@@ -187,8 +187,9 @@ fn asked_in(alloc: Global, values: &[Value]) -> Result<Vec<Reference>, AllocErro
     Ok(done)
 }
 
-/// Returns the files that the text of a scenario names, in the order of its tables and each of them once. Of more than
-/// 42 files it returns the first 42, since a scenario with more is rejected. If the text is not TOML, it names none.
+/// Returns the files that the text of a scenario names, in the order of its tables and each of them once. If there are
+/// more than 42 files, it returns the first 42, since a scenario with more is rejected. If the text is not TOML, it
+/// names none.
 ///
 /// # Errors
 ///

@@ -30,7 +30,8 @@ fn program<'a>(files: &'a [LoadedFile], table: &Table, key: &str) -> Option<(Ref
     Some((of, text))
 }
 
-/// Returns whether the key is `entry` and names the function of an object file whose code replaces both keys.
+/// Returns whether the key is `entry` and names a function in an object file that was read. The code of this function
+/// replaces both keys, `elf` and `entry`.
 fn is_spent(files: &[LoadedFile], table: &Table, key: &str) -> bool
     ensures { result ≡ is_spent files.now (table_view table.now) key.now }
 {

@@ -118,8 +118,8 @@ fn first(list: &[Value]) -> &[Value]
     }
 }
 
-/// Returns the generals who share a traitor's table. Of more than 14 it returns the first 14, since a scenario with
-/// more than 13 is rejected. Returns `None` if the table has a key `general`, or no list `generals`.
+/// Returns the generals who share a traitor's table. If there are more than 14, it returns the first 14, since a
+/// scenario with more than 13 is rejected. Returns `None` if the table has a key `general`, or no list `generals`.
 pub(crate) fn seats(table: &Table) -> Option<&[Value]>
     ensures { option_map (λ ds. items_view ds.now) result ≡ seats (table_view table.now) }
 {

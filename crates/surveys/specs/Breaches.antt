@@ -100,8 +100,8 @@ AreNotLess plots first end b =
     (found : Option Breach) × IsLeastBreach plots first end found × IfSome found (λ c. is_before c b ≡ false)
 
 -- States that `b` is the least of the reduced campaigns of the seeds from `first` to `end` - 1, with `n` generals, the
--- bound `m` and each number of traitors in `span`. Of equal campaigns it is the one that was found with the fewest
--- traitors.
+-- bound `m` and each number of traitors in `span`. If several campaigns are equally small, it is the one that was found
+-- with the fewest traitors.
 pub record IsBreaking (f : Family) (n m : ℕ) (span : CountRange) (first end : ℕ) (b : Breaking) : Type 0 where
   pub within : span.low ≤ b.traitors
   pub inside : b.traitors ≤ span.high

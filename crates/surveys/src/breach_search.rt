@@ -162,8 +162,8 @@ fn least_so_far(traitors: u8, breach: Option<Breach>, earlier: Option<Breaking>)
 
 /// Searches for the least broken campaign with `generals` generals, 2 to 13, and the bound `bound`, after its
 /// reduction. The search plays the campaigns of the seeds from `first` to `end` - 1 with each number of traitors in the
-/// range `traitors`. Returns `None` if none of them is broken. Of equal campaigns it returns the one that was found
-/// with the fewest traitors.
+/// range `traitors`. Returns `None` if none of them is broken. If several campaigns are equally small, it returns the
+/// one that was found with the fewest traitors.
 ///
 /// # Errors
 ///
