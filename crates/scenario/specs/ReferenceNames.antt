@@ -56,13 +56,13 @@ text_named [] key name function = None
 text_named (f ∷ fs) key name function =
     cond (is_named f key name function) (Some f.text) (text_named fs key name function)
 
--- Returns whether a traitor's table has its program by another key, so that it may not name a file of this kind.
+-- Returns whether a traitor's table gives the program by another key, so that it may not name a file of this kind.
 abbrev pub is_taken : ReferenceKey → Members → Bool
 is_taken Object ms = is_some (get_member (codes "code") ms) || is_some (get_member (codes "code_file") ms)
 is_taken key ms = is_some (get_member (place_of key) ms)
 
--- Returns the name of the file that a traitor's table gives by this key, or `None` if it gives none or has its program
--- by another key.
+-- Returns the name of the file that a traitor's table gives by this key, or `None` if it gives none, or gives the
+-- program by another key.
 abbrev pub name_at : ReferenceKey → Members → Option (List ℕ)
 name_at key ms = cond (is_taken key ms) None (option_and_then as_str (get_member (reference_of key) ms))
 

@@ -73,8 +73,8 @@ fn list_at<'a>(table: &'a Table, key: &str) -> Option<&'a [Value]>
     }
 }
 
-/// Returns whether a traitor's table has its program by another key, so that it may not name a file of this kind. Such
-/// a key is `asm` for an assembly file, `code` for a bytecode file, and `code` or `code_file` for an object file.
+/// Returns whether a traitor's table gives the program by another key, so that it may not name a file of this kind.
+/// Such a key is `asm` for an assembly file, `code` for a bytecode file, and `code` or `code_file` for an object file.
 fn is_taken(table: &Table, key: ReferenceKey) -> bool
     ensures { result ≡ is_taken key (table_view table.now) }
 {
@@ -85,7 +85,7 @@ fn is_taken(table: &Table, key: ReferenceKey) -> bool
 }
 
 /// Returns the name of the file that a traitor's table gives by this key. Returns `None` if it gives none, or if the
-/// table has its program by another key.
+/// table gives the program by another key.
 pub(crate) fn name_at<'a>(table: &'a Table, key: ReferenceKey) -> Option<&'a str>
     ensures { option_map (λ n. n.now) result ≡ name_at key (table_view table.now) }
 {

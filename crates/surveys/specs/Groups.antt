@@ -38,12 +38,12 @@ group_of n m fs t =
 unfoldable pub groups_in : ℕ → ℕ → List Finding → List Group
 groups_in n m fs = flat_map (group_of n m fs) (range_with_len 0 14)
 
--- Returns a group for each bound, 0 to 4, and number of traitors that occur together in these campaigns. All of them
--- have `n` generals.
+-- Returns a group for each combination of a bound, 0 to 4, and a number of traitors that occurs in these campaigns. All
+-- of them have `n` generals.
 unfoldable pub groups_by_bound : ℕ → List Finding → List Group
 groups_by_bound n fs = flat_map (λ m. groups_in n m (of_bound m fs)) (range_with_len 0 5)
 
--- Returns a group for each number of generals, up to 13, bound and number of traitors that occur together in these
--- campaigns.
+-- Returns a group for each combination of a number of generals, up to 13, a bound and a number of traitors that occurs
+-- in these campaigns.
 unfoldable pub groups_of : List Finding → List Group
 groups_of fs = flat_map (λ n. groups_by_bound n (of_generals n fs)) (range_with_len 0 14)

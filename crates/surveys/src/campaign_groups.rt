@@ -128,8 +128,8 @@ fn push_bound(
     push_groups(alloc, groups, some.as_slice(), generals, bound)
 }
 
-/// Appends a group for each bound, 0 to 4, and each number of traitors that occur together in `findings`. All campaigns
-/// in `findings` have `generals` generals.
+/// Appends a group for each combination of a bound, 0 to 4, and a number of traitors that occurs in `findings`. All
+/// campaigns in `findings` have `generals` generals.
 #[tactic(auto, unfolding(crate::specs::Groups::groups_by_bound))]
 fn push_bounds(
     alloc: Global,
@@ -145,8 +145,8 @@ fn push_bounds(
     Ok(())
 }
 
-/// Appends the groups of the campaigns in `findings` that have `generals` generals: one for each bound and number of
-/// traitors that occur together.
+/// Appends the groups of the campaigns in `findings` that have `generals` generals: one for each combination of bound
+/// and number of traitors that occurs.
 fn push_generals(
     alloc: Global,
     groups: &mut Vec<Group>,
@@ -160,8 +160,8 @@ fn push_generals(
     push_bounds(alloc, groups, some.as_slice(), generals)
 }
 
-/// Returns a group for each number of generals, bound and number of traitors that occur together in `findings`,
-/// ascending by these three numbers. Campaigns with more than 13 generals or traitors or with a bound above 4 are left
+/// Returns a group for each combination of number of generals, bound and number of traitors that occurs in `findings`,
+/// in ascending order of the three. Campaigns with more than 13 generals or traitors or with a bound above 4 are left
 /// out.
 ///
 /// # Errors

@@ -104,9 +104,9 @@ fn csv_header() -> &'static str
      disobeyed_first,failed,failed_low,failed_high\n"
 }
 
-/// Returns the counts of the campaigns' outcomes as CSV. It has a row for each number of generals, bound and number of
-/// traitors that occur together. A row has the numbers of `table` and Wilson's interval for the share of the failed
-/// campaigns.
+/// Returns the counts of the campaigns' outcomes as CSV. It has a row for each combination of number of generals, bound
+/// and number of traitors that occurs. A row has the numbers of `table` and Wilson's interval for the share of the
+/// failed campaigns.
 ///
 /// # Errors
 ///

@@ -303,8 +303,8 @@ fn drawn(alloc: Global, groups: &[Group]) -> Result<String, AllocError>
     Ok(out)
 }
 
-/// Returns a picture of the campaigns' results in SVG. It has a row for each number of generals and bound that occur
-/// together, and a column for each number of traitors. A bar shows the share of campaigns in which the loyal
+/// Returns a picture of the campaigns' results in SVG. It has a row for each combination of number of generals and
+/// bound that occurs, and a column for each number of traitors. A bar shows the share of campaigns in which the loyal
 /// lieutenants do not decide alike or do not obey a loyal commander.
 ///
 /// # Errors

@@ -74,8 +74,8 @@ fn header() -> &'static str
     " generals bound traitors campaigns     kept   first   broken   first disobeyed   first   failed\n"
 }
 
-/// Returns the counts of the campaigns' outcomes as a table. It has a row for each number of generals, bound and number
-/// of traitors that occur together.
+/// Returns the counts of the campaigns' outcomes as a table. It has a row for each combination of number of generals,
+/// bound and number of traitors that occurs.
 ///
 /// # Errors
 ///
