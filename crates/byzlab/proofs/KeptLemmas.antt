@@ -1,4 +1,4 @@
--- The files of an exploration that is kept, one by one, and what a refused write tells of them.
+-- The files of an exploration that is kept, written one by one, and the name that a failed write reports.
 use Rattle.std.proofs.Common.{ℕ, suc, ◌≡◌, ◌∙◌, ◌+◌, ◌<◌, ◌≤◌, ◌++◌, List, [], ◌∷◌, ap, append-nil, append_assoc, arith, drop, drop-cons, get_or, inl, inr, length, map, subst, sym}
 use Rattle.std.specs.Prelude.{Result, Ok, Err, IfErr, String, string_bytes}
 use Rattle.std.specs.Global.{Global}
@@ -10,13 +10,13 @@ use Rattle.byzlab.specs.declared.kept_files.Unkept.{Unkept}
 use Rattle.byzlab.specs.declared.kept_files.Unkept.TheVariants.{Memory, Unwritten}
 use Rattle.byzlab.specs.Kept.{IsKeptIn, Tells, kept_files, scenario_name, schedule_files, schedule_name}
 
--- these files are written, and behind them come the schedules that are left
+-- These files were written. The schedules in `rest` come next.
 abbrev pub AreKeptTo : {O : Type 0} → List ℕ → List ℕ → List (String Global) → List (String Global) → ℕ → List (Filled O) → Type 0
 AreKeptTo folder scenario schedules rest number files =
     map file_of files ++ schedule_files folder number (map string_bytes rest)
     ≡ kept_files folder scenario (map string_bytes schedules)
 
--- at first the scenario alone is written
+-- At first only the scenario was written.
 pub scenario_first : {O : Type 0} (folder scenario name : List ℕ) (schedules : List (String Global)) (old new : List (Filled O)) → old ≡ []
     → name ≡ scenario_name folder → map file_of new ≡ map file_of old ++ (name, scenario) ∷ []
     → AreKeptTo folder scenario schedules schedules 1 new
@@ -24,14 +24,14 @@ scenario_first folder scenario name schedules old new none called more =
     ap (λ (l : List (List ℕ × List ℕ)). l ++ schedule_files folder 1 (map string_bytes schedules))
     (more ∙ (λ j. map file_of (none j) ++ (called j, scenario) ∷ []))
 
--- the first of those from a place on
+-- The first of the schedules from index `i` on.
 schedules_at : (schedules : List (String Global)) (i : ℕ) (schedule : String Global) → i < length schedules
     → schedule ≡ get_or schedules i schedule → drop i schedules ≡ schedule ∷ drop (i + 1) schedules
 schedules_at schedules i schedule lt e =
     let one : suc i ≡ i + 1 = omega arith in
     drop-cons schedules i schedule lt ∙ (λ j. sym e j ∷ drop (one j) schedules)
 
--- one file more
+-- One more schedule was written.
 pub one_more : {O : Type 0} (folder scenario name text : List ℕ) (schedules : List (String Global)) (i : ℕ) (schedule : String Global)
     (files new : List (Filled O)) → i < length schedules → schedule ≡ get_or schedules i schedule
     → AreKeptTo folder scenario schedules (drop i schedules) (i + 1) files → name ≡ schedule_name folder (i + 1)
@@ -48,7 +48,7 @@ one_more folder scenario name text schedules i schedule files new lt at here cal
     ap (λ (l : List (List ℕ × List ℕ)). l ++ later) left
     ∙ (append_assoc (map file_of files) (file ∷ []) later ∙ (ap (λ (l : List (List ℕ × List ℕ)). map file_of files ++ l) right ∙ here))
 
--- and no schedule is left
+-- All schedules were written.
 pub all_kept : {O : Type 0} (folder scenario : List ℕ) (schedules : List (String Global)) (i : ℕ) (files : List (Filled O)) → length schedules ≤ i
     → AreKeptTo folder scenario schedules (drop i schedules) (i + 1) files
     → map file_of files ≡ kept_files folder scenario (map string_bytes schedules)
@@ -69,7 +69,7 @@ schedule_is_kept folder name count number (Unwritten told kind) first last e (is
     (inr (inr (number, first, last, is ∙ e)), faulty)
 schedule_is_kept folder name count number Memory first last e t = tt
 
--- an error that is handed on
+-- An error that is returned unchanged.
 pub handed_on : {T : Type 0} (P : Unkept → Type 0) (given : Result T Unkept) (unkept : Unkept)
     → IsErrAnd given (λ told. told ≡ unkept) → P unkept → IfErr given P
 handed_on P (Err told) unkept e p = subst P (sym e) p

@@ -1,4 +1,4 @@
--- A scenario that was read, with the files that it names, and what is told of one that is not taken.
+-- A scenario that was read, with the files that it names, and the report if it is rejected.
 use Rattle.std.proofs.Common.{ℕ, ◌≡◌, Bool, List, subst}
 use Rattle.std.specs.Prelude.{◌≢◌, Option, Result, Ok, Err, IfOk, IfSome, IsUtf8, Some, String, string_bytes}
 use Rattle.std.specs.Global.{Global}
@@ -19,7 +19,7 @@ is_seen no_files known beside task read own bytes (Ok (Ok input)) t s k e =
 is_seen no_files known beside task read own bytes (Ok (Err told)) t s k e = tt
 is_seen no_files known beside task read own bytes (Err lack) t s k e = tt
 
--- the scenario is refused, and that is told at its own lines
+-- The scenario is rejected, and the report is at one of its lines or at a line of a file that it names.
 pub refused_told : (no_files : Bool) (known : Option (List ℕ)) (beside : List ℕ → Option (List ℕ)) (task : Task) (read own made : List ℕ) (lines : String Global)
     → IfSome known (λ all. read ≡ all) → Sees no_files beside read made → own ≡ read → own ≢ made
     → (own ≢ made → IsUtf8 own → IsUtf8 made → IsTold task own made (Some (string_bytes lines)))

@@ -1,4 +1,4 @@
--- Words that are refused, and not for want of memory, ask for nothing, and requests end before them.
+-- Words that are rejected, and not because memory ran out, ask for no task. The requests of a call end at such words.
 use Rattle.std.proofs.Common.{ℕ, suc, ◌≡◌, ◌≤◌, ◌<◌, List, arith, inr, length, refl, subst, sym}
 use Rattle.std.specs.Prelude.{Option, None, Some, IfSome, IsSome, Vec, max, slice_index_or}
 use Rattle.std.specs.Borrow.{Bor}
@@ -17,7 +17,7 @@ asked_nothing (task.Words refusal) status P u p = p
 asked_nothing (task.Misuse misuse) status P u p = p
 asked_nothing task.Memory status P u p = absurd u
 
--- requests end before words of which this was told
+-- The requests of a call end at words about which this was reported.
 pub end_before : (requests : List (Vec (Bor Text) Global)) (words : Vec (Bor Text) Global) (place worst : ℕ) (endings : Endings) (unasked : Unasked) (error : TaskError)
     → place < length requests → slice_index_or requests place words ≡ words → endings.count ≡ place
     → endings.worst ≡ max worst unasked.status → endings.unwritten ≡ None → endings.unasked ≡ Some unasked

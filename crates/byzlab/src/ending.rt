@@ -1,5 +1,6 @@
-//! How one request ended: its exit status, and whether its output failed. Only functions of this file make an `Ending`,
-//! from a request that was served, an exploration that was kept and printed, or a line that was reported.
+//! How one request (a task on one file of a call) ended: its exit status, and whether its output failed. Only functions
+//! of this file make an `Ending`: after a request was served, an exploration was kept and printed, or a line was
+//! reported.
 ghost use Rattle.std.specs.Prelude.{◌≡◌, ◌≢◌, ◌⊎◌, ℕ, List, IfErr, IfOk, IsOk, IsSomeAnd, None, Ok, OnErr, OnOk, codes, false, is_some, true};
 ghost use Rattle.std.specs.Io.KnownBytes.{Appends};
 ghost use Rattle.cli_words.specs.Tasks.{folder_of, schedule_target_of, seed_of, target_of};
@@ -28,13 +29,13 @@ use std::sync::Wait;
 use std::thread::Threads;
 use streams::{Output, Source};
 
-/// The report that the output failed.
+/// A record of the report that the output failed.
 type NotPrinted = TurnedDown<TaskFailure<'static>>;
 
-/// How a request ended.
+/// How a request of a call ended.
 #[derive(Drop)]
 pub struct Ending {
-    /// The exit status.
+    /// The exit status: 0 if it is done, 1 for a rejection or a fault of a file, or 3 if memory ran out.
     status: u8,
     /// Whether the output failed, so that no further answer can be written.
     is_unwritten: bool,
@@ -44,7 +45,7 @@ impl Ending {
     ghost use Rattle.std.specs.Prelude.{◌≡◌, ◌≢◌, IfErr, OnErr, OnOk, false, true};
     ghost use Rattle.byzlab.specs.Failures.{IsStatus, status_said};
 
-    /// Returns an ending with this exit status, and with an output that did not fail.
+    /// Returns the ending of a request with this exit status, for which no output failed.
     fn with(status: u8) -> Ending
         ensures status { result.status ≡ status }
         ensures written { result.is_unwritten ≡ false }
@@ -55,7 +56,8 @@ impl Ending {
         }
     }
 
-    /// Returns the ending of a request after it was reported that it is not done.
+    /// Returns the ending of a request that is not done, after the reason was reported. `said` says how the report
+    /// went.
     pub fn refused(said: ReportOutcome) -> Ending
         ensures status { result.status ≡ status_said said.is_lacking }
         ensures either { IsStatus result.status }
@@ -68,7 +70,7 @@ impl Ending {
         }
     }
 
-    /// Returns the ending of a request that was given up, after the reason was reported.
+    /// Returns the ending of a request that could not go on, after the reason was reported.
     pub fn stopped(stopped: Stopped) -> Ending
         ensures status { result.status ≡ stopped.status }
         ensures written { result.is_unwritten ≡ false }
@@ -76,7 +78,7 @@ impl Ending {
         Ending::with(stopped.status())
     }
 
-    /// Returns the ending of a request whose text was printed, or for which it was reported that the output failed.
+    /// Returns the ending of a request after its text was printed or, if the output failed, after this was reported.
     fn printed(printed: Result<(), NotPrinted>) -> Ending
         ensures status { IsStatus result.status }
         ensures done { OnOk printed.entry ((result.status ≡ 0) × (result.is_unwritten ≡ false)) }
@@ -99,7 +101,7 @@ impl Ending {
         self.status
     }
 
-    /// Returns whether the output failed.
+    /// Returns whether the output of the request failed, so that no further answer can be written.
     pub fn is_unwritten(&self) -> bool
         ensures { result ≡ self.now.is_unwritten }
     {
@@ -107,8 +109,8 @@ impl Ending {
     }
 }
 
-/// A request that was served. Its schedule, if it asks for one, is not yet written. Only `Served::of` makes this value.
-/// The files and the target are kept for the proofs only: a snapshot takes no bytes at run time.
+/// A request that was served, but whose schedule, if it asks for one, is not written yet. Only `Served::of` makes this
+/// value. The proofs need the files and the target: they are snapshots, which take no bytes at run time.
 #[derive(Drop)]
 pub struct Served<'a, R, W: Write + Drop> {
     request: &'a TaskRequest,
@@ -119,8 +121,8 @@ pub struct Served<'a, R, W: Write + Drop> {
 }
 
 impl<'a, R: Source, W: Write + Drop> Served<'a, R, W> {
-    /// Serves the request on these files, as `cli_answers::serve` does: prints the answer, or reports what is wrong. In
-    /// this contract a write to the output may always fail.
+    /// Serves the request with these files, as `cli_answers::serve` does: prints the answer, or reports what is wrong.
+    /// The contract allows each write to the output to fail.
     pub fn of<T, F>(
         threads: &T,
         alloc: Global,
@@ -178,7 +180,7 @@ impl<'a, R: Source, W: Write + Drop> Served<'a, R, W> {
         }
     }
 
-    /// Returns the exit status so far.
+    /// Returns the exit status of the request before its schedule is written.
     pub fn status(&self) -> u8
         ensures { result ≡ self.now.ending.status }
     {
@@ -187,7 +189,7 @@ impl<'a, R: Source, W: Write + Drop> Served<'a, R, W> {
 }
 
 impl<'a> Served<'a, Input<'a>, Target<'a>> {
-    /// Returns how the request ended, if there is no schedule to write and no exploration to keep.
+    /// Returns how the request ended, if it writes neither a schedule nor the files of an exploration.
     pub fn alone(self) -> Ending
         requires unkept { folder_of self.request.now.task ≡ None }
         requires its_own { IsServedFor self.request.now.task self.first.value self.second.value self.target.value.stream }
@@ -199,7 +201,7 @@ impl<'a> Served<'a, Input<'a>, Target<'a>> {
         ending
     }
 
-    /// Returns how the request ended, if its exploration is not kept because the scenario is rejected.
+    /// Returns how the request ended, if it asks to keep an exploration, but its scenario is rejected.
     pub fn unexplored(self) -> Ending
         requires refused { (scenario : List ℕ) × IsTextOf scenario self.first.value × IsUnexplored scenario }
         requires its_own { IsServedFor self.request.now.task self.first.value self.second.value self.target.value.stream }
@@ -209,12 +211,12 @@ impl<'a> Served<'a, Input<'a>, Target<'a>> {
         ending
     }
 
-    /// Returns how the request ended, after the schedule of its seed was written or could not be written. In the second
-    /// case reports the file.
+    /// Returns how the request ended, after an attempt to write the schedule of its seed. If the attempt failed,
+    /// reports that the file was not written.
     ///
     /// # Errors
     ///
-    /// `AllocError` if the schedule was not written because memory ran out.
+    /// Fails with `AllocError` if the schedule was not written because memory ran out.
     pub fn with_schedule(
         self,
         rt: &HostRuntime,
@@ -241,8 +243,8 @@ impl<'a> Served<'a, Input<'a>, Target<'a>> {
     }
 }
 
-/// An exploration that was kept and printed, or that was reported not to be. Only `Printed::of` makes this value. The
-/// target is kept for the proofs only: a snapshot takes no bytes at run time.
+/// An exploration that was kept and printed, or for which it was reported that it was not. Only `Printed::of` makes
+/// this value. The proofs need the target: it is a snapshot, which takes no bytes at run time.
 #[derive(Drop)]
 pub struct Printed<'a, O> {
     request: &'a TaskRequest,
@@ -251,11 +253,12 @@ pub struct Printed<'a, O> {
 }
 
 impl<'a, O: Output> Printed<'a, O> {
-    /// Prints this text of the scenario's exploration if its files were written. Otherwise reports that they were not.
+    /// Prints `text`, which describes the exploration of the scenario, if the exploration's files were written. If not,
+    /// reports this instead.
     ///
     /// # Errors
     ///
-    /// `AllocError` if a file was not written because memory ran out.
+    /// Fails with `AllocError` if a file was not written because memory ran out.
     pub fn of(
         rt: &HostRuntime,
         request: &'a TaskRequest,
@@ -293,7 +296,7 @@ impl<'a, O: Output> Printed<'a, O> {
 }
 
 impl<'a> Printed<'a, Target<'a>> {
-    /// Returns how the request ended.
+    /// Returns how the request for this exploration ended.
     pub fn ending(self) -> Ending
         requires its_own { IsTargetOf (target_of self.request.now.task) self.target.value }
         ensures { result ≡ self.entry.ending }
@@ -303,11 +306,11 @@ impl<'a> Printed<'a, Target<'a>> {
     }
 }
 
-/// Prints this text.
+/// Prints a text to the output `out`. If the output fails, reports this.
 ///
 /// # Errors
 ///
-/// The output failed, and this was reported.
+/// Returns a record of the report if the output failed.
 fn put_text<O: Output>(
     rt: &HostRuntime,
     request: &TaskRequest,

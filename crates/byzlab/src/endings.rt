@@ -1,27 +1,27 @@
-//! How all requests of a call ended: their count, the worst exit status, and why a call stopped early.
+//! How the requests of a call ended: their number, the worst exit status, and why the call stopped early.
 ghost use Rattle.std.specs.Prelude.{◌≡◌, ◌+◌, ◌<◌, ◌^◌, None, Some, is_some, max};
 ghost use Rattle.byzlab.specs.Turns.{first_unwritten};
 
 use crate::ending::Ending;
 use crate::no_request::Unasked;
 
-/// How the requests of a call ended that were served in order. Only functions of this file make this value: with no
+/// How the requests of a call ended, which are served in order. Only functions of this file make this value: with no
 /// request, with one more ending, or with words that ask for no task.
 #[derive(Drop)]
 pub struct Endings {
     /// How many requests were served.
     count: usize,
-    /// The worst exit status, or 0 if no request was served.
+    /// The worst exit status of the requests, which is the greatest, or 0 if no request was served.
     worst: u8,
-    /// The index, from 0, of the first request whose output failed, or `None`. No further answer can be written after
-    /// it.
+    /// The index, from 0, of the first request whose output failed, or `None`. After it no further answer can be
+    /// written.
     unwritten: Option<usize>,
-    /// The words that ask for no task, if such words ended the call.
+    /// The words that ask for no task, if the call ended at such words.
     unasked: Option<Unasked>,
 }
 
 impl Endings {
-    /// Returns the value for a call that has served no request yet.
+    /// Returns the endings of a call that has served no request yet.
     pub fn none() -> Endings
         ensures count { result.count ≡ 0 }
         ensures worst { result.worst ≡ 0 }
@@ -36,7 +36,7 @@ impl Endings {
         }
     }
 
-    /// Adds how the next request ended.
+    /// Adds the ending of the next request.
     pub fn enter(&mut self, ending: Ending)
         requires { self.old.count + 1 < 2 ^ 64 }
         ensures count { self.new.count ≡ self.old.count + 1 }
@@ -50,7 +50,7 @@ impl Endings {
         self.worst = worse(self.worst, ending.status());
     }
 
-    /// Adds words that ask for no task, at which the call ends.
+    /// Adds words that ask for no task. The call ends at them.
     pub fn with_unasked(self, unasked: Unasked) -> Endings
         ensures count { result.count ≡ self.count }
         ensures worst { result.worst ≡ max self.worst unasked.status }
@@ -94,8 +94,8 @@ fn worse(first: u8, second: u8) -> u8
     if first < second { second } else { first }
 }
 
-/// Returns the index of the first request whose output failed, after the request at `place` has ended. `before` is that
-/// index without this request.
+/// Returns the index of the first request whose output failed, now that the request with index `place` has ended.
+/// `before` is this index among the earlier requests.
 fn first_unwritten(before: Option<usize>, place: usize, is_unwritten: bool) -> Option<usize>
     ensures { result ≡ first_unwritten before place is_unwritten }
 {

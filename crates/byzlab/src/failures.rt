@@ -1,5 +1,5 @@
-//! What is said about files that cannot be read or written and outputs that failed: the line, and the sentence with the
-//! reason.
+//! What is reported about files that cannot be read or written, and about outputs that failed: a line, and a sentence
+//! with the reason.
 
 ghost use Rattle.std.specs.Prelude.{◌≡◌, ◌↔◌, ◌||◌, IfOk, IsErr, None, Some, if◌then◌else◌, is_some, option_map};
 ghost use Rattle.std.specs.IoError.{error_kind};
@@ -14,7 +14,7 @@ use std::alloc::AllocError;
 use std::fmt::{self, Display};
 use std::io::{self, ErrorKind};
 
-/// Lines to report, followed by the sentence for an error of this kind, if there is a kind.
+/// Lines to report and, if there is a kind of error, the sentence for errors of this kind.
 #[derive(Drop)]
 pub struct Explained<D: Display + Drop> {
     pub lines: D,
@@ -39,7 +39,8 @@ impl<D: Display + Drop> Explained<D> {
     ghost use Rattle.std.specs.Prelude.{◌≡◌, None, if◌then◌else◌};
     ghost use Rattle.cli_tasks.specs.Whys.{is_explained};
 
-    /// Returns the lines with the kind of error, or without it if the task does not explain what it rejects.
+    /// Returns the lines together with the kind of error, which is left out if the task does not explain what it
+    /// rejects.
     pub fn by(task: &Task, lines: D, kind: Option<ErrorKind>) -> Explained<D>
         ensures lines { result.lines ≡ lines }
         ensures kind { result.kind ≡ (if is_explained task.now then kind else None) }
@@ -49,7 +50,7 @@ impl<D: Display + Drop> Explained<D> {
     }
 }
 
-/// The line that a file of this name was not written.
+/// The line `fault write NAME`, that the file with this name was not written.
 #[derive(Drop)]
 pub struct Unwritten {
     pub name: String,
@@ -67,11 +68,11 @@ impl Display for Unwritten {
     }
 }
 
-/// Returns what is reported about a file of this name if opening or reading it failed with this error.
+/// Returns what is reported about a file with this name if it could not be opened or read because of `error`.
 ///
 /// # Errors
 ///
-/// `AllocError` if the error is that memory ran out.
+/// Fails with `AllocError` if the error is that memory ran out.
 pub fn unread<'a>(
     task: &Task,
     name: &'a str,
@@ -88,8 +89,8 @@ pub fn unread<'a>(
     Ok(Explained::by(task, TaskFailure::Read(name), Some(kind)))
 }
 
-/// Returns the sentence for an output that failed with an error of this kind. `named` says whether the words name the
-/// output.
+/// Returns the sentence for an output that failed with an error of this kind. `named` says whether the command line
+/// names the file of the output.
 fn why(named: bool, kind: ErrorKind) -> &'static str
     ensures { result.now ≡ why_text named kind }
 {
@@ -101,8 +102,8 @@ fn why(named: bool, kind: ErrorKind) -> &'static str
     }
 }
 
-/// Returns the sentence for a failed output, given the exit status of its task. Returns `None` if the status is not 1,
-/// the output did not fail, or the task neither names its output nor explains what it rejects.
+/// Returns the sentence for an output that failed. `status` is the exit status of its task. Returns `None` if this is
+/// not 1, if the output did not fail, or if the task neither names its output nor explains what it rejects.
 pub fn why_unwritten(status: u8, task: &Task, fault: Option<ErrorKind>) -> Option<&'static str>
     ensures { IsWhy status (is_some (target_of task.now) || is_explained task.now) (is_some (target_of task.now)) fault
         (option_map (λ why. why.now) result) }

@@ -8,7 +8,7 @@ use std::fs::File;
 use std::io::{self, ErrorKind};
 use streams::Source;
 
-/// The folder of the scenario of this name. If the name contains no slash, as for standard input, it is the working
+/// The folder of the scenario with this file name. If the name has no slash, as for standard input, it is the working
 /// directory.
 #[derive(Clone, Copy)]
 pub struct FolderOf<'a> {
@@ -27,7 +27,7 @@ impl Folder for FolderOf<'_> {
     }
 }
 
-/// Returns the folder in the name of a scenario, or `None` if the name contains no slash.
+/// Returns the folder in the file name of a scenario, or `None` if the name has no slash.
 fn folder_of(scenario: &str) -> Option<&str>
     ensures { IsFolderOf scenario.now (option_map (λ folder. folder.now) result) }
 {

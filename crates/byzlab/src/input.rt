@@ -5,27 +5,27 @@ ghost use Rattle.byzlab.specs.Files.{IsInputOf};
 use std::fs::File;
 use std::io::{self, Cursor, ErrorKind, Read, Stdin};
 
-/// A file that a task of this program reads.
+/// An input of a task in this program.
 pub type Input<'a> = Opened<'a, File, Stdin>;
 
-/// A file that a task reads. `F` is the type of a file opened by its name, and `S` that of standard input.
+/// An input of a task. `F` is the type of a file opened by its name, and `S` is the type of standard input.
 #[derive(Drop)]
 pub enum Opened<'a, F: Read + Drop, S: Read + Drop> {
-    /// A file that was opened by this name.
+    /// A file that was opened by the name given here.
     File(F, &'a str),
-    /// Standard input, named by a hyphen.
+    /// Standard input, for which a name is a hyphen.
     Standard(S),
-    /// A text in memory: a scenario with the files that it names, or the random schedule of a seed.
+    /// A text in memory: a scenario with the contents of its files, or the random schedule of a seed.
     Text(Cursor<Vec<u8>>),
     /// No file: the task does not read one.
     Nothing,
 }
 
-/// Opens the file of this name, or standard input if the name is a hyphen.
+/// Opens the file with this name, or standard input if the name is a hyphen.
 ///
 /// # Errors
 ///
-/// The file cannot be opened, or it is a folder. Standard input always opens.
+/// Fails if the file cannot be opened, or if it is a folder. Standard input always opens.
 pub fn open<'a>(rt: &HostRuntime, name: &'a str) -> io::Result<Input<'a>>
     ensures input { IfOk result (λ input. IsInputOf name.entry.now (Some input)) }
     ensures closed { IfErr result (λ _. name.entry.now ≢ codes "-") }

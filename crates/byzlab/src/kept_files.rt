@@ -33,11 +33,12 @@ impl From<AllocError> for Unkept {
     }
 }
 
-/// Writes a file of this name, whole or not at all, as `NewFile` does.
+/// Writes `bytes` to the file with this name. A regular file is written whole or not at all, since `NewFile` writes a
+/// new file first.
 ///
 /// # Errors
 ///
-/// The file cannot be written, or memory runs out.
+/// Fails if the file cannot be written, or if memory runs out.
 pub fn write_whole<'a, 'r>(
     rt: &'r HostRuntime,
     name: &str,
@@ -56,11 +57,11 @@ pub fn write_whole<'a, 'r>(
     }
 }
 
-/// Writes the bytes to the file of this name, which has just been begun. The file is given up if that fails.
+/// Writes `bytes` to a file that was just begun, and completes it. If this fails, removes the new file.
 ///
 /// # Errors
 ///
-/// A write or the renaming failed, or memory ran out.
+/// Fails if a write or the renaming fails, or if memory runs out.
 fn fill_new<'a, 'r>(
     alloc: Global,
     mut file: NewFile<'r>,
@@ -76,7 +77,7 @@ fn fill_new<'a, 'r>(
     written
 }
 
-/// Returns the error that the file or the folder of this name cannot be written, or `Memory` if memory ran out.
+/// Returns the error that the file or folder with this name cannot be written. Returns `Memory` if memory ran out.
 fn unwritten(rt: &HostRuntime, name: &str, kind: ErrorKind) -> Unkept
     ensures { IsUnwritten name.now kind result }
 {
@@ -89,11 +90,11 @@ fn unwritten(rt: &HostRuntime, name: &str, kind: ErrorKind) -> Unkept
     }
 }
 
-/// Makes the folder of this name, unless it exists.
+/// Makes the folder with this name, unless it exists.
 ///
 /// # Errors
 ///
-/// Something other than a folder has this name, the folder cannot be made, or memory runs out.
+/// Fails if something other than a folder has this name, if the folder cannot be made, or if memory runs out.
 fn make_folder(rt: &HostRuntime, name: &str) -> Result<(), Unkept>
     ensures { IfErr result (Tells (λ told. told ≡ name.now)) }
 {
@@ -107,18 +108,18 @@ fn make_folder(rt: &HostRuntime, name: &str) -> Result<(), Unkept>
     }
 }
 
-/// Returns the name of the file with the schedule of the outcome of this number.
+/// Returns the name of the file with the schedule of outcome `number`, such as `FOLDER/outcome-1.schedule`.
 fn schedule_name(alloc: Global, folder: &str, number: u64) -> Result<String, AllocError>
     ensures { IfOk result (λ name. string_bytes name ≡ schedule_name folder.now number) }
 {
     format!(in alloc; "{folder}/outcome-{number}.schedule")
 }
 
-/// Writes a file, and appends it to the list of written files.
+/// Writes `bytes` to the file with this name, and appends the file to the list of written files.
 ///
 /// # Errors
 ///
-/// The file cannot be written, or memory runs out.
+/// Fails if the file cannot be written, or if memory runs out.
 fn keep_file<'a, 'r>(
     rt: &'r HostRuntime,
     files: &mut Vec<KeptFile<'a, 'r>>,
@@ -141,7 +142,7 @@ fn keep_file<'a, 'r>(
 ///
 /// # Errors
 ///
-/// A file or the folder cannot be written, or memory runs out.
+/// Fails if a file or the folder cannot be written, or if memory runs out.
 pub fn keep<'a, 'r>(
     rt: &'r HostRuntime,
     folder: &str,

@@ -1,5 +1,5 @@
-//! The program `byzlab`, a laboratory for the Byzantine generals problem: reads the command line, opens the files, and
-//! leaves each task to `cli_answers` and the crates below it.
+//! The program `byzlab`, a laboratory for the Byzantine generals problem. It reads the command line and opens the
+//! files. The crate `cli_answers` and the crates below it do the tasks.
 #![tactic(auto)]
 
 mod ending;
@@ -68,12 +68,12 @@ fn main(rt: HostRuntime) -> ExitCode {
     ExitCode::from(status)
 }
 
-/// Reads the command line, and serves its requests in order. Stops after a request whose output fails, and at words
+/// Reads the command line, and serves its requests in order. It stops after a request whose output fails, and at words
 /// that ask for no task.
 ///
 /// # Errors
 ///
-/// The words cannot be read, help cannot be printed, or memory runs out.
+/// Fails if the command line is not UTF-8, if help cannot be printed, or if memory runs out.
 fn called<T: Threads + Wait + Sync>(rt: &HostRuntime, threads: &T) -> io::Result<Endings>
     ensures status { IfOk result (λ endings. endings.worst ≤ 3) }
     ensures done { IfOk result (λ endings. (words : List Text) × AreDone words endings) }
@@ -87,12 +87,12 @@ fn called<T: Threads + Wait + Sync>(rt: &HostRuntime, threads: &T) -> io::Result
     done_each(rt, threads, texts.as_slice())
 }
 
-/// Serves the requests that the words make, in order. Stops after a request whose output fails, and at words that ask
-/// for no task.
+/// Serves the requests that these words of the command line make, in order. It stops after a request whose output
+/// fails, and at words that ask for no task.
 ///
 /// # Errors
 ///
-/// Help cannot be printed, or memory runs out.
+/// Fails if help cannot be printed, or if memory runs out.
 fn done_each<T: Threads + Wait + Sync>(
     rt: &HostRuntime,
     threads: &T,
@@ -105,11 +105,12 @@ fn done_each<T: Threads + Wait + Sync>(
     in_turn(rt, threads, requests.as_slice())
 }
 
-/// Serves these requests in order. Stops after a request whose output fails, and at words that ask for no task.
+/// Serves the requests that these lists of words make, in order. It stops after a request whose output fails, and at
+/// words that ask for no task.
 ///
 /// # Errors
 ///
-/// Help cannot be printed, or memory runs out.
+/// Fails if help cannot be printed, or if memory runs out.
 fn in_turn<T: Threads + Wait + Sync>(
     rt: &HostRuntime,
     threads: &T,
@@ -139,7 +140,7 @@ fn in_turn<T: Threads + Wait + Sync>(
     Ok(endings)
 }
 
-/// Serves one request, and returns how it ended. If memory runs out while files are opened or written, says so on
+/// Serves one request, and returns how it ended. If memory runs out while files are opened or written, reports this on
 /// standard error.
 fn ended<'a, T: Threads + Wait + Sync>(
     rt: &'a HostRuntime,
@@ -151,7 +152,7 @@ fn ended<'a, T: Threads + Wait + Sync>(
     settled(rt, answered(rt, threads, request))
 }
 
-/// Returns how a request ended. If memory ran out instead, says so on standard error first.
+/// Returns how a request ended. If memory ran out before it ended, first reports this on standard error.
 fn settled(rt: &HostRuntime, outcome: Result<Ending, AllocError>) -> Ending
     ensures done { IfOk outcome (λ ending. result ≡ ending) }
     ensures lacking { IfErr outcome (λ _. result.status ≡ (failure_of ErrorKind.OutOfMemory).1) }
@@ -162,12 +163,12 @@ fn settled(rt: &HostRuntime, outcome: Result<Ending, AllocError>) -> Ending
     }
 }
 
-/// Serves one request: opens its files, does the task, and writes the schedule or the files of an exploration that it
-/// asks for. A request that would write over a file that it reads is refused first.
+/// Serves one request: opens its files, does the task, and writes the schedule or the files of an exploration, if the
+/// request asks for them. Before that, refuses a request that would write over a file that it reads.
 ///
 /// # Errors
 ///
-/// `AllocError` if memory runs out and this has not been reported yet.
+/// Fails with `AllocError` if memory runs out and this was not reported yet.
 fn answered<'a, T: Threads + Wait + Sync>(
     rt: &'a HostRuntime,
     threads: &T,
@@ -210,13 +211,12 @@ fn answered<'a, T: Threads + Wait + Sync>(
     }
 }
 
-/// Explores the campaign of this scenario, writes the scenario and a schedule for each outcome to the folder, and then
-/// prints the outcomes. If a file cannot be written, reports this instead of printing. Returns `None` if the scenario
-/// is rejected.
+/// Explores the campaign of a scenario. Writes the scenario and a schedule for each outcome to the folder, and then
+/// prints the outcomes. If a file cannot be written, reports this instead. Returns `None` if the scenario is rejected.
 ///
 /// # Errors
 ///
-/// `AllocError` if memory runs out.
+/// Fails with `AllocError` if memory runs out.
 fn explored(
     rt: &HostRuntime,
     request: &TaskRequest,
@@ -239,11 +239,11 @@ fn explored(
     }
 }
 
-/// Returns `None` for a scenario that is rejected.
+/// Returns `None`, for a scenario that is rejected.
 ///
 /// # Errors
 ///
-/// `AllocError` if the reason is that memory ran out.
+/// Fails with `AllocError` if it is rejected because memory ran out.
 fn unexplored(refusal: InputRefusal) -> Result<Option<Ending>, AllocError>
     ensures none { IfOk result (λ ending. ending ≡ None) }
     ensures memory { IsErr result ↔ (refusal ≡ InputRefusal.Memory) }
@@ -255,8 +255,8 @@ fn unexplored(refusal: InputRefusal) -> Result<Option<Ending>, AllocError>
     }
 }
 
-/// Serves the request on these files. If its output fails, and the task names it or explains what it rejects, also says
-/// on standard error why the output failed. A new file that is not whole is removed.
+/// Serves the request with these files, and removes a new file that is not whole. If the output fails, also reports the
+/// reason on standard error, provided that the task names its output or explains what it rejects.
 fn served<'a, T: Threads + Wait + Sync>(
     rt: &'a HostRuntime,
     threads: &T,
@@ -288,12 +288,12 @@ fn served<'a, T: Threads + Wait + Sync>(
     done
 }
 
-/// Writes the schedule of the seed, if a campaign was played by it with exit status 0 and the request names a file for
-/// the schedule.
+/// Writes the schedule of the seed, if the request names a file for it and its exit status is 0. Returns how the
+/// request ended.
 ///
 /// # Errors
 ///
-/// `AllocError` if memory runs out.
+/// Fails with `AllocError` if memory runs out.
 fn schedule_written<'a>(
     rt: &HostRuntime,
     request: &TaskRequest,
@@ -317,11 +317,11 @@ fn schedule_written<'a>(
     done.with_schedule(rt, written)
 }
 
-/// Opens the task's files. If one of them cannot be opened, returns the line that was reported about it.
+/// Opens the files of the task. If one of them cannot be opened, reports this, and returns a record of the report.
 ///
 /// # Errors
 ///
-/// `AllocError` if memory runs out.
+/// Fails with `AllocError` if memory runs out.
 fn files<'a>(
     rt: &HostRuntime,
     request: &'a TaskRequest,
@@ -347,11 +347,11 @@ fn files<'a>(
     Ok(Ok((first, second)))
 }
 
-/// Returns the random schedule of the task's seed as a second file, or `None` if the task has no seed.
+/// Returns the random schedule of the task's seed in place of a second file, or `None` if the task has no seed.
 ///
 /// # Errors
 ///
-/// `AllocError` if memory runs out.
+/// Fails with `AllocError` if memory runs out.
 fn random<'a>(rt: &HostRuntime, task: &Task) -> Result<Option<Input<'a>>, AllocError>
     ensures seeded { IfOk result (IsSeededIf (seed_of task.now)) }
 {
@@ -362,13 +362,13 @@ fn random<'a>(rt: &HostRuntime, task: &Task) -> Result<Option<Input<'a>>, AllocE
     Ok(Some(Opened::Text(Cursor::new(schedule.into_bytes()))))
 }
 
-/// Returns the first file of the task. If it is a scenario, its text is read, and the files that it names are put in.
-/// If the scenario or one of those files is rejected, returns the line that was reported about it. A file of another
-/// kind is returned unchanged.
+/// Returns the first file of the task. If it is a scenario, returns its text with the contents of the files that it
+/// names. If the scenario or one of those files is rejected, reports this, and returns a record of the report. A file
+/// of another kind is returned unchanged.
 ///
 /// # Errors
 ///
-/// `AllocError` if memory runs out.
+/// Fails with `AllocError` if memory runs out.
 fn completed<'a>(
     rt: &HostRuntime,
     request: &'a TaskRequest,
@@ -389,12 +389,12 @@ fn completed<'a>(
     }
 }
 
-/// Reads a scenario from this file, and puts in the files of the folder that it names. If the scenario or one of those
-/// files is rejected, returns the line that was reported about it.
+/// Reads a scenario from `file`, and puts the contents of the files that it names in place of their names. If the
+/// scenario or one of those files is rejected, reports this, and returns a record of the report.
 ///
 /// # Errors
 ///
-/// `AllocError` if memory runs out.
+/// Fails with `AllocError` if memory runs out.
 fn seen<'a, R: Read + Drop, D: Folder>(
     rt: &HostRuntime,
     request: &TaskRequest,
@@ -424,14 +424,13 @@ fn seen<'a, R: Read + Drop, D: Folder>(
     }
 }
 
-/// Returns the text to be served for a scenario, from its own bytes `own` and from `bytes`, which contain the files
-/// that it names. For a page, the text begins with the scenario's story. If the scenario names files and is rejected,
-/// and the task explains what it rejects, reports this at the lines of the scenario and of its files, and returns that
-/// report.
+/// Returns the text of a scenario to be served. `own` is the scenario as it was read, and `bytes` is the scenario with
+/// the contents of the files that it names. For a page, the text begins with the scenario's story. If a scenario that
+/// names files is rejected, and the task explains what it rejects, reports this, and returns a record of the report.
 ///
 /// # Errors
 ///
-/// `AllocError` if memory runs out.
+/// Fails with `AllocError` if memory runs out.
 fn made<'a>(
     rt: &HostRuntime,
     request: &TaskRequest,
@@ -456,11 +455,12 @@ fn made<'a>(
     Ok(Ok(Opened::Text(Cursor::new(text))))
 }
 
-/// Reads all bytes of `file`. If it cannot be read, reports this under `name`, and returns the line.
+/// Reads all bytes of `file`. If it cannot be read, reports this under the name `name`, and returns a record of the
+/// report.
 ///
 /// # Errors
 ///
-/// `AllocError` if memory runs out.
+/// Fails with `AllocError` if memory runs out.
 fn read<'a, R: Read + Drop>(
     rt: &HostRuntime,
     request: &TaskRequest,
@@ -479,12 +479,12 @@ fn read<'a, R: Read + Drop>(
     }
 }
 
-/// Opens the file of this name. Without a name, returns an input that has no bytes. If the file cannot be opened,
-/// returns the line that was reported about it.
+/// Opens the file with this name. If there is no name, returns an input without bytes. If the file cannot be opened,
+/// reports this, and returns a record of the report.
 ///
 /// # Errors
 ///
-/// `AllocError` if memory runs out.
+/// Fails with `AllocError` if memory runs out.
 fn opened<'a>(
     rt: &HostRuntime,
     request: &TaskRequest,

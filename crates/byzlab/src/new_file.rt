@@ -1,4 +1,5 @@
-//! A file that is written whole or not at all: its bytes go to a new file next to it, which a flush renames.
+//! A file that is written whole or not at all. Its bytes go to a new file next to it, and a flush gives this new file
+//! the old name.
 ghost use Rattle.std.specs.Prelude.{◌≡◌, IfOk, IfSome, IsSomeAnd, None, true, string_bytes};
 ghost use Rattle.std.specs.Io.KnownBytes.{Keeps};
 ghost use Rattle.byzlab.specs.NewFiles.{IsRenamedTo, IsRenaming, is_stream, name_beside};
@@ -11,37 +12,38 @@ use std::fs::{
 };
 use std::io::{self, ErrorKind, Write};
 
-/// How many names for new files are tried. More than one is in use only if calls write the same file at the same time,
-/// or if a call was killed.
+/// How many names for a new file are tried. A name is in use already only if another call writes the same file at the
+/// same time, or if a call was killed.
 const NAMES: u32 = 1000;
 
-/// A file that is being written.
+/// A file that is being written, whole or not at all.
 #[derive(Drop)]
 pub struct NewFile<'a> {
     rt: &'a HostRuntime,
     file: File,
-    /// The renaming that a flush makes. There is none if the bytes are written to the file itself, or after the flush.
+    /// The new name that a flush gives to the file. It is `None` if the bytes go to the file itself, or after the
+    /// flush.
     renaming: Option<Renaming>,
 }
 
-/// A new file, and the name that it gets when it is whole.
+/// The name of a new file, and the name that it gets when it is whole.
 #[derive(Drop)]
 struct Renaming {
     from: String,
     to: String,
 }
 
-/// Where the bytes for a file are written.
+/// Where the bytes of a file are written.
 #[derive(Drop)]
 enum Place {
-    /// To the file itself: a device, a pipe, an open file of a process, or the target of a link that leads nowhere.
+    /// To the file itself: a device, a pipe, an open file of a process, or the target of a broken link.
     Itself,
-    /// To a new file next to this regular file, which may not exist.
+    /// To a new file next to the regular file with this name, which need not exist.
     Beside(String),
 }
 
-/// Returns whether a name belongs to the system's open files and devices that are streams. It may lead to a regular
-/// file that a process has open, so that this file must not be replaced.
+/// Returns whether a name belongs to a stream of the system, such as `/dev/stdout` or an open file in `/proc/`. A
+/// process may have such a file open, so that no new file may replace it.
 fn is_stream(name: &str) -> bool
     ensures { result ≡ is_stream name.now }
 {
@@ -49,11 +51,11 @@ fn is_stream(name: &str) -> bool
     name.starts_with(b"/proc/") || name.starts_with(b"/dev/fd/") || name.starts_with(b"/dev/std")
 }
 
-/// Returns where the bytes for a file are written to which a link leads.
+/// Returns where bytes are written if `link`, which is a symbolic link, is the name of the file.
 ///
 /// # Errors
 ///
-/// Memory ran out.
+/// Fails if memory runs out.
 fn place_by_link(rt: &HostRuntime, link: &str) -> io::Result<Place> {
     match read_link(rt, link) {
         Ok(next) if is_stream(next.as_str()) => return Ok(Place::Itself),
@@ -72,11 +74,11 @@ fn place_by_link(rt: &HostRuntime, link: &str) -> io::Result<Place> {
     }
 }
 
-/// Returns where the bytes for a file of this name are written.
+/// Returns where bytes are written for a file with this name.
 ///
 /// # Errors
 ///
-/// Memory ran out.
+/// Fails if memory runs out.
 fn place_for(rt: &HostRuntime, name: &str) -> io::Result<Place>
     ensures { is_stream name.now ≡ true → IfOk result (λ place. place ≡ Itself) }
 {
@@ -90,11 +92,11 @@ fn place_for(rt: &HostRuntime, name: &str) -> io::Result<Place>
     }
 }
 
-/// Returns the permissions of the file of this name, or `None` if there is no such file.
+/// Returns the permissions of the file with this name, or `None` if there is no such file.
 ///
 /// # Errors
 ///
-/// The file may not be written.
+/// Fails if the file may not be written.
 fn permissions(rt: &HostRuntime, name: &str) -> io::Result<Option<Permissions>> {
     let mut writing = OpenOptions::new();
     writing.write(true);
@@ -105,18 +107,18 @@ fn permissions(rt: &HostRuntime, name: &str) -> io::Result<Option<Permissions>> 
     }
 }
 
-/// Returns the name of the new file of this number next to the file of this name, such as `NAME.new1`.
+/// Returns the name of the new file `number` next to the file `name`: for `page.html` and 1 it is `page.html.new1`.
 fn name_beside(alloc: Global, name: &str, number: u32) -> Result<String, AllocError>
     ensures { IfOk result (λ beside. string_bytes beside ≡ name_beside name.now number) }
 {
     format!(in alloc; "{name}.new{number}")
 }
 
-/// Creates the new file of this number next to the file `to`. Returns `None` if there is a file of its name already.
+/// Creates the new file `number` next to the file `to`. Returns `None` if a file has its name already.
 ///
 /// # Errors
 ///
-/// The file cannot be created, or memory ran out.
+/// Fails if the file cannot be created, or if memory runs out.
 fn numbered<'a>(rt: &'a HostRuntime, to: &str, number: u32) -> io::Result<Option<NewFile<'a>>>
     ensures { IfOk result (λ made. IfSome made (λ made. IsSomeAnd made.renaming (IsRenaming to.now number))) }
 {
@@ -132,12 +134,12 @@ fn numbered<'a>(rt: &'a HostRuntime, to: &str, number: u32) -> io::Result<Option
     }
 }
 
-/// Creates a new file next to the file `to`, with the permissions of that file. Files that have the new file's name
-/// already are left as they are, and it gets another name.
+/// Creates a new file next to the file `to`, with the permissions of that file. If a file has the name of the new file
+/// already, it is left as it is, and the next name is tried.
 ///
 /// # Errors
 ///
-/// The file `to` may not be written, no new file can be created, or memory ran out.
+/// Fails if the file `to` may not be written, if no new file can be created, or if memory runs out.
 #[tactic(auto, using(crate::proofs::NewFileLemmas::renamed_to))]
 fn beside<'a>(rt: &'a HostRuntime, to: &str) -> io::Result<NewFile<'a>>
     ensures { IfOk result (λ made. IsRenamedTo to.now made.renaming) }
@@ -155,11 +157,11 @@ fn beside<'a>(rt: &'a HostRuntime, to: &str) -> io::Result<NewFile<'a>>
 }
 
 impl<'a> NewFile<'a> {
-    /// Begins the file of this name.
+    /// Begins to write the file with this name.
     ///
     /// # Errors
     ///
-    /// The file cannot be written, or memory ran out.
+    /// Fails if the file cannot be written, or if memory runs out.
     pub fn create(rt: &'a HostRuntime, name: &str) -> io::Result<NewFile<'a>>
         ensures { is_stream name.now ≡ true → IfOk result (λ made. made.renaming ≡ None) }
     {
@@ -173,7 +175,7 @@ impl<'a> NewFile<'a> {
         }
     }
 
-    /// Gives the file up: removes the new file, unless it was renamed.
+    /// Drops the file. If it is a new file that is not whole, removes it.
     pub fn abandon(self) {
         let NewFile { rt, renaming, .. } = self;
         if let Some(renaming) = renaming {

@@ -1,4 +1,4 @@
-//! What is printed if the words of the command line ask for no task: help, or what is wrong with them.
+//! What is printed if words of the command line ask for no task: help, or what is wrong with the words.
 ghost use Rattle.std.specs.Prelude.{◌≡◌, IfOk};
 ghost use Rattle.byzlab.specs.Failures.{IsUnasked, IsUnaskedBy, error_of};
 
@@ -9,31 +9,31 @@ use cli_words::TaskError;
 use std::io::{self, ErrorKind, Stderr};
 use streams::{Escaped, Kept};
 
-/// Words that ask for no task, after the reason was reported or help was printed. Only `Unasked::told` makes this
+/// Words that ask for no task, after help was printed or the reason was reported. Only `Unasked::told` makes this
 /// value.
 #[derive(Drop)]
 pub struct Unasked {
-    /// Why the words name no task.
+    /// Why the words ask for no task.
     why: Why,
     /// The exit status: 2, or 0 if the words ask for help or for the version.
     status: u8,
 }
 
-/// Why words name no task, after this was reported.
+/// Why words ask for no task, after this was reported.
 #[derive(Drop)]
 pub enum Why {
-    /// `clap` rejects the words, or they ask for help. This error was printed.
+    /// `clap`, the parser of the command line, rejects the words, or they ask for help. This error was printed.
     Printed(Error),
-    /// `clap` accepts the words, but they name no task. This line was reported.
+    /// `clap`, the parser of the command line, accepts the words, but they ask for no task. This line was reported.
     Noted(Noted<TaskError, Stderr>),
 }
 
 impl Unasked {
-    /// Reports why the words name no task, or prints help.
+    /// Reports why words ask for no task, or prints the help that they ask for.
     ///
     /// # Errors
     ///
-    /// Memory ran out, or help cannot be printed.
+    /// Fails if memory runs out, or if help cannot be printed.
     pub fn told(rt: &HostRuntime, error: TaskError) -> io::Result<Unasked>
         ensures error { IfOk result (λ unasked. error_of unasked.why ≡ error) }
         ensures status { IfOk result (λ unasked. IsUnasked error unasked.status) }
@@ -52,7 +52,7 @@ impl Unasked {
         }
     }
 
-    /// Returns the exit status.
+    /// Returns the exit status: 2, or 0 if the words ask for help or for the version.
     pub fn status(&self) -> u8
         ensures { result ≡ self.now.status }
     {
@@ -60,12 +60,12 @@ impl Unasked {
     }
 }
 
-/// Prints why `clap` rejects the words, or help or the version. Returns the exit status: 2, or 0 for help or the
-/// version.
+/// Prints why `clap`, the parser of the command line, rejects the words, or prints help or the version. Returns the
+/// exit status: 0 for help and the version, and otherwise 2.
 ///
 /// # Errors
 ///
-/// Help or the version cannot be printed, or memory ran out.
+/// Fails if help or the version cannot be printed, or if memory runs out.
 fn print(rt: &HostRuntime, refusal: &Error) -> io::Result<u8>
     ensures { IfOk result (IsUnaskedBy refusal.now) }
 {
@@ -77,11 +77,12 @@ fn print(rt: &HostRuntime, refusal: &Error) -> io::Result<u8>
     Ok(0)
 }
 
-/// Prints on standard error why `clap` rejects the words. Control characters of the words are escaped.
+/// Prints on standard error why `clap`, the parser of the command line, rejects the words. Their control characters are
+/// escaped.
 ///
 /// # Errors
 ///
-/// Memory ran out.
+/// Fails if memory runs out.
 fn print_mistake(rt: &HostRuntime, refusal: &Error) -> io::Result<()> {
     let text = format!(in rt.alloc(); "{refusal}")?;
     let _ = rt.eprint(Escaped {

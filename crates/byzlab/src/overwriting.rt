@@ -8,7 +8,7 @@ use cli_words::Task;
 use std::fmt::{self, Display};
 use std::fs::{canonicalize, metadata};
 
-/// The line that a file of this name is not written.
+/// The line `fault write NAME`, that the file with this name is not written.
 #[derive(Drop)]
 pub struct FaultLine<'a> {
     pub name: &'a str,
@@ -26,7 +26,7 @@ impl Display for FaultLine<'_> {
     }
 }
 
-/// Lines to report, followed by a sentence.
+/// Lines to report, and a sentence after them.
 #[derive(Drop)]
 pub struct Advised<D: Display + Drop> {
     pub lines: D,
@@ -45,10 +45,10 @@ impl<D: Display + Drop> Display for Advised<D> {
     }
 }
 
-/// The lines that a file is not written because it is read.
+/// The lines to report about a file that is not written because the task also reads it.
 pub type WrittenInput<'a> = Advised<FaultLine<'a>>;
 
-/// Returns whether both names lead to the same regular file. A hyphen as the name of the file that is read is standard
+/// Returns whether both names lead to the same regular file. A hyphen as `name`, the file that is read, is standard
 /// input.
 fn is_same_file(rt: &HostRuntime, target: &str, name: &str) -> bool {
     let name = if name == "-" { "/dev/stdin" } else { name };
@@ -60,7 +60,7 @@ fn is_same_file(rt: &HostRuntime, target: &str, name: &str) -> bool {
     }
 }
 
-/// Returns whether there is a regular file of this name.
+/// Returns whether there is a regular file with this name.
 fn is_regular(rt: &HostRuntime, name: &str) -> bool {
     match metadata(rt, name) {
         Ok(found) => found.is_file(),
@@ -68,8 +68,8 @@ fn is_regular(rt: &HostRuntime, name: &str) -> bool {
     }
 }
 
-/// Returns whether the file that is written is one that is read. It is if they have the same name, and otherwise if both
-/// names lead to the same regular file. A hyphen is not written as a file.
+/// Returns whether a task that writes `target` and reads `name` writes and reads the same file. It does if the names
+/// are equal, or if they lead to the same regular file. It does not if `target` is a hyphen, which is standard output.
 fn is_one(rt: &HostRuntime, target: &str, name: Option<&str>) -> bool
     ensures { is_same_name (Some target.now) (option_map (λ n. n.now) name.entry) ≡ true → IsTrue result }
 {
@@ -79,7 +79,7 @@ fn is_one(rt: &HostRuntime, target: &str, name: Option<&str>) -> bool
     }
 }
 
-/// Returns the name of the file that is written, if it is one of the files that the task reads.
+/// Returns the lines to report if the task also reads the file `target` that it writes, and otherwise `None`.
 fn read_too<'a>(rt: &HostRuntime, task: &Task, target: Option<&'a str>) -> Option<WrittenInput<'a>>
     ensures named { is_read task.now (option_map (λ t. t.now) target.entry) ≡ true → IsSome result }
     ensures target { IfSome result (λ told. option_map (λ t. t.now) target.entry ≡ Some told.lines.name.now) }
@@ -95,7 +95,7 @@ fn read_too<'a>(rt: &HostRuntime, task: &Task, target: Option<&'a str>) -> Optio
     None
 }
 
-/// Returns the name of a file that the task writes and also reads, if there is one.
+/// Returns the lines to report if the task would write over a file that it reads, and otherwise `None`.
 pub fn overwritten<'a>(rt: &HostRuntime, task: &'a Task) -> Option<WrittenInput<'a>>
     ensures named { overwrites task.now ≡ true → IsSome result }
     ensures target { IfSome result (λ told. (target_of task.now ≡ Some told.lines.name.now)

@@ -1,4 +1,4 @@
-//! The progress line of a call with several files, which shows on a terminal how many are done.
+//! The progress line of a call with several files. It shows on a terminal how many files are done.
 ghost use Rattle.std.specs.Prelude.{◌≡◌, ◌≤◌, IsOk, None};
 
 use std::io::{self, IsTerminal, Write};
@@ -7,12 +7,12 @@ use std::time::Instant;
 /// Blanks that are as wide as the longest progress line.
 const BLANK: &str = "                                                  ";
 
-/// The progress of a call with several files. It is shown on standard error if that is a terminal, from the first
-/// second on, on one line that is overwritten.
+/// The progress of a call with several files. If standard error is a terminal, it is shown there after the first
+/// second, on one line that is overwritten.
 #[derive(Drop)]
 pub struct ProgressLine<'a> {
     rt: &'a HostRuntime,
-    /// When the call began, or `None` if no progress is to be shown.
+    /// When the call began, or `None` if no progress is shown.
     start: Option<Instant>,
     all: usize,
 }
@@ -37,7 +37,7 @@ impl<'a> ProgressLine<'a> {
     ///
     /// # Errors
     ///
-    /// The clock cannot be read, or standard error cannot be written.
+    /// Fails if the clock cannot be read, or if standard error cannot be written.
     pub fn clear(&self) -> io::Result<()>
         ensures { self.now.start ≡ None → IsOk result }
     {
@@ -52,11 +52,11 @@ impl<'a> ProgressLine<'a> {
         stderr.flush()
     }
 
-    /// Shows that `done` files are done.
+    /// Shows how many files are done.
     ///
     /// # Errors
     ///
-    /// The clock cannot be read, or standard error cannot be written.
+    /// Fails if the clock cannot be read, or if standard error cannot be written.
     pub fn tell(&self, done: usize) -> io::Result<()>
         ensures { self.now.start ≡ None → IsOk result }
     {

@@ -1,5 +1,5 @@
-//! Reports that a task is not done, because a file cannot be read or written or a scenario is rejected, in the form
-//! that the request asks for.
+//! Reports that a task is not done, because a file cannot be read or written or a scenario is rejected. The report has
+//! the form that the request asks for.
 ghost use Rattle.std.specs.Prelude.{◌≡◌, ◌↔◌, IfErr, IfOk, IsErr, None, Ok, Some, if◌then◌else◌};
 ghost use Rattle.std.specs.IoError.{error_kind};
 ghost use Rattle.cli_tasks.specs.Whys.{is_explained};
@@ -18,28 +18,28 @@ use std::alloc::AllocError;
 use std::fmt::Display;
 use std::io::{self, ErrorKind, Stderr, Stdout};
 
-/// A record that a line was reported on the standard streams which says that a task is not done.
+/// A record of a line that was reported on the standard streams and says why a task is not done.
 pub type TurnedDown<D> = ReportedLine<D, Stdout, Stderr>;
 
-/// A record that a file was reported as not read.
+/// A record of the report that a file cannot be read.
 pub type Unread<'a> = TurnedDown<Explained<TaskFailure<'a>>>;
 
-/// A record that a file was reported as not written.
+/// A record of the report that a file was not written.
 pub type NotKept = TurnedDown<Explained<Unwritten>>;
 
-/// A record that a scenario was reported as rejected.
+/// A record of the report that a scenario is rejected.
 #[derive(Drop)]
 pub enum Rejected<'a> {
     /// The scenario cannot be read.
     Unread(Unread<'a>),
     /// A file that the scenario names is rejected.
     Untaken(TurnedDown<Explained<String>>),
-    /// The scenario is rejected. The report names its own lines and those of the files that it names.
+    /// The scenario is rejected. The report is at one of its lines, or at a line of a file that it names.
     Refused(TurnedDown<String>),
 }
 
 impl Rejected<'_> {
-    /// Returns how the line was reported.
+    /// Returns how the report went: whether memory ran out, and whether the output failed.
     pub fn said(self) -> ReportOutcome
         ensures { result ≡ said_of self.entry }
     {
@@ -51,14 +51,14 @@ impl Rejected<'_> {
     }
 }
 
-/// Writes this line to standard error. A failed write is ignored.
+/// Writes this line to standard error. If the write fails, ignores this.
 pub fn note<D: Display + Drop>(rt: &HostRuntime, line: D) -> Noted<D, Stderr>
     ensures { result.line ≡ line }
 {
     noted_on(line, &mut rt.stderr())
 }
 
-/// Reports by this line that the task is not done.
+/// Reports with this line that the task of the request is not done.
 pub fn turn_down<D: Display + Drop>(
     rt: &HostRuntime,
     request: &TaskRequest,
@@ -71,11 +71,11 @@ pub fn turn_down<D: Display + Drop>(
     told_on(rt.alloc(), request, line, &mut out, &mut rt.stderr())
 }
 
-/// Reports that the file of this name is not read, because opening or reading it failed with this error.
+/// Reports that the file with this name was not read, because it could not be opened or read.
 ///
 /// # Errors
 ///
-/// `AllocError` if the error is that memory ran out.
+/// Fails with `AllocError` if the error is that memory ran out.
 pub fn tell_unread<'a>(
     rt: &HostRuntime,
     request: &TaskRequest,
@@ -92,12 +92,12 @@ pub fn tell_unread<'a>(
     Ok(turn_down(rt, request, line))
 }
 
-/// Returns the value that opening or reading the file of this name gave. If it failed, reports this, and returns the
-/// line that was reported.
+/// Returns what opening or reading the file with this name gave. If that failed, reports this, and returns a record of
+/// the report.
 ///
 /// # Errors
 ///
-/// `AllocError` if it failed because memory ran out.
+/// Fails with `AllocError` if it failed because memory ran out.
 pub fn given_or_told<'a, T>(
     rt: &HostRuntime,
     request: &TaskRequest,
@@ -118,8 +118,8 @@ pub fn given_or_told<'a, T>(
     }
 }
 
-/// Reports these lines about a file. If there is a kind of error and the task explains what it rejects, adds the
-/// sentence for that kind.
+/// Reports these lines about a file. If a kind of error is given, and the task explains what it rejects, adds the
+/// sentence for errors of that kind.
 pub fn tell_explained<D: Display + Drop>(
     rt: &HostRuntime,
     request: &TaskRequest,
@@ -133,11 +133,11 @@ pub fn tell_explained<D: Display + Drop>(
     turn_down(rt, request, Explained::by(&request.task, lines, kind))
 }
 
-/// Reports that a file named by a scenario is rejected.
+/// Reports that a file that a scenario names is rejected.
 ///
 /// # Errors
 ///
-/// `AllocError` if the reason is that memory ran out.
+/// Fails with `AllocError` if the reason is that memory ran out.
 pub fn tell_neighbour(
     rt: &HostRuntime,
     request: &TaskRequest,
@@ -157,7 +157,7 @@ pub fn tell_neighbour(
 ///
 /// # Errors
 ///
-/// `AllocError` if the reason is that memory ran out.
+/// Fails with `AllocError` if the reason is that memory ran out.
 pub fn tell_unkept(
     rt: &HostRuntime,
     request: &TaskRequest,

@@ -1,5 +1,5 @@
-//! Reports why the program or a request cannot go on: the words cannot be read, help cannot be printed, or memory runs
-//! out.
+//! Reports why the program or a request cannot go on: the command line is not UTF-8, help cannot be printed, or memory
+//! ran out.
 ghost use Rattle.std.specs.Prelude.{◌≡◌};
 ghost use Rattle.byzlab.specs.Failures.{failure_of};
 
@@ -7,7 +7,7 @@ use crate::noted_line::Noted;
 use crate::rejection::note;
 use std::io::{ErrorKind, Stderr};
 
-/// A record that the reason for stopping was reported. Only `lacking` makes this value.
+/// A record of the report that the program or a request cannot go on. Only `lacking` makes this value.
 #[derive(Drop)]
 pub struct Stopped {
     /// The line that was reported.
@@ -17,7 +17,7 @@ pub struct Stopped {
 }
 
 impl Stopped {
-    /// Returns the exit status.
+    /// Returns the exit status: 1, 2 or 3.
     pub fn status(&self) -> u8
         ensures { result ≡ self.now.status }
     {
@@ -25,7 +25,7 @@ impl Stopped {
     }
 }
 
-/// Reports on standard error why the program or a request cannot go on, given the kind of the error.
+/// Reports on standard error why the program or a request cannot go on after an error of this kind.
 pub fn lacking(rt: &HostRuntime, kind: ErrorKind) -> Stopped
     ensures { (result.told.line.now, result.status) ≡ failure_of kind }
 {
@@ -36,8 +36,8 @@ pub fn lacking(rt: &HostRuntime, kind: ErrorKind) -> Stopped
     }
 }
 
-/// Returns the line and the exit status for an error of this kind: memory ran out, the words are not UTF-8, or help
-/// cannot be printed.
+/// Returns the line and the exit status for an error of this kind: memory ran out (status 3), the command line is not
+/// UTF-8 (2), or help cannot be printed (1).
 fn failure(kind: ErrorKind) -> (&'static str, u8)
     ensures { ((result.0).now, result.1) ≡ failure_of kind }
 {

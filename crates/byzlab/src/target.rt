@@ -1,4 +1,4 @@
-//! Where a task's answer is written: standard output, or a file that is begun by the first write.
+//! Where a task's answer is written: to standard output, or to a file that is created by the first write.
 ghost use Rattle.std.specs.Prelude.{◌≡◌, ◌⊎◌, IfErr, IfOk, option_map};
 ghost use Rattle.std.specs.Io.{WritesAtMost};
 ghost use Rattle.std.specs.Io.KnownBytes.{Keeps, WriteAppends};
@@ -7,26 +7,26 @@ ghost use Rattle.byzlab.specs.Files.{IsMadeOf, IsPlaceOf, IsTargetOf, contents_o
 use crate::new_file::NewFile;
 use std::io::{self, Stdout, Write};
 
-/// A file that has not been created yet.
+/// A file that is not created yet.
 pub trait Unmade: Drop {
     ghost use Rattle.std.specs.Prelude.{◌≡◌, ℕ, List, None, Option, IfOk};
 
-    /// The type of the file after it is created.
+    /// The type of the file after its creation.
     type Made: Write + Drop;
 
-    // What the file holds after it is created, where this is known.
+    // Returns what the file contains after its creation, if this is known.
     ghost contents: { Self → Option (List ℕ) } = { λ _. None };
 
     /// Creates the file.
     ///
     /// # Errors
     ///
-    /// The file cannot be created.
+    /// Fails if the file cannot be created.
     fn make(&self) -> io::Result<Self::Made>
         ensures made { IfOk result (λ made. Self.Made.contents made ≡ contents self.now) };
 }
 
-/// The file of this name. If there is one already, it is replaced once the new one is whole.
+/// A file that is not created yet, with its name. An older file with this name is replaced when the new one is whole.
 #[derive(Drop)]
 pub struct Named<'a> {
     pub rt: &'a HostRuntime,
@@ -41,21 +41,23 @@ impl<'a> Unmade for Named<'a> {
     }
 }
 
-/// Where a task's answer is written. `S` is the type of standard output.
+/// Where a task's answer is written. `S` is the type of standard output, and `U` the type of a file that is not created
+/// yet.
 #[derive(Drop)]
 pub enum Destination<S: Write + Drop, U: Unmade> {
     /// Standard output.
     Standard(S),
-    /// A file that is created by the first write or flush. Without an answer, no file is created.
+    /// A file that is created by the first write or flush. If there is no answer, it is not created.
     Unmade(U),
-    /// The file after it is created.
+    /// A file that was created.
     File(U::Made),
 }
 
-/// Where the answer of a task of this program is written.
+/// Where the answer of a task in this program is written.
 pub type Target<'a> = Destination<Stdout, Named<'a>>;
 
-/// Returns the file of this name as a destination, or standard output if there is no name or the name is a hyphen.
+/// Returns the destination for the file with this name, or for standard output if there is no name or the name is a
+/// hyphen.
 pub fn target_of<'a>(rt: &'a HostRuntime, name: Option<&'a str>) -> Target<'a>
     ensures { IsTargetOf (option_map (λ n. n.now) name.entry) result }
 {
@@ -66,7 +68,7 @@ pub fn target_of<'a>(rt: &'a HostRuntime, name: Option<&'a str>) -> Target<'a>
 }
 
 impl Target<'_> {
-    /// Gives up a file that was begun and is not whole.
+    /// Drops the destination. A new file that is not whole is removed.
     pub fn abandon(self) {
         if let Destination::File(file) = self {
             file.abandon();
@@ -75,11 +77,11 @@ impl Target<'_> {
 }
 
 impl<S: Write + Drop, U: Unmade> Destination<S, U> {
-    /// Creates the file, if the destination is a file that has not been created yet.
+    /// Creates the file, if the destination is a file that is not created yet.
     ///
     /// # Errors
     ///
-    /// The file cannot be created.
+    /// Fails if the file cannot be created.
     fn make(&mut self) -> io::Result<()>
         ensures made { IfOk result (λ _. IsMadeOf self.old self.new) }
         ensures unmade { IfErr result (λ _. self.new ≡ self.old) }

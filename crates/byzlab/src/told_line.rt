@@ -1,4 +1,4 @@
-//! Reports on standard error, or as JSON or as one line on standard output, that a task is not done.
+//! Reports that a task is not done: on standard error, or on standard output as JSON or as one line.
 ghost use Rattle.std.specs.Prelude.{◌≡◌, ◌⊎◌, IfSome, codes, false, is_some, true};
 ghost use Rattle.cli_tasks.specs.Serving.{Tells};
 ghost use Rattle.cli_answers.specs.Printing.{is_shaped};
@@ -14,8 +14,8 @@ use std::io::Write;
 use std::marker::PhantomData;
 use streams::Output;
 
-/// A record that a line was reported which says that a task is not done. `W` is the type of standard output, and `F`
-/// that of standard error. Only `told_on` makes this value.
+/// A record of a line that was reported and says why a task is not done. `W` is the type of standard output, and `F` is
+/// the type of standard error. Only `told_on` makes this value.
 #[derive(Drop)]
 pub struct ReportedLine<D: Display + Drop, W, F> {
     line: D,
@@ -24,17 +24,17 @@ pub struct ReportedLine<D: Display + Drop, W, F> {
     fault: PhantomData<F>,
 }
 
-/// How a line was reported, without the line itself.
+/// How the report of a line went, without the line itself.
 #[derive(Drop)]
 pub struct ReportOutcome {
-    /// Whether memory ran out for the line's form. In that case `out of memory` was reported instead.
+    /// Whether memory ran out while the line was put into its form. In that case `out of memory` was reported instead.
     is_lacking: bool,
-    /// Whether the output failed on the line, so that no further answer can be written.
+    /// Whether the output failed while the line was written, so that no further answer can be written.
     is_unwritten: bool,
 }
 
-/// Reports by this line that the task is not done, as `cli_answers::turned_down` does. In this contract a write to the
-/// output may always fail.
+/// Reports with this line that a task is not done, as `cli_answers::turned_down` does. The contract allows each write
+/// to the output to fail.
 pub fn told_on<D, W, F>(
     alloc: Global,
     request: &TaskRequest,
@@ -74,7 +74,7 @@ where
 }
 
 impl<D: Display + Drop, W, F> ReportedLine<D, W, F> {
-    /// Returns how the line was reported.
+    /// Returns how the report went: whether memory ran out, and whether the output failed.
     pub fn said(self) -> ReportOutcome
         ensures { result ≡ self.said }
     {
@@ -83,7 +83,7 @@ impl<D: Display + Drop, W, F> ReportedLine<D, W, F> {
 }
 
 impl ReportOutcome {
-    /// Returns the exit status: 1, or 3 if memory ran out for the line.
+    /// Returns the exit status: 1, or 3 if memory ran out for the report.
     pub fn status(&self) -> u8
         ensures status { result ≡ status_said self.now.is_lacking }
         ensures either { (result ≡ 1) ⊎ (result ≡ 3) }
@@ -91,7 +91,7 @@ impl ReportOutcome {
         if self.is_lacking { 3 } else { 1 }
     }
 
-    /// Returns whether the output failed.
+    /// Returns whether the output failed, so that no further answer can be written.
     pub fn is_unwritten(&self) -> bool
         ensures { result ≡ self.now.is_unwritten }
     {

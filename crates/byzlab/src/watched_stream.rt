@@ -1,4 +1,4 @@
-//! A writer that remembers why the last failed write or flush failed.
+//! A writer that stores the kind of error of its last write or flush that failed.
 ghost use Rattle.std.specs.Prelude.{◌≡◌, IfErr, IfOk, None, Some};
 ghost use Rattle.std.specs.Io.{WritesAtMost};
 ghost use Rattle.std.specs.Io.KnownBytes.{Keeps, WriteAppends};
@@ -6,7 +6,7 @@ ghost use Rattle.std.specs.IoError.{error_kind};
 
 use std::io::{self, ErrorKind, Write};
 
-/// A stream, and the kind of error of the last write or flush that failed, if one did.
+/// A stream, and the kind of error of its last write or flush that failed, if one did.
 #[derive(Drop)]
 pub struct Watched<W: Write + Drop> {
     stream: W,
@@ -40,7 +40,7 @@ impl<W: Write + Drop> Watched<W> {
         stream
     }
 
-    /// Returns the result unchanged, and stores the kind of its error if it is one.
+    /// Returns `answer` unchanged. If it is an error, stores its kind.
     fn kept<T>(&mut self, answer: io::Result<T>) -> io::Result<T>
         ensures answer { result ≡ answer }
         ensures stream { self.new.stream ≡ self.old.stream }

@@ -1,4 +1,4 @@
--- The error of a text, by the answer to it.
+-- The error of a text, by the result of reading it.
 use Rattle.std.proofs.Common.{◌≢◌, Option, None, Some, Result, Ok, Err}
 use Rattle.std.specs.Prelude.{IfOk}
 use Rattle.std.specs.declared.alloc.AllocError.{AllocError}
@@ -6,7 +6,7 @@ use Rattle.scenario.specs.declared.fault.ScenarioError.{ScenarioError}
 use Rattle.scenario.specs.declared.fault.ScenarioError.TheVariants as errors
 use Rattle.cli_report.specs.Refused.{IsErrorIn}
 
--- what is known of the answer is known of the error
+-- What is known of the result of reading holds of the error in it.
 pub error_told : {T : Type 0} (Reads : Result T ScenarioError → Type 0) (Tells : Option ScenarioError → Type 0)
     → ((read : T) → Reads (Ok read) → Tells None) → ((e : ScenarioError) → e ≢ errors.Memory → Reads (Err e) → Tells (Some e))
     → (read : Result T ScenarioError) (told : Result (Option ScenarioError) AllocError) → Reads read → IsErrorIn read told → IfOk told Tells

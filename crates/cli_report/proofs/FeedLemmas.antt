@@ -1,4 +1,4 @@
--- Steps over the bytes of a text on one line.
+-- Loops over the bytes of a TOML string on one line.
 use Rattle.std.proofs.Common.{◌≡◌, ◌∙◌, ℕ, ◌+◌, ◌<◌, List, ◌∷◌, ◌++◌, [], false, true, ap, append_assoc, append-nil, drop, get_or, length, refl, take}
 use Rattle.std.proofs.lemmas.List.{drop_more, take_more}
 use Rattle.std.specs.Prelude.{nat_eq}

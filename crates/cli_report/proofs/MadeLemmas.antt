@@ -1,4 +1,4 @@
--- The program that a general's source has, by what its maker answers.
+-- The program that a source gives, by the result of making it.
 use Rattle.std.proofs.Common.{ℕ, ◌≡◌, List, [], inr, refl, subst, sym}
 use Rattle.std.specs.Prelude.{Result, Ok, Err, IfOk, Option, Some, None}
 use Rattle.std.specs.declared.alloc.AllocError.{AllocError}

@@ -1,4 +1,4 @@
--- Marks lie within the text.
+-- Marked parts are within the text.
 use Rattle.std.proofs.Common.{ℕ, suc, ◌≡◌, ◌+◌, ◌-◌, ◌≤◌, ◌⊎◌, ◌==◌, ◌&&◌, inl, inr, List, [], ◌∷◌, Bool, true, false, cond, arith, codes, refl, subst}
 use Rattle.std.specs.Prelude.{Option, None, Some, IfSome, option_map, slice_get}
 use Rattle.text.specs.Parts.{lines_of}
@@ -7,11 +7,11 @@ use Rattle.cli_report.specs.Laws.{IsInText}
 use Rattle.cli_report.specs.Lines.{line_at, marked, trimmed}
 use Rattle.cli_report.specs.Report.{Mark}
 
--- a part of a line
+-- A part of a line.
 pub marked-in : (text line : List ℕ) (number before size : ℕ) → line_at text number ≡ Some line → IsInText text (marked number (trimmed line) before size)
 marked-in text line number before size is = record { line = rw is refl; part = omega arith }
 
--- ---- a line that is found
+-- ---- a line that was found
 
 here_or : {A : Type 0} (b : Bool) (here : A) (rest : Option A) (f : A) → cond b (Some here) rest ≡ Some f → (here ≡ f) ⊎ (rest ≡ Some f)
 here_or true here rest f is = inl cc
@@ -37,7 +37,7 @@ pub found-at : (sought : ℕ) (word text : List ℕ) (f : Found) → found sough
 unfolding found
 found-at sought word text f is = (line_found sought word 0 1 (lines_of text) f is).1
 
--- ---- its word or its value
+-- ---- the word or the value in it
 
 if-in : (text : List ℕ) (b : Bool) (m n : Mark) → IsInText text m → IsInText text n → IsInText text (cond b m n)
 if-in text true m n i j = i
@@ -54,7 +54,7 @@ pub found-in : (text : List ℕ) (by_value : Bool) (word : List ℕ) (o : Option
 found-in text by_value word None at = tt
 found-in text by_value word (Some f) at = shown-in text by_value word f (at f refl)
 
--- one line or another
+-- One line or the other.
 pub or-at : (text : List ℕ) (o p : Option Found) → ((f : Found) → o ≡ Some f → line_at text f.number ≡ Some f.line) → ((f : Found) → p ≡ Some f → line_at text f.number ≡ Some f.line)
     → (f : Found) → or_else o p ≡ Some f → line_at text f.number ≡ Some f.line
 or-at text None p h k f is = k f is

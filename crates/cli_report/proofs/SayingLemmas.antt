@@ -1,4 +1,4 @@
--- No sentence is empty.
+-- No error sentence is empty.
 use Rattle.std.proofs.Common.{ℕ, ◌≢◌, List, [], ◌∷◌, Bool, true, false, cond}
 use Rattle.std.specs.Prelude.{Option, None, Some}
 use Rattle.asm.specs.declared.fault.AsmFault.{AsmFault}
@@ -38,12 +38,12 @@ use Rattle.cli_report.specs.Mnemonics.{taken, takes_text}
 use Rattle.cli_report.specs.Scenarios.{kind_sentence, missing_sentence, name_sentence, place_sentence, range_sentence as name_range_sentence, word_sentence}
 use Rattle.cli_report.specs.Settings.{order_sentence, setting_kind_sentence, setting_name_sentence, setting_range_sentence, setting_sentence, setting_word_sentence}
 
--- one sentence or another
+-- One sentence or the other.
 if-says : (b : Bool) (s t : List ℕ) → s ≢ [] → t ≢ [] → cond b s t ≢ []
 if-says true s t says other = says
 if-says false s t says other = other
 
--- a text with a first character
+-- A text with a first character is not empty.
 some-says : (c : ℕ) (cs : List ℕ) → c ∷ cs ≢ []
 some-says c cs = λ e. cc
 

@@ -1,4 +1,4 @@
--- Texts that are joined, read one by one.
+-- Texts that are joined, one by one.
 use Rattle.std.proofs.Common.{◌≡◌, ℕ, List, [], ◌∷◌, ◌++◌, map, refl, ap}
 use Rattle.std.specs.List.{flat_map, join_by}
 

@@ -1,4 +1,4 @@
--- What a word takes, by the table of the mnemonics.
+-- The operands that a mnemonic takes, by the table of mnemonics.
 use Rattle.std.proofs.Common.{◌≡◌, ℕ, List, [], ◌∷◌, Bool, true, false, cond, map, refl}
 use Rattle.std.specs.Prelude.{Option, Some, option_map}
 use Rattle.std.specs.Str.{bytes_eq}

@@ -1,4 +1,4 @@
--- What is told is a report with a sentence, whose place lies within the file.
+-- Each refusal has a report with a sentence, and the place in it is within the file.
 use Rattle.std.proofs.Common.{ℕ, ◌≡◌, ◌≢◌, ◌+◌, ◌-◌, ◌^◌, ◌⊎◌, inl, inr, List, [], ◌∷◌, ◌++◌, Bool, true, false, ◌==◌, cond, codes, arith, drop, length, refl, subst, sym, take}
 use Rattle.std.specs.Prelude.{Option, None, Some, IfSome, decimal, if◌then◌else◌, nat_le, nat_lt, option_and_then, option_map}
 use Rattle.std.specs.Str.{IsUtf8}
@@ -44,12 +44,12 @@ use Rattle.cli_report.specs.Toml.{TellsToml, span_marked}
 use Rattle.cli_report.proofs.PlaceLemmas.{entry-at, found-at, found-in, marked-in, or-at, shown-in}
 use Rattle.cli_report.proofs.SayingLemmas.{assembly-says, chronicle-says, muster-says, object-says, place-says, setting-says, table-says, unit-says}
 
--- a report by its parts
+-- A report is made of its parts.
 report : (IsIn : Mark → Type 0) (name sentence : List ℕ) (place : Option Mark) (help : Option (List ℕ)) → sentence ≢ [] → IfSome place IsIn
     → IsReport IsIn name (report_text name sentence place help)
 report IsIn name sentence place help says within = record { sentence = sentence; place = place; help = help; is = refl; says = says; within = within }
 
--- one report or another
+-- One report or the other.
 if-report : (IsIn : Mark → Type 0) (name : List ℕ) (b : Bool) (s t : List ℕ) → IsReport IsIn name s → IsReport IsIn name t → IsReport IsIn name (cond b s t)
 if-report IsIn name true s t h k = h
 if-report IsIn name false s t h k = k
@@ -126,7 +126,7 @@ bytecode_report : (name bytes : List ℕ) (f : CodecFault) (unit : ℕ) → IsRe
 unfolding bytecode_told
 bytecode_report name bytes f unit = report (IsInUnit bytes) name _ _ _ (unit-says f _) (digits-in bytes f unit (encode_lower (unit_at bytes unit)) refl)
 
--- ---- texts that are no TOML
+-- ---- texts that are not TOML
 
 span-in : (text : List ℕ) (start end : ℕ) → IsInText text (span_marked text start end)
 span-in text start end = record { line = refl; part = omega arith }
@@ -145,7 +145,7 @@ at-program general word text f is = at-table (table_of general text) word text f
   at-table None word text f is = absurd cc
   at-table (Some table) word text f is = found-at table word text f is
 
--- a line of the program stands in a line of the text
+-- The line of a program is in a line of the text.
 abbrev IsSpot : List ℕ → Spot → Type 0
 IsSpot text s = line_at text s.number ≡ Some s.shown
 
@@ -197,7 +197,7 @@ code_report : (name text : List ℕ) (f : CodecFault) (unit : ℕ) (line : Optio
 code_report name text f unit None at = report (IsInText text) name _ _ _ (unit-says f _) tt
 code_report name text f unit (Some line) at = report (IsInText text) name _ _ _ (unit-says f _) (marked-in text line.line line.number _ _ (at line refl))
 
--- the statement of a line of the program
+-- The statement of a program's line is in the text.
 unit-in : (text : List ℕ) (spot : Option Spot) → IfSome spot (IsSpot text) → IfSome (option_map unit_mark spot) (IsInText text)
 unit-in text None at = tt
 unit-in text (Some s) at = marked-in text s.shown s.number _ _ at
@@ -275,7 +275,7 @@ own_place_report : (name own : List ℕ) (f : ScenarioFault) (place : ScenarioPl
 unfolding own_place_told
 own_place_report name own f place = report (IsInText own) name _ _ _ (place-says f place) (own-in own f place)
 
--- the key by which a table names a file, or an object
+-- The key by which a table names a bytecode file or an object file.
 key-in : (own : List ℕ) (file object : Option Found) → ((g : Found) → file ≡ Some g → line_at own g.number ≡ Some g.line)
     → ((g : Found) → object ≡ Some g → line_at own g.number ≡ Some g.line) → IfSome (file_key_shown file object) (IsInText own)
 key-in own None object h k = found-in own true (codes "elf") object k
@@ -289,7 +289,7 @@ code-in : (table : Option ℕ) (own : List ℕ) (line : Option Found) → ((g : 
 code-in table own None at = bytes-in table own
 code-in table own (Some line) at = shown-in own false (codes "code") line (at line refl)
 
--- a report of the own text, or of the file that this key names, whose assembly this is
+-- A report at a place in the scenario's own text, or in the file that this key names, which has this assembly.
 abbrev IsOfEither : List ℕ → List ℕ → Option Source → Option Found → List ℕ → Type 0
 IsOfEither name own source file told = IsReport (IsInText own) name told ⊎ ((key : Found) × (file ≡ Some key) × IsReport (IsInText (assembly_of source)) (file_shown key) told)
 
@@ -382,7 +382,7 @@ setting_report name text told (setting.Unknown key) none tells = subst (IsReport
 setting_report name text told (setting.At f place) none tells = subst (IsReport (IsInText text) name) (sym tells) (setting_place_report name text f place)
 setting_report name text told setting.Memory none tells = subst (IsReport (IsInText text) name) (sym tells) (report (IsInText text) name _ _ _ (λ e. cc) tt)
 
--- ---- all of them
+-- ---- all refusals
 
 pub told : RefusalsAreTold
 told = record {

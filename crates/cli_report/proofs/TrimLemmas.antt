@@ -4,13 +4,13 @@ use Rattle.text.specs.declared.stop.Stop.{Stop}
 use Rattle.text.specs.Parts.{before, until}
 use Rattle.cli_report.specs.Lines.{is_white, kept, trimmed}
 
--- white space at the end counts for nothing
+-- White space at the end of a line is removed.
 trimmed-white : (xs : List ℕ) (n : ℕ) → n < length xs → is_white (get_or xs n 0) ≡ true → trimmed (take (suc n) xs) ≡ trimmed (take n xs)
 trimmed-white [] n lt white = absurd (omega arith)
 trimmed-white (x ∷ xs) zero lt white = rw white refl
 trimmed-white (x ∷ xs) (suc n) lt white = ap (kept x) (trimmed-white xs n (omega arith) white)
 
--- a line that ends with another character is as it is
+-- A line that ends with another character is unchanged.
 trimmed-solid : (xs : List ℕ) (n : ℕ) → n < length xs → is_white (get_or xs n 0) ≡ false → trimmed (take (suc n) xs) ≡ take (suc n) xs
 trimmed-solid [] n lt solid = absurd (omega arith)
 trimmed-solid (x ∷ xs) zero lt solid = rw solid refl
@@ -19,7 +19,7 @@ trimmed-solid (x ∷ y ∷ ys) (suc n) lt solid =
     let h : trimmed (take (suc n) (y ∷ ys)) ≡ y ∷ take n ys = trimmed-solid (y ∷ ys) n (omega arith) solid in
     ap (kept x) h
 
--- ---- the steps from the end
+-- ---- the loop from the end of the line
 
 pub ends-solid : (xs : List ℕ) (size k : ℕ) → size ≡ suc k → k < length xs → is_white (get_or xs k 0) ≡ false → trimmed (take size xs) ≡ trimmed xs → take size xs ≡ trimmed xs
 ends-solid xs size k e lt solid so = rw e (sym (trimmed-solid xs k lt solid) ∙ (rw e at so))
@@ -27,7 +27,7 @@ ends-solid xs size k e lt solid so = rw e (sym (trimmed-solid xs k lt solid) ∙
 pub ends-white : (xs : List ℕ) (size k : ℕ) → size ≡ suc k → k < length xs → is_white (get_or xs k 0) ≡ true → trimmed (take size xs) ≡ trimmed xs → trimmed (take k xs) ≡ trimmed xs
 ends-white xs size k e lt white so = sym (trimmed-white xs k lt white) ∙ (rw e at so)
 
--- ---- how long it is
+-- ---- the length of the line without white space
 
 one_kept : (b : Bool) (c : ℕ) → length (cond b [] (c ∷ [])) ≤ 1
 one_kept true c = omega arith

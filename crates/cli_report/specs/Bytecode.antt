@@ -8,12 +8,12 @@ use Rattle.text.specs.Number.{digits_on}
 use Rattle.cli_report.specs.Lines.{marked}
 use Rattle.cli_report.specs.Report.{Mark, report_text}
 
--- Returns the number in the first two hex digits, or 0 if there is none.
+-- Returns the number in the first two hex digits, or 0 if they are no hex digits.
 abbrev pub byte_of : List ℕ → ℕ
 byte_of digits = unwrap_or (digits_on 16 0 (take 2 digits)) 0
 
--- Returns the sentence for an instruction that is left out, by its opcode, with its conformance group (RFC 9669,
--- sections 2.4 and 5).
+-- Returns the error sentence for a BPF instruction with this opcode that byzlab does not support, with its conformance
+-- group (RFC 9669, sections 2.4 and 5).
 abbrev pub left_out_sentence : ℕ → List ℕ
 left_out_sentence opcode =
     if opcode == 0x85 then codes
@@ -23,7 +23,7 @@ left_out_sentence opcode =
     else if opcode == 0xdb then codes "a 64-bit atomic instruction (group atomic64) is not supported"
     else codes "a packet load (group packet) is not supported"
 
--- Returns the sentence for a field that selects none of the instruction's forms, by the opcode.
+-- Returns the error sentence for a field that selects no form of the instruction with this opcode.
 abbrev pub choice_sentence : ℕ → List ℕ
 choice_sentence opcode =
     if opcode == 0xd4 || opcode == 0xd7 || opcode == 0xdc
@@ -32,7 +32,7 @@ choice_sentence opcode =
     then codes "the offset of a move must be 0, or the number of bits to sign-extend: 8, 16 or, in 64 bits, 32"
     else codes "the offset of a division or remainder must be 0, or 1 if it is signed"
 
--- Returns the sentence for a fault in a unit with these hex digits.
+-- Returns the error sentence for a fault in the unit of bytecode with these hex digits.
 abbrev pub unit_sentence : CodecFault → List ℕ → List ℕ
 unit_sentence fault.Length digits = codes "the file ends within this unit, and a unit has 8 bytes"
 unit_sentence fault.Opcode digits = codes "no instruction has this opcode"
@@ -43,17 +43,17 @@ unit_sentence fault.LeftOut digits = left_out_sentence (byte_of digits)
 unit_sentence fault.Operand digits = choice_sentence (byte_of digits)
 unit_sentence fault.Count digits = codes "a program must have 1 to 4096 units"
 
--- Returns the digits of what shows that an instruction is left out. For a call and a wide load it is the source
--- register, which is in the second byte, and otherwise the opcode.
+-- Returns which hex digits of a unit show that its instruction is not supported: how many are before them, and how many
+-- they are. For a call and a wide load they are the second byte, with the source register, and otherwise the opcode.
 abbrev pub left_out_place : ℕ → ℕ × ℕ
 left_out_place opcode = if opcode == 0x85 || opcode == 0x18 then (2, 2) else (0, 2)
 
--- Returns the digits of what selects the form of an instruction. For a swap they are those of the last four bytes, and
--- otherwise those of the offset.
+-- Returns which hex digits of a unit select the form of its instruction: how many are before them, and how many they
+-- are. For a swap they are the last four bytes, and otherwise the offset.
 abbrev pub choice_place : ℕ → ℕ × ℕ
 choice_place opcode = if opcode == 0xd4 || opcode == 0xd7 || opcode == 0xdc then (8, 8) else (4, 4)
 
--- Returns how many digits are before the part at fault, and how many it has.
+-- Returns which hex digits of a unit are at fault: how many are before them, and how many they are.
 abbrev pub unit_place : CodecFault → List ℕ → ℕ × ℕ
 unit_place fault.Opcode digits = (0, 2)
 unit_place fault.Register digits = (2, 2)
@@ -61,21 +61,22 @@ unit_place fault.LeftOut digits = left_out_place (byte_of digits)
 unit_place fault.Operand digits = choice_place (byte_of digits)
 unit_place _ digits = (0, 16)
 
--- Returns the bytes of a unit, among the bytes that a program may have.
+-- Returns the 8 bytes of a unit, counted from 0, or fewer if the file ends before. A unit after 32,768 bytes, the most
+-- that a program may have, has none.
 abbrev pub unit_at : List ℕ → ℕ → List ℕ
 unit_at bytes unit = take 8 (drop (8 * unit) (take 32768 bytes))
 
--- Marks the part at fault in a unit's digits. The result is `None` if the file has no such unit, or if the fault is the
+-- Marks the hex digits of a unit that are at fault. Returns `None` if the file has no such unit, or if the fault is the
 -- number of units.
 abbrev pub unit_marked : CodecFault → ℕ → List ℕ → Option Mark
 unit_marked fault.Count unit digits = None
 unit_marked f unit [] = None
 unit_marked f unit (d ∷ ds) = Some (marked unit (d ∷ ds) (unit_place f (d ∷ ds)).0 (unit_place f (d ∷ ds)).1)
 
--- Returns the report of a fault at a unit with these hex digits.
+-- Returns the report of a fault at the unit with these hex digits, in the file `name`.
 abbrev pub unit_told : List ℕ → CodecFault → ℕ → List ℕ → List ℕ
 unit_told name f unit digits = report_text name (unit_sentence f digits) (unit_marked f unit digits) None
 
--- Returns the report of a fault at a unit of the file with this name and these bytes.
+-- Returns the report of a fault at unit `unit`, counted from 0, in the file `name` with these bytes.
 unfoldable pub bytecode_told : List ℕ → List ℕ → CodecFault → ℕ → List ℕ
 bytecode_told name bytes f unit = unit_told name f unit (encode_lower (unit_at bytes unit))

@@ -1,4 +1,5 @@
--- Defines the law of reports: each refusal has a sentence, and the place in its report is within the file (own).
+-- Defines the law of reports: each refusal has a report with a sentence, and the place in the report is within the file
+-- (own).
 use Rattle.std.specs.Prelude.{ℕ, ◌≡◌, ◌≢◌, ◌⊎◌, ◌+◌, ◌≤◌, List, [], Option, None, Some, IfSome, codes, length, option_and_then, take, unwrap_or}
 use Rattle.hex.specs.Hex.{encode_lower}
 use Rattle.asm.specs.declared.fault.AsmFault.{AsmFault}
@@ -30,18 +31,20 @@ use Rattle.object.specs.declared.fault.ObjectFault.{ObjectFault}
 use Rattle.threads.specs.declared.error.MusterError.{MusterError}
 use Rattle.cli_report.specs.Report.{Mark, report_text}
 
--- States that the mark is a part of a line of the text, or is after its last line.
+-- States that the mark is a part of a line of the text, or that the text has no line with its number and the mark is
+-- empty.
 pub record IsInText (text : List ℕ) (m : Mark) : Type 0 where
   pub line : m.line ≡ trimmed (unwrap_or (line_at text m.number) [])
   pub part : m.from + m.size ≤ length m.line
 
--- States that the mark is a part of the hex digits of a unit of the bytes.
+-- States that the mark is a part of the hex digits of a unit of these bytes.
 pub record IsInUnit (bytes : List ℕ) (m : Mark) : Type 0 where
   pub unit : m.line ≡ encode_lower (unit_at bytes m.number)
   pub some : m.line ≢ []
   pub part : m.from + m.size ≤ length m.line
 
--- States that the text is a report with a sentence. If it has a place, the place satisfies `IsIn`.
+-- States that `told` is a report with a sentence, for the file `name`. If it marks a place, this place satisfies
+-- `IsIn`.
 pub record IsReport (IsIn : Mark → Type 0) (name told : List ℕ) : Type 0 where
   pub sentence : List ℕ
   pub place : Option Mark
@@ -50,8 +53,8 @@ pub record IsReport (IsIn : Mark → Type 0) (name told : List ℕ) : Type 0 whe
   pub says : sentence ≢ []
   pub within : IfSome place IsIn
 
--- States that the fault is in the program of a general whose table in the scenario's own text names an assembly file.
--- The text is a report under the name of that file, as it is shown, with a place in the file's text.
+-- States that the error is a fault in a general's program, for which the scenario names an assembly file, and that
+-- `told` is a report at a place in the text of that file, under the name of that file.
 pub record IsReportOfFile (own : List ℕ) (made : Option Members) (error : ScenarioError) (told : List ℕ) : Type 0 where
   pub general : ℕ
   pub fault : ProgramFault
@@ -60,9 +63,9 @@ pub record IsReportOfFile (own : List ℕ) (made : Option Members) (error : Scen
   pub named : own_line (seat general (parse_document own)) (codes "asm_file") own ≡ Some key
   pub report : IsReport (IsInText (assembly_of (option_and_then (source_by general) made))) (file_shown key) told
 
--- States that each refusal of each kind of file has a report. For an error that a text is not TOML, this holds if the
--- text is UTF-8 and not TOML. The fault of an object or of a muster has no line, only a sentence. The error of a
--- scenario that names files has a report of its own text or of such a file.
+-- States that each refusal of each kind of file has a report. An error that a text is not TOML has one if the text is
+-- UTF-8 and not TOML. A fault of an object or of a muster has only a sentence, and no line. An error of a scenario that
+-- names files has a report at a place in the scenario or in one of these files.
 pub record RefusalsAreTold : Type 0 where
   pub assembly : (name text : List ℕ) (fault : AsmFault) (line : ℕ) →
       IsReport (IsInText text) name (assembly_told name text fault line)

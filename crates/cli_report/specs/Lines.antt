@@ -5,25 +5,26 @@ use Rattle.text.specs.Stop.{is_blank}
 use Rattle.text.specs.Parts.{lines_of, until}
 use Rattle.cli_report.specs.Report.{Mark}
 
--- Holds for a space, a tab and a carriage return.
+-- Checks whether a byte is a space, a tab or a carriage return.
 abbrev pub is_white : ℕ → Bool
 is_white c = is_blank c || c == 13
 
--- Puts a character before a text, but leaves out white space before an empty one.
+-- Returns the text with a character put before it. If the text is empty and the character is white space, returns the
+-- empty text.
 abbrev pub kept : ℕ → List ℕ → List ℕ
 kept c [] = if is_white c then [] else c ∷ []
 kept c (d ∷ ds) = c ∷ d ∷ ds
 
--- Returns the text without the white space at its end.
+-- Returns a text without the spaces, tabs and carriage returns at its end.
 abbrev pub trimmed : List ℕ → List ℕ
 trimmed [] = []
 trimmed (c ∷ cs) = kept c (trimmed cs)
 
--- Returns the line with this number, counted from 1.
+-- Returns line `number` of a text, counted from 1, or `None` if there is no such line.
 abbrev pub line_at : List ℕ → ℕ → Option (List ℕ)
 line_at text number = slice_get (lines_of text) (number - 1)
 
--- Marks the `size` bytes of a line after its first `before` bytes, as far as the line has them.
+-- Marks the `size` bytes after the first `before` bytes of a line, as far as the line has them.
 abbrev pub marked : ℕ → List ℕ → ℕ → ℕ → Mark
 marked number line before size = record {
   number = number;
@@ -32,6 +33,6 @@ marked number line before size = record {
   size = min size (length line - min before (length line));
 }
 
--- Marks all of a line but the blanks at its beginning.
+-- Marks a whole line, except the blanks at its beginning.
 abbrev pub all_marked : ℕ → List ℕ → Mark
 all_marked number line = marked number line (until Solid line) (length line)

@@ -1,4 +1,5 @@
--- Defines the report of an error of a scenario that names files, at its own lines or at those of the files (own).
+-- Defines the report of an error of a scenario that names files, at a line of the scenario or of one of these files
+-- (own). `own` is the scenario's own text. The resolved text has the contents of the files in place of their names.
 use Rattle.std.specs.Prelude.{ℕ, ◌≡◌, ◌+◌, ◌*◌, true, false, nat_le, if◌then◌else◌, List, [], ◌++◌, Option, None, Some, codes, drop, take, option_and_then, option_map, string_bytes}
 use Rattle.toml.specs.Data.{Members}
 use Rattle.toml.specs.Parse.{parse_document}
@@ -32,31 +33,32 @@ use Rattle.cli_report.specs.Units.{IsUnitLine}
 
 -- ---- a fault at a place
 
--- Returns the place in the scenario's own text, given one in the resolved text. Several tables of the resolved text can
--- come from one table.
+-- Returns the place in the scenario's own text from which a place in the resolved text comes. Several tables of the
+-- resolved text can come from one table.
 abbrev pub own_place : Option Members → ScenarioPlace → ScenarioPlace
 own_place own (places.Table index) = places.Table (origin index own)
 own_place own (places.Entry index name) = places.Entry (origin index own) name
 own_place own place = place
 
--- Returns the key that a table may have in place of this one: the key that names a file or lists several generals.
+-- Returns the key that a table may have in place of this one: `generals`, `asm_file` or `code_file`. Any other key is
+-- returned unchanged.
 abbrev pub other_key : ScenarioKey → List ℕ
 other_key names.General = codes "generals"
 other_key names.Asm = codes "asm_file"
 other_key names.Code = codes "code_file"
 other_key name = text_of name
 
--- Returns the name of the key if its line is found, and otherwise the key that a table may have in its place.
+-- Returns the key itself if its line is found, and otherwise the key that a table may have in its place.
 abbrev pub word_if : Option Found → ScenarioKey → List ℕ
 word_if None name = other_key name
 word_if (Some f) name = text_of name
 
--- Returns the key that is written in this table of the own text: `name` itself, or the key that a table may have in its
--- place.
+-- Returns the key that table `index` of the scenario's own text has: `name` itself, or a key that may replace it, such
+-- as `asm_file` for `asm`.
 abbrev pub own_word : ℕ → ScenarioKey → List ℕ → List ℕ
 own_word index name own = word_if (found (index + 1) (text_of name) own) name
 
--- Marks this key or its value in the table with this index.
+-- Marks the key `word` or its value in table `index` of the scenario's own text.
 abbrev pub word_shown : ScenarioFault → ℕ → List ℕ → List ℕ → Option Mark
 word_shown f index word own = option_map (shown_at (is_of_value f) word) (entry_line index word own)
 
@@ -65,7 +67,7 @@ unfoldable pub own_mark : ScenarioFault → ScenarioPlace → List ℕ → Optio
 own_mark f (places.Entry index name) own = word_shown f index (own_word index name own) own
 own_mark f place own = place_mark f place own
 
--- Returns the report of a fault at a place in the scenario's own text.
+-- Returns the report of a fault at a place in the scenario's own text, which is in the file `name`.
 unfoldable pub own_place_told : List ℕ → List ℕ → ScenarioFault → ScenarioPlace → List ℕ
 own_place_told name own f place =
     report_text name (place_sentence f place) (own_mark f place own) (strategy_help f place own)
@@ -76,11 +78,12 @@ own_index own at = option_map (λ index. origin index own) at
 
 -- ---- a program
 
--- Returns the line of a key in this table of the scenario's own text, if the general has a table there.
+-- Returns the line of the key `word` in table `table` of the scenario's own text, or `None` if the table has no such
+-- key.
 abbrev pub own_line : Option ℕ → List ℕ → List ℕ → Option Found
 own_line table word own = option_and_then (λ index. found (index + 1) word own) table
 
--- Returns the name of a file, as it is shown.
+-- Returns the name of the file that this line names, with control characters escaped.
 abbrev pub file_shown : Found → List ℕ
 file_shown f = shown_line (quoted_value f)
 
@@ -94,36 +97,38 @@ abbrev pub digits_of : Option Source → List ℕ
 digits_of (Some (Hex text)) = text
 digits_of source = []
 
--- Returns the report of a fault in a line of an assembly file. `key` is the line that names the file.
+-- Returns the report of a fault in line `number` of an assembly file. `key` is the line of the scenario that names this
+-- file. If it is `None`, the report has no excerpt.
 abbrev pub file_told : List ℕ → AsmFault → ℕ → Option Source → Option Found → List ℕ
 file_told name f number source None = report_text name (assembly_sentence f []) None None
 file_told name f number source (Some key) = assembly_told (file_shown key) (assembly_of source) f number
 
--- Returns the report of a fault at a line of assembly. The last argument is the line of the key `asm`, if the table has
--- it. Without it, the assembly is in a file.
+-- Returns the report of a fault in line `number` of a traitor's assembly. The last argument is the line of the key
+-- `asm`. If the table has no such key, the assembly is in a file.
 abbrev pub asm_told : List ℕ → List ℕ → AsmFault → ℕ → Option Source → Option ℕ → Option Found → List ℕ
 asm_told name own f number source table (Some line) = text_told name own f number (Some line)
 asm_told name own f number source table None = file_told name f number source (own_line table (codes "asm_file") own)
 
--- Returns the hex digits of a unit that a program may have.
+-- Returns the hex digits of unit `unit`, counted from 0: at most 16. A unit past 4096 has none.
 abbrev pub unit_digits : List ℕ → ℕ → List ℕ
 unit_digits digits unit = if nat_le unit 4096 then take 16 (drop (16 * unit) digits) else []
 
--- Marks the name of the object file, if a line has it.
+-- Marks the name of the object file in this line, if there is one.
 abbrev pub object_shown : Option Found → Option Mark
 object_shown line = option_map (shown_at true (codes "elf")) line
 
--- Marks the name of the bytecode file or, without its line, of the object file.
+-- Marks the name of the bytecode file in the first line or, if there is none, the name of the object file in the
+-- second.
 abbrev pub file_key_shown : Option Found → Option Found → Option Mark
 file_key_shown (Some line) object = Some (shown_at true (codes "code_file") line)
 file_key_shown None object = object_shown object
 
--- Marks the name of the bytecode file that this table names or, without one, of the object file.
+-- Marks the name of the bytecode file in table `table` of the scenario or, if it has none, the name of the object file.
 abbrev pub bytes_shown : Option ℕ → List ℕ → Option Mark
 bytes_shown table own = file_key_shown (own_line table (codes "code_file") own) (own_line table (codes "elf") own)
 
--- Returns the report of a fault in a unit of bytecode. The last argument is the line of the key `code`, if the table
--- has it. Without it, the bytecode is in a file.
+-- Returns the report of a fault in unit `unit` of a traitor's bytecode. The last argument is the line of the key
+-- `code`. If the table has no such key, the bytecode is in a file.
 abbrev pub unit_told : List ℕ → List ℕ → CodecFault → ℕ → Option Source → Option ℕ → Option Found → List ℕ
 unit_told name own f unit source table (Some line) = code_line_told name f unit (Some line)
 unit_told name own f unit source table None =
@@ -131,41 +136,43 @@ unit_told name own f unit source table None =
 
 -- ---- a program that the verifier rejects
 
--- Marks the statement in line `number` of a text, if there is such a line.
+-- Marks the statement in line `number` of an assembly text, or returns `None` if there is no such line.
 abbrev pub line_shown : List ℕ → ℕ → Option Mark
 line_shown text number = option_map (λ line. unit_mark (whole number line)) (line_at text number)
 
--- States that the text is the report of a program in an assembly file, at the line of the unit.
+-- States that `told` is the report of a program in an assembly file that the verifier rejects, at the line of unit
+-- `unit`.
 abbrev pub IsUnitTold : List ℕ → Reason → ℕ → List ℕ → List ℕ → Type 0
 IsUnitTold file reason unit text told =
     (number : ℕ) × IsUnitLine text unit number
     × (told ≡ report_text file (verifier_sentence reason unit) (line_shown text number) None)
 
--- Returns the report of a program at this place in the scenario's own text.
+-- Returns the report of a program that the verifier rejects. `mark` is the part to mark in the scenario's own text.
 abbrev pub key_told : List ℕ → Reason → ℕ → Option Mark → List ℕ
 key_told name reason unit mark = report_text name (verifier_sentence reason unit) mark None
 
--- Marks the key `code` of this table or, without it, the name of the bytecode file or object file.
+-- Marks the key `code` in table `table` of the scenario or, if it has none, the name of the bytecode file or object
+-- file.
 abbrev pub code_shown : Option ℕ → List ℕ → Option Found → Option Mark
 code_shown table own (Some line) = Some (shown_at false (codes "code") line)
 code_shown table own None = bytes_shown table own
 
--- States that the text is the report of a program that the verifier rejects and whose assembly is not in the scenario's
--- own text. `key` names the assembly file, if there is one.
+-- States that `told` is the report of a program that the verifier rejects and whose assembly is not in the scenario.
+-- `key` is the line that names the assembly file, if there is one.
 abbrev pub IsRefusedFile : List ℕ → List ℕ → Reason → ℕ → Option Source → Option ℕ → Option Found → List ℕ → Type 0
 IsRefusedFile name own reason unit source table (Some key) told =
     IsUnitTold (file_shown key) reason unit (assembly_of source) told
 IsRefusedFile name own reason unit source table None told =
     told ≡ key_told name reason unit (code_shown table own (own_line table (codes "code") own))
 
--- States that the text is the report of a program that the verifier rejects and whose assembly is in the scenario.
--- `line` has the key of the program.
+-- States that `told` is the report of a program that the verifier rejects and whose assembly is in the scenario. `line`
+-- is the line of the program's key.
 abbrev pub IsOwnUnitTold : List ℕ → List ℕ → Reason → ℕ → List ℕ → Found → List ℕ → Type 0
 IsOwnUnitTold name own reason unit text line told =
     (mark : Option Mark) × IsUnitShown own unit text (Some line) mark × (told ≡ key_told name reason unit mark)
 
--- States that the text is the report of a program that the verifier rejects. `line` has the key `asm`, if the table has
--- it.
+-- States that `told` is the report of a program that the verifier rejects. `line` is the line of the key `asm`, if the
+-- table has one.
 abbrev pub IsRefusedTold : List ℕ → List ℕ → Reason → ℕ → Option Source → Option ℕ → Option Found → List ℕ → Type 0
 IsRefusedTold name own reason unit source table (Some line) told =
     IsOwnUnitTold name own reason unit (assembly_of source) line told
@@ -174,14 +181,15 @@ IsRefusedTold name own reason unit source table None told =
 
 -- ---- all of it
 
--- Returns the report of bytecode that is not an even number of hex digits.
+-- Returns the report of a scenario's bytecode that is not an even number of hex digits. `table` is the number of the
+-- table with this bytecode.
 abbrev pub hex_told : List ℕ → List ℕ → Option ℕ → List ℕ
 hex_told name own table =
     report_text name (codes "bytecode must be an even number of hex digits, without spaces")
     (option_map (shown_at true (codes "code")) (own_line table (codes "code") own)) None
 
--- States that the text is the report of a fault in a general's program. `table` is the number of his table in the
--- scenario's own text.
+-- States that `told` is the report of a fault in a traitor's program, which is `source`. `table` is the number of his
+-- table in the scenario's own text.
 abbrev pub ReportsProgram : List ℕ → List ℕ → Option Source → Option ℕ → ProgramFault → List ℕ → Type 0
 ReportsProgram name own source table (programs.Asm f number) told =
     told ≡ asm_told name own f number source table (own_line table (codes "asm") own)
@@ -191,7 +199,8 @@ ReportsProgram name own source table (programs.Code f unit) told =
 ReportsProgram name own source table (programs.Verifier reason unit) told =
     IsRefusedTold name own reason unit source table (own_line table (codes "asm") own) told
 
--- States that the text is the report of an error in the resolved text of a scenario.
+-- States that `told` is the report of an error that was found in the resolved text of a scenario, which is `made`,
+-- parsed.
 abbrev pub ReportsMade : List ℕ → List ℕ → Option Members → ScenarioError → List ℕ → Type 0
 ReportsMade name own made errors.Toml told = TellsToml name own told
 ReportsMade name own made (errors.Unknown at key) told =
@@ -202,36 +211,38 @@ ReportsMade name own made (errors.Program g fault) told =
     ReportsProgram name own (option_and_then (source_by g) made) (seat g (parse_document own)) fault told
 ReportsMade name own made errors.Memory told = told ≡ memory_told name
 
--- The line from which the lines of an assembly file are counted: line 0, as if the file's text began after it.
+-- A made-up line 0, after which the text of an assembly file begins. The lines of the file are counted from it.
 abbrev pub in_file : Found
 in_file = record { number = 0; line = codes "asm='''"; tables = 0 }
 
--- Returns the line from which the lines of an assembly file are counted if `key` names one, and otherwise the line
--- `bytes`.
+-- Returns the line from which the lines of a program are counted: a made-up line 0 if `key` names an assembly file, and
+-- otherwise the line `bytes`.
 abbrev pub file_line : Option Found → Option Found → Option Found
 file_line None bytes = bytes
 file_line (Some key) bytes = Some in_file
 
--- Returns the line from which a program's lines are counted, if its assembly is not in the scenario's own text.
+-- Returns the line from which a program's lines are counted, if its assembly is not in the scenario: a made-up line 0
+-- for an assembly file, or the line of the key of its bytecode.
 abbrev pub file_source : Option ℕ → List ℕ → Option Found
 file_source table own =
     file_line (own_line table (codes "asm_file") own)
     (or_else (own_line table (codes "code") own)
     (or_else (own_line table (codes "code_file") own) (own_line table (codes "elf") own)))
 
--- Returns the line from which a program's lines are counted.
+-- Returns the line from which the lines of a program in table `table` are counted: the line of the program's key, or a
+-- made-up line 0 for an assembly file.
 abbrev pub own_source : Option ℕ → List ℕ → Option Found
 own_source table own = or_else (own_line table (codes "asm") own) (file_source table own)
 
--- States that the text after the report is the explanation of this general's program, or nothing if there is no such
--- general.
+-- States that `behind`, which follows a report, is the explanation of this general's program, or empty if there is no
+-- such general.
 abbrev pub IsMadeJudged : List ℕ → Option Members → Option ℕ → List ℕ → Type 0
 IsMadeJudged own made None behind = behind ≡ []
 IsMadeJudged own made (Some g) behind =
     IsExplainedBy (option_and_then (source_by g) made) (own_source (seat g (parse_document own)) own) behind
 
--- States that the text follows the refusal line of a scenario's error. `own` is the scenario's own text, and `made` is
--- the text with the contents of its files.
+-- States that `told` is what follows the refusal line for an error of a scenario: the report, and the explanation of a
+-- rejected program. `own` is the scenario's own text, and `made` is its resolved text.
 abbrev pub TellsMade : List ℕ → List ℕ → List ℕ → ScenarioError → List ℕ → Type 0
 TellsMade name own made error told =
     (report : List ℕ) × ReportsMade name own (parse_document made) error report

@@ -7,12 +7,12 @@ use Rattle.cli_report.specs.Assembly.{begins_marked, has}
 use Rattle.cli_report.specs.Lines.{all_marked, line_at, trimmed}
 use Rattle.cli_report.specs.Report.{report_text}
 
--- The sentence for a first line of the wrong shape.
+-- The error sentence for a message table with a first line that does not have the required form.
 abbrev pub first_sentence : List ℕ
 first_sentence = codes
     "the first line must be `generals N bound M commander C`, perhaps with ` rule R` after it, where R is " ++ rule_names
 
--- Returns the sentence for a fault in line `number` of a table.
+-- Returns the error sentence for a fault in line `number` of a message table, counted from 1.
 abbrev pub table_sentence : TableFault → ℕ → List ℕ
 table_sentence fault.Line number =
     if number == 1
@@ -26,8 +26,8 @@ table_sentence fault.Place number =
     ++ codes "has at most bound + 1 generals, none twice, and the receiver is not on it"
 table_sentence fault.Twice number = codes "an earlier line has an order for this label and receiver"
 
--- Returns the help message for a line of the wrong shape: the likely cause by the first of these characters that the
--- line contains.
+-- Returns the help message for a line that does not have the form of a message table's lines: the likely cause, by the
+-- first of these characters that the line contains, or `None`.
 abbrev pub shape_advice : ℕ → List ℕ → Option (List ℕ)
 shape_advice number line =
     if begins_marked number line then Some (codes "the file begins with a byte order mark: save it without one")
@@ -38,28 +38,29 @@ shape_advice number line =
     else if has 9 line then Some (codes "the parts of a line are separated by one space, not by a tab")
     else None
 
--- Returns the help message for a faulty line of a table, if a cause is likely.
+-- Returns the help message for a faulty line of a message table, or `None` if no cause is likely.
 abbrev pub table_advice : TableFault → ℕ → List ℕ → Option (List ℕ)
 table_advice fault.Line number line = shape_advice number line
 table_advice _ number line = None
 
--- Returns the report of a fault in a line of a table. Without a line, the report has no excerpt.
+-- Returns the report of a fault in line `number` of a message table. Without the line, the report has no excerpt.
 abbrev pub table_line_told : List ℕ → TableFault → ℕ → Option (List ℕ) → List ℕ
 table_line_told name f number None = report_text name (table_sentence f number) None None
 table_line_told name f number (Some line) =
     report_text name (table_sentence f number) (Some (all_marked number (trimmed line))) (table_advice f number line)
 
--- Returns the report of a fault at a line of the text of a file with this name.
+-- Returns the report of a fault at line `number` of a message table, which is in the file `name`.
 unfoldable pub table_told : List ℕ → List ℕ → TableFault → ℕ → List ℕ
 table_told name text f number = table_line_told name f number (line_at text number)
 
 -- ---- a named general who is not one of the table's
 
--- Returns the sentence with the numbers of the table's generals.
+-- Returns the error sentence for a general who is not in a message table. It says which generals the table has.
 abbrev pub stranger_sentence : ℕ → List ℕ
 stranger_sentence generals = codes "the table has the generals 0 to " ++ decimal (generals - 1)
 
--- Returns the report that a named general is not one of the table's. `line` is the table's first line.
+-- Returns the report that a general named on the command line is not in a message table. `line` is the table's first
+-- line. Without it, the report has no excerpt.
 abbrev pub stranger_line_told : List ℕ → ℕ → Option (List ℕ) → List ℕ
 stranger_line_told name generals None = report_text name (stranger_sentence generals) None None
 stranger_line_told name generals (Some line) =

@@ -7,7 +7,7 @@ use Rattle.asm.specs.declared.mnemonic.Mnemonic.TheVariants as words
 use Rattle.cli_report.specs.declared.mnemonics.Takes.{Takes}
 use Rattle.cli_report.specs.declared.mnemonics.Takes.TheVariants as takes
 
--- Returns the operands that a mnemonic takes.
+-- Returns which operands a mnemonic takes.
 abbrev pub takes_of : Mnemonic → Takes
 takes_of (words.Arithmetic width operation) = takes.Arithmetic
 takes_of (words.Negate width) = takes.Register
@@ -24,15 +24,15 @@ takes_of (words.StoreNumber size) = takes.StoreNumber
 takes_of words.Call = takes.Call
 takes_of words.Exit = takes.Nothing
 
--- Returns the operands that a mnemonic takes, or `None` if the word is not a mnemonic.
+-- Returns which operands the mnemonic `word` takes, or `None` if the word is not a mnemonic.
 unfoldable pub taken : List ℕ → Option Takes
 taken word = option_map takes_of (mnemonic_of word)
 
--- The words of all mnemonics.
+-- All mnemonics, as they are written.
 unfoldable pub mnemonic_names : List (List ℕ)
 mnemonic_names = map name_of mnemonics
 
--- Returns the sentence that describes these operands.
+-- Returns the error sentence that says which operands a mnemonic takes.
 abbrev pub takes_text : Takes → List ℕ
 takes_text takes.Arithmetic = codes "this mnemonic takes `rD, rS` or `rD, number`, with registers r0 to r10"
 takes_text takes.Register = codes "this mnemonic takes one register, r0 to r10"
@@ -47,7 +47,7 @@ takes_text takes.Wide = codes "this mnemonic takes `rD, number`, with registers 
 takes_text takes.Call = codes "this mnemonic takes a helper's name, or its number"
 takes_text takes.Nothing = codes "this mnemonic takes no operand"
 
--- Returns the operands in the first row that has the word.
+-- Returns the operands in the first row for the mnemonic `word`, or `None` if there is no such row.
 abbrev pub first_taken : List ℕ → List (List ℕ × Takes) → Option Takes
 first_taken word [] = None
 first_taken word (row ∷ rows) = if bytes_eq row.0 word then Some row.1 else first_taken word rows

@@ -11,13 +11,13 @@ use Rattle.cli_report.specs.Keys.{found, shown_at}
 use Rattle.cli_report.specs.Nearest.{near}
 use Rattle.cli_report.specs.Report.{Mark, near_words, report_text}
 
--- Returns the sentence for a value of the wrong type.
+-- Returns the error sentence for a setting's key with a value of the wrong type.
 abbrev pub setting_kind_sentence : SettingKey → List ℕ
 setting_kind_sentence names.Taken = codes "the orders taken must be a list of whole numbers"
 setting_kind_sentence names.Board = codes "the board must be a list of whole numbers"
 setting_kind_sentence name = codes "a whole number is expected here"
 
--- Returns the sentence for a value out of its range.
+-- Returns the error sentence for a setting's key with a value out of its range.
 abbrev pub setting_range_sentence : SettingKey → List ℕ
 setting_range_sentence names.Generals = codes "there must be 2 to 13 generals"
 setting_range_sentence names.Bound = codes "a bound must be 0 to 4, and at most generals - 2"
@@ -26,40 +26,40 @@ setting_range_sentence names.Taken = codes "there are more orders than labels th
 setting_range_sentence names.Board = codes "a board must have at most 64 words"
 setting_range_sentence name = codes "this value is out of range"
 
--- Returns the sentence for a fault of a key or its value.
+-- Returns the error sentence for a fault of a setting's key or its value.
 abbrev pub setting_name_sentence : SettingFault → SettingKey → List ℕ
 setting_name_sentence faults.Key name = codes "the key `" ++ text_of name ++ codes "` is missing"
 setting_name_sentence faults.Kind name = setting_kind_sentence name
 setting_name_sentence faults.Range name = setting_range_sentence name
 setting_name_sentence faults.General name = codes "no general has this number: it must be 0 to generals - 1"
 
--- Returns the sentence for a fault of an order that was taken.
+-- Returns the error sentence for a fault of an order in the list `taken`.
 abbrev pub order_sentence : SettingFault → List ℕ
 order_sentence faults.Kind = codes "an order that was taken must be a whole number"
 order_sentence f = codes "an order must be 0 to 4294967295"
 
--- Returns the sentence for a fault of a word of the board.
+-- Returns the error sentence for a fault of a word in the list `board`.
 abbrev pub setting_word_sentence : SettingFault → List ℕ
 setting_word_sentence faults.Kind = codes "a word of the board must be a whole number"
 setting_word_sentence f = codes "a word of the board must be 0 to 2^63 - 1"
 
--- Returns the sentence for a fault at this place.
+-- Returns the error sentence for a fault at a place in a setting.
 abbrev pub setting_sentence : SettingFault → SettingPlace → List ℕ
 setting_sentence f (places.Key name) = setting_name_sentence f name
 setting_sentence f (places.Order rank) = order_sentence f
 setting_sentence f (places.Word slot) = setting_word_sentence f
 
--- Returns the key whose value is at fault.
+-- Returns the key that is at fault, or whose value is: `taken` for an order, and `board` for a word.
 abbrev pub setting_word : SettingPlace → List ℕ
 setting_word (places.Key name) = text_of name
 setting_word (places.Order rank) = codes "taken"
 setting_word (places.Word slot) = codes "board"
 
--- Marks the value that is at fault. A key that is missing has no place.
+-- Marks the value at this place in a setting, or returns `None` if its line is not found.
 abbrev pub setting_mark : SettingPlace → List ℕ → Option Mark
 setting_mark place text = option_map (shown_at true (setting_word place)) (found 0 (setting_word place) text)
 
--- Returns the report of a fault at a place in a setting with this name and text.
+-- Returns the report of a fault at a place in a setting, which is in the file `name`.
 unfoldable pub setting_place_told : List ℕ → List ℕ → SettingFault → SettingPlace → List ℕ
 setting_place_told name text f place = report_text name (setting_sentence f place) (setting_mark place text) None
 
@@ -68,7 +68,7 @@ abbrev pub setting_keys : List (List ℕ)
 setting_keys = codes "generals" ∷ codes "bound" ∷ codes "commander" ∷ codes "general" ∷ codes "round" ∷ codes "taken" ∷
     codes "board" ∷ []
 
--- Returns the report of an unknown key in a setting.
+-- Returns the report of an unknown key in a setting, which is in the file `name`.
 unfoldable pub setting_unknown_told : List ℕ → List ℕ → List ℕ → List ℕ
 setting_unknown_told name text key =
     report_text name (codes "a setting has no such key") (option_map (shown_at false key) (found 0 key text))

@@ -10,23 +10,23 @@ use Rattle.cli_report.specs.Report.{Mark, report_text}
 use Rattle.streams.specs.Escapes.{escaped}
 use Rattle.streams.specs.declared.escaped.Kept.TheVariants.{Nothing}
 
--- Marks the bytes of a text between these two offsets, in the line of the first.
+-- Marks the bytes of a text from offset `start` to offset `end`, as far as they are in the line where they begin.
 abbrev pub span_marked : List ℕ → ℕ → ℕ → Mark
 span_marked text start end =
     let lines = pieces feed (take start text) in
     marked (length lines) (trimmed (unwrap_or (line_at text (length lines)) [])) (length (last_of lines)) (end - start)
 
--- Returns the sentence with a parser's message, in which control characters are escaped.
+-- Returns the error sentence with the parser's message, in which control characters are escaped.
 abbrev pub unread_sentence : List ℕ → List ℕ
 unread_sentence message = codes "the text is not TOML: " ++ escaped Nothing message
 
--- Returns the report of a parser's message on the bytes between these two offsets.
+-- Returns the report of a parser's message about the bytes from offset `start` to offset `end` of a text.
 abbrev pub span_told : List ℕ → List ℕ → List ℕ → ℕ → ℕ → List ℕ
 span_told name text message start end =
     report_text name (unread_sentence message) (Some (span_marked text start end)) None
 
--- States that the text is the report of some message at some place in the file's text. What the message says is left to
--- the parser.
+-- States that `told` is the report of some message about some bytes of the file's text. What the message says is not
+-- specified.
 pub record IsUnread (name text told : List ℕ) : Type 0 where
   pub message : List ℕ
   pub start : ℕ
@@ -35,6 +35,6 @@ pub record IsUnread (name text told : List ℕ) : Type 0 where
   pub within : end ≤ length text
   pub is : told ≡ span_told name text message start end
 
--- States that, if the file's text is UTF-8 and not TOML, `told` is the report of a parser's message.
+-- States that, if the file's text is UTF-8 and not TOML, `told` is the report of a parser's message about it.
 abbrev pub TellsToml : List ℕ → List ℕ → List ℕ → Type 0
 TellsToml name text told = IsUtf8 text → parse_document text ≡ None → IsUnread name text told

@@ -19,14 +19,14 @@ use explain::HELPERS;
 use std::alloc::{AllocError, Global};
 use text::{Stop, cut, find, piece};
 
-/// Returns the part of a line before its comment, without the white space at its end.
+/// Returns the part of a line before its comment, which begins with `;`, without the white space at its end.
 fn before_comment(line: &[u8]) -> &[u8]
     ensures { result.now ≡ trimmed (before semicolon line.now) }
 {
     trimmed(cut(Stop::Byte(b';'), line).0)
 }
 
-/// Returns the code of a line: the part before its comment, without the blanks before it and the white space after it.
+/// Returns the code of a line: the line without its comment, the blanks at its start and the white space at its end.
 #[tactic(auto, unfolding(crate::specs::Assembly::code_in))]
 fn code_in(line: &[u8]) -> &[u8]
     ensures { result.now ≡ code_in line.now }
@@ -44,7 +44,7 @@ fn behind_first(bytes: &[u8]) -> &[u8]
     }
 }
 
-/// Returns the statement in a line's code: the mnemonic and its operands, without a name before them.
+/// Returns the statement in the code of a line: the mnemonic and its operands. In `loop: mov r0, 1` it is `mov r0, 1`.
 #[tactic(auto, unfolding(crate::specs::Assembly::statement_in))]
 fn statement_in(code: &[u8]) -> &[u8]
     ensures { result.now ≡ statement_in code.now }
@@ -58,14 +58,14 @@ fn statement_in(code: &[u8]) -> &[u8]
     }
 }
 
-/// Returns the mnemonic in a line's code.
+/// Returns the mnemonic in the code of a line. In `loop: mov r0, 1` it is `mov`.
 fn mnemonic_in(code: &[u8]) -> &[u8]
     ensures { result.now ≡ mnemonic_in code.now }
 {
     cut(Stop::Blank, statement_in(code)).0
 }
 
-/// Returns the operands in a line's code, as one text.
+/// Returns the operands in the code of a line, as one text. In `loop: mov r0, 1` it is `r0, 1`.
 fn operands_in(code: &[u8]) -> &[u8]
     ensures { result.now ≡ operands_in code.now }
 {
@@ -73,7 +73,7 @@ fn operands_in(code: &[u8]) -> &[u8]
     cut(Stop::Solid, behind).1
 }
 
-/// Returns the last piece of operands that are separated by commas.
+/// Returns the text after the last comma of the operands, or all of the operands if they have no comma.
 fn last_piece(operands: &[u8]) -> &[u8]
     ensures { result.now ≡ last_of (pieces comma operands.now) }
 {
@@ -84,7 +84,7 @@ fn last_piece(operands: &[u8]) -> &[u8]
     last
 }
 
-/// Returns the last operand, without the blanks before it.
+/// Returns the last operand: the text after the last comma, without the blanks at its start.
 #[tactic(auto, unfolding(crate::specs::Assembly::last_operand))]
 fn last_operand(operands: &[u8]) -> &[u8]
     ensures { result.now ≡ last_operand operands.now }
@@ -92,7 +92,7 @@ fn last_operand(operands: &[u8]) -> &[u8]
     cut(Stop::Solid, last_piece(operands)).1
 }
 
-/// Returns the code from its first non-ASCII byte on, or nothing if it has none.
+/// Returns the code from its first non-ASCII byte on, or no bytes if all of it is ASCII.
 fn past_ascii(code: &[u8]) -> &[u8]
     ensures { result.now ≡ past_ascii code.now }
 {
@@ -104,8 +104,8 @@ fn past_ascii(code: &[u8]) -> &[u8]
     &[]
 }
 
-/// Returns the part to mark in a line of the wrong shape: the first non-ASCII byte, or all of the code if it has none.
-/// The part is given by the rest of the code from its start, and its size in bytes.
+/// Returns the part of the code to mark if the line does not have the form of assembly. It is the first non-ASCII byte,
+/// or all of the code if it is ASCII. The result is the code from this part on, and the size of the part in bytes.
 fn outline_part(code: &[u8]) -> (&[u8], usize)
     ensures { part_view result ≡ outline_part code.now (past_ascii code.now) }
 {
@@ -115,8 +115,8 @@ fn outline_part(code: &[u8]) -> (&[u8], usize)
     }
 }
 
-/// Returns the part to mark if operands are wrong: the operands, or the mnemonic if there are none. The part is given
-/// by the rest of the code from its start, and its size in bytes.
+/// Returns the part of the code to mark if the operands are wrong: the operands, or the mnemonic if there are none. The
+/// result is the code from this part on, and the size of the part in bytes.
 fn operands_part(code: &[u8]) -> (&[u8], usize)
     ensures { part_view result ≡ operands_part (statement_in code.now) (operands_in code.now) }
 {
@@ -126,7 +126,8 @@ fn operands_part(code: &[u8]) -> (&[u8], usize)
     }
 }
 
-/// Returns the mnemonic as a part of the code: the rest of the code from its start, and its size in bytes.
+/// Returns the mnemonic as the part of the code to mark. The result is the code from the mnemonic on, and the size of
+/// the mnemonic in bytes.
 fn mnemonic_part(code: &[u8]) -> (&[u8], usize)
     ensures { part_view result ≡ mnemonic_part (statement_in code.now) }
 {
@@ -134,7 +135,8 @@ fn mnemonic_part(code: &[u8]) -> (&[u8], usize)
     (statement, find(Stop::Blank, statement))
 }
 
-/// Returns the part of the code that is at fault: the rest of the code from its start, and its size in bytes.
+/// Returns the part of the code to mark for this fault. The result is the code from this part on, and the size of the
+/// part in bytes.
 fn part_of(fault: AsmFault, code: &[u8]) -> (&[u8], usize)
     ensures { part_view result ≡ part_of fault code.now }
 {
@@ -151,7 +153,7 @@ fn part_of(fault: AsmFault, code: &[u8]) -> (&[u8], usize)
     }
 }
 
-/// Returns where the part at fault is in the line: how many bytes are before it, and how many it has.
+/// Returns the part of a line to mark for this fault: how many bytes of the line are before it, and its size in bytes.
 #[tactic(auto, unfolding(crate::specs::Assembly::place_in))]
 fn place_in(fault: AsmFault, line: &[u8]) -> (usize, usize)
     ensures place { result ≡ place_in fault line.now }
@@ -161,7 +163,7 @@ fn place_in(fault: AsmFault, line: &[u8]) -> (usize, usize)
     (before_comment(line).len().saturating_sub(end.len()), size)
 }
 
-/// Returns where the statement is in the line: how many bytes are before it, and how many it has.
+/// Returns the place of the statement in a line: how many bytes of the line are before it, and its size in bytes.
 #[tactic(auto, unfolding(crate::specs::Assembly::statement_place))]
 fn statement_place(line: &[u8]) -> (usize, usize)
     ensures place { result ≡ statement_place line.now }
@@ -174,7 +176,7 @@ fn statement_place(line: &[u8]) -> (usize, usize)
     )
 }
 
-/// Returns the sentence for a line of the wrong shape.
+/// Returns the error sentence for a line that does not have the form `[name:] [mnemonic operands] [; comment]`.
 fn outline_sentence(code: &[u8]) -> &'static str
     ensures { result.now ≡ outline_sentence (past_ascii code.now) }
 {
@@ -185,8 +187,8 @@ fn outline_sentence(code: &[u8]) -> &'static str
     }
 }
 
-/// Returns the sentence for a wrong operand of `call`. An operand that begins with a letter or `_` is taken for a
-/// helper's name.
+/// Returns the error sentence for a wrong operand of `call`. If the operand begins with a letter or `_`, the sentence
+/// is that no helper has this name.
 fn call_sentence(operands: &[u8]) -> &'static str
     ensures { result.now ≡ call_sentence operands.now }
 {
@@ -196,7 +198,7 @@ fn call_sentence(operands: &[u8]) -> &'static str
     }
 }
 
-/// Returns the sentence for operands that do not fit the mnemonic, by what the mnemonic takes.
+/// Returns the error sentence for wrong operands. It says which operands the mnemonic takes, if these are known.
 fn operand_sentence(takes: Option<Takes>, operands: &[u8]) -> &'static str
     ensures { result.now ≡ operand_sentence takes operands.now }
 {
@@ -207,7 +209,8 @@ fn operand_sentence(takes: Option<Takes>, operands: &[u8]) -> &'static str
     }
 }
 
-/// Returns the sentence for a number out of range, by what the mnemonic takes.
+/// Returns the error sentence for a number out of range. It says which range numbers have in the operands that the
+/// mnemonic takes.
 fn range_sentence(takes: Option<Takes>) -> &'static str
     ensures { result.now ≡ range_sentence takes }
 {
@@ -224,7 +227,7 @@ fn range_sentence(takes: Option<Takes>) -> &'static str
     }
 }
 
-/// Returns the sentence for a fault in this code.
+/// Returns the error sentence for a fault in the code of a line.
 pub(crate) fn sentence(fault: AsmFault, code: &[u8]) -> &'static str
     ensures { result.now ≡ assembly_sentence fault code.now }
 {
@@ -239,28 +242,28 @@ pub(crate) fn sentence(fault: AsmFault, code: &[u8]) -> &'static str
     }
 }
 
-/// Checks whether the byte is among these bytes.
+/// Checks whether `bytes` contains `byte`.
 pub(crate) fn has(byte: u8, bytes: &[u8]) -> bool
     ensures { result ≡ has byte bytes.now }
 {
     bytes.iter().any(|b| *b == byte)
 }
 
-/// Checks whether an ASCII capital letter is among the bytes.
+/// Checks whether the bytes contain an ASCII capital letter.
 fn has_capital(bytes: &[u8]) -> bool
     ensures { result ≡ has_capital bytes.now }
 {
     bytes.iter().any(|b| b'A' <= *b && *b <= b'Z')
 }
 
-/// Checks whether this is the first line of a file and begins with a byte order mark (EF BB BF).
+/// Checks whether line `number` is the first one of a file and begins with a byte order mark (EF BB BF).
 pub(crate) fn begins_marked(number: u64, line: &[u8]) -> bool
     ensures { result ≡ begins_marked number line.now }
 {
     number == 1 && line.starts_with(b"\xEF\xBB\xBF")
 }
 
-/// Checks whether the mnemonic takes several operands.
+/// Checks whether a mnemonic with these operands takes more than one.
 fn takes_several(takes: Option<Takes>) -> bool
     ensures { result ≡ takes_several takes }
 {
@@ -278,8 +281,8 @@ fn takes_several(takes: Option<Takes>) -> bool
     }
 }
 
-/// Checks whether these bytes between commas are several operands: a blank follows the first word, which is not the
-/// beginning of a place in brackets.
+/// Checks whether a text between commas looks like several operands, such as `r0 1`. It does if it contains a blank,
+/// unless the first blank is inside brackets, as in `[r1 +8]`.
 fn are_several(bytes: &[u8]) -> bool
     ensures { result ≡ are_several bytes.now }
 {
@@ -287,7 +290,8 @@ fn are_several(bytes: &[u8]) -> bool
     (has(b' ', bytes) || has(b'\t', bytes)) && (!has(b'[', word) || has(b']', word))
 }
 
-/// Checks whether a comma is missing after the first operand, or before the last.
+/// Checks whether a comma is likely to be missing. It is if the mnemonic takes several operands, and the text before
+/// the first comma or the text after the last one looks like several operands.
 fn lacks_comma(takes: Option<Takes>, operands: &[u8]) -> bool
     ensures { result ≡ lacks_comma takes operands.now }
 {
@@ -295,7 +299,7 @@ fn lacks_comma(takes: Option<Takes>, operands: &[u8]) -> bool
     takes_several(takes) && (are_several(first) || are_several(last_operand(operands)))
 }
 
-/// Returns a help message for a line of the wrong shape, if a cause is likely.
+/// Returns a help message for a line that does not have the form of assembly, or `None` if no cause is likely.
 fn outline_help(number: u64, line: &[u8], code: &[u8]) -> Option<Help<'static>>
     ensures { option_map help_words result ≡ outline_advice number line.now code.now }
 {
@@ -317,8 +321,8 @@ fn outline_help(number: u64, line: &[u8], code: &[u8]) -> Option<Help<'static>>
     Some(Help::Said(sentence))
 }
 
-/// Returns a help message with this name of the given kind. Without a name, returns the message that names are written
-/// in lower case if the code has a capital letter.
+/// Returns the help message that `name`, of the kind `kind`, is a similar name. If there is no such name, but the code
+/// has a capital letter, returns the message that names are written in lower case. Otherwise returns `None`.
 fn or_small(code: &[u8], kind: &'static str, name: Option<&'static str>) -> Option<Help<'static>>
     ensures { option_map help_words result
         ≡ or_small code.now (option_map (near_words kind.now) (option_map (λ n. n.now) name.entry)) }
@@ -332,14 +336,14 @@ fn or_small(code: &[u8], kind: &'static str, name: Option<&'static str>) -> Opti
     }
 }
 
-/// Returns the helper whose name is close to the word, if there is one.
+/// Returns the name of a helper that is similar to `word`, or `None` if there is no such helper.
 fn near_helper(alloc: Global, word: &[u8]) -> Result<Option<&'static str>, AllocError>
     ensures { IfOk result (λ name. option_map (λ n. n.now) name ≡ near word.now helpers) }
 {
     near(alloc, word, &HELPERS)
 }
 
-/// Checks whether the mnemonic takes a helper.
+/// Checks whether the mnemonic takes a helper as its operand, as `call` does.
 fn is_call(takes: Option<Takes>) -> bool
     ensures { result ≡ is_call takes }
 {
@@ -349,7 +353,7 @@ fn is_call(takes: Option<Takes>) -> bool
     }
 }
 
-/// Returns a help message for a word that is not the name of a helper.
+/// Returns a help message for a word that is not the name of a helper, or `None` if no cause is likely.
 fn helper_help(alloc: Global, word: &[u8]) -> Result<Option<Help<'static>>, AllocError>
     ensures { IfOk result (λ help. option_map help_words help
         ≡ or_small word.now (option_map (near_words (codes "helper")) (near word.now helpers))) }
@@ -358,7 +362,7 @@ fn helper_help(alloc: Global, word: &[u8]) -> Result<Option<Help<'static>>, Allo
     Ok(or_small(word, "helper", name))
 }
 
-/// Returns a help message for operands that do not fit the mnemonic.
+/// Returns a help message for operands that do not fit the mnemonic, or `None` if no cause is likely.
 fn operand_help(
     alloc: Global,
     takes: Option<Takes>,
@@ -372,7 +376,7 @@ fn operand_help(
     Ok(or_small(operands, "helper", None))
 }
 
-/// Returns a help message for a word that is not a mnemonic.
+/// Returns a help message for a word that is not a mnemonic, or `None` if no cause is likely.
 fn mnemonic_help(alloc: Global, word: &[u8]) -> Result<Option<Help<'static>>, AllocError>
     ensures { IfOk result (λ help. option_map help_words help
         ≡ or_small word.now (option_map (near_words (codes "mnemonic")) (near word.now mnemonic_names))) }
@@ -382,7 +386,7 @@ fn mnemonic_help(alloc: Global, word: &[u8]) -> Result<Option<Help<'static>>, Al
     Ok(or_small(word, "mnemonic", name))
 }
 
-/// Returns a help message for a fault in a line, if a cause is likely.
+/// Returns a help message for a fault in line `number` of a text, or `None` if no cause is likely.
 fn help(
     alloc: Global,
     fault: AsmFault,
@@ -400,8 +404,8 @@ fn help(
     }
 }
 
-/// A line of code at its place in a file: the number and the bytes of the file's line, the bytes of that line before
-/// the code, and the code.
+/// A line of assembly, `code`, and its place in a file. `number` and `shown` are the number and the bytes of the file's
+/// line. `front` contains the bytes of that line before the assembly, such as `asm = "` in a scenario.
 #[derive(Clone, Copy)]
 pub(crate) struct Spot<'a> {
     pub number: u64,
@@ -410,7 +414,7 @@ pub(crate) struct Spot<'a> {
     pub code: &'a [u8],
 }
 
-/// Returns the spot of code that is a whole line of the file.
+/// Returns the line of assembly that is all of line `number` in a file, with its place.
 pub(crate) fn whole(number: u64, line: &[u8]) -> Spot<'_>
     ensures { spot_view result ≡ whole number line.now }
 {
@@ -422,7 +426,7 @@ pub(crate) fn whole(number: u64, line: &[u8]) -> Spot<'_>
     }
 }
 
-/// Marks the statement of a line of code in the line of the file.
+/// Marks the statement of a line of assembly, in the line of the file that contains it.
 pub(crate) fn unit_mark(spot: Spot<'_>) -> Mark<'_>
     ensures { mark_view result ≡ unit_mark (spot_view spot.entry) }
 {
@@ -435,7 +439,7 @@ pub(crate) fn unit_mark(spot: Spot<'_>) -> Mark<'_>
     )
 }
 
-/// Returns the report of a fault in a line of code. `name` is the file's name.
+/// Returns the report of a fault in a line of assembly at a place in a file. `name` is the file's name.
 pub(crate) fn code_told(
     alloc: Global,
     name: &str,
@@ -456,7 +460,7 @@ pub(crate) fn code_told(
     report(alloc, name, sentence(fault, code), Some(mark), help)
 }
 
-/// Returns the report of a fault in a line of a file. Without a line, the report has no excerpt.
+/// Returns the report of a fault in line `number` of an assembly file. If `line` is `None`, the report has no excerpt.
 fn line_told(
     alloc: Global,
     name: &str,
@@ -473,7 +477,7 @@ fn line_told(
     code_told(alloc, name, fault, whole(number, line))
 }
 
-/// Returns the report of a fault at line `number` of an assembly text. `name` is the file's name.
+/// Returns the report of a fault at line `number` of an assembly text, counted from 1. `name` is the file's name.
 #[tactic(auto, unfolding(crate::specs::Assembly::assembly_told))]
 pub fn of_assembly(
     alloc: Global,

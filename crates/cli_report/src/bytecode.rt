@@ -12,14 +12,14 @@ use text::{Base, digits};
 /// The greatest size of a program in bytes: 4096 units of 8 bytes.
 const MOST_BYTES: usize = 32768;
 
-/// Returns the number in the first two hex digits, or 0 if there is none.
+/// Returns the number in the first two hex digits, or 0 if they are no hex digits.
 fn byte_of(hex: &[u8]) -> u128
     ensures { result ≡ byte_of hex.now }
 {
     digits(Base::Sixteen, front(hex, 2)).unwrap_or(0)
 }
 
-/// Returns the sentence for an instruction that is left out of this instruction set, by its opcode.
+/// Returns the error sentence for a BPF instruction with this opcode that byzlab does not support.
 fn left_out_sentence(opcode: u128) -> &'static str
     ensures { result.now ≡ left_out_sentence opcode }
 {
@@ -34,7 +34,8 @@ fn left_out_sentence(opcode: u128) -> &'static str
     }
 }
 
-/// Returns the sentence for a field that selects none of the instruction's forms, by its opcode.
+/// Returns the error sentence for a field that selects no form of the instruction with this opcode. For example, the
+/// width of a byte swap must be 16, 32 or 64 bits.
 fn choice_sentence(opcode: u128) -> &'static str
     ensures { result.now ≡ choice_sentence opcode }
 {
@@ -46,7 +47,7 @@ fn choice_sentence(opcode: u128) -> &'static str
     }
 }
 
-/// Returns the sentence for a fault in the unit with these hex digits.
+/// Returns the error sentence for a fault in the unit of bytecode with these hex digits.
 pub(crate) fn unit_sentence(fault: CodecFault, hex: &[u8]) -> &'static str
     ensures { result.now ≡ unit_sentence fault hex.now }
 {
@@ -62,8 +63,8 @@ pub(crate) fn unit_sentence(fault: CodecFault, hex: &[u8]) -> &'static str
     }
 }
 
-/// Returns which hex digits show that an instruction is left out: how many digits are before them, and how many they
-/// are.
+/// Returns which hex digits of a unit show that its instruction is not supported: how many digits are before them, and
+/// how many they are.
 fn left_out_place(opcode: u128) -> (usize, usize)
     ensures { result ≡ left_out_place opcode }
 {
@@ -73,7 +74,8 @@ fn left_out_place(opcode: u128) -> (usize, usize)
     }
 }
 
-/// Returns which hex digits select the form of an instruction: how many digits are before them, and how many they are.
+/// Returns which hex digits of a unit select the form of its instruction: how many digits are before them, and how many
+/// they are.
 fn choice_place(opcode: u128) -> (usize, usize)
     ensures { result ≡ choice_place opcode }
 {
@@ -97,7 +99,8 @@ pub(crate) fn unit_place(fault: CodecFault, hex: &[u8]) -> (usize, usize)
     }
 }
 
-/// Returns the bytes of a unit, counted from 0: fewer than 8 if the file ends within it, and none from unit 4096 on.
+/// Returns the 8 bytes of unit `unit`, counted from 0. If the file ends within or before the unit, returns the bytes
+/// that it has. Returns none from unit 4096 on.
 fn unit_at(bytes: &[u8], unit: usize) -> &[u8]
     ensures { result.now ≡ unit_at bytes.now unit }
 {
@@ -120,8 +123,8 @@ fn unit_marked(fault: CodecFault, unit: usize, hex: &[u8]) -> Option<Mark<'_>>
     Some(marked(unit as u64, hex, from, size))
 }
 
-/// Returns the report of a fault at a unit of bytecode. The excerpt shows the unit's number and its hex digits. `name`
-/// is the file's name.
+/// Returns the report of a fault at unit `unit` of bytecode, counted from 0. The excerpt shows the unit's number and
+/// its hex digits. `name` is the file's name.
 #[tactic(auto, unfolding(crate::specs::Bytecode::bytecode_told))]
 pub fn of_bytecode(
     alloc: Global,

@@ -10,7 +10,8 @@ use crate::toml_errors::last_line;
 use std::alloc::{AllocError, Global};
 use trace::{MOST_SCHEDULE_BYTES, TraceFault};
 
-/// Returns a help message for a line that shows the encoding of another system: a byte order mark or a carriage return.
+/// Returns a help message for a line in the encoding of another system: it begins with a byte order mark, or has a
+/// carriage return. Returns `None` for another line.
 fn ends_help(number: u64, line: &[u8]) -> Option<Help<'static>>
     ensures { option_map help_words result ≡ chronicle_advice number None line.now }
 {
@@ -23,7 +24,7 @@ fn ends_help(number: u64, line: &[u8]) -> Option<Help<'static>>
     }
 }
 
-/// Returns a help message for a faulty line of a schedule, if a cause is likely.
+/// Returns a help message for a faulty line of a schedule, or `None` if no cause is likely.
 fn schedule_help(number: u64, line: &[u8]) -> Option<Help<'static>>
     ensures { option_map help_words result ≡ schedule_advice number line.now }
 {
@@ -34,7 +35,7 @@ fn schedule_help(number: u64, line: &[u8]) -> Option<Help<'static>>
     }
 }
 
-/// Returns the report of a fault in a line of a schedule. Without a line, the report has no excerpt.
+/// Returns the report of a fault in line `number` of a schedule. If `line` is `None`, the report has no excerpt.
 fn schedule_line_told(
     alloc: Global,
     name: &str,
@@ -60,8 +61,8 @@ fn schedule_line_told(
     )
 }
 
-/// Returns the report of a fault in line `number` of a schedule. Only the first 1048576 bytes are looked at, the most
-/// that a schedule has. `name` is the file's name.
+/// Returns the report of a fault in line `number` of a schedule, counted from 1. Only the first 1,048,576 bytes of the
+/// text, the most that a schedule may have, can be in the excerpt. `name` is the file's name.
 #[tactic(auto, unfolding(crate::specs::Chronicles::schedule_told))]
 pub fn of_schedule(
     alloc: Global,
@@ -75,15 +76,15 @@ pub fn of_schedule(
     schedule_line_told(alloc, name, number, line)
 }
 
-/// Checks whether the line is the one after the last line feed of the text.
+/// Checks whether line `number` of a text, counted from 1, is the one after the last line feed.
 fn is_last(text: &[u8], number: u64) -> bool
     ensures { result ≡ is_last text.now number }
 {
     number == last_line(text).0
 }
 
-/// Returns the sentence for a fault in a line of a chronicle. `last` says whether it is the line after the last line
-/// feed.
+/// Returns the error sentence for a fault in a line of a chronicle. `last` says whether the line is after the last line
+/// feed of the file, so that it is cut off or empty.
 fn chronicle_sentence(last: bool, fault: TraceFault) -> &'static str
     ensures { result.now ≡ chronicle_sentence last fault }
 {
@@ -96,8 +97,8 @@ fn chronicle_sentence(last: bool, fault: TraceFault) -> &'static str
     }
 }
 
-/// Returns a help message for a faulty line of a chronicle: the campaign's own line if it is known, otherwise a likely
-/// cause.
+/// Returns a help message for a faulty line of a chronicle: the line that the campaign's own chronicle has there or, if
+/// this is not known, a likely cause. Returns `None` if no cause is likely.
 fn chronicle_help<'a>(number: u64, wanted: Option<&'a str>, line: &[u8]) -> Option<Help<'a>>
     ensures { option_map help_words result ≡ chronicle_advice number (option_map (λ w. w.now) wanted.entry) line.now }
 {
@@ -107,7 +108,8 @@ fn chronicle_help<'a>(number: u64, wanted: Option<&'a str>, line: &[u8]) -> Opti
     }
 }
 
-/// Returns the report of a fault in a line of a chronicle. Without a line, the report has no excerpt.
+/// Returns the report of a fault in line `number` of a chronicle. `wanted` is the line that the campaign's own
+/// chronicle has there, if it is known. If `line` is `None`, the report has no excerpt.
 fn chronicle_line_told(
     alloc: Global,
     name: &str,
@@ -140,8 +142,8 @@ fn chronicle_line_told(
     }
 }
 
-/// Returns line `number` of the campaign's own chronicle, as it is shown. Returns `None` if there is no such line, or
-/// if the fault is the shape of the line in the file.
+/// Returns line `number` of `again`, the campaign's own chronicle, with control characters escaped. Returns `None` if
+/// there is no such line, or if the line in the file does not have the form of a chronicle's line.
 fn wanted_in(
     alloc: Global,
     fault: TraceFault,
@@ -159,7 +161,8 @@ fn wanted_in(
     }
 }
 
-/// Returns the report of a fault at line `number` of a chronicle. `wanted` is the campaign's own line, if it is known.
+/// Returns the report of a fault at line `number` of a chronicle, counted from 1. `wanted` is the line that the
+/// campaign's own chronicle has there, if it is known.
 #[tactic(auto, unfolding(crate::specs::Chronicles::chronicle_told))]
 fn chronicle_told(
     alloc: Global,
@@ -177,8 +180,8 @@ fn chronicle_told(
     chronicle_line_told(alloc, name, last, fault, number, wanted, line)
 }
 
-/// Returns the report of a fault at line `number` of a chronicle. `name` is the file's name, and `again` is the
-/// chronicle that the campaign has instead.
+/// Returns the report of a fault at line `number` of a chronicle, counted from 1. `name` is the file's name, and
+/// `again` is the correct chronicle of the campaign.
 pub fn of_chronicle(
     alloc: Global,
     name: &str,

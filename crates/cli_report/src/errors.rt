@@ -11,8 +11,8 @@ use scenario::ScenarioError;
 use std::alloc::{AllocError, Global};
 use trial::SettingError;
 
-/// Returns the report of a scenario's error. If the verifier rejects a program, the program's explanation follows.
-/// `name` is the file's name.
+/// Returns the report of an error in a scenario. If the verifier rejects a program, the explanation of the program
+/// follows. `name` is the file's name.
 pub fn of_scenario(
     alloc: Global,
     name: &str,
@@ -27,7 +27,8 @@ pub fn of_scenario(
     Ok(told)
 }
 
-/// Returns the report of a scenario's error, without the explanation of a rejected program. `name` is the file's name.
+/// Returns the report of an error in a scenario, without the explanation of a rejected program. `name` is the file's
+/// name.
 fn scenario_report(
     alloc: Global,
     name: &str,
@@ -51,7 +52,7 @@ fn scenario_report(
     }
 }
 
-/// Returns the report of a setting's error. `name` is the file's name.
+/// Returns the report of an error in a setting. `name` is the file's name.
 pub fn of_setting(
     alloc: Global,
     name: &str,

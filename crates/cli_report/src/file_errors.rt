@@ -1,4 +1,4 @@
-//! Reports errors of a scenario that names files, at the scenario's own lines or at those of the files.
+//! Reports errors of a scenario that names files, at a line of the scenario or of one of these files.
 ghost use Rattle.std.specs.Prelude.{◌≡◌, IfOk, None, codes, option_and_then, option_map, string_bytes};
 ghost use Rattle.toml.specs.Parse.{parse_document};
 ghost use Rattle.toml.specs.View.{table_view};
@@ -31,8 +31,9 @@ use std::alloc::{AllocError, Global};
 use toml::Table;
 use verify::Reason;
 
-/// Returns the place in the scenario's own text for a place in the resolved text. Several tables of the resolved text
-/// can come from one table of the own text.
+/// Returns the place in the scenario's own text from which a place in the resolved text comes. The resolved text has
+/// the contents of files in place of their names, and a table for each traitor, so several of its tables can come from
+/// one.
 fn own_place(alloc: Global, own: &str, place: ScenarioPlace) -> Result<ScenarioPlace, AllocError>
     ensures { IfOk result (λ at. at ≡ own_place (parse_document own.now) place) }
 {
@@ -46,8 +47,8 @@ fn own_place(alloc: Global, own: &str, place: ScenarioPlace) -> Result<ScenarioP
     }
 }
 
-/// Returns the number of the table in the scenario's own text from which table `at` of the resolved text comes. Returns
-/// `None` for the top of the text.
+/// Returns the number of the table in the scenario's own text from which table `at` of the resolved text comes. The
+/// resolved text has the contents of files in place of their names. `None` means the top of the text.
 fn own_index(alloc: Global, own: &str, at: Option<usize>) -> Result<Option<usize>, AllocError>
     ensures { IfOk result (λ index. index ≡ own_index (parse_document own.now) at) }
 {
@@ -57,8 +58,8 @@ fn own_index(alloc: Global, own: &str, at: Option<usize>) -> Result<Option<usize
     }
 }
 
-/// Returns the key that a table may have in place of this one: the key that names a file or lists several generals.
-/// Another key is returned unchanged.
+/// Returns the key that a table may have in place of `name`: `generals`, `asm_file` or `code_file`. Any other key is
+/// returned unchanged.
 fn other_key(name: ScenarioKey) -> &'static str
     ensures { result.now ≡ other_key name }
 {
@@ -70,8 +71,8 @@ fn other_key(name: ScenarioKey) -> &'static str
     }
 }
 
-/// Returns the key that is written in this table of the own text: `name` itself, or the key that a table may have in
-/// its place.
+/// Returns the key that table `index` of the scenario's own text has: `name` itself, or a key that may replace it, such
+/// as `asm_file` for `asm`.
 fn own_word(index: usize, name: ScenarioKey, own: &[u8]) -> &'static str
     ensures { result.now ≡ own_word index name own.now }
 {
@@ -81,7 +82,7 @@ fn own_word(index: usize, name: ScenarioKey, own: &[u8]) -> &'static str
     }
 }
 
-/// Marks a place in the scenario's own text.
+/// Marks a place in the scenario's own text. Returns `None` if its line is not found.
 #[tactic(auto, unfolding(crate::specs::Made::own_mark))]
 fn own_mark(fault: ScenarioFault, place: ScenarioPlace, own: &[u8]) -> Option<Mark<'_>>
     ensures { option_map mark_view result ≡ own_mark fault place own.now }
@@ -95,7 +96,7 @@ fn own_mark(fault: ScenarioFault, place: ScenarioPlace, own: &[u8]) -> Option<Ma
     }
 }
 
-/// Returns the report of a fault at a place in the scenario's own text.
+/// Returns the report of a fault at a place in the scenario's own text. `name` is the file's name.
 #[tactic(auto, unfolding(crate::specs::Made::own_place_told))]
 fn own_place_told(
     alloc: Global,
@@ -112,7 +113,8 @@ fn own_place_told(
     report(alloc, name, sentence.as_str(), mark, help)
 }
 
-/// Returns the line of a key in this table of the own text, if the table has the key.
+/// Returns the line of the key `word` in table `table` of the scenario's own text, or `None` if the table has no such
+/// key.
 fn own_line<'a>(table: Option<usize>, word: &[u8], own: &'a [u8]) -> Option<Found<'a>>
     ensures { option_map found_view result ≡ own_line table word.now own.now }
 {
@@ -142,8 +144,8 @@ fn digits_of<'a>(source: Option<ProgramText<'a>>) -> &'a str
     }
 }
 
-/// Returns the report of a fault at a line of the assembly file that the line `key` names. Without that line, the
-/// report has no excerpt.
+/// Returns the report of a fault in line `number` of an assembly file. `key` is the line of the scenario that names
+/// this file. If it is `None`, the report has no excerpt.
 fn file_told(
     alloc: Global,
     name: &str,
@@ -163,7 +165,8 @@ fn file_told(
     of_assembly(alloc, file.as_str(), text, fault, number)
 }
 
-/// Returns the report of a fault at a line of assembly, which is in the scenario or in a file that the scenario names.
+/// Returns the report of a fault in line `number` of a traitor's assembly, which is in the scenario or in a file that
+/// it names. `table` is the number of his table in the scenario's own text.
 fn asm_told(
     alloc: Global,
     name: &str,
@@ -186,7 +189,7 @@ fn asm_told(
     }
 }
 
-/// Returns the hex digits of a unit, at most 16. A unit past 4096 has none.
+/// Returns the hex digits of unit `unit`, counted from 0: at most 16. A unit past 4096 has none.
 fn unit_digits(digits: &[u8], unit: usize) -> &[u8]
     ensures { result.now ≡ unit_digits digits.now unit }
 {
@@ -196,7 +199,8 @@ fn unit_digits(digits: &[u8], unit: usize) -> &[u8]
     front(behind(digits, 16 * unit), 16)
 }
 
-/// Marks the name of the bytecode file in this table or, without one, of the object file.
+/// Marks the name of the bytecode file in table `table` of the scenario or, if it has none, the name of the object
+/// file.
 fn bytes_shown(table: Option<usize>, own: &[u8]) -> Option<Mark<'_>>
     ensures { option_map mark_view result ≡ bytes_shown table own.now }
 {
@@ -206,7 +210,8 @@ fn bytes_shown(table: Option<usize>, own: &[u8]) -> Option<Mark<'_>>
     }
 }
 
-/// Returns the report of a fault in a unit of bytecode, which is in the scenario or in a file that the scenario names.
+/// Returns the report of a fault in unit `unit` of a traitor's bytecode, which is in the scenario or in a file that it
+/// names. `table` is the number of his table in the scenario's own text.
 fn unit_told(
     alloc: Global,
     name: &str,
@@ -228,7 +233,7 @@ fn unit_told(
     report(alloc, name, unit_sentence(fault, digits), mark, None)
 }
 
-/// Returns the report of a program in an assembly file that the verifier rejects, at the line of the unit.
+/// Returns the report of a program in an assembly file that the verifier rejects, at the line of unit `unit`.
 fn unit_of_file_told(
     alloc: Global,
     file: &str,
@@ -243,7 +248,7 @@ fn unit_of_file_told(
     line_told(alloc, file, sentence.as_str(), text, number)
 }
 
-/// Returns the report with this sentence at a line of a file.
+/// Returns the report with this sentence, at line `number` of a file with this text.
 fn line_told(
     alloc: Global,
     file: &str,
@@ -258,7 +263,7 @@ fn line_told(
     report(alloc, file, sentence, mark, None)
 }
 
-/// Marks the statement in line `number` of a text, if there is such a line.
+/// Marks the statement in line `number` of an assembly text. Returns `None` if there is no such line.
 fn line_shown(text: &[u8], number: u64) -> Option<Mark<'_>>
     ensures { option_map mark_view result ≡ line_shown text.now number }
 {
@@ -266,7 +271,8 @@ fn line_shown(text: &[u8], number: u64) -> Option<Mark<'_>>
     Some(unit_mark(whole(number, line)))
 }
 
-/// Returns the report of a program that the verifier rejects, at this place in the scenario's own text.
+/// Returns the report of a program that the verifier rejects at unit `unit`. `mark` is the part to mark in the
+/// scenario's own text.
 fn key_told(
     alloc: Global,
     name: &str,
@@ -281,7 +287,8 @@ fn key_told(
     report(alloc, name, sentence.as_str(), mark, None)
 }
 
-/// Marks the key `code` of this table or, without it, the name of the bytecode file or object file.
+/// Marks the key `code` in table `table` of the scenario or, if it has none, the name of the bytecode file or object
+/// file.
 fn code_shown(table: Option<usize>, own: &[u8]) -> Option<Mark<'_>>
     ensures { option_map mark_view result ≡ code_shown table own.now (own_line table (codes "code") own.now) }
 {
@@ -292,7 +299,7 @@ fn code_shown(table: Option<usize>, own: &[u8]) -> Option<Mark<'_>>
 }
 
 /// Returns the report of a program that the verifier rejects and whose assembly is in the scenario. The report is at
-/// the line of the unit, and `line` has the key of the program.
+/// the line of unit `unit`, and `line` is the line with the program's key.
 fn own_unit_told(
     alloc: Global,
     name: &str,
@@ -309,7 +316,8 @@ fn own_unit_told(
     key_told(alloc, name, reason, unit, mark)
 }
 
-/// Returns the report of a program that the verifier rejects.
+/// Returns the report of a traitor's program that the verifier rejects, at its place in the scenario or in its assembly
+/// file. `table` is the number of his table in the scenario's own text.
 fn refused_told(
     alloc: Global,
     name: &str,
@@ -328,7 +336,8 @@ fn refused_told(
     }
 }
 
-/// Returns the report of a program that the verifier rejects and whose assembly is not in the scenario's own text.
+/// Returns the report of a traitor's program that the verifier rejects and whose assembly is not in the scenario. It is
+/// at a line of his assembly file or, without such a file, at the key of his bytecode.
 fn refused_file_told(
     alloc: Global,
     name: &str,
@@ -350,7 +359,8 @@ fn refused_file_told(
     }
 }
 
-/// Returns the report of bytecode that is not an even number of hex digits.
+/// Returns the report of a scenario's bytecode that is not an even number of hex digits. `table` is the number of the
+/// table with this bytecode.
 fn hex_told(
     alloc: Global,
     name: &str,
@@ -364,7 +374,8 @@ fn hex_told(
     report(alloc, name, sentence, mark, None)
 }
 
-/// Returns the report of a fault in a general's program. `table` is the number of his table in the scenario's own text.
+/// Returns the report of a fault in a traitor's program. `source` is the program, and `table` is the number of his
+/// table in the scenario's own text.
 fn program_told(
     alloc: Global,
     name: &str,
@@ -390,8 +401,8 @@ fn program_told(
     }
 }
 
-/// Returns the report of an error in the resolved text. `made` is the table of that text, and `own` is the scenario's
-/// own text.
+/// Returns the report of an error that was found in the resolved text of a scenario, which has the contents of files in
+/// place of their names. `made` is the resolved text, parsed, and `own` is the scenario's own text.
 fn made_report(
     alloc: Global,
     name: &str,
@@ -421,7 +432,8 @@ fn made_report(
     }
 }
 
-/// Returns the line from which the lines of an assembly file are counted: line 0, as if the file's text began after it.
+/// Returns a made-up line 0, after which the text of an assembly file begins. The lines of the file are counted from
+/// it.
 fn in_file() -> Found<'static>
     ensures { found_view result ≡ in_file }
 {
@@ -432,7 +444,8 @@ fn in_file() -> Found<'static>
     }
 }
 
-/// Returns the line from which a program's lines are counted, if its assembly is not in the scenario's own text.
+/// Returns the line from which the lines of a program are counted, if its assembly is not in the scenario. It is a
+/// made-up line 0 for an assembly file, and otherwise the line with the key of the bytecode.
 fn file_source(table: Option<usize>, own: &[u8]) -> Option<Found<'_>>
     ensures { option_map found_view result ≡ file_source table own.now }
 {
@@ -448,7 +461,8 @@ fn file_source(table: Option<usize>, own: &[u8]) -> Option<Found<'_>>
     own_line(table, b"elf", own)
 }
 
-/// Returns the line from which a program's lines are counted.
+/// Returns the line from which the lines of a program in table `table` are counted: the line with the program's key, or
+/// a made-up line 0 for an assembly file.
 fn own_source(table: Option<usize>, own: &[u8]) -> Option<Found<'_>>
     ensures { option_map found_view result ≡ own_source table own.now }
 {
@@ -458,8 +472,8 @@ fn own_source(table: Option<usize>, own: &[u8]) -> Option<Found<'_>>
     }
 }
 
-/// Returns the text after the report: the explanation of the program if the verifier rejects it, and nothing for
-/// another error.
+/// Returns what follows the report of an error: the explanation of the program if the verifier rejects it, and
+/// otherwise an empty text.
 fn made_judged(
     alloc: Global,
     own: &str,
@@ -479,10 +493,11 @@ fn made_judged(
     explained_of(alloc, general, written, own_source(table, own.as_bytes()))
 }
 
-/// Returns the report of an error in the resolved text of a scenario, at a line of the scenario's own text or of a file
-/// that it names. If the verifier rejects a program, the program's explanation follows.
+/// Returns the report of an error of a scenario that names files, at a line of the scenario or of one of these files.
+/// If the verifier rejects a program, the explanation of the program follows.
 ///
-/// `own` is the scenario's own text, `made` is the text with the contents of its files, and `name` is the file's name.
+/// `own` is the scenario's own text, and `made` is its resolved text, which has the contents of the files in place of
+/// their names. `name` is the name of the scenario's file.
 pub fn of_made(
     alloc: Global,
     name: &str,

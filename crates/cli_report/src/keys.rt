@@ -8,8 +8,8 @@ use crate::report::{Mark, behind};
 use std::alloc::{AllocError, Global};
 use text::{Stop, cut, find};
 
-/// A line of a text: its number, counted from 1, its bytes, and how many `[[traitor]]` headers there are up to and
-/// including it.
+/// A line of a TOML text: its number, counted from 1, its bytes, and how many `[[traitor]]` headers the text has up to
+/// and including this line.
 #[derive(Clone, Copy)]
 pub(crate) struct Found<'a> {
     pub number: u64,
@@ -17,14 +17,14 @@ pub(crate) struct Found<'a> {
     pub tables: u64,
 }
 
-/// Returns the header that begins a traitor's table.
+/// Returns the header `[[traitor]]`, which begins the table of a traitor.
 pub(crate) fn header() -> &'static [u8]
     ensures { result.now ≡ header }
 {
     b"[[traitor]]"
 }
 
-/// Checks whether a word ends before these bytes: at `=`, `#`, white space or the end of the line.
+/// Checks whether these bytes end the word before them: they are empty, or begin with `=`, `#` or white space.
 fn ends_word(bytes: &[u8]) -> bool
     ensures { result ≡ ends_word bytes.now }
 {
@@ -38,7 +38,7 @@ fn ends_word(bytes: &[u8]) -> bool
     }
 }
 
-/// Checks whether the line begins with this word, apart from blanks.
+/// Checks whether the first word of a line is `word`.
 fn begins_with(word: &[u8], line: &[u8]) -> bool
     ensures { result ≡ begins_with word.now line.now }
 {
@@ -46,7 +46,7 @@ fn begins_with(word: &[u8], line: &[u8]) -> bool
     solid.starts_with(word) && ends_word(behind(solid, word.len()))
 }
 
-/// Returns how many headers there are up to and including this line, if `tables` headers are before it.
+/// Returns how many `[[traitor]]` headers there are up to and including this line, if `tables` headers are before it.
 fn table_at(tables: u64, line: &[u8]) -> u64
     requires { tables + 1 < 2 ^ 64 }
     ensures at { result ≡ table_at tables line.now }
@@ -59,7 +59,8 @@ fn table_at(tables: u64, line: &[u8]) -> u64
     }
 }
 
-/// Returns the first line that begins with this word and has `sought` headers up to and including it.
+/// Returns the first line with the first word `word` in table `sought`, the table after that many `[[traitor]]`
+/// headers. Table 0 is the top of the text. Returns `None` if there is no such line.
 #[tactic(auto, unfolding(crate::specs::Keys::found))]
 pub(crate) fn find_line<'a>(sought: u128, word: &[u8], text: &'a [u8]) -> Option<Found<'a>>
     ensures { option_map found_view result ≡ found sought word.now text.now }
@@ -82,7 +83,7 @@ pub(crate) fn find_line<'a>(sought: u128, word: &[u8], text: &'a [u8]) -> Option
     None
 }
 
-/// Returns the rest of a line from its value on. The value is after the `=` and the blanks that follow it.
+/// Returns a line from its value on. The value begins after the first `=` and the blanks that follow it.
 pub(crate) fn value_end(line: &[u8]) -> &[u8]
     ensures { result.now ≡ value_end line.now }
 {
@@ -90,15 +91,15 @@ pub(crate) fn value_end(line: &[u8]) -> &[u8]
     cut(Stop::Solid, behind(behind_key, 1)).1
 }
 
-/// Returns the value in a line, without the comment and the white space after it.
+/// Returns the value in a line such as `order = 1 # attack`, without the comment and the white space around the value.
 pub(crate) fn value_in(line: &[u8]) -> &[u8]
     ensures { result.now ≡ value_in line.now }
 {
     trimmed(cut(Stop::Byte(b'#'), value_end(line)).0)
 }
 
-/// Returns what is between the quotation marks of the value in a line: the text after the value's first byte, up to the
-/// next byte that is the same.
+/// Returns the text between the quotation marks of the value in a line. It ends at the next byte that is the same as
+/// the first byte of the value.
 pub(crate) fn quoted_value(line: Found<'_>) -> &[u8]
     ensures { result.now ≡ quoted_value (found_view line.entry) }
 {
@@ -108,7 +109,8 @@ pub(crate) fn quoted_value(line: Found<'_>) -> &[u8]
     }
 }
 
-/// Returns how many headers there are up to the first line `general = G`, where G is the number of this general.
+/// Returns the number of the table, counted from 1, that has the first line `general = G`, where G is `general`. It is
+/// 0 for the top of the text, and `None` if there is no such line.
 #[tactic(auto, unfolding(crate::specs::Keys::table_of))]
 pub(crate) fn table_of(alloc: Global, general: u8, text: &[u8]) -> Result<Option<u64>, AllocError>
     ensures { IfOk result (λ table. table ≡ table_of general text.now) }
@@ -126,7 +128,7 @@ pub(crate) fn table_of(alloc: Global, general: u8, text: &[u8]) -> Result<Option
     Ok(None)
 }
 
-/// Marks the word at the beginning of a line.
+/// Marks `word`, the first word of a line.
 fn word_marked<'a>(word: &[u8], found: Found<'a>) -> Mark<'a>
     ensures { mark_view result ≡ word_marked word.now (found_view found.entry) }
 {
@@ -138,7 +140,7 @@ fn word_marked<'a>(word: &[u8], found: Found<'a>) -> Mark<'a>
     )
 }
 
-/// Marks the value in a line.
+/// Marks the value in a line, without the comment after it.
 fn value_marked(found: Found<'_>) -> Mark<'_>
     ensures { mark_view result ≡ value_marked (found_view found.entry) }
 {
@@ -151,8 +153,8 @@ fn value_marked(found: Found<'_>) -> Mark<'_>
     )
 }
 
-/// Marks the word at the beginning of a line, or its value if `by_value`. If the line does not begin with the word, all
-/// of it is marked.
+/// Marks the value in a line if `by_value` is true, and otherwise its first word, `word`. If its first word is another
+/// one, marks all of the line.
 pub(crate) fn shown_at<'a>(by_value: bool, word: &[u8], found: Found<'a>) -> Mark<'a>
     ensures { mark_view result ≡ shown_at by_value word.now (found_view found.entry) }
 {
@@ -165,8 +167,8 @@ pub(crate) fn shown_at<'a>(by_value: bool, word: &[u8], found: Found<'a>) -> Mar
     }
 }
 
-/// Returns the line of a key in table `index`, counted from 0. Without that line, returns the header of the table, and
-/// without a header, the key `traitor` at the top.
+/// Returns the line of the key `word` in traitor's table `index`, counted from 0. If the table has no such key, returns
+/// its header, and if there is no such header, the line of the key `traitor` at the top of the text.
 pub(crate) fn entry_line<'a>(index: usize, word: &[u8], text: &'a [u8]) -> Option<Found<'a>>
     ensures { option_map found_view result ≡ entry_line index word.now text.now }
 {

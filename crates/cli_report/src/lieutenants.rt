@@ -1,4 +1,4 @@
-//! Reports that a general who is named on the command line is not one of those asked for.
+//! Reports that a general who is named on the command line does not exist, or is not a lieutenant.
 ghost use Rattle.std.specs.Prelude.{◌≡◌, IfOk, option_map, string_bytes};
 ghost use Rattle.cli_report.specs.Lieutenants.{lieutenant_sentence, lieutenant_told, lieutenant_word, stranger_told};
 
@@ -9,7 +9,8 @@ use crate::report::report;
 use crate::scenarios::value_mark;
 use std::alloc::{AllocError, Global};
 
-/// Returns the sentence for a general of whom no decision can be explained: he is the commander, or does not exist.
+/// Returns the error sentence for a general who makes no decision: in a campaign of `generals` generals he is the
+/// commander, or does not exist.
 fn sentence(alloc: Global, general: u8, generals: u8) -> Result<String, AllocError>
     ensures { IfOk result (λ text. string_bytes text ≡ lieutenant_sentence general generals) }
 {
@@ -20,7 +21,8 @@ fn sentence(alloc: Global, general: u8, generals: u8) -> Result<String, AllocErr
     format!(in alloc; "the campaign has the generals 0 to {last}")
 }
 
-/// Returns the key whose value rules him out.
+/// Returns the key of the scenario that shows why this general is no lieutenant: `commander` if he exists, and
+/// otherwise `generals`.
 fn word(general: u8, generals: u8) -> &'static str
     ensures { result.now ≡ lieutenant_word general generals }
 {
@@ -31,7 +33,8 @@ fn word(general: u8, generals: u8) -> &'static str
     }
 }
 
-/// Returns the report for a campaign of `generals` generals. `name` is the name of its scenario.
+/// Returns the report that a general is not a lieutenant of a scenario's campaign, which has `generals` generals.
+/// `name` is the scenario's file name, and `text` is its text.
 #[tactic(auto, unfolding(crate::specs::Lieutenants::lieutenant_told))]
 fn lieutenant_told(
     alloc: Global,
@@ -48,8 +51,9 @@ fn lieutenant_told(
     report(alloc, name, sentence.as_str(), mark, None)
 }
 
-/// Returns the report that a general who is named on the command line is not one of the message table's, or not a
-/// lieutenant of the scenario. The table or the campaign has `generals` generals. `name` is the file's name.
+/// Returns the report that a general named on the command line does not belong to a file. For a message table, it is
+/// that he is not in the table, and for a scenario, that he is not a lieutenant. There are `generals` generals, and
+/// `name` is the file's name.
 #[tactic(auto, unfolding(crate::specs::Lieutenants::stranger_told))]
 pub fn of_stranger(
     alloc: Global,

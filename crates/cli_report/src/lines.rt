@@ -1,4 +1,4 @@
-//! Finds the lines of a file, and marks parts of them.
+//! Finds the lines of a file, and marks parts of them for the excerpts of reports.
 ghost use Rattle.std.specs.Prelude.{◌≡◌, option_map};
 ghost use Rattle.cli_report.specs.Lines.{all_marked, is_white, line_at, marked, trimmed};
 ghost use Rattle.cli_report.specs.Report.{mark_view};
@@ -13,7 +13,7 @@ fn is_white(byte: u8) -> bool
     byte == b' ' || byte == b'\t' || byte == b'\r'
 }
 
-/// Returns the line without the white space at its end.
+/// Returns a line without the spaces, tabs and carriage returns at its end.
 pub(crate) fn trimmed(line: &[u8]) -> &[u8]
     ensures { result.now ≡ trimmed line.now }
 {
@@ -27,7 +27,7 @@ pub(crate) fn trimmed(line: &[u8]) -> &[u8]
     &[]
 }
 
-/// Returns the line with this number, counted from 1, if there is one.
+/// Returns line `number` of a text, counted from 1, or `None` if there is no such line.
 pub(crate) fn line_at(text: &[u8], number: u64) -> Option<&[u8]>
     ensures { option_map (λ line. line.now) result ≡ line_at text.now number }
 {
@@ -42,7 +42,8 @@ pub(crate) fn line_at(text: &[u8], number: u64) -> Option<&[u8]>
     Some(line)
 }
 
-/// Marks the `size` bytes of a line after its first `before` bytes, as far as the line has them.
+/// Marks the `size` bytes after the first `before` bytes of a line, as far as the line has them. `number` is the line's
+/// number.
 pub(crate) fn marked(number: u64, line: &[u8], before: usize, size: usize) -> Mark<'_>
     ensures { mark_view result ≡ marked number line.now before size }
 {
@@ -55,7 +56,7 @@ pub(crate) fn marked(number: u64, line: &[u8], before: usize, size: usize) -> Ma
     }
 }
 
-/// Marks all of a line but the blanks at its beginning.
+/// Marks a whole line, except the blanks at its beginning. `number` is the line's number.
 pub(crate) fn all_marked(number: u64, line: &[u8]) -> Mark<'_>
     ensures { mark_view result ≡ all_marked number line.now }
 {

@@ -10,7 +10,7 @@ use book::TableFault;
 use combine::Rule;
 use std::alloc::{AllocError, Global};
 
-/// Returns the sentence for a first line of the wrong shape.
+/// Returns the error sentence for a message table with a first line that does not have the required form.
 fn first_sentence(alloc: Global) -> Result<String, AllocError>
     ensures { IfOk result (λ text. string_bytes text ≡ first_sentence) }
 {
@@ -20,7 +20,7 @@ fn first_sentence(alloc: Global) -> Result<String, AllocError>
     )
 }
 
-/// Returns the sentence for a fault in line `number` of a table.
+/// Returns the error sentence for a fault in line `number` of a message table, counted from 1.
 fn sentence(alloc: Global, fault: TableFault, number: u64) -> Result<String, AllocError>
     ensures { IfOk result (λ text. string_bytes text ≡ table_sentence fault number) }
 {
@@ -39,7 +39,8 @@ fn sentence(alloc: Global, fault: TableFault, number: u64) -> Result<String, All
     String::from_str(alloc, sentence)
 }
 
-/// Returns a help message for a line of the wrong shape, if a cause is likely.
+/// Returns a help message for a line that does not have the form of a message table's lines, or `None` if no cause is
+/// likely.
 fn shape_help(number: u64, line: &[u8]) -> Option<Help<'static>>
     ensures { option_map help_words result ≡ shape_advice number line.now }
 {
@@ -61,7 +62,7 @@ fn shape_help(number: u64, line: &[u8]) -> Option<Help<'static>>
     Some(Help::Said(sentence))
 }
 
-/// Returns a help message for a faulty line of a table, if a cause is likely.
+/// Returns a help message for a faulty line of a message table, or `None` if no cause is likely.
 fn help(fault: TableFault, number: u64, line: &[u8]) -> Option<Help<'static>>
     ensures { option_map help_words result ≡ table_advice fault number line.now }
 {
@@ -71,7 +72,7 @@ fn help(fault: TableFault, number: u64, line: &[u8]) -> Option<Help<'static>>
     }
 }
 
-/// Returns the report of a fault in a line of a table. Without a line, the report has no excerpt.
+/// Returns the report of a fault in line `number` of a message table. If `line` is `None`, the report has no excerpt.
 fn line_told(
     alloc: Global,
     name: &str,
@@ -91,7 +92,7 @@ fn line_told(
     report(alloc, name, sentence.as_str(), Some(mark), help)
 }
 
-/// Returns the report of a fault at line `number` of a message table. `name` is the file's name.
+/// Returns the report of a fault at line `number` of a message table, counted from 1. `name` is the file's name.
 #[tactic(auto, unfolding(crate::specs::Messages::table_told))]
 pub fn of_table(
     alloc: Global,
@@ -105,8 +106,8 @@ pub fn of_table(
     line_told(alloc, name, fault, number, line_at(text, number))
 }
 
-/// Returns the report that a named general is not one of the table's. `generals` is how many it has, and `line` is its
-/// first line.
+/// Returns the report that a general named on the command line is not in a message table, which has `generals`
+/// generals. `line` is the first line of the table. If it is `None`, the report has no excerpt.
 pub(crate) fn stranger_line_told(
     alloc: Global,
     name: &str,

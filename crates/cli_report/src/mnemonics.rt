@@ -7,32 +7,32 @@ use std::alloc::{AllocError, Global};
 /// The operands that a mnemonic takes.
 #[derive(Clone, Copy)]
 pub(crate) enum Takes {
-    /// A register, then a register or a number.
+    /// As for `add`: a register, and then a register or a number.
     Arithmetic,
-    /// One register.
+    /// As for `neg`: one register.
     Register,
-    /// Two registers.
+    /// As for `movsx8`: two registers.
     Registers,
-    /// The target of a jump.
+    /// As for `ja`: the target of a jump.
     Target,
-    /// A register, then a register or a number, then the target of a jump.
+    /// As for `jeq`: a register, then a register or a number, and then the target of a jump.
     Branch,
-    /// A register, then a place in memory.
+    /// As for `ldw`: a register, and then a place in memory, such as `[r1+8]`.
     Load,
-    /// A place in memory, then a register.
+    /// As for `stxw`: a place in memory, such as `[r10-8]`, and then a register.
     StoreRegister,
-    /// A place in memory, then a number.
+    /// As for `stw`: a place in memory, such as `[r10-8]`, and then a number.
     StoreNumber,
-    /// A register, then a number of 64 bits.
+    /// As for `lddw`: a register, and then a number of 64 bits.
     Wide,
-    /// A helper.
+    /// As for `call`: the name or the number of a helper.
     Call,
-    /// No operand.
+    /// As for `exit`: no operand.
     Nothing,
 }
 
 impl Takes {
-    /// Returns the sentence that describes these operands.
+    /// Returns the error sentence that says which operands the mnemonic takes.
     pub(crate) fn text(self) -> &'static str
         ensures { result.now ≡ takes_text self }
     {
@@ -54,7 +54,7 @@ impl Takes {
     }
 }
 
-/// The mnemonics, and the operands that each takes.
+/// All mnemonics, each with the operands that it takes.
 static MNEMONICS: [(&'static str, Takes); 86] = [
     ("add", Takes::Arithmetic),
     ("add.w", Takes::Arithmetic),
@@ -144,7 +144,7 @@ static MNEMONICS: [(&'static str, Takes); 86] = [
     ("xor.w", Takes::Arithmetic),
 ];
 
-/// Returns the operands in the first row that has the word, if there is one.
+/// Returns the operands in the first row for the mnemonic `word`, or `None` if there is no such row.
 fn search(rows: &[(&'static str, Takes)], word: &[u8]) -> Option<Takes>
     ensures { result ≡ first_taken word.now (map (λ row. (row.0.now, row.1)) rows.now) }
 {
@@ -164,7 +164,7 @@ pub(crate) fn taken(word: &[u8]) -> Option<Takes>
     search(&MNEMONICS, word)
 }
 
-/// Returns the words of the rows, in their order.
+/// Returns the mnemonics of the rows, in their order.
 fn words(alloc: Global, rows: &[(&'static str, Takes)]) -> Result<Vec<&'static str>, AllocError>
     ensures { IfOk result (λ words. map (λ word. word.now) words.items ≡ map (λ row. row.0.now) rows.now) }
 {
@@ -175,7 +175,7 @@ fn words(alloc: Global, rows: &[(&'static str, Takes)]) -> Result<Vec<&'static s
     Ok(words)
 }
 
-/// Returns the words of all mnemonics.
+/// Returns all mnemonics.
 #[tactic(auto, unfolding(crate::specs::Mnemonics::mnemonic_names))]
 pub(crate) fn names(alloc: Global) -> Result<Vec<&'static str>, AllocError>
     ensures { IfOk result (λ names. map (λ name. name.now) names.items ≡ mnemonic_names) }

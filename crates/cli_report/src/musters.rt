@@ -1,11 +1,11 @@
-//! Reports why a muster returned no chronicle.
+//! Reports why a muster, which plays a campaign with a thread for each general, returned no chronicle.
 ghost use Rattle.std.specs.Prelude.{◌≡◌, IfOk, string_bytes};
 ghost use Rattle.cli_report.specs.Musters.{muster_sentence, muster_told};
 
 use std::alloc::{AllocError, Global};
 use threads::MusterError;
 
-/// Returns the sentence for the error of a muster.
+/// Returns the error sentence for a muster that failed.
 fn sentence(error: MusterError) -> &'static str
     ensures { result.now ≡ muster_sentence error }
 {

@@ -5,15 +5,16 @@ ghost use Rattle.cli_report.specs.Nearest.{distance, near};
 use std::alloc::{AllocError, Global};
 use strsim::generic_levenshtein;
 
-/// Returns the Levenshtein distance of a word from a name, in bytes.
+/// Returns the Levenshtein distance between a word and a name: how many bytes must at least be inserted, deleted or
+/// replaced to change one into the other.
 fn distance(alloc: Global, word: &[u8], name: &str) -> Result<usize, AllocError>
     ensures { IfOk result (λ edits. edits ≡ distance word.now name.now) }
 {
     generic_levenshtein(alloc, word, name.as_bytes())
 }
 
-/// Returns the first of the names with the least distance from the word. Returns `None` if this distance is more than
-/// half the word's size in bytes, or if the word is empty.
+/// Returns the name with the least distance from the word, the first one if there are several. Returns `None` if this
+/// distance is more than half the word's size in bytes, or if the word is empty.
 #[tactic(auto, unfolding(crate::specs::Nearest::near))]
 pub(crate) fn near(
     alloc: Global,

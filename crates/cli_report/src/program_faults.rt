@@ -21,7 +21,7 @@ use std::alloc::{AllocError, Global};
 use toml::Table;
 use verify::Reason;
 
-/// Returns the line of a key in the table of this general, if it has the key.
+/// Returns the line of the key `word` in the table of this general, or `None` if the table has no such key.
 #[tactic(auto, unfolding(crate::specs::Scenarios::program_line))]
 fn program_line<'a>(
     alloc: Global,
@@ -37,7 +37,8 @@ fn program_line<'a>(
     }
 }
 
-/// Returns the line with the key of a general's program: `asm` or, without it, `code`.
+/// Returns the line with the key of a general's program: `asm` or, if his table has no such key, `code`. Returns `None`
+/// if it has neither.
 pub(crate) fn source_line(
     alloc: Global,
     general: u8,
@@ -51,14 +52,14 @@ pub(crate) fn source_line(
     }
 }
 
-/// Checks whether a value is a text over several lines, which three quotation marks begin.
+/// Checks whether a TOML value is a string over several lines, which begins with three quotation marks.
 pub(crate) fn is_long(value: &[u8]) -> bool
     ensures { result ≡ is_long value.now }
 {
     value.starts_with(b"\"\"\"") || value.starts_with(b"'''")
 }
 
-/// Checks whether the text begins with an escaped line feed, written `\n`.
+/// Checks whether the text of a TOML string begins with an escaped line feed, written `\n`.
 fn is_feed(text: &[u8]) -> bool
     ensures { result ≡ is_feed text.now }
 {
@@ -68,7 +69,7 @@ fn is_feed(text: &[u8]) -> bool
     }
 }
 
-/// Returns the text after its first escaped line feed, or nothing if it has none.
+/// Returns the text of a TOML string after its first escaped line feed, written `\n`, or no bytes if it has none.
 fn behind_feed(text: &[u8]) -> &[u8]
     ensures { result.now ≡ behind_feed text.now }
 {
@@ -81,7 +82,8 @@ fn behind_feed(text: &[u8]) -> &[u8]
     &[]
 }
 
-/// Returns the text after its first `number` escaped line feeds, or nothing if it has fewer.
+/// Returns the text of a TOML string after its first `number` escaped line feeds, written `\n`, or no bytes if it has
+/// fewer.
 fn behind_feeds(text: &[u8], number: u64) -> &[u8]
     ensures { result.now ≡ behind_feeds number text.now }
 {
@@ -92,14 +94,15 @@ fn behind_feeds(text: &[u8], number: u64) -> &[u8]
     rest
 }
 
-/// Checks whether the text begins with this quotation mark.
+/// Checks whether the text begins with `quote`, the quotation marks of a TOML string.
 fn stands_at(quote: &[u8], text: &[u8]) -> bool
     ensures { result ≡ starts_with nat_eq text.now quote.now }
 {
     text.starts_with(quote)
 }
 
-/// Returns the text before its first escaped line feed or quotation mark `quote`, or all of it if it has neither.
+/// Returns the text before its first escaped line feed, written `\n`, or its first `quote`. Returns all of it if it has
+/// neither.
 fn before_feed<'a>(quote: &[u8], text: &'a [u8]) -> &'a [u8]
     ensures { result.now ≡ before_feed quote.now text.now }
 {
@@ -112,7 +115,8 @@ fn before_feed<'a>(quote: &[u8], text: &'a [u8]) -> &'a [u8]
     text
 }
 
-/// Returns the text before its first `quote`, which ends a text over several lines. Returns all of it if it has none.
+/// Returns the text before its first `quote`, which ends a TOML string over several lines. Returns all of it if it has
+/// none.
 fn before_quote<'a>(quote: &[u8], text: &'a [u8]) -> &'a [u8]
     ensures { result.now ≡ before_quote quote.now text.now }
 {
@@ -125,7 +129,8 @@ fn before_quote<'a>(quote: &[u8], text: &'a [u8]) -> &'a [u8]
     text
 }
 
-/// Returns the spot of a line of the program. `line` is the line of the file, and `end` is its rest from the code on.
+/// Returns a line of a program with its place. `line` is the line of the file that contains it, and `end` is the part
+/// of that line from the program's line, `code`, on.
 fn end_spot<'a>(line: Found<'a>, end: &[u8], code: &'a [u8]) -> Spot<'a>
     ensures { spot_view result ≡ end_spot (found_view line.entry) end.now code.now }
 {
@@ -138,7 +143,8 @@ fn end_spot<'a>(line: Found<'a>, end: &[u8], code: &'a [u8]) -> Spot<'a>
     }
 }
 
-/// Returns the line that is `more` lines after line `first`, with its number.
+/// Returns the line that is `more` lines after line `first` of a text, with its number, or `None` if there is no such
+/// line.
 #[tactic(auto, unfolding(crate::specs::Scenarios::line_behind))]
 fn line_behind(text: &[u8], first: u64, more: u64) -> Option<(u64, &[u8])>
     ensures { option_map (λ line. (line.0, line.1.now)) result ≡ line_behind text.now first more }
@@ -148,7 +154,8 @@ fn line_behind(text: &[u8], first: u64, more: u64) -> Option<(u64, &[u8])>
     Some((number, line))
 }
 
-/// Returns the spot of a line of the program that is a line of the file, up to the quotation marks `quote`.
+/// Returns the line of a program that begins where a line of the file begins, with its place. It ends before the
+/// quotation marks `quote`, if the line of the file has them.
 fn line_spot<'a>(quote: &[u8], line: Option<(u64, &'a [u8])>) -> Option<Spot<'a>>
     ensures { option_map spot_view result
         ≡ option_map (line_spot quote.now) (option_map (λ l. (l.0, l.1.now)) line.entry) }
@@ -162,8 +169,8 @@ fn line_spot<'a>(quote: &[u8], line: Option<(u64, &'a [u8])>) -> Option<Spot<'a>
     })
 }
 
-/// Returns the spot of line `number` of a program over several lines, which ends at `quote`. `line` has the key of the
-/// program, and `rest` is what follows the opening quotation marks there.
+/// Returns line `number` of a program, with its place. The program is a TOML string over several lines, which ends at
+/// `quote`. `line` is the line of the program's key, and `rest` is what follows the opening quotation marks there.
 fn long_spot<'a>(
     text: &'a [u8],
     number: u64,
@@ -182,7 +189,8 @@ fn long_spot<'a>(
     }
 }
 
-/// Returns the spot of line `number` of the program whose key is in this line of the file.
+/// Returns line `number` of a program in the file `text`, with its place. `line` is the line of the file with the
+/// program's key.
 fn spot_in<'a>(text: &'a [u8], number: u64, line: Found<'a>) -> Option<Spot<'a>>
     ensures { option_map spot_view result ≡ spot_in text.now number (found_view line.entry) }
 {
@@ -195,8 +203,8 @@ fn spot_in<'a>(text: &'a [u8], number: u64, line: Found<'a>) -> Option<Spot<'a>>
     Some(end_spot(line, end, code))
 }
 
-/// Returns the spot of line `number` of the program whose key is in this line of the file. Without a key, returns
-/// `None`.
+/// Returns line `number` of a program in the file `text`, with its place. `line` is the line of the file with the
+/// program's key. If it is `None`, returns `None`.
 fn spot_of<'a>(text: &'a [u8], number: u64, line: Option<Found<'a>>) -> Option<Spot<'a>>
     ensures { option_map spot_view result
         ≡ option_and_then (spot_in text.now number) (option_map found_view line.entry) }
@@ -207,7 +215,8 @@ fn spot_of<'a>(text: &'a [u8], number: u64, line: Option<Found<'a>>) -> Option<S
     }
 }
 
-/// Returns the report of a fault in the program's line at this spot. Without a spot, the report has no excerpt.
+/// Returns the report of an assembler's fault in a line of a program. `spot` is that line with its place in the file.
+/// If it is `None`, the report has no excerpt.
 fn spot_told(
     alloc: Global,
     name: &str,
@@ -222,8 +231,8 @@ fn spot_told(
     }
 }
 
-/// Returns the report of an assembler's fault at line `number` of the program `text`. `name` is the file's name, and
-/// `line` is the line of the file that has the program's key, if it is known.
+/// Returns the report of an assembler's fault at line `number` of a program in the scenario `text`. `name` is the
+/// scenario's file name, and `line` is its line with the program's key, if there is one.
 pub(crate) fn text_told(
     alloc: Global,
     name: &str,
@@ -238,8 +247,8 @@ pub(crate) fn text_told(
     spot_told(alloc, name, fault, spot_of(text, number, line))
 }
 
-/// Returns the rest of a line from the hex digits of a unit on. The line has the key of the bytecode. A unit past 4096
-/// has no digits.
+/// Returns a line with bytecode, from the hex digits of unit `unit`, counted from 0, on. A unit past 4096 has no
+/// digits.
 fn unit_end(line: &[u8], unit: usize) -> &[u8]
     ensures { result.now ≡ unit_end line.now unit }
 {
@@ -249,7 +258,8 @@ fn unit_end(line: &[u8], unit: usize) -> &[u8]
     behind(behind(value_end(line), 1), 16 * unit)
 }
 
-/// Returns the report of a fault in a unit of bytecode. `line` has the key and the hex digits.
+/// Returns the report of a fault in unit `unit` of bytecode, counted from 0. `line` is the line with the bytecode. If
+/// it is `None`, the report has no excerpt.
 pub(crate) fn code_line_told(
     alloc: Global,
     name: &str,
@@ -271,7 +281,7 @@ pub(crate) fn code_line_told(
     report(alloc, name, unit_sentence(fault, digits), Some(mark), None)
 }
 
-/// Returns the sentence for a program that the verifier rejects.
+/// Returns the error sentence for a program that the verifier rejects at unit `unit`.
 pub(crate) fn verifier_sentence(
     alloc: Global,
     reason: Reason,
@@ -282,7 +292,8 @@ pub(crate) fn verifier_sentence(
     format!(in alloc; "the verifier rejects this program: {reason} at its unit {unit}")
 }
 
-/// Marks the statement in the program's line at this spot.
+/// Marks the statement in a line of a program. `spot` is that line with its place in the file. If it is `None`, returns
+/// `None`.
 fn spot_shown(spot: Option<Spot<'_>>) -> Option<Mark<'_>>
     ensures { option_map mark_view result ≡ option_map unit_mark (option_map spot_view spot.entry) }
 {
@@ -292,7 +303,8 @@ fn spot_shown(spot: Option<Spot<'_>>) -> Option<Mark<'_>>
     }
 }
 
-/// Marks the statement of a unit of this assembly. `line` has the key of the program.
+/// Marks the statement of unit `unit` in a program with the assembly `asm`. `line` is the line of the file `text` with
+/// the program's key. Returns `None` if the statement is not found.
 pub(crate) fn unit_shown<'a>(
     alloc: Global,
     text: &'a [u8],
@@ -307,7 +319,7 @@ pub(crate) fn unit_shown<'a>(
     Ok(spot_shown(spot_of(text, number, line)))
 }
 
-/// Marks the key `asm` of this general's program or, without it, all of the line with the key `code`.
+/// Marks the key `asm` of this general's program or, if he has no such key, all of the line with the key `code`.
 fn source_shown(alloc: Global, general: u8, text: &[u8]) -> Result<Option<Mark<'_>>, AllocError>
     ensures { IfOk result (λ mark. option_map mark_view mark ≡ source_shown general text.now) }
 {
@@ -315,7 +327,7 @@ fn source_shown(alloc: Global, general: u8, text: &[u8]) -> Result<Option<Mark<'
     Ok(key_mark(b"asm", line))
 }
 
-/// Marks the key `code` of this general's program.
+/// Marks the key `code` of this general's program. Returns `None` if he has no such key.
 fn bytecode_shown(alloc: Global, general: u8, text: &[u8]) -> Result<Option<Mark<'_>>, AllocError>
     ensures { IfOk result (λ mark. option_map mark_view mark ≡ bytecode_shown general text.now) }
 {
@@ -323,7 +335,8 @@ fn bytecode_shown(alloc: Global, general: u8, text: &[u8]) -> Result<Option<Mark
     Ok(key_mark(b"code", line))
 }
 
-/// Marks the place of a unit that the verifier rejects: its statement in assembly, or the key of its bytecode.
+/// Marks what the verifier rejects in a general's program: the statement of unit `unit` in assembly, or the key of
+/// bytecode.
 fn refused_at<'a>(
     alloc: Global,
     text: &'a [u8],
@@ -344,8 +357,8 @@ fn refused_at<'a>(
     }
 }
 
-/// Returns the report of a general's program that the verifier rejects. `tables` is what the scenario's text contains,
-/// if it is TOML.
+/// Returns the report of a general's program that the verifier rejects. `tables` is the scenario's text, parsed, or
+/// `None` if it is not TOML.
 fn refused_by(
     alloc: Global,
     name: &str,
@@ -363,7 +376,7 @@ fn refused_by(
     report(alloc, name, sentence.as_str(), mark, None)
 }
 
-/// Returns the report of a general's program that the verifier rejects.
+/// Returns the report of a general's program in the scenario `text` that the verifier rejects at unit `unit`.
 fn refused_told(
     alloc: Global,
     name: &str,
@@ -378,7 +391,7 @@ fn refused_told(
     refused_by(alloc, name, text, general, reason, unit, tables.as_ref())
 }
 
-/// Returns the report of bytecode that is not an even number of hex digits.
+/// Returns the report of a general's bytecode that is not an even number of hex digits.
 fn hex_told(alloc: Global, name: &str, text: &[u8], general: u8) -> Result<String, AllocError>
     ensures { IfOk result (λ told. string_bytes told ≡ hex_told name.now text.now general) }
 {
@@ -387,7 +400,7 @@ fn hex_told(alloc: Global, name: &str, text: &[u8], general: u8) -> Result<Strin
     report(alloc, name, sentence, value_mark(b"code", line), None)
 }
 
-/// Returns the report of a fault in this general's program.
+/// Returns the report of a fault in the program of this general in the scenario `text`.
 pub(crate) fn program_told(
     alloc: Global,
     name: &str,

@@ -1,4 +1,4 @@
-//! Explains a traitor's program that the verifier rejects, with the lines of the scenario's own text.
+//! Explains a traitor's program that the verifier rejects, and names the lines of the scenario that contain it.
 ghost use Rattle.std.specs.Prelude.{◌≡◌, ◌++◌, IfOk, codes, length, map, option_map, replicate, string_bytes, unwrap_or};
 ghost use Rattle.std.specs.Str.{IsUtf8};
 ghost use Rattle.toml.specs.Parse.{parse_document};
@@ -22,8 +22,8 @@ use scenario::{ProgramFault, ProgramText, ScenarioError, program, written_by};
 use std::alloc::{AllocError, Global};
 use toml::Table;
 
-/// Returns how many lines of the file are before the first line of a program over several lines, whose key is in this
-/// line.
+/// Returns how many lines of a file are before the first line of a program, which is a TOML string over several lines.
+/// `line` is the line with the program's key.
 fn lines_before(line: Found<'_>) -> u64
     ensures { result ≡ lines_before (found_view line.entry) }
 {
@@ -35,7 +35,7 @@ fn lines_before(line: Found<'_>) -> u64
     }
 }
 
-/// Returns the text after `lines` empty lines.
+/// Returns `lines` empty lines and then the text. This gives the text's lines the numbers that they have in a file.
 fn pushed_down(alloc: Global, lines: u64, text: &str) -> Result<String, AllocError>
     ensures { IfOk result (λ pushed. string_bytes pushed ≡ pushed_down lines text.now) }
 {
@@ -47,14 +47,14 @@ fn pushed_down(alloc: Global, lines: u64, text: &str) -> Result<String, AllocErr
     Ok(pushed)
 }
 
-/// Returns the text `line N` for a number N.
+/// Returns the text `line N`, where N is `number`.
 fn line_text(alloc: Global, number: u64) -> Result<String, AllocError>
     ensures { IfOk result (λ text. string_bytes text ≡ line_text number) }
 {
     format!(in alloc; "line {number}")
 }
 
-/// Returns the place `line N` once for each of `units` units.
+/// Returns the text `line N`, where N is `number`, `units` times. It is the place of each unit if all are in one line.
 fn all_at(alloc: Global, units: usize, number: u64) -> Result<Vec<String>, AllocError>
     ensures { IfOk result (λ places. map string_bytes places.items ≡ replicate units (line_text number)) }
 {
@@ -65,7 +65,8 @@ fn all_at(alloc: Global, units: usize, number: u64) -> Result<Vec<String>, Alloc
     Ok(places)
 }
 
-/// Returns the places of a program's units, or none without a line. `line` has the key of the program.
+/// Returns for each unit of a program its place in a file, as the text `line N`. `line` is the line with the program's
+/// key. If it is `None`, returns no places.
 fn placed(
     alloc: Global,
     written: ProgramText<'_>,
@@ -87,7 +88,7 @@ fn placed(
     }
 }
 
-/// Returns the statements of a program's units, as its assembly writes them. Bytecode has none.
+/// Returns for each unit of a program its statement in assembly. Returns none if the program is written as bytecode.
 fn stated(alloc: Global, written: ProgramText<'_>) -> Result<Vec<String>, AllocError>
     ensures { IfOk result (λ statements. AreStated (source_of written.entry) (map string_bytes statements.items)) }
 {
@@ -97,7 +98,7 @@ fn stated(alloc: Global, written: ProgramText<'_>) -> Result<Vec<String>, AllocE
     }
 }
 
-/// Returns the program that was made, or `None` if its source has a fault.
+/// Returns the program that a source gave, or `None` if the source had a fault.
 ///
 /// # Errors
 ///
@@ -112,7 +113,7 @@ fn made(program: Result<Program, ScenarioError>) -> Result<Option<Program>, Allo
     }
 }
 
-/// Returns the program with this source, or `None` if the source has a fault.
+/// Assembles or decodes the source of a general's program. Returns `None` if the source has a fault.
 #[tactic(auto, using(crate::proofs::MadeLemmas::made_is_had))]
 fn program_of(
     alloc: Global,
@@ -124,8 +125,8 @@ fn program_of(
     made(program(alloc, general, written))
 }
 
-/// Returns an empty line and the explanation of a program, or nothing if its source has a fault. `line` has the key of
-/// the program.
+/// Returns an empty line and the explanation of a program, or an empty text if its source has a fault. `line` is the
+/// line with the program's key.
 #[tactic(auto, using(crate::proofs::MadeLemmas::unmade_is_silent))]
 pub(crate) fn explained_of(
     alloc: Global,
@@ -150,8 +151,8 @@ pub(crate) fn explained_of(
     format!(in alloc; "\n{told}")
 }
 
-/// Returns an empty line and the explanation of this general's program in a scenario's table. Returns an empty string
-/// if he has none there.
+/// Returns an empty line and the explanation of this general's program in a scenario, which `table` is. Returns an
+/// empty text if he has no program there.
 fn explained_in(
     alloc: Global,
     general: u8,
@@ -167,8 +168,8 @@ fn explained_in(
     }
 }
 
-/// Returns an empty line and the explanation of this general's program in the text of a scenario. Returns an empty
-/// string if the text is not TOML or has no such program.
+/// Returns an empty line and the explanation of this general's program in the text of a scenario. Returns an empty text
+/// if the scenario is not TOML or has no such program.
 fn explained(alloc: Global, text: &[u8], general: u8) -> Result<String, AllocError>
     ensures { IfOk result (λ told. IsExplained text.now general (string_bytes told)) }
 {
@@ -182,7 +183,7 @@ fn explained(alloc: Global, text: &[u8], general: u8) -> Result<String, AllocErr
     }
 }
 
-/// Returns the general whose program the verifier rejects, if that is the error.
+/// Returns the general whose program the verifier rejects, or `None` for another error.
 pub(crate) fn judged_of(error: &ScenarioError) -> Option<u8>
     ensures { result ≡ judged_of error.now }
 {
@@ -198,8 +199,8 @@ pub(crate) fn judged_of(error: &ScenarioError) -> Option<u8>
     }
 }
 
-/// Returns the text after the report of a scenario's error: the explanation of the program if the verifier rejects it,
-/// and nothing for another error.
+/// Returns what follows the report of an error in a scenario: the explanation of the program if the verifier rejects
+/// it, and otherwise an empty text.
 pub(crate) fn judged(
     alloc: Global,
     text: &[u8],

@@ -1,4 +1,4 @@
-//! Reports why a scenario that names files is rejected, at its own lines and those of its files.
+//! Reports why a scenario that names files is rejected, at a line of the scenario or of one of these files.
 ghost use Rattle.std.specs.Prelude.{◌≡◌, ◌≢◌, IfOk, IfSome, None, option_map, string_bytes};
 ghost use Rattle.std.specs.Str.{IsUtf8};
 ghost use Rattle.streams.specs.Names.{shown};
@@ -11,16 +11,16 @@ use scenario::ScenarioError;
 use std::alloc::{AllocError, Global};
 use streams::FileName;
 
-/// Which campaigns a task accepts.
+/// Which campaigns a task accepts. A muster, for example, accepts only oral ones.
 #[derive(Clone, Copy)]
 pub enum Taken {
-    /// Only oral campaigns.
+    /// The task accepts only oral campaigns.
     Oral,
-    /// Oral and signed campaigns.
+    /// The task accepts oral and signed campaigns.
     Any,
 }
 
-/// Returns which campaigns the task accepts, if it must explain why it rejects a scenario.
+/// Returns which campaigns the task accepts, or `None` if it does not explain why it rejects a scenario.
 fn taken_by(task: &Task) -> Option<Taken>
     ensures { result ≡ taken_by task.now }
 {
@@ -47,7 +47,7 @@ fn taken_by(task: &Task) -> Option<Taken>
     }
 }
 
-/// Returns the error of a text that was read, or `None` if it has none.
+/// Returns the error with which a scenario was read, or `None` if it was accepted.
 ///
 /// # Errors
 ///
@@ -62,21 +62,21 @@ fn error_in<T: Drop>(read: Result<T, ScenarioError>) -> Result<Option<ScenarioEr
     }
 }
 
-/// Returns the error of a text that must be an oral campaign, or `None` if it is one.
+/// Returns the error of a text if it must be an oral campaign, or `None` if it is one.
 fn error_of_oral(alloc: Global, text: &str) -> Result<Option<ScenarioError>, AllocError>
     ensures { IfOk result (IsErrorOf Oral text.now) }
 {
     error_in(scenario::read(alloc, text))
 }
 
-/// Returns the error of a text that must be an oral or a signed campaign, or `None` if it is one.
+/// Returns the error of a text if it must be an oral or a signed campaign, or `None` if it is one.
 fn error_of_any(alloc: Global, text: &str) -> Result<Option<ScenarioError>, AllocError>
     ensures { IfOk result (IsErrorOf Any text.now) }
 {
     error_in(scenario::read_any(alloc, text))
 }
 
-/// Returns the error of a text that must be a campaign of the accepted kind, or `None` if it is one.
+/// Returns the error of a text if it must be a campaign of the kind `taken`, or `None` if it is one.
 fn error_of(alloc: Global, taken: Taken, text: &str) -> Result<Option<ScenarioError>, AllocError>
     ensures { IfOk result (IsErrorOf taken text.now) }
 {
@@ -86,14 +86,15 @@ fn error_of(alloc: Global, taken: Taken, text: &str) -> Result<Option<ScenarioEr
     }
 }
 
-/// Returns the name of a file as it is shown.
+/// Returns the name of a file as reports show it.
 fn shown_name(alloc: Global, file: &str) -> Result<String, AllocError>
     ensures { IfOk result (λ name. IfSome (shown file.now) (λ own. string_bytes name ≡ own)) }
 {
     format!(in alloc; "{}", FileName(file))
 }
 
-/// Returns the report of an error of the scenario in this file.
+/// Returns the report of an error of the scenario in this file. `own` is its text, and `made` is its resolved text,
+/// which has the contents of files in place of their names.
 fn report_shown(
     alloc: Global,
     file: &str,
@@ -107,7 +108,8 @@ fn report_shown(
     crate::file_errors::of_made(alloc, name.as_str(), own, made, error)
 }
 
-/// Returns the refusal line of an error, and its report.
+/// Returns the line `refused ...` for an error of the scenario in this file, and then the report of the error. `own` is
+/// the scenario's text, and `made` is its resolved text, which has the contents of files in place of their names.
 fn refusal_shown(
     alloc: Global,
     file: &str,
@@ -123,7 +125,8 @@ fn refusal_shown(
     format!(in alloc; "refused {error}{report}")
 }
 
-/// Returns the refusal line and the report of the resolved text, or `None` if the text is accepted.
+/// Returns the line `refused ...` and the report if the resolved text `made` is not a campaign of the kind `taken`, or
+/// `None` if it is. The resolved text has the contents of files in place of their names.
 fn told_of(
     alloc: Global,
     taken: Taken,
@@ -139,8 +142,9 @@ fn told_of(
     }
 }
 
-/// Returns the refusal line and the report of the task's scenario. Returns `None` if the scenario is accepted, or if
-/// the task does not explain.
+/// Returns the line `refused ...` and the report for the scenario of a task. Returns `None` if the scenario is
+/// accepted, or if the task does not explain why it rejects one. `made` is the scenario with the contents of files in
+/// place of their names.
 fn told(alloc: Global, task: &Task, own: &str, made: &str) -> Result<Option<String>, AllocError>
     ensures { IfOk result (λ lines. IsTold task.now own.now made.now (option_map string_bytes lines)) }
 {
@@ -150,11 +154,13 @@ fn told(alloc: Global, task: &Task, own: &str, made: &str) -> Result<Option<Stri
     }
 }
 
-/// Returns the refusal line and the report of the task's scenario. The report is at the scenario's own lines or at
-/// those of its files. Returns `None` if the scenario is accepted, or if the task does not explain.
+/// Returns the line `refused ...` and the report for the scenario of a task that names files. The report is at a line
+/// of the scenario or of one of its files. Returns `None` if the scenario is accepted, or if the task does not explain
+/// why it rejects one.
 ///
-/// `own` is the scenario as it was read, and `made` is the text with the contents of its files. If they are equal, no
-/// file is named, and the result is `None`. It is also `None` if one of them is not UTF-8.
+/// `own` is the scenario as it was read, and `made` is its resolved text, which has the contents of the files in place
+/// of their names. The result is also `None` if the two are equal, since then no file is named, or if one of them is
+/// not UTF-8.
 ///
 /// # Errors
 ///

@@ -8,27 +8,27 @@ use std::alloc::{AllocError, Global};
 use std::fmt;
 use streams::{Escaped, Kept};
 
-/// A part of a line of a file, to be marked in an excerpt.
+/// A part of a line, which is marked with carets in an excerpt of a file.
 #[derive(Clone, Copy)]
 pub(crate) struct Mark<'a> {
-    /// The number of the line.
+    /// The number that the excerpt shows: of the line, counted from 1, or of the unit in bytecode, counted from 0.
     pub number: u64,
-    /// The bytes of the line.
+    /// The bytes of the line. In bytecode they are the hex digits of the unit.
     pub line: &'a [u8],
-    /// How many bytes of the line are before the part.
+    /// How many bytes of the line are before the marked part.
     pub from: usize,
-    /// How many bytes the part has.
+    /// How many bytes the marked part has.
     pub size: usize,
 }
 
 /// A help message: how a fault could be corrected.
 #[derive(Clone, Copy)]
 pub(crate) enum Help<'a> {
-    /// A sentence, which is printed as it is.
+    /// A help message that is printed as it is.
     Said(&'a str),
-    /// A kind of names, and a name of that kind that is close to the one in the file.
+    /// A kind of name, such as `mnemonic`, and a name of that kind that is similar to the one in the file.
     Near(&'a str, &'a str),
-    /// The line that the campaign has instead.
+    /// The line that the campaign's own chronicle has in place of the faulty line.
     Has(&'a str),
 }
 
@@ -47,8 +47,8 @@ impl fmt::Display for Help<'_> {
     }
 }
 
-/// Returns a line as it is shown, with control characters other than the tab escaped, and with replacement characters
-/// for what is not UTF-8.
+/// Returns a line as reports show it: with control characters other than the tab escaped, and with replacement
+/// characters for bytes that are not UTF-8.
 pub(crate) fn shown_line(alloc: Global, line: &[u8]) -> Result<String, AllocError>
     ensures { IfOk result (λ text. string_bytes text ≡ shown_line line.now) }
 {
@@ -67,22 +67,22 @@ pub(crate) fn front(bytes: &[u8], number: usize) -> &[u8]
     &bytes[..number.min(bytes.len())]
 }
 
-/// Returns the bytes after the first `number`, or none if there are fewer.
+/// Returns the bytes after the first `number` bytes, or no bytes if there are fewer.
 pub(crate) fn behind(bytes: &[u8], number: usize) -> &[u8]
     ensures { result.now ≡ drop number bytes.now }
 {
     &bytes[number.min(bytes.len())..]
 }
 
-/// Checks whether a UTF-8 character begins at this byte.
+/// Checks whether a UTF-8 character begins with this byte.
 fn is_start(byte: u8) -> bool
     ensures { result ≡ is_char_start byte }
 {
     byte < 0x80 || byte >= 0xC0
 }
 
-/// Returns what is printed below a byte before the marked part: a tab below a tab, and a blank below any other
-/// character.
+/// Returns what is printed below a byte before the marked part: a tab below a tab, a space below the first byte of
+/// another character, and nothing below its further bytes.
 fn blank_below(byte: u8) -> &'static str
     ensures { result.now ≡ blank_below byte }
 {
@@ -95,14 +95,16 @@ fn blank_below(byte: u8) -> &'static str
     }
 }
 
-/// Returns what is printed below a byte of the marked part: a caret if a character begins there.
+/// Returns what is printed below a byte of the marked part: a caret below the first byte of a character, and nothing
+/// below its further bytes.
 fn caret_below(byte: u8) -> &'static str
     ensures { result.now ≡ caret_below byte }
 {
     if is_start(byte) { "^" } else { "" }
 }
 
-/// Appends what is printed below the bytes before the marked part.
+/// Appends what is printed below the bytes before the marked part: a tab for a tab, and a space for any other
+/// character.
 fn put_blanks(out: &mut String, bytes: &[u8]) -> Result<(), AllocError>
     ensures { OnOk result (string_bytes out.new ≡ string_bytes out.old ++ flat_map blank_below bytes.now) }
 {
@@ -112,7 +114,7 @@ fn put_blanks(out: &mut String, bytes: &[u8]) -> Result<(), AllocError>
     Ok(())
 }
 
-/// Appends what is printed below these bytes of the marked part.
+/// Appends what is printed below these bytes of the marked part: a caret for each character.
 fn put_carets(out: &mut String, bytes: &[u8]) -> Result<(), AllocError>
     ensures { OnOk result (string_bytes out.new ≡ string_bytes out.old ++ flat_map caret_below bytes.now) }
 {
@@ -122,7 +124,8 @@ fn put_carets(out: &mut String, bytes: &[u8]) -> Result<(), AllocError>
     Ok(())
 }
 
-/// Returns what is printed below the line: a caret for each character of the marked part, and at least one.
+/// Returns what is printed below a line: white space up to the marked part, and then a caret for each character of this
+/// part, at least one.
 #[tactic(auto, unfolding(crate::specs::Report::carets_below))]
 fn carets(alloc: Global, mark: &Mark<'_>) -> Result<String, AllocError>
     ensures { IfOk result (λ text. string_bytes text ≡ carets_below (mark_view mark.now)) }
@@ -136,7 +139,7 @@ fn carets(alloc: Global, mark: &Mark<'_>) -> Result<String, AllocError>
     Ok(out)
 }
 
-/// Returns as many blanks as the number has decimal digits.
+/// Returns the margin of a report: as many spaces as the number has decimal digits.
 fn margin(alloc: Global, number: u64) -> Result<String, AllocError>
     ensures { IfOk result (λ text. string_bytes text ≡ margin_of number) }
 {
@@ -144,7 +147,7 @@ fn margin(alloc: Global, number: u64) -> Result<String, AllocError>
     " ".repeat(alloc, digits.len())
 }
 
-/// Appends the file's name and the number of the line.
+/// Appends the line `--> NAME:NUMBER` of a report, with the file's name and the number of the line.
 #[tactic(auto, unfolding(crate::specs::Report::where_text))]
 fn put_where(out: &mut String, margin: &str, name: &str, number: u64) -> Result<(), AllocError>
     ensures { OnOk result (string_bytes out.new ≡ string_bytes out.old ++ where_text margin.now name.now number) }
@@ -152,7 +155,8 @@ fn put_where(out: &mut String, margin: &str, name: &str, number: u64) -> Result<
     write!(out, "\n{margin}--> {name}:{number}\n")
 }
 
-/// Appends the line, after its number.
+/// Appends the marked line of a file after its number, as in `7 | order = x`, and an empty line of the margin before
+/// it.
 #[tactic(auto, unfolding(crate::specs::Report::shown_text))]
 fn put_line(
     alloc: Global,
@@ -167,7 +171,7 @@ fn put_line(
     write!(out, "{margin} |\n{number} | {line}\n")
 }
 
-/// Appends the carets below the line.
+/// Appends the line of a report that has carets below the marked part.
 #[tactic(auto, unfolding(crate::specs::Report::marked_text))]
 fn put_marks(
     alloc: Global,
@@ -181,7 +185,7 @@ fn put_marks(
     write!(out, "{margin} | {carets}")
 }
 
-/// Appends the excerpt: the file's name, the line with its number, and the carets below the marked part.
+/// Appends an excerpt of a file: the file's name, the line with its number, and carets below the marked part.
 fn put_excerpt(
     alloc: Global,
     out: &mut String,
@@ -197,7 +201,7 @@ fn put_excerpt(
     put_marks(alloc, out, margin, mark)
 }
 
-/// Appends a help message, if there is one.
+/// Appends the line of a report with the help message, if there is one.
 fn put_help(out: &mut String, margin: &str, help: Option<Help<'_>>) -> Result<(), AllocError>
     ensures { OnOk result (string_bytes out.new ≡ string_bytes out.old
         ++ help_text margin.now (option_map help_words help.entry)) }
@@ -208,8 +212,8 @@ fn put_help(out: &mut String, margin: &str, help: Option<Help<'_>>) -> Result<()
     }
 }
 
-/// Returns the report after a refusal line: the sentence, the excerpt or only the file's name, and the help message.
-/// `name` is the file's name.
+/// Returns the report that follows a line `refused ...`: the sentence, an excerpt of the file, and the help message, if
+/// there is one. If `place` is `None`, the report has only the file's name, `name`, in place of the excerpt.
 #[tactic(auto, unfolding(crate::specs::Report::report_text))]
 pub(crate) fn report(
     alloc: Global,

@@ -39,7 +39,7 @@ static ENTRY_KEYS: [&'static str; 9] = [
     "strategy",
 ];
 
-/// Returns the sentence for a key that is missing, or that must not be there.
+/// Returns the error sentence for a key that is missing, or that must not be there.
 fn missing_sentence(alloc: Global, name: ScenarioKey) -> Result<String, AllocError>
     ensures { IfOk result (λ text. string_bytes text ≡ missing_sentence name) }
 {
@@ -56,7 +56,7 @@ fn missing_sentence(alloc: Global, name: ScenarioKey) -> Result<String, AllocErr
     }
 }
 
-/// Returns the sentence for a value of the wrong type.
+/// Returns the error sentence for a key with a value of the wrong type.
 fn kind_sentence(alloc: Global, name: ScenarioKey) -> Result<String, AllocError>
     ensures { IfOk result (λ text. string_bytes text ≡ kind_sentence name) }
 {
@@ -78,7 +78,7 @@ fn kind_sentence(alloc: Global, name: ScenarioKey) -> Result<String, AllocError>
     String::from_str(alloc, sentence)
 }
 
-/// Returns the sentence for a value out of its range.
+/// Returns the error sentence for a key with a value out of its range.
 fn range_sentence(alloc: Global, name: ScenarioKey) -> Result<String, AllocError>
     ensures { IfOk result (λ text. string_bytes text ≡ range_sentence name) }
 {
@@ -103,7 +103,7 @@ fn range_sentence(alloc: Global, name: ScenarioKey) -> Result<String, AllocError
     String::from_str(alloc, sentence)
 }
 
-/// Returns the sentence for a fault of a key or its value.
+/// Returns the error sentence for a fault of a scenario's key or its value.
 fn name_sentence(
     alloc: Global,
     fault: ScenarioFault,
@@ -121,7 +121,7 @@ fn name_sentence(
     String::from_str(alloc, sentence)
 }
 
-/// Returns the sentence for a fault of a word of the board.
+/// Returns the error sentence for a fault of a word in the list `board`.
 fn word_sentence(fault: ScenarioFault) -> &'static str
     ensures { result.now ≡ word_sentence fault }
 {
@@ -131,7 +131,7 @@ fn word_sentence(fault: ScenarioFault) -> &'static str
     }
 }
 
-/// Returns the sentence for a fault at this place.
+/// Returns the error sentence for a fault at a place in a scenario.
 pub(crate) fn place_sentence(
     alloc: Global,
     fault: ScenarioFault,
@@ -151,7 +151,8 @@ pub(crate) fn place_sentence(
     }
 }
 
-/// Checks whether a fault is in the value of a key. The fault that a key is missing is not.
+/// Checks whether a fault is in the value of a key. The fault `Key`, that a key is missing or must not be there, is
+/// not.
 pub(crate) fn is_of_value(fault: ScenarioFault) -> bool
     ensures { result ≡ is_of_value fault }
 {
@@ -161,7 +162,7 @@ pub(crate) fn is_of_value(fault: ScenarioFault) -> bool
     }
 }
 
-/// Marks the place of a fault in the text, if its line is found.
+/// Marks the place of a fault in the text of a scenario. Returns `None` if its line is not found.
 pub(crate) fn place_mark(
     fault: ScenarioFault,
     place: ScenarioPlace,
@@ -202,21 +203,22 @@ pub(crate) fn place_told(
     report(alloc, name, sentence.as_str(), mark, help)
 }
 
-/// Returns the key at the top of a scenario that is close to the word, if there is one.
+/// Returns the key at the top of a scenario that is similar to `word`, or `None` if there is no such key.
 fn near_top_key(alloc: Global, word: &[u8]) -> Result<Option<&'static str>, AllocError>
     ensures { IfOk result (λ key. option_map (λ k. k.now) key ≡ near word.now top_keys) }
 {
     near(alloc, word, &TOP_KEYS)
 }
 
-/// Returns the key of a traitor's table that is close to the word, if there is one.
+/// Returns the key of a traitor's table that is similar to `word`, or `None` if there is no such key.
 fn near_entry_key(alloc: Global, word: &[u8]) -> Result<Option<&'static str>, AllocError>
     ensures { IfOk result (λ key. option_map (λ k. k.now) key ≡ near word.now entry_keys) }
 {
     near(alloc, word, &ENTRY_KEYS)
 }
 
-/// Returns the report of an unknown key in its line. `known` is a key that is close to it, if there is one.
+/// Returns the report of the unknown key `word`. `line` is the line with the key, and `known` is a similar key, if
+/// there is one.
 pub(crate) fn key_report(
     alloc: Global,
     name: &str,
@@ -232,7 +234,7 @@ pub(crate) fn key_report(
     report(alloc, name, sentence, key_mark(word, line), key_help(known))
 }
 
-/// Returns the report of an unknown key at the top of a scenario.
+/// Returns the report of the unknown key `word` at the top of a scenario.
 fn unknown_at_top(alloc: Global, name: &str, text: &[u8], word: &[u8]) -> Result<String, AllocError>
     ensures { IfOk result (λ told. string_bytes told ≡ top_key_told name.now text.now word.now) }
 {
@@ -241,7 +243,7 @@ fn unknown_at_top(alloc: Global, name: &str, text: &[u8], word: &[u8]) -> Result
     key_report(alloc, name, "a scenario has no such key", word, line, known)
 }
 
-/// Returns the report of an unknown key in the traitor's table `index`, counted from 0.
+/// Returns the report of the unknown key `word` in the traitor's table `index`, counted from 0.
 fn unknown_in_table(
     alloc: Global,
     name: &str,
@@ -258,7 +260,7 @@ fn unknown_in_table(
     key_report(alloc, name, sentence, word, line, other)
 }
 
-/// Checks whether the close key is the word itself.
+/// Checks whether `known`, the key that is most similar to `word`, is `word` itself.
 fn is_itself(known: Option<&'static str>, word: &[u8]) -> bool
     ensures { result ≡ is_itself (option_map (λ k. k.now) known.entry) word.now }
 {
@@ -268,8 +270,9 @@ fn is_itself(known: Option<&'static str>, word: &[u8]) -> bool
     }
 }
 
-/// Returns the sentence for a key that a table must not have. Either no table has such a key, or it does not fit the
-/// table's others.
+/// Returns the error sentence for the key `word` of a traitor's table. `known` is the similar key, if there is one. If
+/// it is `word` itself, the sentence is that the key does not fit the table's other keys, and otherwise that there is
+/// no such key.
 fn entry_sentence(known: Option<&'static str>, word: &[u8]) -> &'static str
     ensures { result.now ≡ entry_sentence (option_map (λ k. k.now) known.entry) word.now }
 {
@@ -281,7 +284,7 @@ fn entry_sentence(known: Option<&'static str>, word: &[u8]) -> &'static str
     }
 }
 
-/// Returns the close key, unless it is the word itself.
+/// Returns `known`, the key that is most similar to `word`, unless it is `word` itself.
 fn other_than(known: Option<&'static str>, word: &[u8]) -> Option<&'static str>
     ensures { option_map (λ k. k.now) result ≡ other_than (option_map (λ k. k.now) known.entry) word.now }
 {
@@ -304,7 +307,7 @@ pub(crate) fn unknown_told(
     }
 }
 
-/// Marks the key in its line.
+/// Marks the key `word` in its line. Returns `None` if `line` is `None`.
 pub(crate) fn key_mark<'a>(word: &[u8], line: Option<Found<'a>>) -> Option<Mark<'a>>
     ensures { option_map mark_view result ≡ option_map (shown_at false word.now) (option_map found_view line.entry) }
 {
@@ -314,7 +317,7 @@ pub(crate) fn key_mark<'a>(word: &[u8], line: Option<Found<'a>>) -> Option<Mark<
     }
 }
 
-/// Marks the value of a key in its line.
+/// Marks the value of the key `word` in its line. Returns `None` if `line` is `None`.
 pub(crate) fn value_mark<'a>(word: &[u8], line: Option<Found<'a>>) -> Option<Mark<'a>>
     ensures { option_map mark_view result ≡ option_map (shown_at true word.now) (option_map found_view line.entry) }
 {
@@ -324,7 +327,7 @@ pub(crate) fn value_mark<'a>(word: &[u8], line: Option<Found<'a>>) -> Option<Mar
     }
 }
 
-/// Returns the help message that names a close key.
+/// Returns the help message that names `known`, a similar key, or `None` if there is no such key.
 pub(crate) fn key_help(known: Option<&'static str>) -> Option<Help<'static>>
     ensures { option_map help_words result
         ≡ option_map (near_words (codes "key")) (option_map (λ key. key.now) known.entry) }

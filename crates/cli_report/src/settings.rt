@@ -22,7 +22,7 @@ static KEYS: [&'static str; 7] = [
     "board",
 ];
 
-/// Returns the sentence for a value of the wrong type.
+/// Returns the error sentence for a setting's key with a value of the wrong type.
 fn kind_sentence(name: SettingKey) -> &'static str
     ensures { result.now ≡ setting_kind_sentence name }
 {
@@ -33,7 +33,7 @@ fn kind_sentence(name: SettingKey) -> &'static str
     }
 }
 
-/// Returns the sentence for a value out of its range.
+/// Returns the error sentence for a setting's key with a value out of its range.
 fn range_sentence(name: SettingKey) -> &'static str
     ensures { result.now ≡ setting_range_sentence name }
 {
@@ -47,7 +47,7 @@ fn range_sentence(name: SettingKey) -> &'static str
     }
 }
 
-/// Returns the sentence for a fault of a key or its value.
+/// Returns the error sentence for a fault of a setting's key or its value.
 fn name_sentence(alloc: Global, fault: SettingFault, name: SettingKey) -> Result<String, AllocError>
     ensures { IfOk result (λ text. string_bytes text ≡ setting_name_sentence fault name) }
 {
@@ -60,7 +60,7 @@ fn name_sentence(alloc: Global, fault: SettingFault, name: SettingKey) -> Result
     String::from_str(alloc, sentence)
 }
 
-/// Returns the sentence for a fault of an order that was taken.
+/// Returns the error sentence for a fault of an order in the list `taken`.
 fn order_sentence(fault: SettingFault) -> &'static str
     ensures { result.now ≡ order_sentence fault }
 {
@@ -70,7 +70,7 @@ fn order_sentence(fault: SettingFault) -> &'static str
     }
 }
 
-/// Returns the sentence for a fault of a word of the board.
+/// Returns the error sentence for a fault of a word in the list `board`.
 fn word_sentence(fault: SettingFault) -> &'static str
     ensures { result.now ≡ setting_word_sentence fault }
 {
@@ -80,7 +80,7 @@ fn word_sentence(fault: SettingFault) -> &'static str
     }
 }
 
-/// Returns the sentence for a fault at this place.
+/// Returns the error sentence for a fault at a place in a setting.
 fn sentence(alloc: Global, fault: SettingFault, place: SettingPlace) -> Result<String, AllocError>
     ensures { IfOk result (λ text. string_bytes text ≡ setting_sentence fault place) }
 {
@@ -91,7 +91,7 @@ fn sentence(alloc: Global, fault: SettingFault, place: SettingPlace) -> Result<S
     }
 }
 
-/// Returns the key whose value is at fault.
+/// Returns the key that is at fault, or whose value is: `taken` for an order, and `board` for a word.
 fn word(place: SettingPlace) -> &'static str
     ensures { result.now ≡ setting_word place }
 {
@@ -102,7 +102,7 @@ fn word(place: SettingPlace) -> &'static str
     }
 }
 
-/// Marks the value that is at fault, if its line is found.
+/// Marks the value at this place in a setting. Returns `None` if its line is not found.
 fn mark(place: SettingPlace, text: &[u8]) -> Option<Mark<'_>>
     ensures { option_map mark_view result ≡ setting_mark place text.now }
 {
@@ -126,14 +126,14 @@ pub(crate) fn place_told(
     report(alloc, name, sentence.as_str(), mark, None)
 }
 
-/// Returns the key of a setting that is close to the word, if there is one.
+/// Returns the key of a setting that is similar to `word`, or `None` if there is no such key.
 fn near_key(alloc: Global, word: &[u8]) -> Result<Option<&'static str>, AllocError>
     ensures { IfOk result (λ key. option_map (λ k. k.now) key ≡ near word.now setting_keys) }
 {
     near(alloc, word, &KEYS)
 }
 
-/// Returns the report of an unknown key in a setting. `name` is the file's name.
+/// Returns the report of the unknown key `word` in a setting. `name` is the file's name.
 pub(crate) fn unknown_told(
     alloc: Global,
     name: &str,

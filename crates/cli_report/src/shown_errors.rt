@@ -7,7 +7,7 @@ use std::fmt;
 use streams::{Escaped, Kept};
 use trial::SettingError;
 
-/// The error of a scenario as it is displayed: as usual, but with the control characters of an unknown key escaped.
+/// A scenario's error that is displayed as usual, but with the control characters of an unknown key escaped.
 #[derive(Clone, Copy)]
 pub struct ShownScenarioError<'a>(pub &'a ScenarioError);
 
@@ -28,7 +28,7 @@ impl fmt::Display for ShownScenarioError<'_> {
     }
 }
 
-/// The error of a setting as it is displayed: as usual, but with the control characters of an unknown key escaped.
+/// A setting's error that is displayed as usual, but with the control characters of an unknown key escaped.
 #[derive(Clone, Copy)]
 pub struct ShownSettingError<'a>(pub &'a SettingError);
 
@@ -46,7 +46,7 @@ impl fmt::Display for ShownSettingError<'_> {
     }
 }
 
-/// Returns a key as it is displayed, without control characters.
+/// Returns a key that is displayed with its control characters escaped.
 fn shown_key(key: &str) -> Escaped<'_>
     ensures text { result.text.now ≡ key.now }
     ensures kept { result.kept ≡ Nothing }

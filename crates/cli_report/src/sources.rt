@@ -11,7 +11,7 @@ use std::alloc::{AllocError, Global};
 use toml::de::Error;
 use toml::{Table, table_from_str};
 
-/// Returns the table that was parsed, or `None` if the text is not TOML.
+/// Returns the table that the parser returned, or `None` if the text is not TOML.
 ///
 /// # Errors
 ///

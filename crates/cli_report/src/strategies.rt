@@ -1,4 +1,4 @@
-//! Reports that a traitor's table does not name a strategy.
+//! Reports that a traitor's table names a strategy that does not exist.
 ghost use Rattle.std.specs.Prelude.{◌≡◌, IfOk, option_map, string_bytes};
 ghost use Rattle.scenario.specs.Strategies.{strategy_names};
 ghost use Rattle.cli_report.specs.Keys.{found_view};
@@ -20,7 +20,7 @@ fn strategies_listed(alloc: Global) -> Result<String, AllocError>
     names.as_slice().join(alloc, ", ")
 }
 
-/// Returns the sentence for a value that is not the name of a strategy.
+/// Returns the error sentence for a value that is not the name of a strategy.
 pub(crate) fn strategy_sentence(alloc: Global) -> Result<String, AllocError>
     ensures { IfOk result (λ text. string_bytes text ≡ strategy_sentence) }
 {
@@ -29,7 +29,8 @@ pub(crate) fn strategy_sentence(alloc: Global) -> Result<String, AllocError>
     format!(in alloc; "a strategy must be one of these texts, in quotation marks: {names}")
 }
 
-/// Returns the number of the table that names a strategy which does not exist, if this is the fault.
+/// Returns the number of the traitor's table, counted from 0, that names an unknown strategy, or `None` for another
+/// fault.
 fn misnaming_table(fault: ScenarioFault, place: ScenarioPlace) -> Option<usize>
     ensures { result ≡ misnaming_table fault place }
 {
@@ -39,7 +40,7 @@ fn misnaming_table(fault: ScenarioFault, place: ScenarioPlace) -> Option<usize>
     }
 }
 
-/// Returns the line that names a strategy which does not exist, if this is the fault.
+/// Returns the line of a scenario that names an unknown strategy, or `None` for another fault.
 #[tactic(auto, unfolding(crate::specs::Strategies::misnaming_line))]
 fn misnaming_line(fault: ScenarioFault, place: ScenarioPlace, text: &[u8]) -> Option<Found<'_>>
     ensures { option_map found_view result ≡ misnaming_line fault place text.now }
@@ -48,7 +49,7 @@ fn misnaming_line(fault: ScenarioFault, place: ScenarioPlace, text: &[u8]) -> Op
     find_line(index as u128 + 1, b"strategy", text)
 }
 
-/// Returns the name of a strategy that is close to the word, if there is one.
+/// Returns the name of a strategy that is similar to `word`, or `None` if there is no such strategy.
 fn near_strategy(alloc: Global, word: &[u8]) -> Result<Option<&'static str>, AllocError>
     ensures { IfOk result (λ name. option_map (λ n. n.now) name ≡ near word.now strategy_names) }
 {
@@ -56,8 +57,8 @@ fn near_strategy(alloc: Global, word: &[u8]) -> Result<Option<&'static str>, All
     near(alloc, word, names.as_slice())
 }
 
-/// Returns the help message for a fault at a place: a strategy with a similar name, if no strategy has the name that the
-/// table gives.
+/// Returns the help message for a fault at a place in a scenario. If a table names an unknown strategy, the message
+/// names a similar one. Returns `None` if there is none, or for another fault.
 #[tactic(auto, unfolding(crate::specs::Strategies::strategy_help))]
 pub(crate) fn strategy_help(
     alloc: Global,

@@ -15,7 +15,7 @@ use text::{Stop, piece};
 use toml::de::Error;
 use toml::table_from_str;
 
-/// Returns how many lines there are up to the end of the bytes, and the last of them.
+/// Returns how many lines the bytes have, including the one after the last line feed, and that last line.
 pub(crate) fn last_line(bytes: &[u8]) -> (u64, &[u8])
     ensures number { result.0 ≡ length (pieces feed bytes.now) }
     ensures last { result.1.now ≡ last_of (pieces feed bytes.now) }
@@ -29,7 +29,7 @@ pub(crate) fn last_line(bytes: &[u8]) -> (u64, &[u8])
     (number, last)
 }
 
-/// Marks the bytes of a text from offset `start` to offset `end`, in the line of the first.
+/// Marks the bytes of a text from offset `start` to offset `end`, as far as they are in the line where they begin.
 fn span_marked(text: &[u8], start: usize, end: usize) -> Mark<'_>
     ensures { mark_view result ≡ span_marked text.now start end }
 {
@@ -38,7 +38,7 @@ fn span_marked(text: &[u8], start: usize, end: usize) -> Mark<'_>
     marked(number, trimmed(line), last.len(), end.saturating_sub(start))
 }
 
-/// Returns the report of a parser's message on the bytes from offset `start` to offset `end`.
+/// Returns the report of a parser's message about the bytes from offset `start` to offset `end` of a text.
 fn span_told(
     alloc: Global,
     name: &str,
@@ -58,11 +58,11 @@ fn span_told(
     report(alloc, name, sentence.as_str(), Some(mark), None)
 }
 
-/// Returns the byte offsets between which the parser found its fault.
+/// Returns the byte offsets where the fault that the parser found begins and ends.
 ///
 /// # Errors
 ///
-/// Fails if the parser ran out of memory, so that it found none.
+/// Fails if the parser ran out of memory before it found a fault.
 fn span_of(error: &Error) -> Result<(usize, usize), AllocError>
     ensures memory { IsErr result ↔ IsMemory error.now }
     ensures span { IfOk result (λ span. (span.0 ≡ span_start error.now) × (span.1 ≡ span_end error.now)) }

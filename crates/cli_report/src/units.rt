@@ -1,4 +1,4 @@
-//! Finds the line of assembly in which a unit is written.
+//! Finds the line of an assembly text in which a unit is written.
 ghost use Rattle.std.specs.Prelude.{◌≡◌, IfOk};
 ghost use Rattle.cli_report.specs.Units.{IsUnitLine, as_line, number_in, unit_line};
 
@@ -6,7 +6,7 @@ use crate::report::behind;
 use std::alloc::{AllocError, Global};
 use text::{Base, digits};
 
-/// Returns the number in `line N`, or 0 if there is none.
+/// Returns the number N in the text `line N`, or 0 if there is none.
 fn number_in(place: &str) -> u64
     ensures { result ≡ number_in place.now }
 {
@@ -16,8 +16,8 @@ fn number_in(place: &str) -> u64
     }
 }
 
-/// Returns the number of the line that a unit is in. `places` has the text `line N` for each unit. Returns 0 if there
-/// is no such unit.
+/// Returns the number of the line with unit `unit`, counted from 0, or 0 if there is no such unit. `places` has the
+/// text `line N` for each unit.
 fn unit_line(places: &[String], unit: usize) -> u64
     ensures { result ≡ unit_line places.now unit }
 {
@@ -27,7 +27,7 @@ fn unit_line(places: &[String], unit: usize) -> u64
     }
 }
 
-/// Returns the number, or 0 if it has more than 64 bits.
+/// Returns the number, or 0 if it is 2^64 or more.
 fn as_line(number: u128) -> u64
     ensures { result ≡ as_line number }
 {
@@ -37,7 +37,8 @@ fn as_line(number: u128) -> u64
     }
 }
 
-/// Returns the number of the line of an assembly text that a unit is in, counted from 1, or 0 if there is no such unit.
+/// Returns the number of the line, counted from 1, in which unit `unit` of an assembly text is written. Units are
+/// counted from 0. Returns 0 if there is no such unit.
 pub(crate) fn line_of_unit(alloc: Global, text: &str, unit: usize) -> Result<u64, AllocError>
     ensures { IfOk result (λ number. IsUnitLine text.now unit number) }
 {

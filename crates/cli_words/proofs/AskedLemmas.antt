@@ -1,4 +1,4 @@
--- `clap` takes the words where the rule finds a task in them, and meets that task.
+-- `clap` accepts the words exactly if the definitions find a task in them, and parses them as this task.
 use Rattle.std.proofs.Common.{◌≡◌, ◌∙◌, ◌==◌, ◌++◌, ◌&&◌, ◌||◌, Bool, cond, true, false, not, List, ℕ, [], ◌∷◌, Option, Some, None, ap, ap₂, codes, refl, subst, sym, find, is_some, map, nat_lt, option_map}
 use Rattle.std.proofs.lemmas.Bool.{and_parts, not-true}
 use Rattle.std.proofs.lemmas.Slice.Eq.{bytes_eq-Decides}
@@ -28,7 +28,7 @@ use Rattle.cli_words.proofs.RowLemmas.{Met}
 use Rattle.cli_words.proofs.RuleLemmas.{find_among, ids, is_clear, is_distinct, past, takers, takers_filled}
 use Rattle.cli_words.proofs.WordLemmas.{Fails, Looks, dashes_pass, fails_as, fold_stopped, long_fails, looks, or_else-first, plain_turn, short_fails, trailing_in, turn_fails}
 
--- ---- what is built of the program
+-- ---- the description of the program after `clap` built it
 
 abbrev above : Shape
 above = with_leaf_noted (marked_built (record app_before.top { is_leaf = false }))
@@ -60,7 +60,7 @@ subs_built (usage ∷ rest) clear =
 lab_built : (us : List Usage) → list_all is_clear us ≡ true → built (app_with us) ≡ built_app us
 lab_built us clear = ap (λ (subs : List Shape). record { top = top; subs = subs }) (subs_built us clear)
 
--- ---- what the program answers, and what it meets
+-- ---- the program's errors, and the subcommand that it parses
 
 abbrev usage_in : List Usage → Text → Option Usage
 usage_in us name = find (λ usage. bytes_eq usage.name name) us
@@ -69,11 +69,11 @@ abbrev spelt_in : List Usage → List Text → Option Told
 spelt_in us [] = None
 spelt_in us (name ∷ words) = option_and_then (λ usage. told_in usage words) (usage_in us name)
 
--- the places of the subcommand were filled
+-- The places of the subcommand have words.
 abbrev are_filled : List Usage → Told → Bool
 are_filled us told = option_map_or (λ usage. list_all (λ name. has name told) usage.places) (usage_in us told.name) false
 
--- the words fail where the rule finds no task, and else their task is met
+-- If the definitions find no task in the words, `clap` fails. Otherwise it parses them as this task.
 abbrev AgreesWith : List Usage → Kinds → Option (Text × List Row) → Option Told → Type 0
 AgreesWith us kinds met None = Fails kinds
 AgreesWith us kinds met (Some told) = (kinds ≡ []) × (task_met met ≡ Some told) × (are_filled us told ≡ true)
@@ -143,7 +143,7 @@ module _ (us : List Usage) (clear : list_all is_clear us ≡ true) where
       go here later true is = let same : first ≡ usage = cc in subst (λ (u : Usage). is_clear u ≡ true) same here
       go here later false is = later is
 
-  -- what the level answers past its words, and past its subcommand
+  -- The errors after the words of the program, and after those of its subcommand.
   abbrev after_level : Bool → Kinds
   after_level met = or_else (settle_fault top.rules false nothing_held)
       (or_else (defaults_fault (settled top.rules nothing_held).rows top.rules)
@@ -307,13 +307,13 @@ as_lab : (kinds : Kinds) (met : Option (Text × List Row)) (told : Option Told) 
 as_lab kinds met None fails = fails
 as_lab kinds met (Some told) agrees = agrees
 
--- `clap` takes the words where the rule finds a task in them, and meets that task
+-- `clap` accepts the words exactly if the definitions find a task in them, and parses them as this task.
 pub rule_agrees : (words : List Text) → LabAgrees (fault_of lab_app words) (subcommand_of lab_app words) (spelt words)
 rule_agrees words = as_lab (fault_of lab_app words) (subcommand_of lab_app words) (spelt words)
     (subst (λ (a : App). AgreesWith usages (built_fault a nothing_held words) (entered a (stop_after a.top.rules (names_of a) words)) (spelt words))
     (sym (lab_built usages all_clear)) (agrees_in usages all_clear words))
 
--- ---- the subcommand that the first word names, alone
+-- ---- only the subcommand that the first word names
 
 all_of_one : (usage : Usage) → is_clear usage ≡ true → list_all is_clear (usage ∷ []) ≡ true
 all_of_one usage clear = ap (λ (b : Bool). b && true) clear
@@ -343,7 +343,7 @@ module _ (word : Text) (rest : List Text) (usage : Usage) (is : usage_in usages 
       ∙ (met_are (usage ∷ []) one_clear word rest usage (found_alone word usage is)
       ∙ sym (met_with usages all_clear (word ∷ rest) ∙ met_are usages all_clear word rest usage is))
 
--- of it alone `clap` answers, and meets, what it does of all
+-- With only this subcommand, `clap` fails and parses as with all of them.
 pub record IsSame (app : App) (words : List Text) : Type 0 where
   pub fault : fault_of app words ≡ fault_of lab_app words
   pub met : subcommand_of app words ≡ subcommand_of lab_app words
@@ -356,7 +356,7 @@ same_for (word ∷ rest) = go (usage_in usages word) refl
     go None is = record { fault = refl; met = refl }
     go (Some usage) is = record { fault = fault_alone word rest usage is; met = met_alone word rest usage is }
 
--- what is true of each subcommand alone, and of all, is true of those of the words
+-- What is true of each subcommand by itself, and of all together, is true of the subcommands for the words.
 pub true_for : (P : List Usage → Bool) → P usages ≡ true → list_all (λ usage. P (usage ∷ [])) usages ≡ true → (words : List Text) → P (usages_for words) ≡ true
 true_for P whole each [] = whole
 true_for P whole each (word ∷ rest) = go (usage_in usages word) refl

@@ -1,4 +1,4 @@
--- What a call of `clap` tells of the rule.
+-- What the result of a call of `clap` means for the definitions.
 use Rattle.std.proofs.Common.{Result, Ok, Err, IfOk, IfErr, IsSome, IsSomeAnd, true, false, ◌≡◌, ◌≢◌, ◌∙◌, ◌⊎◌, inl, inr, List, [], Option, Some, None, ap, refl, subst, sym}
 use Rattle.clap.specs.Words.{App, IsAmong, Row, Text, fault_of, kind_of, is_simple, is_simple_and_free, subcommand_of}
 use Rattle.clap.specs.declared.error.Error.{Error}
@@ -24,7 +24,7 @@ free_for : (words : List Text) → is_simple_and_free (app_for words) ≡ true
 unfolding clap_on_literals
 free_for = true_for (λ us. is_simple_and_free (app_with us)) refl refl
 
--- the rule finds the task that was met
+-- The definitions find the task that `clap` parsed.
 pub record IsFound (words : List Text) (met : Option (Text × List Row)) : Type 0 where
   pub task : Told
   pub spelt_is : spelt words ≡ Some task
@@ -37,7 +37,7 @@ found_by words None is none fails = absurd (fails none)
 found_by words (Some task) is none agrees =
     record { task = task; spelt_is = is; met_is = agrees.1; filled = agrees.2 }
 
--- where `clap` gives matches, the rule finds the task that was met
+-- If `clap` returns matches, the definitions find the task that it parsed.
 pub task_found : (app : App) (words : List Text) (met : Option (Text × List Row)) → app ≡ app_for words
     → (is_simple_and_free app ≡ true → fault_of app words ≡ [])
     → (is_simple app ≡ true → met ≡ subcommand_of app words) → IsFound words met
@@ -48,7 +48,7 @@ task_found app words met lab passes meets =
     meets (ap is_simple lab ∙ simple_for words) ∙ (ap (λ (a : App). subcommand_of a words) lab ∙ (same_for words).met) in
     subst (IsFound words) (sym met_is) (found_by words (spelt words) refl none (rule_agrees words))
 
--- and so a subcommand was met
+-- In this case, `clap` parsed a subcommand.
 pub some_met : (met : Option (Text × List Row)) (told : Told) → task_met met ≡ Some told → IsSome met
 some_met None told is = absurd cc
 some_met (Some p) told is = refl
@@ -59,7 +59,7 @@ none_by words None k among fails = refl
 none_by words (Some task) k among agrees =
     let bad : IsAmong k [] = subst (IsAmong k) agrees.0 among in absurd bad
 
--- where `clap` gives an error, and memory was there, its kind is one of those of the words,
+-- If `clap` returns an error other than out of memory, its kind is among the errors for the words.
 pub kind_among : (app : App) (words : List Text) (k : ErrorKind) → app ≡ app_for words
     → (is_simple_and_free app ≡ true → (k ≡ OutOfMemory) ⊎ IsAmong k (fault_of app words))
     → (k ≡ OutOfMemory → ⊥) → IsAmong k (fault_of lab_app words)
@@ -68,14 +68,14 @@ kind_among app words k lab fails apart = elim (fails (ap is_simple_and_free lab 
   | inr among ↦ subst (IsAmong k) (ap (λ (a : App). fault_of a words) lab ∙ (same_for words).fault) among
 ]
 
--- and the rule finds no task
+-- In this case, the definitions find no task in the words.
 pub none_found : (app : App) (words : List Text) (k : ErrorKind) → app ≡ app_for words
     → (is_simple_and_free app ≡ true → (k ≡ OutOfMemory) ⊎ IsAmong k (fault_of app words))
     → (k ≡ OutOfMemory → ⊥) → asked words ≡ None
 none_found app words k lab fails apart =
     let none : spelt words ≡ None = none_by words (spelt words) k (kind_among app words k lab fails apart) (rule_agrees words) in rw none refl
 
--- ---- what is told of words that `clap` refused so
+-- ---- the error for words that `clap` rejected
 
 pub told_unasked : (app : App) (words : List Text) (refusal : Error) (error : TaskError) → IsToldBy refusal error
     → app ≡ app_for words → (is_simple_and_free app ≡ true → (kind_of refusal ≡ OutOfMemory) ⊎ IsAmong (kind_of refusal) (fault_of app words))
@@ -105,7 +105,7 @@ told_no_misuse P refusal (Words own) told = tt
 told_no_misuse P refusal (Misuse misuse) told = absurd told
 told_no_misuse P refusal Memory told = tt
 
--- ---- where `clap` took the words
+-- ---- words that `clap` accepted
 
 module _ (words : List Text) (told : Told) (is : spelt words ≡ Some told) where
   asked_is : is_meant told ≡ true → asked words ≡ Some told

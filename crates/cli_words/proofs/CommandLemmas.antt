@@ -1,4 +1,4 @@
--- What `clap` is told of a subcommand, and of all of them, row by row.
+-- The description of a subcommand for `clap`, and of all subcommands, row by row.
 use Rattle.std.proofs.Common.{◌≡◌, ◌∙◌, ◌+◌, ◌<◌, ◌++◌, ℕ, Bool, true, false, ◌||◌, List, [], ◌∷◌, Option, Some, None, ap, ap₂, refl, append-nil, append_assoc, codes, drop, find, get_or, length, map, sym}
 use Rattle.std.proofs.lemmas.List.{at_drop_more}
 use Rattle.std.specs.Option.{option_map_or}
@@ -39,13 +39,13 @@ unfolding rule_for
 flags_are app [] = no_rules app
 flags_are app (flag ∷ rest) = flags_are (with_rule app (flag_rule (flag_of flag))) rest ∙ one_rule app (flag_rule (flag_of flag)) (map flag_rule (map flag_of rest))
 
--- behind its places and flags a subcommand is that of its row
+-- After its places and flags were added, a subcommand has the description of its row.
 pub row_is : (s : Subcommand) (app : App) → app ≡ with_places (new_app s.name.now) s.places.now → (with_flags app s.flags.now).top ≡ shape_for s
 unfolding shape_for
 row_is s app is = ap (λ (a : App). a.top) (flags_are app s.flags.now
     ∙ ap (λ (a : App). with_rules a (map flag_rule (map flag_of s.flags.now))) (is ∙ places_are (new_app s.name.now) s.places.now))
 
--- one place more, and one flag more, of those at the front of the rest
+-- One more place, or one more flag: the first that was not added yet.
 pub place_more : (app next : App) (rule : Rule) (places : List Place) (i : ℕ) (d : Place) → i < length places → rule ≡ place_rule (get_or places i d).name.now → next ≡ with_rule app rule
     → with_places next (drop (i + 1) places) ≡ with_places app (drop i places)
 place_more app next rule places i d less is same =
@@ -57,7 +57,7 @@ flag_more app next rule flags i d less is same =
     ap (λ (a : App). (with_flags a (drop (i + 1) flags)).top) (same ∙ ap (λ (r : Rule). with_rule app r) is)
     ∙ sym (at_drop_more (λ (rest : List Flag). (with_flags app rest).top) flags i d less)
 
--- one subcommand more, of those at the front of the rest
+-- One more subcommand: the first that was not added yet.
 pub subcommand_more : (app next : App) (shape : Shape) (rows : List Subcommand) (i : ℕ) (d : Subcommand) → i < length rows → shape ≡ shape_for (get_or rows i d) → next ≡ with_subcommand app shape
     → with_subcommands next (drop (i + 1) rows) ≡ with_subcommands app (drop i rows)
 subcommand_more app next shape rows i d less is same =
@@ -66,7 +66,7 @@ subcommand_more app next shape rows i d less is same =
 pub still_local : (new old global : Bool) → new ≡ (old || global) → old ≡ false → global ≡ false → new ≡ false
 still_local new old global is none local = is ∙ ap₂ (λ (a b : Bool). a || b) none local
 
--- the program with the subcommands of these usages is that of theirs
+-- The description of the program with the subcommands of these usages.
 abbrev with_usages : App → List Usage → App
 with_usages app [] = app
 with_usages app (usage ∷ rest) = with_usages (with_subcommand app (shape usage)) rest
@@ -89,7 +89,7 @@ pub lab_is : (words : List Text) (bare lab whole : App) (rows : List Subcommand)
 lab_is words bare lab whole rows new with all is =
     is ∙ ap described (with ∙ (usages_are bare rows ∙ ap₂ with_usages new all)) ∙ same_app words
 
--- ---- the subcommand of a name
+-- ---- the subcommand with a name
 
 abbrev pub row_named : Text → List Subcommand → Option Usage
 row_named name rows = find (λ usage. bytes_eq usage.name name) (map usage_of rows)

@@ -1,4 +1,4 @@
--- Flags that fail: that of help, an unknown one, and each where what waits cannot be settled.
+-- Flags at which `clap` fails: the flag for help, an unknown flag, and any flag after a value that cannot be stored.
 use Rattle.std.proofs.Common.{◌≡◌, Bool, true, false, List, [], ◌∷◌, Option, Some, None, refl}
 use Rattle.clap.specs.Kinds.{Kinds}
 use Rattle.clap.specs.Walk.{Held, Rule, Text, settled, takes_values}
@@ -23,7 +23,7 @@ module _ (c : List Rule) (again : Bool) (h : Held) where
   none_short_fails true rest then = or_else-first _ _ help_fails
   none_short_fails false rest then = λ e. cc
 
-  -- of the version
+  -- The flag for the version.
   version_fails : Fails (react_fault c again (filled version_rule) [] h)
   version_fails = or_else-second (settle_fault c again h) _ (λ e. cc)
 

@@ -1,4 +1,4 @@
--- Whether the parts of a word name generals, whatever stands before them.
+-- Whether the parts of a word name generals does not depend on the generals before them.
 use Rattle.std.proofs.Common.{◌≡◌, ℕ, List, [], ◌∷◌, ◌++◌, Option, Some, None, refl}
 use Rattle.std.specs.Prelude.{is_some}
 use Rattle.text.specs.Options.{◌>>=◌}

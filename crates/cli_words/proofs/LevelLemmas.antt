@@ -1,4 +1,4 @@
--- What `clap` answers at the end of a subcommand's words, and where it fails whatever words are left.
+-- What `clap` does at the end of a subcommand's words, and when it fails whatever words follow.
 use Rattle.std.proofs.Common.{◌≡◌, ◌∙◌, ◌&&◌, inl, inr, Bool, cond, true, false, not, List, ℕ, [], ◌∷◌, Option, Some, None, ap, codes, refl, subst, sym}
 use Rattle.std.specs.List.{fold, list_any}
 use Rattle.std.specs.Option.{option_map_or}
@@ -16,7 +16,7 @@ use Rattle.cli_words.proofs.RowLemmas.{Met, Stands, explicit_stands, given_stand
 use Rattle.cli_words.proofs.RuleLemmas.{defaults_quiet, missing, place_taker, some_place, takers}
 use Rattle.cli_words.proofs.WordLemmas.{Fails, Looks, dashes_pass, fails_as, held, long_fails, looks, or_else-first, plain_turn, short_fails, trailing_in, turn_fails, walk_in}
 
--- a subcommand as it is built
+-- The description of a subcommand after `clap` built it.
 abbrev pub built_shape : Text → List Text → List Flag → Shape
 built_shape name ps fs = record (new_shape name) {
   rules = takers 1 ps fs;
@@ -25,7 +25,7 @@ built_shape name ps fs = record (new_shape name) {
   is_built = true;
 }
 
--- the words fail where nothing is taken of them, and else it is what the rows give, and fills the places
+-- `clap` fails if the definitions accept no values. Otherwise its rows have these values, and the places have words.
 abbrev pub Agrees : List Text → Kinds → List Row → Option Met → Type 0
 Agrees ps kinds rows None = Fails kinds
 Agrees ps kinds rows (Some met) =
@@ -64,13 +64,13 @@ module _ (name : Text) (ps : List Text) (fs : List Flag) where
   abbrev pub now : List Row → Option (Text × List Text) → List Row
   now rows pending = settled_rows rules pending rows
 
-  -- what is held between two words is what was met of them
+  -- What `clap` keeps between two words are the values so far.
   pub record Holds (rows : List Row) (pending : Option (Text × List Text)) (gone left : List Text) (met : Met) : Type 0 where
     pub good : settle_fault rules false (held rows pending) ≡ []
     pub stands : Stands (now rows pending) met
     pub places : Places ps gone left met
 
-  -- ---- the end
+  -- ---- the end of the words
 
   module _ (rows : List Row) (pending : Option (Text × List Text)) (gone : List Text) (met : Met) where
     abbrev h : Held
@@ -95,7 +95,7 @@ module _ (name : Text) (ps : List Text) (fs : List Flag) where
     ended w is (p ∷ left) holds next quiet =
         fails_as (ap (level_end []) is ∙ checked (p ∷ left) holds ∙ ap (check_kinds false false) (wanting ps gone p left met holds.places)) (λ e. cc)
 
-  -- ---- what waits cannot be settled
+  -- ---- a pending value that cannot be stored
 
   module _ (rows : List Row) (pending : Option (Text × List Text)) (bad : Fails (settle_fault rules false (held rows pending))) where
     abbrev stuck : Held

@@ -1,4 +1,4 @@
--- Words that say a task are no misuse, and words that are misused say none.
+-- Words that name a task are not misused, and words that are misused name no task.
 use Rattle.std.proofs.Common.{◌≡◌, ◌&&◌, not, Bool, true, false, codes, is_some, ℕ, List, [], ◌∷◌, Option, Some, None, ap, refl, string_bytes}
 use Rattle.std.proofs.lemmas.Bool.{and_from, and_left, and_right, or_right}
 use Rattle.std.specs.Option.{option_map_or}
@@ -27,7 +27,7 @@ use Rattle.cli_words.specs.declared.tasks.Turns.TheVariants.{OfFile, OfSeed}
 use Rattle.cli_words.specs.declared.errors.Misuse.{Misuse}
 use Rattle.cli_words.specs.declared.errors.Misuse.TheVariants.{Traitors, Of, Lie, Loyal, Most, Depth, NobodyNamed, TwoDrawings, TwoNotations, UnitsOfParts, TwoCourses, EntryAlone, OfAlone, LieAlone, Seed, Rule as BadRule, Story as BadStory, TwoSchedules, OutAlone}
 
--- ---- the rules hold
+-- ---- words that name a task
 
 read_where : {X : Type 0} (read : Text → Option X) (word : Option Text) (x : X) → (word >>= read) ≡ Some x → option_map_or (λ w. is_some (read w)) word true ≡ true
 read_where read None x is = refl
@@ -154,7 +154,7 @@ says_meant told (Draw scenario course) says = rw says.0 (rw (course_holds told c
 says_meant told (Page scenario course target) says = rw says.0 (rw (course_holds told course says.2) refl)
 says_meant told (Retrace scenario accesses) says = rw says.0 refl
 
--- ---- a rule is broken
+-- ---- words that are misused
 
 not_read : {X : Type 0} (read : Text → Option X) (told : Told) (name word : Text) → word_of name told ≡ Some word → read word ≡ None → reads read name told ≡ false
 not_read read told name word is none = rw (is, none) refl
@@ -184,7 +184,7 @@ module _ (a b c d e f g : Bool) where
   seventh_broken : g ≡ false → a && b && c && d && e && f && g ≡ false
   seventh_broken is = and_right (a && b && c && d && e && f) g is
 
--- the same of four more behind them
+-- The same with four more conditions after them.
 module _ (first h i j k : Bool) where
   either_broken : first ≡ false → first && h && i && j && k ≡ false
   either_broken is = and_left (first && h && i && j) k (and_left (first && h && i) j (and_left (first && h) i (and_left first h is)))

@@ -1,4 +1,4 @@
--- What was met, by its parts.
+-- The values that `clap` parsed.
 use Rattle.std.proofs.Common.{◌≡◌, ◌∙◌, inl, inr, cond, Bor, List, [], ◌∷◌, Option, Some, None, ap, codes, false, find, true, refl, sym, option_map}
 use Rattle.std.proofs.lemmas.Bool.{cases_Bool}
 use Rattle.std.proofs.lemmas.Slice.Eq.{bytes_eq-Decides}
@@ -19,7 +19,7 @@ first_text : (vs : List (Bor Text)) → option_map (λ s. s.now) (slice_get vs 0
 first_text [] = refl
 first_text (v ∷ vs) = refl
 
--- what the words gave to a name is its first value, if that is no default
+-- The value that the words give for a name is its first value, if this is no default.
 pub value_given : (f : Found) (id : Text)
     → given id (rows_of f) ≡ cond (is_given (option_and_then (λ a. a.source) (matched_of f id))) (first_value f id) None
 value_given f id = ap (λ o. option_map_or given_value o None) (find_row f.entries.items id) ∙ go (find (λ e. bytes_eq e.0.now id) f.entries.items)
@@ -36,7 +36,7 @@ off known name apart = elim (cases_Bool (bytes_eq known name)) [
   | inr other ↦ other
 ]
 
--- each task has one of the names
+-- Each task has one of these names.
 pub no_other_task : (told : Told) → has_places told ≡ true
     → (told.name ≡ codes "check" → ⊥) → (told.name ≡ codes "asm" → ⊥) → (told.name ≡ codes "dis" → ⊥) → (told.name ≡ codes "book" → ⊥)
     → (told.name ≡ codes "table" → ⊥) → (told.name ≡ codes "refute" → ⊥) → (told.name ≡ codes "muster" → ⊥) → (told.name ≡ codes "play" → ⊥) → (told.name ≡ codes "audit" → ⊥)

@@ -1,4 +1,4 @@
--- The places that were filled by now, and those that are left.
+-- The places that have words by now, and those that have none yet.
 use Rattle.std.proofs.Common.{◌≡◌, ◌∙◌, Bool, cond, true, false, not, ◌||◌, List, [], ◌∷◌, ◌++◌, Option, Some, None, ap, append-nil, append_assoc, find, is_some, option_map, refl, subst, sym}
 use Rattle.std.proofs.lemmas.Bool.{and_parts, false_from_ne_true, not-true, or_parts}
 use Rattle.std.proofs.lemmas.List.Folds.{find-append}
@@ -12,7 +12,7 @@ use Rattle.cli_words.specs.Usage.{Flag, value_at}
 use Rattle.cli_words.proofs.RowLemmas.{Met}
 use Rattle.cli_words.proofs.RuleLemmas.{Among, among_flags, among_ids, apart, ids, is_distinct, name_of, same_text}
 
--- each place was filled, or none was
+-- Each place has a word, or none has one.
 abbrev pub AllMet : List Text → Met → Type 0
 AllMet [] met = ⊤
 AllMet (p ∷ ps) met = (is_some (value_at p met) ≡ true) × AllMet ps met
@@ -21,7 +21,7 @@ abbrev pub AllFree : List Text → Met → Type 0
 AllFree [] met = ⊤
 AllFree (p ∷ ps) met = (value_at p met ≡ None) × AllFree ps met
 
--- none of the places has this name
+-- No place has this name.
 abbrev pub AllApart : Text → List Text → Type 0
 AllApart name [] = ⊤
 AllApart name (p ∷ ps) = (bytes_eq name p ≡ false) × AllApart name ps
@@ -31,7 +31,7 @@ flipped x y other = false_from_ne_true (bytes_eq y x) (λ same.
     let here : bytes_eq x y ≡ true = same_text x y (sym ((bytes_eq-Decides y x).0 same)) in
     let bad : true ≡ false = sym here ∙ other in cc)
 
--- a place's name is none of a later place
+-- A place does not have the name of a later place.
 places_apart : (x : Text) (left : List Text) (fs : List Flag) → not (list_any (bytes_eq x) (ids left fs)) ≡ true → AllApart x left
 places_apart x [] fs none = tt
 places_apart x (p ∷ left) fs none =
@@ -46,7 +46,7 @@ place_apart (g ∷ gone) p left fs distinct =
     let parts = and_parts (not (list_any (bytes_eq g) (ids (gone ++ p ∷ left) fs))) (is_distinct (ids (gone ++ p ∷ left) fs)) distinct in
     place_apart gone p left fs parts.1
 
--- a flag's name is none of a place
+-- A flag does not have the name of a place.
 flag_off : (left : List Text) (fs : List Flag) (f : Flag) → is_distinct (ids left fs) ≡ true → Among f fs → AllApart (name_of f) left
 flag_off [] fs f distinct among = tt
 flag_off (p ∷ left) fs f distinct among =
@@ -61,7 +61,7 @@ flag_apart (g ∷ gone) left fs f distinct among =
     let parts = and_parts (not (list_any (bytes_eq g) (ids (gone ++ left) fs))) (is_distinct (ids (gone ++ left) fs)) distinct in
     flag_apart gone left fs f parts.1 among
 
--- ---- one more was met
+-- ---- one more value
 
 module _ (met : Met) (name value : Text) where
   abbrev more : Met
@@ -103,7 +103,7 @@ module _ (met : Met) (name value : Text) where
   all_free [] other free = tt
   all_free (p ∷ left) other free = (still_none p other.0 free.0, all_free left other.1 free.1)
 
--- ---- the places that are gone, and those that are left
+-- ---- the places with words, and those without
 
 pub record Places (ps gone left : List Text) (met : Met) : Type 0 where
   pub split : gone ++ left ≡ ps
@@ -125,7 +125,7 @@ module _ (ps gone left : List Text) (met : Met) (name value : Text) where
     free = all_free met name value left other places.free.1;
   }
 
--- ---- the end
+-- ---- the end of the words
 
 abbrev pub lacks_place : Met → Text → Bool
 lacks_place met p = not (is_some (value_at p met))

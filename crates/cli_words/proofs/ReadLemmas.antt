@@ -1,4 +1,4 @@
--- A subcommand takes its words where the rule takes them, and what was met is the same.
+-- `clap` accepts the words of a subcommand exactly if the definitions do, and parses the same values.
 use Rattle.std.proofs.Common.{◌≡◌, ◌∙◌, ◌==◌, ◌++◌, ◌&&◌, ◌||◌, ◌<◌, ◌≤◌, ◌+◌, arith, Bool, cond, true, false, List, ℕ, [], ◌∷◌, Option, Some, None, ap, append-nil, codes, find, is_some, min, nat_lt, refl, subst, sym}
 use Rattle.std.proofs.lemmas.Bool.{ltb-true}
 use Rattle.std.specs.Option.{option_map_or}
@@ -21,7 +21,7 @@ use Rattle.cli_words.proofs.WordLemmas.{Fails, Looks, dashes_pass, fails_as, hel
 abbrev Pending : Type 0
 Pending = Option (Text × List Text)
 
--- ---- one use of what takes one value, and of a switch
+-- ---- one use of an argument with one value, and of a switch
 
 module _ (name : Text) (long : Option Text) (short index : Option ℕ) (required : Bool) (rows : List Row) (value : Text) where
   abbrev taker : Rule
@@ -61,7 +61,7 @@ module _ (own : Text) (ps : List Text) (fs : List Flag) (distinct : is_distinct 
   abbrev state : List Text → Met → Next → State
   state left met next = record { left = left; met = met; next = next }
 
-  -- what is taken of the rest
+  -- The values from the remaining words.
   abbrev told_from : State → List Text → Option Met
   told_from st words = option_and_then (λ st. met_at_end st.left st.next st.met) (read_from fs st words)
 
@@ -74,7 +74,7 @@ module _ (own : Text) (ps : List Text) (fs : List Flag) (distinct : is_distinct 
   abbrev Holding : List Row → Pending → List Text → List Text → Met → Type 0
   Holding = Holds own ps fs
 
-  -- where the walk stands, before `--` and behind it
+  -- The state of `clap` between two words, before `--` and after it.
   abbrev there : Bool → ℕ → List Row → Pending → Walk
   there behind position rows pending =
       record { held = held rows pending; waiting = clap.idle; position = position; is_trailing = behind; stopped = None }
@@ -83,12 +83,12 @@ module _ (own : Text) (ps : List Text) (fs : List Flag) (distinct : is_distinct 
   next_of true = only_places
   next_of false = anything
 
-  -- the rest of the words is taken as it should, wherever the walk stands
+  -- The remaining words are parsed as in the definitions, in whatever state `clap` is.
   abbrev GoesOn : Bool → List Text → Type 0
   GoesOn behind rest = (rows : List Row) (pending : Pending) (gone left : List Text) (met : Met) → Holding rows pending gone left met
       → Answers (there behind (past 1 gone) rows pending) rest (told_from (state left met (next_of behind)) rest)
 
-  -- an option, or a place, by the rule of its name
+  -- An option or a place, by the rule for its name.
   record IsValued (name : Text) : Type 0 where
     long : Option Text
     short : Option ℕ
@@ -110,7 +110,7 @@ module _ (own : Text) (ps : List Text) (fs : List Flag) (distinct : is_distinct 
   old_row : (rows : List Row) (met : Met) → Stands rows met → (name value : Text) → value_at name met ≡ Some value → has_row name rows ≡ true
   old_row rows met stands name value some = row_stands rows met stands name ∙ ap (λ (o : Option Text). is_some o) some
 
-  -- ---- a value that waits to be settled
+  -- ---- a pending value that must be stored
 
   module _ (name : Text) (is : IsValued name) (rows : List Row) where
     settle_is : (values : List Text) → settle_fault R false (held rows (Some (name, values))) ≡ use_fault false (rule_by name is) values rows
@@ -128,7 +128,7 @@ module _ (own : Text) (ps : List Text) (fs : List Flag) (distinct : is_distinct 
           (sym (ap (λ (o : Option Rule). used_by_id o (value ∷ []) rows) is.found_is ∙ first_use name (reading_by (rule_by name is)) (value ∷ []) rows (lacks rows met stands name none)))
           (stands_more rows met (reading_by (rule_by name is)) name value stands)
 
-  -- ---- a word at the next place
+  -- ---- a word for the next place
 
   place_is : (gone : List Text) (p : Text) (left : List Text) → gone ++ p ∷ left ≡ ps → IsValued p
   place_is gone p left split = record {
@@ -193,7 +193,7 @@ module _ (own : Text) (ps : List Text) (fs : List Flag) (distinct : is_distinct 
           places = places_next ps gone left met p word holds.places off;
         }))
 
-  -- ---- what is used at once
+  -- ---- a value that is stored at once
 
   module _ (word : Text) (rest : List Text) (then : GoesOn false rest) (name value : Text) (a : Rule) (values : List Text)
       (used_is : (rows : List Row) → used a values rows ≡ with_values name (reading_by a) CommandLine (value ∷ []) (without name rows))
@@ -227,9 +227,9 @@ module _ (own : Text) (ps : List Text) (fs : List Flag) (distinct : is_distinct 
         go (Some old) some = turn_stops own ps fs before word rest
             (fails_as turn (or_nothing (use_fault false a values R_now) (again R_now (old_row R_now met holds.stands name old some))))
 
-  -- ---- an option waits
+  -- ---- an option that takes the next word
 
-  -- with a value it is idle again
+  -- After the value, `clap` is idle again.
   value_goes : (name : Text) → IsValued name → ((gone left : List Text) → gone ++ left ≡ ps → AllApart name left)
       → (word : Text) (rest : List Text) → GoesOn false rest → (rows : List Row) (gone left : List Text) (met : Met) → Stands rows met → Places ps gone left met
       → Answers (walk_in (past 1 gone) clap.idle (held rows (Some (name, word ∷ [])))) rest (told_then (met_once name word (state left met (value_of name))) rest)
@@ -297,7 +297,7 @@ module _ (own : Text) (ps : List Text) (fs : List Flag) (distinct : is_distinct 
     abbrev result : Option State → Type 0
     result st = Answers from (word ∷ rest) (told_then st rest)
 
-    -- what `clap` makes of the word as this option, with this value or none
+    -- What `clap` does with a word that is this option, with or without a value.
     abbrev Turn : Rule → Option Text → Type 0
     Turn a v = (kinds : Kinds) (made : Held) (waiting : Waiting) → option_fault R false a v h ≡ kinds
         → after_flag R clap.idle word (option_met R a v h).0 (option_met R a v h).1 ≡ (made, clap.next waiting)
@@ -324,7 +324,7 @@ module _ (own : Text) (ps : List Text) (fs : List Flag) (distinct : is_distinct 
     switch_goes name apart t = at_once word rest then name (codes "true") (switch_rule name) [] (λ rs. refl) (switch_new name) (switch_again name)
         apart rows pending gone left met holds t.0 t.1
 
-    -- by its name
+    -- A flag with its name.
     module _ (name : Text) where
       rule_is : (o : Option Flag) → find (is_long name) fs ≡ o → arg_by_long R name ≡ rule_or_help o (bytes_eq (codes "help") name)
       rule_is o e = by_long 1 ps fs name ∙ ap (λ (o : Option Flag). rule_or_help o (bytes_eq (codes "help") name)) e
@@ -347,7 +347,7 @@ module _ (own : Text) (ps : List Text) (fs : List Flag) (distinct : is_distinct 
       long_goes (Some (letter own_name c)) e v seen =
           let bad : false ≡ true = (find_among (is_long name) fs (letter own_name c) e).1 in absurd cc
 
-    -- by its letter
+    -- A flag with its letter.
     module _ (c : ℕ) (more : Text) (seen : Looks word (short c more)) where
       letter_is : (o : Option Flag) → find (is_short c) fs ≡ o → arg_by_short R c ≡ rule_or_help o (104 == c)
       letter_is o e = by_short 1 ps fs c ∙ ap (λ (o : Option Flag). rule_or_help o (104 == c)) e
@@ -411,7 +411,7 @@ module _ (own : Text) (ps : List Text) (fs : List Flag) (distinct : is_distinct 
     behind = behind_step word rest then.behind;
   }
 
-  -- `clap` takes the words where the rule does, and meets the same
+  -- `clap` accepts the words exactly if the definitions do, and parses the same values.
   pub taken_agrees : (words : List Text) → Answers (walk_in 1 clap.idle (held [] None)) words (told_from (state ps [] anything) words)
   taken_agrees words = (all words).idle [] None [] ps [] (record {
     good = refl;

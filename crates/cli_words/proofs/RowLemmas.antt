@@ -1,4 +1,4 @@
--- `clap`'s rows of what was met, by their names.
+-- The rows in which `clap` keeps the parsed values, by their names.
 use Rattle.std.proofs.Common.{◌≡◌, ◌∙◌, ◌++◌, ◌||◌, Bool, cond, true, false, List, [], ◌∷◌, Option, Some, None, ap, find, fold, refl, sym, is_some, option_map, append-nil, subst₂}
 use Rattle.std.proofs.lemmas.List.Folds.{find-append}
 use Rattle.std.specs.Option.{option_map_or, option_or}
@@ -24,7 +24,7 @@ has_is id (r ∷ rows) = go (has_is id rows) (bytes_eq r.id id)
     go rest true = refl
     go rest false = rest
 
--- a change at a name that is not there adds what is missing
+-- A change at a name without a row adds a row.
 at_new : (id : Text) (change : Row → List Row) (new rows : List Row) → found id rows ≡ None → at_row id change new rows ≡ rows ++ new
 at_new id change new [] none = refl
 at_new id change new (r ∷ rows) none = go (at_new id change new rows) (bytes_eq r.id id) none
@@ -41,19 +41,19 @@ pub added : (id : Text) (how : Reading) (source : ValueSource) (values : List Te
     → with_values id how source values rows ≡ rows ++ row_with id how source values ∷ []
 added id how source values rows none = at_new id (more_values source values) (row_with id how source values ∷ []) rows none
 
--- the first use of an argument adds its row
+-- The first use of an argument adds its row.
 pub first_use : (id : Text) (how : Reading) (values : List Text) (rows : List Row) → found id rows ≡ None
     → with_values id how CommandLine values (without id rows) ≡ rows ++ row_with id how CommandLine values ∷ []
 first_use id how values rows none =
     ap (λ (rs : List Row). with_values id how CommandLine values rs) (at_new id (λ _. []) [] rows none ∙ append-nil rows)
     ∙ added id how CommandLine values rows none
 
--- ---- the rows are those of what was met
+-- ---- the rows have the parsed values
 
 abbrev pub Met : Type 0
 Met = List (Text × Text)
 
--- the row has this value, given by the words
+-- The row has this value, which comes from the words.
 abbrev pub Shows : Option Text → Option Row → Type 0
 Shows None None = ⊤
 Shows None (Some r) = ⊥
@@ -96,7 +96,7 @@ shown (Some v) (Some r) shows = refl
 pub row_stands : (rows : List Row) (met : Met) → Stands rows met → (name : Text) → has_row name rows ≡ is_some (value_at name met)
 row_stands rows met stands name = has_is name rows ∙ shown (value_at name met) (found name rows) (stands name)
 
--- ---- what the words gave, before and behind the defaults
+-- ---- the values from the words, without defaults and with them
 
 abbrev seen : {X : Type 0} → (Row → X) → X → Text → List Row → X
 seen f d id rows = option_map_or f (found id rows) d

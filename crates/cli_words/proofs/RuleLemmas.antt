@@ -1,4 +1,4 @@
--- The arguments of a subcommand as `clap` has them once it is built, and where it finds them.
+-- The arguments of a subcommand after `clap` built them, and how `clap` finds them.
 use Rattle.std.proofs.Common.{◌≡◌, ◌∙◌, ◌<◌, ◌≤◌, ◌+◌, ◌⊎◌, inl, inr, arith, Bool, cond, true, false, not, ◌&&◌, ◌||◌, ◌==◌, List, ℕ, suc, [], ◌∷◌, ◌++◌, map, min, nat_lt, Option, Some, None, ap, codes, find, refl, subst}
 use Rattle.std.proofs.lemmas.Bool.{and_parts, eq-eqb, ltb-true, ne_eqb, not-true, or_parts}
 use Rattle.std.proofs.lemmas.Slice.Eq.{bytes_eq-Decides}
@@ -17,7 +17,7 @@ use Rattle.cli_words.specs.Usage.{Flag, Usage, is_long, is_short, letter, option
 
 -- ---- the rules
 
--- what takes one value
+-- The rule of an argument with one value.
 abbrev pub valued_rule : Text → Option Text → Option ℕ → Option ℕ → Bool → Rule
 valued_rule name long short index required = record (new_rule name) {
   long = long;
@@ -55,17 +55,17 @@ abbrev pub flag_takers : List Flag → List Rule
 flag_takers [] = help_taker ∷ []
 flag_takers (f ∷ fs) = taker f ∷ flag_takers fs
 
--- the places are numbered from i
+-- The places are numbered from i.
 abbrev pub takers : ℕ → List Text → List Flag → List Rule
 takers i [] fs = flag_takers fs
 takers i (p ∷ ps) fs = place_taker i p ∷ takers (suc i) ps fs
 
--- the number behind the places
+-- The number after those of the places.
 abbrev pub past : ℕ → List Text → ℕ
 past i [] = i
 past i (p ∷ ps) = past (suc i) ps
 
--- ---- what is built
+-- ---- the rules after `clap` built them
 
 flags_filled : (i : ℕ) (fs : List Flag) → filled_from i (map flag_rule fs ++ help_rule ∷ []) ≡ flag_takers fs
 flags_filled i [] = refl
@@ -130,7 +130,7 @@ abbrev pub is_distinct : List Text → Bool
 is_distinct [] = true
 is_distinct (x ∷ xs) = not (list_any (bytes_eq x) xs) && is_distinct xs
 
--- no two places or flags have one name, and there are few places
+-- No two places or flags have the same name, there are few places, and the subcommand is not called `help`.
 abbrev pub is_clear : Usage → Bool
 is_clear usage = is_distinct (ids usage.places usage.flags) && (nat_lt (past 1 usage.places) usize_max && not (bytes_eq usage.name (codes "help")))
 
@@ -180,7 +180,7 @@ flag_named (g ∷ gs) f distinct among =
           ap (λ (b : Bool). cond b (Some (taker g)) (arg_by_id (flag_takers gs) (name_of f))) other ∙ flag_named gs f parts.1 later
     ]
 
--- a flag's rule is found by its name
+-- The rule of a flag is found by its name.
 pub named : (i : ℕ) (ps : List Text) (fs : List Flag) (f : Flag) → is_distinct (ids ps fs) ≡ true → Among f fs → arg_by_id (takers i ps fs) (name_of f) ≡ Some (taker f)
 named i [] fs f distinct among = flag_named fs f distinct among
 named i (p ∷ ps) fs f distinct among =
@@ -188,7 +188,7 @@ named i (p ∷ ps) fs f distinct among =
     let other : bytes_eq p (name_of f) ≡ false = apart p (name_of f) (ids ps fs) (among_ids ps fs (name_of f) (among_flags fs f among)) parts.0 in
     ap (λ (b : Bool). cond b (Some (place_taker i p)) (arg_by_id (takers (suc i) ps fs) (name_of f))) other ∙ named (suc i) ps fs f parts.1 among
 
--- and so is that of a place
+-- The rule of a place is found by its name, too.
 pub place_named : (i : ℕ) (gone : List Text) (p : Text) (left : List Text) (fs : List Flag) → is_distinct (ids (gone ++ p ∷ left) fs) ≡ true
     → arg_by_id (takers i (gone ++ p ∷ left) fs) p ≡ Some (place_taker (past i gone) p)
 place_named i [] p left fs distinct =
@@ -198,9 +198,9 @@ place_named i (g ∷ gone) p left fs distinct =
     let other : bytes_eq g p ≡ false = apart g p (ids (gone ++ p ∷ left) fs) (among_places gone p left fs) parts.0 in
     ap (λ (b : Bool). cond b (Some (place_taker i g)) (arg_by_id (takers (suc i) (gone ++ p ∷ left) fs) p)) other ∙ place_named (suc i) gone p left fs parts.1
 
--- ---- by a flag's spelling
+-- ---- by the name or letter of a flag
 
--- the flag's rule, or that of help
+-- The rule of the flag, or the rule of the flag for help.
 abbrev pub rule_or_help : Option Flag → Bool → Option Rule
 rule_or_help (Some f) help = Some (taker f)
 rule_or_help None true = Some help_taker
@@ -235,7 +235,7 @@ pub by_short : (i : ℕ) (ps : List Text) (fs : List Flag) (c : ℕ) → arg_by_
 by_short i [] fs c = flags_by_short fs c
 by_short i (p ∷ ps) fs c = by_short (suc i) ps fs c
 
--- ---- by a place's number
+-- ---- by the number of a place
 
 no_flag_at : (fs : List Flag) (k : ℕ) → arg_by_index (flag_takers fs) k ≡ None
 no_flag_at [] k = refl
@@ -259,7 +259,7 @@ no_place i (p ∷ ps) fs =
     ap (λ (b : Bool). cond b (Some (place_taker i p)) (arg_by_index (takers (suc i) ps fs) (past (suc i) ps))) (earlier i ps)
     ∙ no_place (suc i) ps fs
 
--- the rule of a place, whichever
+-- The rule of some place.
 pub record IsPlace (rule : Option Rule) : Type 0 where
   pub number : ℕ
   pub name : Text
@@ -276,7 +276,7 @@ some_place i (p ∷ ps) fs k = go (i == k) (some_place (suc i) ps fs k)
 
 -- ---- defaults
 
--- a default passes over any rows, if it does over none
+-- If a default value is no fault without rows, it is no fault with any rows.
 quiet : (rows : List Row) (a : Rule) → default_fault [] a ≡ [] → default_fault rows a ≡ []
 quiet rows a e = go (has_row a.id rows)
   where
@@ -305,7 +305,7 @@ pub defaults_quiet : (i : ℕ) (ps : List Text) (fs : List Flag) (rows : List Ro
 defaults_quiet i [] fs rows = flags_quiet fs rows
 defaults_quiet i (p ∷ ps) fs rows = one_quiet rows (place_taker i p) (takers (suc i) ps fs) refl (defaults_quiet (suc i) ps fs)
 
--- ---- what is required
+-- ---- required arguments
 
 abbrev pub is_missing : List Row → Rule → Bool
 is_missing rows a = a.required && not (is_given a.id rows)

@@ -1,4 +1,4 @@
--- What `clap` makes of one word, by what it looks like.
+-- What `clap` does with one word, by its form.
 use Rattle.std.proofs.Common.{◌≡◌, ◌∙◌, ◌⊎◌, inl, inr, Bool, cond, true, false, List, ℕ, [], ◌∷◌, ◌++◌, Option, Some, None, ap, append_assoc, append-nil, codes, refl, sym, length, drop}
 use Rattle.std.specs.List.{fold}
 use Rattle.std.specs.Option.{option_map_or}
@@ -12,7 +12,7 @@ use Rattle.clap.specs.Simple.{Shape}
 use Rattle.clap.specs.Faults.{flag_word_fault, flags_fault, long_fault, option_fault, react_fault, short_fault, step_fault, turn_fault, walk_fault}
 use Rattle.cli_words.specs.Usage.{Look, end_of_flags, long, look_of, plain, short, short_look}
 
--- some error comes
+-- There is some error.
 abbrev pub Fails : Kinds → Type 0
 Fails kinds = kinds ≡ [] → ⊥
 
@@ -27,16 +27,16 @@ or_else-second (k ∷ ks) b f = λ e. cc
 pub fails_as : {a b : Kinds} → a ≡ b → Fails b → Fails a
 fails_as same fails = λ e. fails (sym same ∙ e)
 
--- ---- looks
+-- ---- the form of a word
 
--- the word begins with a hyphen and this letter
+-- The word begins with a hyphen and this letter.
 pub record IsShort (word : Text) (c : ℕ) (rest : Text) : Type 0 where
   pub flags : Text
   pub short_is : short_of word ≡ Some flags
   pub first : slice_get (chars flags) 0 ≡ Some c
   pub rest_is : drop (length (encode_utf8 c)) flags ≡ rest
 
--- the word has a hyphen, and no character behind it
+-- The word begins with a hyphen, and no character follows it.
 pub record IsBare (word : Text) : Type 0 where
   pub flags : Text
   pub short_is : short_of word ≡ Some flags
@@ -64,7 +64,7 @@ looks word = go (bytes_eq word (codes "--")) refl (long_of word) refl (short_of 
     go false a None b None c = (a, b, inl c)
     go false a None b (Some flags) c = by_letter flags a b c (slice_get (chars flags) 0) refl
 
--- ---- where the walk stands
+-- ---- the state of `clap` between two words
 
 abbrev pub held : List Row → Option (Text × List Text) → Held
 held rows pending = record { rows = rows; pending = pending; skip = 0 }
@@ -72,7 +72,7 @@ held rows pending = record { rows = rows; pending = pending; skip = 0 }
 abbrev pub walk_in : ℕ → Waiting → Held → Walk
 walk_in position waiting h = record { held = h; waiting = waiting; position = position; is_trailing = false; stopped = None }
 
--- behind `--`
+-- The state after `--`.
 abbrev pub trailing_in : ℕ → Waiting → Held → Walk
 trailing_in position waiting h = record { held = h; waiting = waiting; position = position; is_trailing = true; stopped = None }
 
@@ -96,13 +96,13 @@ module _ (s : Shape) (names : Names) (position : ℕ) (waiting : Waiting) (rows 
   abbrev flag_made : Held × Step
   flag_made = long_or_other s.rules waiting word (long_of word) h
 
-  -- `--`
+  -- The word `--`.
   pub dashes_pass : bytes_eq word (codes "--") ≡ true
       → (turn_fault s names here word ≡ []) × (walked s.rules names here word ≡ trailing_in position waiting h)
   unfolding walked
   dashes_pass ends = (rw (other, ends) refl, rw (other, ends) refl)
 
-  -- another word, by what it comes to as a flag
+  -- Another word, by what `clap` does with it as a flag.
   turn_is : bytes_eq word (codes "--") ≡ false → (kinds : Kinds) (made : Held × Step) → flag_kinds ≡ kinds → flag_made ≡ made
       → (turn_fault s names here word ≡ or_else kinds (step_fault s position made.0 made.1)) × (walked s.rules names here word ≡ after_step s.rules word here made.0 made.1)
   unfolding walked
@@ -111,7 +111,7 @@ module _ (s : Shape) (names : Names) (position : ℕ) (waiting : Waiting) (rows 
   flag_fails : bytes_eq word (codes "--") ≡ false → Fails flag_kinds → Fails (turn_fault s names here word)
   flag_fails ends fails = fails_as (turn_is ends flag_kinds flag_made refl refl).0 (or_else-first flag_kinds _ fails)
 
-  -- a flag, with its name or its letter
+  -- A flag with its name or its letter.
   module _ (name : Text) (value : Option Text) (looks : Looks word (long name value)) where
     long_kinds : flag_kinds ≡ long_fault s.rules s.args_override_self (arg_by_long s.rules name) value h
     long_kinds = ap (λ (o : Option (Text × Option Text)). flag_word_fault s.rules s.args_override_self o word h) looks.1
@@ -176,7 +176,7 @@ module _ (s : Shape) (names : Names) (position : ℕ) (waiting : Waiting) (rows 
         ∙ ap (λ (m : Held × Outcome). after_flag s.rules waiting word m.0 m.1) (letter_met looks.2.flags looks.2.first looks.2.rest_is a is takes)
         ∙ makes)
 
-  -- a word that is no flag goes to what waits, or to the positional of its place
+  -- A word that is no flag is a pending option's value or the word for the next place.
   bare_kinds : (flags : Text) → slice_get (chars flags) 0 ≡ None → flags_fault s.rules s.args_override_self (length flags) flags 0 h ≡ []
   unfolding flags_fault
   bare_kinds [] none = refl
@@ -206,15 +206,15 @@ module _ (s : Shape) (names : Names) (position : ℕ) (waiting : Waiting) (rows 
             ∙ ap (λ (m : Held × Outcome). after_flag s.rules waiting word m.0 m.1) (bare_met is.flags is.none)
       ]
 
--- ---- walks
+-- ---- several words
 
--- a walk fails where one of its turns does
+-- `clap` fails at several words if it fails at one of them.
 pub turn_fails : (s : Shape) (names : Names) (w : Walk) (word : Text) (rest : List Text)
     → Fails (turn_fault s names w word) → Fails (walk_fault s names w (word ∷ rest))
 unfolding walk_fault
 turn_fails s names w word rest fails = or_else-first _ _ fails
 
--- past a subcommand the words are its own
+-- The words after the name of a subcommand are its own.
 pub fold_stopped : (c : List Rule) (names : Names) (w : Walk) (name : Text) (before words : List Text)
     → fold (walked c names) (record w { stopped = Some (name, before) }) words
     ≡ record w { stopped = Some (name, before ++ words) }

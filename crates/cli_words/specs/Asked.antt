@@ -10,62 +10,66 @@ use Rattle.cli_words.specs.Tasks.{Told, are_two, campaigns, coursed, has, is_of,
 use Rattle.cli_words.specs.Usage.{Text, Usage, taken_in, value_at}
 use Rattle.cli_words.specs.Usages.{usage_named}
 
--- Returns the texts to which the references point.
+-- Returns the texts to which these references point.
 abbrev pub words_of : List (Bor Text) → List Text
 words_of = map (λ word. word.now)
 
--- Returns the subcommand's name and what it reads from its words, if it accepts them.
+-- Returns the subcommand's name and the values of its words, or `None` if the subcommand does not accept them.
 abbrev pub told_in : Usage → List Text → Option Told
 told_in usage words =
     option_map (λ met. record { name = usage.name; value = λ name. value_at name met }) (taken_in usage words)
 
--- Returns the subcommand's name and its words, if `clap` accepts them.
+-- Returns the subcommand that the first word names and the values of its words, or `None` if `clap`, the parser of the
+-- command line, rejects the words.
 abbrev pub spelt : List Text → Option Told
 spelt [] = None
 spelt (name ∷ words) = option_and_then (λ usage. told_in usage words) (usage_named name)
 
 -- ---- what `clap` does not check
 
--- Holds if the option's word can be read, or if there is no such option.
+-- Checks whether `read` accepts the value of the option `name`, or the words do not have this option.
 abbrev pub reads : {X : Type 0} → (Text → Option X) → Text → Told → Bool
 reads read name told = option_map_or (λ word. is_some (read word)) (word_of name told) true
 
--- Holds if `name` is used only with `other`.
+-- Checks whether the words have `other`, too, if they have `name`.
 abbrev pub wants : Text → Text → Told → Bool
 wants name other told = not (has name told) || has other told
 
--- Holds if a file has only one notation, and `--entry` is used only with `--elf`.
+-- Checks whether the words say in one way how a file is written: they do not have both `--asm` and `--elf`, and
+-- `--entry` only with `--elf`.
 abbrev pub has_notation : Told → Bool
 has_notation told = not (has (codes "asm") told && has (codes "elf") told) && wants (codes "entry") (codes "elf") told
 
--- Holds if the order and the liar are numbers, and there is a liar only in a table that is filled in.
+-- Checks whether the values of `--loyal` and `--lie` are an order and a general, and `--lie` is used only with
+-- `--loyal`.
 abbrev pub has_filling : Told → Bool
 has_filling told = reads order_in (codes "loyal") told && reads general_in (codes "lie") told
     && wants (codes "lie") (codes "loyal") told
 
--- Holds if the rule and the story can be read.
+-- Checks whether the values of `--rule` and `--story` are a rule and the number of a story.
 abbrev pub has_refutation : Told → Bool
 has_refutation told = reads rule_named (codes "rule") told && reads story_numbered (codes "story") told
 
--- Holds if a lieutenant is named, the depth is a number of levels, and the tree is drawn in one way only.
+-- Checks whether `--of` is used, the value of `--depth` is a number of levels, and the words name at most one way to
+-- draw the tree.
 abbrev pub has_tree : Told → Bool
 has_tree told = has (codes "of") told && reads depth_in (codes "depth") told
     && not (are_two (is_text told) (has (codes "dot") told) (has (codes "svg") told))
 
--- Holds if `name` is not used together with `other`.
+-- Checks whether the words do not have both `name` and `other`.
 abbrev pub excludes : Text → Text → Told → Bool
 excludes name other told = not (has name told && has other told)
 
--- Holds if a campaign is played by one schedule, and only a random schedule is written to a file.
+-- Checks whether the words name at most one schedule for a campaign, and only a random schedule is written to a file.
 abbrev pub has_turns : Told → Bool
 has_turns told = reads seed_in (codes "seed") told && excludes (codes "seed") (codes "schedule") told
     && wants (codes "schedule-out") (codes "seed") told
 
--- Holds if the subcommand is not one of these, or if `holds` is true.
+-- Checks whether `holds` is true, or the subcommand is not in `names`.
 abbrev pub if_of : List Text → Told → Bool → Bool
 if_of names told holds = not (is_of names told) || holds
 
--- Holds if words that `clap` accepts are not misused.
+-- Checks whether words that `clap`, the parser of the command line, accepts name a task: none of them is misused.
 abbrev pub is_meant : Told → Bool
 is_meant told = if_of programs told (has_notation told)
     && if_of of_traitors told (reads generals_in (codes "traitors") told)
@@ -79,6 +83,7 @@ is_meant told = if_of programs told (has_notation told)
     && if_of (codes "play" ∷ []) told (has_turns told)
     && if_of (codes "refute" ∷ []) told (has_refutation told)
 
--- Returns what the words ask for, if `clap` accepts them and they are not misused.
+-- Returns the subcommand and the values of its words, or `None` if `clap`, the parser of the command line, rejects the
+-- words or they are misused.
 abbrev pub asked : List Text → Option Told
 asked words = option_and_then (λ told. if is_meant told then Some told else None) (spelt words)

@@ -1,4 +1,5 @@
--- Defines the texts of errors. For words that `clap` rejects, the text is `clap`'s own and is not specified (own).
+-- Defines the texts of errors. If `clap`, the parser of the command line, rejects the words, it writes the text, which
+-- is not specified (own).
 use Rattle.std.specs.Prelude.{ℕ, ◌++◌, List, Option, Some, None, codes, option_map, string_bytes}
 use Rattle.std.specs.Fmt.{debug_str}
 use Rattle.cli_words.specs.declared.errors.TaskError.{TaskError}
@@ -6,7 +7,7 @@ use Rattle.cli_words.specs.declared.errors.TaskError.TheVariants as error
 use Rattle.cli_words.specs.declared.errors.Misuse.{Misuse}
 use Rattle.cli_words.specs.declared.errors.Misuse.TheVariants.{Traitors, Of, Lie, Loyal, Most, Depth, NobodyNamed, TwoDrawings, TwoNotations, UnitsOfParts, TwoCourses, EntryAlone, OfAlone, LieAlone, Seed, Rule, Story, TwoSchedules, OutAlone}
 
--- Returns the text for a word that the option does not accept, and says what the option accepts.
+-- Returns the text for an option with a wrong value. `wanted` says which values the option accepts.
 abbrev pub invalid : List ℕ → List ℕ → List ℕ → Option (List ℕ)
 invalid word option wanted = option_map
     (λ quoted. codes "invalid value " ++ quoted ++ codes " for '" ++ option ++ codes "': " ++ wanted) (debug_str word)
@@ -38,7 +39,8 @@ misuse_text LieAlone = Some (codes "the argument '--lie <G>' cannot be used with
 misuse_text TwoSchedules = Some (codes "the argument '--seed <S>' cannot be used with '--schedule <FILE>'")
 misuse_text OutAlone = Some (codes "the argument '--schedule-out <FILE>' cannot be used without '--seed <S>'")
 
--- Returns the text of an error, or `None` if it is `clap`'s own.
+-- Returns the text of an error, or `None` for an error of `clap`, the parser of the command line, which has its own
+-- text.
 abbrev pub error_text : TaskError → Option (List ℕ)
 error_text (error.Words refusal) = None
 error_text (error.Misuse misuse) = option_map (λ text. codes "error: " ++ text) (misuse_text misuse)

@@ -1,4 +1,4 @@
--- Defines the command line that `clap` receives (own).
+-- Defines the description of the command line that `clap`, its parser, receives (own).
 use Rattle.std.specs.Prelude.{Bool, true, false, List, [], ◌∷◌, ◌++◌, Option, Some, None, codes, find, if◌then◌else◌, map, option_map, slice_get}
 use Rattle.std.specs.Option.{option_map_or}
 use Rattle.std.specs.Str.{bytes_eq}
@@ -11,21 +11,21 @@ use Rattle.cli_words.specs.Tasks.{Told}
 use Rattle.cli_words.specs.Usage.{Flag, Text, Usage, letter, option, switch}
 use Rattle.cli_words.specs.Usages.{usages}
 
--- Returns the rule of a place, which is required.
+-- Returns the rule by which `clap` parses a place, which is a required positional argument.
 abbrev pub place_rule : Text → Rule
 place_rule name = record (new_rule name) { value_names = 1; required = true }
 
--- Returns the rule of a flag.
+-- Returns the rule by which `clap` parses a flag.
 abbrev pub flag_rule : Flag → Rule
 flag_rule (switch name) = record (new_rule name) { long = Some name; action = Some SetTrue }
 flag_rule (option name) = record (new_rule name) { long = Some name; value_names = 1 }
 flag_rule (letter name c) = record (new_rule name) { short = Some c; value_names = 1 }
 
--- Returns the shape of the subcommand with this usage.
+-- Returns the description of a subcommand for `clap`.
 abbrev pub shape : Usage → Shape
 shape usage = record (new_shape usage.name) { rules = map place_rule usage.places ++ map flag_rule usage.flags }
 
--- Returns the subcommand with this usage, which has no subcommands.
+-- Returns a subcommand as a program for `clap` that has no subcommands itself.
 abbrev pub leaf : Usage → App
 leaf usage = record { top = shape usage; subs = [] }
 
@@ -37,57 +37,58 @@ lab_about = codes "A laboratory for the Byzantine generals problem; the file nam
 abbrev pub lab_version : Text
 lab_version = codes "1.0.0, proved with Rattle, logic dac8208d650f15bf"
 
--- Returns the program with its version. Its words do not begin with the program's name, and it requires a subcommand.
+-- Returns the description of the program with its version. Its words do not begin with the program's name, and it
+-- requires a subcommand.
 abbrev pub described : App → App
 described app =
     record app { top = record app.top { no_binary_name = true; subcommand_required = true; has_version = true } }
 
--- The program before its subcommands are added.
+-- The description of the program before its subcommands are added.
 abbrev pub app_before : App
 app_before = described (new_app (codes "byzlab"))
 
--- Returns the program with these subcommands.
+-- Returns the description of the program with these subcommands.
 abbrev pub app_with : List Usage → App
 app_with usages = record { top = record app_before.top { is_leaf = false }; subs = map shape usages }
 
--- The program with all subcommands.
+-- The description of the program with all subcommands.
 abbrev pub lab_app : App
 lab_app = app_with usages
 
--- Returns only the usage of this name, or all of them if none has the name.
+-- Returns only the subcommand with this name, or all of the subcommands if none has it.
 abbrev pub named_in : List Usage → Text → List Usage
 named_in us name = option_map_or (λ usage. usage ∷ []) (find (λ usage. bytes_eq usage.name name) us) us
 
--- Returns the usages of which `clap` receives the subcommands: the one that the first word names, or all if it names
--- none.
+-- Returns the subcommands that `clap` receives for these words: the one that the first word names, or all of them if it
+-- names none or there are no words.
 abbrev pub usages_for : List Text → List Usage
 usages_for [] = usages
 usages_for (name ∷ words) = named_in usages name
 
--- Returns the program that `clap` receives for these words.
+-- Returns the description of the program that `clap` receives for these words.
 abbrev pub app_for : List Text → App
 app_for words = app_with (usages_for words)
 
 -- ---- what `clap` parsed
 
--- Holds if a value comes from the words.
+-- Checks whether a value comes from the command line, and is no default.
 abbrev pub is_given : Option ValueSource → Bool
 is_given (Some CommandLine) = true
 is_given (Some DefaultValue) = false
 is_given None = false
 
--- Returns the value of a row, if it comes from the words.
+-- Returns the value that `clap` parsed for a name if it comes from the command line, and otherwise `None`.
 abbrev pub given_value : Row → Option Text
 given_value row = if is_given row.source then slice_get row.values 0 else None
 
--- Returns the value that the words give to this name.
+-- Returns the value for this name that comes from the command line, or `None` if there is none.
 abbrev pub given : Text → List Row → Option Text
 given name rows = option_map_or given_value (find (λ row. bytes_eq row.id name) rows) None
 
--- Returns the subcommand that `clap` parsed, and what the words give to each name.
+-- Returns the subcommand that `clap` parsed, with the values that come from the command line.
 abbrev pub told_of : Text × List Row → Told
 told_of met = record { name = met.0; value = λ name. given name met.1 }
 
--- Returns the subcommand that `clap` parsed, if there is one.
+-- Returns the subcommand that `clap` parsed, with its values, or `None` if there is no subcommand.
 abbrev pub task_met : Option (Text × List Row) → Option Told
 task_met = option_map told_of

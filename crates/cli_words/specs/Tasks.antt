@@ -1,4 +1,4 @@
--- Defines what words say of a task, and why they name none (own).
+-- Defines which task words name, and why they name none (own).
 use Rattle.std.specs.Prelude.{⊤, ℕ, ◌≡◌, ◌≢◌, ◌&&◌, ◌||◌, Bool, true, false, List, [], ◌∷◌, Option, None, Some, codes, is_some, option_map}
 use Rattle.std.specs.List.{list_any}
 use Rattle.std.specs.Str.{bytes_eq}
@@ -38,25 +38,25 @@ use Rattle.cli_words.specs.declared.errors.Misuse.TheVariants.{Traitors, Of, Lie
 use Rattle.cli_words.specs.declared.errors.TaskError.{TaskError}
 use Rattle.cli_words.specs.declared.errors.TaskError.TheVariants as error
 
--- A subcommand's name, and what the words after it give to each name: the word at a place, the value of an option, or
--- `true` for a switch.
+-- A subcommand's name, and the values of its words: the word at a place, which is a required positional argument, the
+-- value of an option, or `true` for a switch.
 pub record Told : Type 0 where
   pub name : Text
   pub value : Text → Option Text
 
--- Returns what the words give to this name.
+-- Returns the value of the place, option or switch `name`, or `None` if the words do not have it.
 abbrev pub word_of : Text → Told → Option Text
 word_of name told = told.value name
 
--- Holds if the words have the place, option or switch of this name.
+-- Checks whether the words have the place, option or switch `name`.
 abbrev pub has : Text → Told → Bool
 has name told = is_some (word_of name told)
 
--- Holds if the subcommand is one of these.
+-- Checks whether the subcommand is one of `names`.
 abbrev pub is_of : List Text → Told → Bool
 is_of names told = list_any (λ name. bytes_eq name told.name) names
 
--- The subcommands that read a program which may be an ELF object.
+-- The subcommands that read a program and have `--elf`, since it may be an ELF object.
 abbrev pub programs : List Text
 programs = codes "check" ∷ codes "dis" ∷ []
 
@@ -64,21 +64,21 @@ programs = codes "check" ∷ codes "dis" ∷ []
 abbrev pub campaigns : List Text
 campaigns = codes "play" ∷ codes "muster" ∷ codes "audit" ∷ []
 
--- The subcommands that take the number of a lieutenant.
+-- The subcommands with the option `--of`, the number of a lieutenant.
 abbrev pub of_one : List Text
 of_one = codes "tree" ∷ campaigns
 
--- The subcommands that take the numbers of traitors.
+-- The subcommands with the option `--traitors`, the numbers of traitors.
 abbrev pub of_traitors : List Text
 of_traitors = codes "book" ∷ codes "tree" ∷ []
 
--- The subcommands that draw or describe a campaign, which takes a course.
+-- The subcommands that draw or describe a campaign, which follows a schedule or a chronicle.
 abbrev pub coursed : List Text
 coursed = codes "draw" ∷ codes "page" ∷ []
 
 -- ---- what the words say of a part of a task
 
--- States that the words say that the program is written in this notation.
+-- States that the words say that the program in the file is written in this way.
 abbrev pub IsNotation : Told → Notation → Type 0
 IsNotation told Bytecode =
     (has (codes "asm") told ≡ false) × (has (codes "elf") told ≡ false) × (word_of (codes "entry") told ≡ None)
@@ -87,56 +87,59 @@ IsNotation told Assembly =
 IsNotation told (Object entry) = (has (codes "asm") told ≡ false) × (has (codes "elf") told ≡ true)
     × (word_of (codes "entry") told ≡ option_map string_bytes entry)
 
--- Holds if bytecode is written as its bytes.
+-- Checks whether bytecode is written as its bytes, and not in hex digits.
 abbrev pub is_raw : Spelling → Bool
 is_raw Hex = false
 is_raw Raw = true
 
--- Returns the generals that the value of `--traitors` names. Without it, returns no generals if an explanation is asked
--- for, and `None` otherwise.
+-- Returns the generals that the value of `--traitors` lists. If there is no value, returns no generals if an
+-- explanation is asked for, and otherwise `None`.
 abbrev pub named : Bool → Option Text → Option (List ℕ)
 named explained (Some word) = generals_in word
 named true None = Some []
 named false None = None
 
--- States that the option names this general, or it is not used and there is no general.
+-- States that the value of the option `name` is this general, or that the words do not have the option and there is no
+-- general.
 abbrev pub NamesGeneral : Text → Told → Option ℕ → Type 0
 NamesGeneral name told None = word_of name told ≡ None
 NamesGeneral name told (Some g) = (word_of name told >>= general_in) ≡ Some g
 
--- States that the words say that a table is filled in like this, or is printed to be filled in.
+-- States that the words say that a message table is filled in like this or, for `None`, is printed without orders.
 abbrev pub IsFilling : Told → Option Filling → Type 0
 IsFilling told None = (word_of (codes "loyal") told ≡ None) × (word_of (codes "lie") told ≡ None)
 IsFilling told (Some filling) =
     ((word_of (codes "loyal") told >>= order_in) ≡ Some filling.order) × NamesGeneral (codes "lie") told filling.liar
 
--- Returns the rule that the word names, or the default rule if there is no word.
+-- Returns the rule with this name, or the default rule if there is no name. Returns `None` if no rule has the name.
 abbrev pub rule_in : Option Text → Option Rule
 rule_in None = Some default_rule
 rule_in (Some word) = rule_named word
 
--- The option names this story, or it is not used and there is no story.
+-- States that the value of `--story` is the number of this story, or that the words do not have the option and there is
+-- no story.
 abbrev pub NamesStory : Told → Option Story → Type 0
 NamesStory told None = word_of (codes "story") told ≡ None
 NamesStory told (Some story) = (word_of (codes "story") told >>= story_numbered) ≡ Some story
 
--- Holds if a campaign is printed as its message table.
+-- Checks whether a campaign is printed as its message table, and not as its chronicle.
 abbrev pub is_table : Account → Bool
 is_table Chronicle = false
 is_table Table = true
 
--- States that the words ask for an explanation of these lieutenants' decisions, or for none.
+-- States that the words ask for an explanation of these lieutenants' decisions or, for `None`, of none.
 abbrev pub AreExplained : Told → Option Lieutenants → Type 0
 AreExplained told None = (has (codes "explain") told ≡ false) × (word_of (codes "of") told ≡ None)
 AreExplained told (Some All) = (has (codes "explain") told ≡ true) × (word_of (codes "of") told ≡ None)
 AreExplained told (Some (One g)) = (has (codes "explain") told ≡ true) × NamesGeneral (codes "of") told (Some g)
 
--- States that the option names this number, or it is not used and there is no number.
+-- States that the value of the option `name` is this count, or that the words do not have the option and there is no
+-- count.
 abbrev pub NamesCount : Text → Told → Option ℕ → Type 0
 NamesCount name told None = word_of name told ≡ None
 NamesCount name told (Some n) = (word_of name told >>= count_in) ≡ Some n
 
--- States that the option names this seed, or it is not used and there is no seed.
+-- States that the value of `--seed` is this seed, or that the words do not have the option and there is no seed.
 abbrev pub NamesSeed : Told → Option ℕ → Type 0
 NamesSeed told None = word_of (codes "seed") told ≡ None
 NamesSeed told (Some seed) = (word_of (codes "seed") told >>= seed_in) ≡ Some seed
@@ -149,14 +152,14 @@ AreTurns told (OfFile file) =
 AreTurns told (OfSeed seed target) = (word_of (codes "schedule") told ≡ None) × NamesSeed told (Some seed)
     × (word_of (codes "schedule-out") told ≡ option_map string_bytes target)
 
--- States that the word at the second place is the name of a chronicle's file or, with `--accesses`, lists the accesses.
+-- States that the word at the second place is the file of a chronicle or, with `--accesses`, a list of accesses.
 abbrev pub AreAccesses : Told → Accesses → Type 0
 AreAccesses told (OfChronicle file) =
     (word_of (codes "CHRONICLE") told ≡ Some (string_bytes file)) × (has (codes "accesses") told ≡ false)
 AreAccesses told (Listed text) =
     (word_of (codes "CHRONICLE") told ≡ Some (string_bytes text)) × (has (codes "accesses") told ≡ true)
 
--- Holds if lines of text are asked for. They are also drawn if no way of drawing is asked for.
+-- Checks whether the words ask for a tree as lines of text. These are also drawn if the words name no way.
 abbrev pub is_text : Told → Bool
 is_text told = has (codes "text") told || has (codes "ascii") told
 
@@ -169,12 +172,13 @@ IsDrawing told Ascii =
 IsDrawing told Graph = (is_text told ≡ false) × (has (codes "dot") told ≡ true) × (has (codes "svg") told ≡ false)
 IsDrawing told Svg = (is_text told ≡ false) × (has (codes "dot") told ≡ false) × (has (codes "svg") told ≡ true)
 
--- Returns how many levels are drawn: those that the word names, or 4 if there is no word.
+-- Returns how many levels of a tree are drawn below the commander's: the number that the word is, 0 to 4, or 4 if there
+-- is no word. Returns `None` for another word.
 abbrev pub levels_in : Option Text → Option ℕ
 levels_in None = Some 4
 levels_in (Some word) = depth_in word
 
--- States that the words say that a campaign takes this course.
+-- States that the words say that a campaign follows this schedule or chronicle.
 abbrev pub IsCourse : Told → Course → Type 0
 IsCourse told (Scheduled file) =
     (word_of (codes "schedule") told ≡ option_map string_bytes file) × (word_of (codes "chronicle") told ≡ None)
@@ -241,8 +245,8 @@ Says told (Page scenario course target) = (told.name ≡ codes "page")
 Says told (Retrace scenario accesses) = (told.name ≡ codes "schedule")
     × (word_of (codes "SCENARIO") told ≡ Some (string_bytes scenario)) × AreAccesses told accesses
 
--- States that the words ask for this task, and say whether its answer is printed as JSON, or as one line, and whether a
--- scenario may name files.
+-- States that the words make this request: they name its task, and say whether the answer is printed as JSON or as one
+-- line, and whether a scenario may name files.
 abbrev pub Asks : Told → TaskRequest → Type 0
 Asks told request =
     Says told request.task × (has (codes "json") told ≡ request.json) × (has (codes "verdicts") told ≡ request.verdicts)
@@ -250,7 +254,7 @@ Asks told request =
 
 -- ---- the names of a task's files: the only or first one, the second one, and the one that it writes
 
--- Returns the name of the only file or of the first one.
+-- Returns the name of the only file that a task reads, or of the first one. Returns `None` if it reads no file.
 abbrev pub file_of : Task → Option Text
 file_of (Check file notation context explained traced) = Some (string_bytes file)
 file_of (Assemble file spelling target explained) = Some (string_bytes file)
@@ -270,22 +274,22 @@ file_of (Draw scenario course) = Some (string_bytes scenario)
 file_of (Page scenario course target) = Some (string_bytes scenario)
 file_of (Retrace scenario accesses) = Some (string_bytes scenario)
 
--- Returns the name of the file with the course.
+-- Returns the name of the file with the schedule or the chronicle, or `None` if the schedule is empty.
 abbrev pub course_file : Course → Option Text
 course_file (Scheduled schedule) = option_map string_bytes schedule
 course_file (Recorded chronicle) = Some (string_bytes chronicle)
 
--- Returns the name of the file with the schedule.
+-- Returns the name of the file with the schedule, or `None` if the schedule is random or empty.
 abbrev pub turns_file : Turns → Option Text
 turns_file (OfFile file) = option_map string_bytes file
 turns_file (OfSeed seed target) = None
 
--- Returns the name of the file with the accesses.
+-- Returns the name of the file with the chronicle, or `None` if the accesses are listed.
 abbrev pub accesses_file : Accesses → Option Text
 accesses_file (OfChronicle file) = Some (string_bytes file)
 accesses_file (Listed text) = None
 
--- Returns the name of the second file.
+-- Returns the name of the second file that a task reads, or `None` if there is none.
 abbrev pub second_of : Task → Option Text
 second_of (Check file notation context explained traced) = option_map string_bytes context
 second_of (Play scenario turns account explained) = turns_file turns
@@ -295,7 +299,7 @@ second_of (Page scenario course target) = course_file course
 second_of (Retrace scenario accesses) = accesses_file accesses
 second_of _ = None
 
--- Returns the name of the file to which the answer is written.
+-- Returns the name of the file to which the answer is written, or `None` if the answer is printed.
 abbrev pub target_of : Task → Option Text
 target_of (Assemble file spelling target explained) = option_map string_bytes target
 target_of (AssemblePartly file spelling target explained) = option_map string_bytes target
@@ -304,40 +308,40 @@ target_of _ = None
 
 -- ---- the seed of a schedule, and what is written in addition to the answer
 
--- Returns the seed of a random schedule.
+-- Returns the seed of a random schedule, or `None` if the schedule is not random.
 abbrev pub turns_seed : Turns → Option ℕ
 turns_seed (OfFile file) = None
 turns_seed (OfSeed seed target) = Some seed
 
--- Returns the seed of the random schedule by which a campaign is played.
+-- Returns the seed of the random schedule by which a task plays a campaign, or `None` if the schedule is not random.
 abbrev pub seed_of : Task → Option ℕ
 seed_of (Play scenario turns account explained) = turns_seed turns
 seed_of _ = None
 
--- Returns the name of the file to which a random schedule is written.
+-- Returns the name of the file to which a random schedule is written, or `None` if there is none.
 abbrev pub seed_target : Turns → Option Text
 seed_target (OfFile file) = None
 seed_target (OfSeed seed target) = option_map string_bytes target
 
--- Returns the name of the file to which the random schedule of a campaign is written.
+-- Returns the name of the file to which a task writes a random schedule, or `None` if there is none.
 abbrev pub schedule_target_of : Task → Option Text
 schedule_target_of (Play scenario turns account explained) = seed_target turns
 schedule_target_of _ = None
 
--- Returns the name of the folder to which the outcomes are written.
+-- Returns the name of the folder to which a task writes the files of an exploration, or `None` if there is none.
 abbrev pub folder_of : Task → Option Text
 folder_of (Explore scenario most folder) = option_map string_bytes folder
 folder_of _ = None
 
 -- ---- refusals
 
--- Holds if at least two of these are true.
+-- Checks whether at least two of these are true.
 abbrev pub are_two : Bool → Bool → Bool → Bool
 are_two true true c = true
 are_two true false c = c
 are_two false b c = b && c
 
--- States that the words are misused in this way.
+-- States that words that `clap`, the parser of the command line, accepts are misused in this way.
 abbrev pub IsMisused : Told → Misuse → Type 0
 IsMisused told (Traitors word) = (is_of of_traitors told ≡ true)
     × (word_of (codes "traitors") told ≡ Some (string_bytes word)) × (generals_in (string_bytes word) ≡ None)
@@ -377,30 +381,31 @@ IsMisused told TwoSchedules = (is_of (codes "play" ∷ []) told ≡ true)
 IsMisused told OutAlone = (is_of (codes "play" ∷ []) told ≡ true)
     × (has (codes "schedule-out") told ≡ true) × (has (codes "seed") told ≡ false)
 
--- States that the error is one of words that `clap` accepts: they are misused in this way, or there was not enough
--- memory.
+-- States that the error is right for words that `clap`, the parser of the command line, accepts: they are misused in
+-- this way, or memory ran out.
 abbrev pub IsErrorOf : Told → TaskError → Type 0
 IsErrorOf told (error.Words refusal) = ⊥
 IsErrorOf told (error.Misuse misuse) = IsMisused told misuse
 IsErrorOf told error.Memory = ⊤
 
--- States that the second error is the first one, which is `clap`'s. It is `Memory` exactly if `clap` ran out of memory.
+-- States that the second error is the right one for an error of `clap`, the parser of the command line: `Memory` if
+-- `clap` ran out of memory, and otherwise that error itself.
 abbrev pub IsToldBy : Error → TaskError → Type 0
 IsToldBy refusal (error.Words own) = (own ≡ refusal) × (kind_of refusal ≢ OutOfMemory)
 IsToldBy refusal error.Memory = kind_of refusal ≡ OutOfMemory
 IsToldBy refusal (error.Misuse misuse) = ⊥
 
--- States that, if `clap` rejected the words, the fact holds for its error.
+-- States that `P` holds for the error of `clap`, the parser of the command line, if the words were rejected by it.
 abbrev pub IfWords : TaskError → (Error → Type 0) → Type 0
 IfWords (error.Words refusal) P = P refusal
 IfWords _ P = ⊤
 
--- States that, if `clap` accepted the words and they are misused, the fact holds for the misuse.
+-- States that `P` holds for the misuse, if the words were rejected because of one.
 abbrev pub IfMisuse : TaskError → (Misuse → Type 0) → Type 0
 IfMisuse (error.Misuse misuse) P = P misuse
 IfMisuse _ P = ⊤
 
--- States that, if there was enough memory, so that the words are rejected, the fact holds.
+-- States that `P` holds, if the words were rejected for another reason than that memory ran out.
 abbrev pub IfRefused : TaskError → Type 0 → Type 0
 IfRefused error.Memory P = ⊤
 IfRefused _ P = P

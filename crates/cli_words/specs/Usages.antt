@@ -1,4 +1,4 @@
--- Defines the subcommands, one row each (own).
+-- Defines the usages of the subcommands: their names, places and flags (own).
 use Rattle.std.specs.Prelude.{List, [], ◌∷◌, Option, codes, find}
 use Rattle.std.specs.Str.{bytes_eq}
 use Rattle.cli_words.specs.Usage.{Text, Usage, letter, option, switch}
@@ -106,10 +106,10 @@ schedule = record {
   flags = switch (codes "accesses") ∷ switch (codes "no-files") ∷ [];
 }
 
--- The usages of all subcommands, in the order in which help lists them.
+-- The usages of all subcommands, in the order in which the help lists them.
 abbrev pub usages : List Usage
 usages = check ∷ asm ∷ dis ∷ book ∷ table ∷ refute ∷ muster ∷ play ∷ audit ∷ explore ∷ tree ∷ draw ∷ page ∷ schedule ∷ []
 
--- Returns the usage of the subcommand with this name.
+-- Returns the usage of the subcommand with this name, or `None` if there is none.
 abbrev pub usage_named : Text → Option Usage
 usage_named name = find (λ usage. bytes_eq usage.name name) usages

@@ -1,4 +1,4 @@
-//! Builds the program's command line for `clap`.
+//! Builds the command line of the program for `clap`, the parser of its words.
 ghost use Rattle.std.specs.Prelude.{◌≡◌, IfOk, IsSomeAnd, Some, codes, option_map, string_bytes};
 ghost use Rattle.clap.specs.Words.{app_of};
 ghost use Rattle.clap.specs.declared.builder.command.Command.TheViews.{out-Command};
@@ -19,8 +19,8 @@ const ABOUT: &str =
 /// program.
 const VERSION: &str = "1.0.0, proved with Rattle, logic dac8208d650f15bf";
 
-/// Returns the command line for these words. It has the subcommand that the first word names, or all subcommands if the
-/// first word names none.
+/// Returns the command line by which `clap` parses these words. It has the subcommand that the first word names, or all
+/// subcommands if the first word names none.
 pub(crate) fn lab_command<'a>(alloc: Global, words: &[&str]) -> Result<Command<'a>, AllocError>
     ensures shape { IfOk result (λ c. app_of c ≡ app_for (words_of words.now)) }
     ensures about { IfOk result (λ c. option_map (λ text. text.now) (out-Command c).about ≡ Some lab_about) }
@@ -31,7 +31,7 @@ pub(crate) fn lab_command<'a>(alloc: Global, words: &[&str]) -> Result<Command<'
     described(lab)
 }
 
-/// Returns the command with these subcommands added.
+/// Returns the command line `lab` with these subcommands added.
 fn with_subcommands<'a>(
     alloc: Global,
     mut lab: Command<'a>,
@@ -46,8 +46,8 @@ fn with_subcommands<'a>(
     Ok(lab)
 }
 
-/// Returns the command with its description, version and name. The subcommands must be added before, because `clap`
-/// promises nothing about these texts once one more is added.
+/// Returns the command line with its description, version and name. It is called after all subcommands were added,
+/// because `clap` promises nothing about these texts if one is added later.
 fn described<'a>(lab: Command<'a>) -> Result<Command<'a>, AllocError>
     ensures shape { IfOk result (λ c. app_of c ≡ described (app_of lab.entry)) }
     ensures about { IfOk result (λ c. option_map (λ text. text.now) (out-Command c).about ≡ Some lab_about) }

@@ -1,20 +1,21 @@
-//! Defines the errors of the command line, and their texts.
+//! The errors of the command line, and their texts.
 use clap::Error;
 use std::alloc::AllocError;
 use std::{error, fmt};
 
-/// Why words name no task.
+/// Why words of the command line name no task.
 #[derive(Debug, Drop)]
 pub enum TaskError {
-    /// `clap` rejected the words, or they ask for help. The error has `clap`'s text and exit status.
+    /// `clap`, the parser of the command line, rejected the words, or they ask for help. The error has the text and the
+    /// exit status of `clap`.
     Words(Error),
     /// `clap` accepted the words, but they name no task.
     Misuse(Misuse),
-    /// There was not enough memory, here or in `clap`.
+    /// There was not enough memory.
     Memory,
 }
 
-/// Why words that `clap` accepts name no task.
+/// Why words name no task, although `clap`, the parser of the command line, accepts them.
 #[derive(Debug, Drop)]
 pub enum Misuse {
     /// The value of `--traitors` does not list generals.
@@ -37,13 +38,14 @@ pub enum Misuse {
     Story(String),
     /// `--asm` and `--elf` are used together, so that a file has two notations.
     TwoNotations,
-    /// `--units` and `--partial` are used together, although only an instruction has its unit before it.
+    /// `--units` and `--partial` are used together. With `--partial`, some units are no instructions, and a unit is
+    /// printed only before an instruction.
     UnitsOfParts,
-    /// `--schedule` and `--chronicle` are used together, so that a campaign takes two courses.
+    /// `--schedule` and `--chronicle` are used together, so that a campaign would follow two files.
     TwoCourses,
-    /// `--entry` is used without `--elf`.
+    /// `--entry`, the name of a function, is used without `--elf`.
     EntryAlone,
-    /// `--of` is missing.
+    /// `--of`, the lieutenant whose tree is drawn, is missing.
     NobodyNamed,
     /// A tree would be drawn in two ways: at least two of `--dot`, `--svg`, and `--text` or `--ascii` are used.
     TwoDrawings,
@@ -51,7 +53,7 @@ pub enum Misuse {
     OfAlone,
     /// `--lie` is used without `--loyal`.
     LieAlone,
-    /// `--seed` and `--schedule` are used together, so that a campaign is played by two schedules.
+    /// `--seed` and `--schedule` are used together, so that a campaign would be played by two schedules.
     TwoSchedules,
     /// `--schedule-out` is used without `--seed`.
     OutAlone,

@@ -1,4 +1,4 @@
-//! Splits words that name several files into one request for each file, as `--verdicts` allows.
+//! Splits words that name several files into one request for each file, which the switch `--verdicts` allows.
 ghost use Rattle.std.specs.Prelude.{◌≡◌, ◌∷◌, IfOk, List, [], codes, false, map, option_map};
 ghost use Rattle.std.specs.List.{list_any};
 ghost use Rattle.std.specs.Str.{bytes_eq};
@@ -11,19 +11,19 @@ use crate::subcommand::{Flag, Subcommand};
 use crate::subcommands::{AUDIT, CHECK, PLAY};
 use std::alloc::{AllocError, Global};
 
-/// The words of a subcommand: those that apply to each file, and the files.
+/// The words after the name of a subcommand: those that apply to each file, and the names of the files.
 #[derive(Drop)]
 struct Parts<'a> {
     kept: Vec<&'a str>,
     files: Vec<&'a str>,
 }
 
-/// Returns the words of each request. If `--verdicts` is among the flags of `check`, `play` or `audit`, there is one
-/// request for each file, and for `audit` one for each scenario with its chronicle. A request has the subcommand's
-/// name, the words of the flags, `--`, and the file or files.
+/// Splits the words of the command line into requests. A request has the subcommand's name, the words of the flags,
+/// `--`, and the file or files. If `check`, `play` or `audit` has the switch `--verdicts`, there is one request for
+/// each file, and for `audit` one for each scenario with its chronicle.
 ///
-/// In any other case, the words themselves are the only request. This is also so without a file, and for `audit` if
-/// the number of files is odd.
+/// For other words, the words themselves are the only request. This is also so if there are no files, or if `audit` has
+/// an odd number of files.
 ///
 /// # Errors
 ///
@@ -50,7 +50,8 @@ pub fn each<'a>(alloc: Global, words: &[&'a str]) -> Result<Vec<Vec<&'a str>>, A
     }
 }
 
-/// Returns the subcommand of this name, if it can print verdicts.
+/// Returns the subcommand with this name if it has the switch `--verdicts`, which `check`, `play` and `audit` have, and
+/// otherwise `None`.
 fn judging(name: &str) -> Option<Subcommand<'static>>
     ensures { option_map usage_of result ≡ judging name.now }
 {
@@ -62,7 +63,7 @@ fn judging(name: &str) -> Option<Subcommand<'static>>
     }
 }
 
-/// Returns the words themselves as the only request.
+/// Returns one request, which has all of these words.
 fn alone<'a>(alloc: Global, words: &[&'a str]) -> Result<Vec<Vec<&'a str>>, AllocError>
     ensures { IfOk result (λ requests. map (λ request. words_of request.items) requests.items
         ≡ words_of words.now ∷ []) }
@@ -74,14 +75,14 @@ fn alone<'a>(alloc: Global, words: &[&'a str]) -> Result<Vec<Vec<&'a str>>, Allo
     Ok(requests)
 }
 
-/// Checks whether a word is longer than a hyphen and begins with one.
+/// Checks whether a word begins with a hyphen and is longer than that.
 fn is_flag(word: &str) -> bool
     ensures { result ≡ is_flag word.now }
 {
     word.as_bytes().starts_with(b"-") && word != "-"
 }
 
-/// Checks whether the word is this option, whose value is the next word.
+/// Checks whether the word is this flag with two hyphens, as in `--of`, and the flag takes the next word as its value.
 fn is_option(flag: &Flag, word: &str) -> bool
     ensures { result ≡ is_option word.now (flag_of flag.now) }
 {
@@ -91,14 +92,15 @@ fn is_option(flag: &Flag, word: &str) -> bool
     }
 }
 
-/// Checks whether the word is an option whose value is the next word.
+/// Checks whether the word is one of these flags and takes the next word as its value.
 fn wants_value(flags: &[Flag], word: &str) -> bool
     ensures { result ≡ list_any (λ flag. is_option word.now (flag_of flag)) flags.now }
 {
     flags.iter().any(|flag| is_option(flag, word))
 }
 
-/// Splits the words of a subcommand with these flags.
+/// Splits the words after the name of a subcommand with these flags into those that apply to each file, and the names
+/// of the files.
 fn parted<'a>(alloc: Global, flags: &[Flag], words: &[&'a str]) -> Result<Parts<'a>, AllocError>
     ensures { IfOk result (λ parts. parted_of parts ≡ parted (map flag_of flags.now) false (words_of words.now)) }
 {
@@ -119,8 +121,8 @@ fn parted<'a>(alloc: Global, flags: &[Flag], words: &[&'a str]) -> Result<Parts<
 }
 
 impl<'a> Parts<'a> {
-    /// Adds one more word: the value of an option if `is_value`, and otherwise a word before `--`. Returns whether the
-    /// next word is a value.
+    /// Adds one more word: the value of an option if `is_value` is true, and otherwise a flag or the name of a file.
+    /// Returns whether the next word is the value of an option.
     fn take(&mut self, flags: &[Flag], is_value: bool, word: &'a str) -> Result<bool, AllocError>
         requires { is_value ≡ false → bytes_eq word.now (codes "--") ≡ false }
         ensures { IfOk result (λ next. (rest : List Text) →
@@ -139,15 +141,15 @@ impl<'a> Parts<'a> {
         Ok(false)
     }
 
-    /// Checks whether the words have the switch `--verdicts`.
+    /// Checks whether one of the words is the switch `--verdicts`.
     fn have_switch(&self) -> bool
         ensures { result ≡ list_any (λ word. bytes_eq word.now (codes "--verdicts")) self.now.kept.items }
     {
         self.kept.iter().any(|word| *word == "--verdicts")
     }
 
-    /// Checks whether the words have the switch `--verdicts`, and the files form groups of `number` files, which is 1
-    /// or 2.
+    /// Checks whether the words make several requests: they have the switch `--verdicts`, and at least one file. If a
+    /// request needs two files, `number` is 2, and the number of files must be even.
     #[tactic(auto, using(crate::proofs::SeveralLemmas::any_word, crate::proofs::SeveralLemmas::as_many))]
     fn are_several(&self, number: usize) -> bool
         ensures { result ≡ are_several number (parted_of self.now) }
@@ -156,7 +158,7 @@ impl<'a> Parts<'a> {
         self.have_switch() && files != 0 && (number != 2 || files % 2 == 0)
     }
 
-    /// Returns the words of the request for these files.
+    /// Returns the words of a request for these files, with the words that apply to each file.
     fn request(
         &self,
         alloc: Global,
@@ -186,7 +188,7 @@ impl<'a> Parts<'a> {
         Ok(requests)
     }
 
-    /// Returns the words of a request for each pair of a scenario and a chronicle.
+    /// Returns the words of a request for each pair of files, a scenario and its chronicle.
     fn pairs(&self, alloc: Global, name: &'a str) -> Result<Vec<Vec<&'a str>>, AllocError>
         ensures { IfOk result (λ requests. map (λ request. words_of request.items) requests.items
             ≡ map (request_of name.now (parted_of self.now).kept) (pairs (parted_of self.now).files)) }

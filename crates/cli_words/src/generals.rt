@@ -1,4 +1,4 @@
-//! Reads the values of options: generals, orders, counts, seeds and depths.
+//! Parses the values of options: generals, orders, counts, seeds and depths.
 ghost use Rattle.std.specs.Prelude.{◌≡◌, ◌≢◌, Ok, Err, IfOk, IfErr, Some, None, is_some, true};
 ghost use Rattle.cli_words.specs.Generals.{count_in, depth_in, general_in, generals_in, order_in, seed_in};
 ghost use Rattle.cli_words.specs.declared.generals.GeneralsError.TheVariants.{NoGeneral, Memory};
@@ -6,12 +6,12 @@ ghost use Rattle.cli_words.specs.declared.generals.GeneralsError.TheVariants.{No
 use std::alloc::{AllocError, Global};
 use text::{Stop, decimal, piece};
 
-/// The stop between the numbers of generals.
+/// The comma, which separates the numbers of generals in a list.
 const COMMA: Stop = Stop::Byte(b',');
 
 /// Why a word does not list generals.
 pub(crate) enum GeneralsError {
-    /// A part of the word is not the number of a general.
+    /// A part of the word, between commas, is not the number of a general.
     NoGeneral,
     /// There was not enough memory.
     Memory,
@@ -25,12 +25,12 @@ impl From<AllocError> for GeneralsError {
     }
 }
 
-/// Returns the generals that a word of the form `G,H` lists.
+/// Returns the generals that a word lists, such as `1,3`.
 ///
 /// # Errors
 ///
-/// `NoGeneral` if a part of the word is not the number of a general. This is found out without memory. `Memory` if
-/// there is not enough memory for the list.
+/// Fails with `NoGeneral` if a part of the word is not the number of a general, 0 to 12. To find this out, no memory is
+/// needed. Fails with `Memory` if there is not enough memory for the list.
 pub(crate) fn generals(alloc: Global, word: &str) -> Result<Vec<u8>, GeneralsError>
     ensures named { IfOk result (λ generals. generals_in word.now ≡ Some generals.items) }
     ensures none { IfErr result (λ e. e ≢ Memory → generals_in word.now ≡ None) }
@@ -42,7 +42,7 @@ pub(crate) fn generals(alloc: Global, word: &str) -> Result<Vec<u8>, GeneralsErr
     Ok(named_in(alloc, word)?)
 }
 
-/// Checks whether each part of the word is the number of a general.
+/// Checks whether each part of the word, between commas, is the number of a general, 0 to 12.
 #[tactic(auto, unfolding(crate::specs::Generals::generals_in), using(crate::proofs::GeneralLemmas::behind_any))]
 fn names_generals(word: &str) -> bool
     ensures { result ≡ is_some (generals_in word.now) }
@@ -58,7 +58,7 @@ fn names_generals(word: &str) -> bool
     true
 }
 
-/// Returns the generals that the parts of the word name.
+/// Returns the generals that a word lists, such as `1,3`. Each part of the word must be the number of a general.
 #[tactic(auto, unfolding(crate::specs::Generals::generals_in))]
 fn named_in(alloc: Global, word: &str) -> Result<Vec<u8>, AllocError>
     requires { is_some (generals_in word.now) ≡ true }
@@ -77,7 +77,7 @@ fn named_in(alloc: Global, word: &str) -> Result<Vec<u8>, AllocError>
     Ok(generals)
 }
 
-/// Reads the number of a general, 0 to 12. Returns `None` for any other word.
+/// Parses the number of a general, 0 to 12. Returns `None` for any other word.
 #[tactic(auto, unfolding(crate::specs::Generals::general_in))]
 pub(crate) fn general(word: &[u8]) -> Option<u8>
     ensures { result ≡ general_in word.now }
@@ -90,7 +90,7 @@ pub(crate) fn general(word: &[u8]) -> Option<u8>
     }
 }
 
-/// Reads an order, 0 to 4294967295. Returns `None` for any other word.
+/// Parses an order, 0 to 4294967295. Returns `None` for any other word.
 #[tactic(auto, unfolding(crate::specs::Generals::order_in))]
 pub(crate) fn order(word: &[u8]) -> Option<u32>
     ensures { result ≡ order_in word.now }
@@ -103,7 +103,7 @@ pub(crate) fn order(word: &[u8]) -> Option<u32>
     }
 }
 
-/// Reads a count, 1 to 18446744073709551615. Returns `None` for any other word.
+/// Parses a count, 1 to 18446744073709551615. Returns `None` for any other word.
 #[tactic(auto, unfolding(crate::specs::Generals::count_in))]
 pub(crate) fn count(word: &[u8]) -> Option<u64>
     ensures { result ≡ count_in word.now }
@@ -116,7 +116,7 @@ pub(crate) fn count(word: &[u8]) -> Option<u64>
     }
 }
 
-/// Reads the seed of a random schedule, 0 to 18446744073709551615. Returns `None` for any other word.
+/// Parses the seed of a random schedule, 0 to 18446744073709551615. Returns `None` for any other word.
 #[tactic(auto, unfolding(crate::specs::Generals::seed_in))]
 pub(crate) fn seed(word: &[u8]) -> Option<u64>
     ensures { result ≡ seed_in word.now }
@@ -129,7 +129,7 @@ pub(crate) fn seed(word: &[u8]) -> Option<u64>
     }
 }
 
-/// Reads a number of levels of a tree, 0 to 4. Returns `None` for any other word.
+/// Parses a number of levels of a tree, 0 to 4. Returns `None` for any other word.
 #[tactic(auto, unfolding(crate::specs::Generals::depth_in))]
 pub(crate) fn depth(word: &[u8]) -> Option<u8>
     ensures { result ≡ depth_in word.now }

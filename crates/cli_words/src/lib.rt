@@ -1,4 +1,4 @@
-//! Parses the words of the command line into a task: a subcommand, the names of its files, and what its flags say.
+//! Parses the words of the command line into a task: a subcommand, the names of its files, and the values of its flags.
 #![tactic(auto)]
 
 mod command;

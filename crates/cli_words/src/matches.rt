@@ -1,4 +1,4 @@
-//! Turns the words that `clap` parsed into a task, or finds why they name none.
+//! Turns the words that `clap`, the parser of the command line, accepted into a task, or finds why they name none.
 ghost use Rattle.std.specs.Prelude.{◌≡◌, ◌≢◌, if◌then◌else◌, IfOk, IfErr, IsSome, None, Some, [], ◌∷◌, codes, is_some, option_map, string_bytes, true, false};
 ghost use Rattle.clap.specs.Words.{subcommand_rows_of};
 ghost use Rattle.cli_words.specs.Lab.{is_given, task_met};
@@ -18,7 +18,7 @@ use clap::parser::ValueSource;
 use combine::Rule;
 use std::alloc::{AllocError, Global};
 
-/// A subcommand that `clap` parsed, and the values of its places and flags.
+/// A subcommand that `clap` parsed: its name, and the values of its positional arguments (places) and flags.
 #[derive(Clone, Copy)]
 pub(crate) struct ParsedWords<'m, 'a> {
     name: &'a str,
@@ -26,7 +26,7 @@ pub(crate) struct ParsedWords<'m, 'a> {
 }
 
 impl<'m, 'a> ParsedWords<'m, 'a> {
-    /// Returns the name of the subcommand that `clap` parsed and the values of its words. There must be a subcommand.
+    /// Returns the name of the subcommand that `clap` parsed, with the values of its words. There must be a subcommand.
     pub(crate) fn of(matches: &'m ArgMatches<'a>) -> ParsedWords<'m, 'a>
         requires { IsSome (subcommand_rows_of matches.now) }
         ensures { Some (told_by result) ≡ task_met (subcommand_rows_of matches.now) }
@@ -37,22 +37,22 @@ impl<'m, 'a> ParsedWords<'m, 'a> {
         ParsedWords { name, found }
     }
 
-    /// Returns the word at the place of this name, or the option's value, or `true` for a switch. Returns `None` if the
-    /// words do not have it.
+    /// Returns the word at the place `name`, the value of the option `name`, or `true` for the switch `name`. Returns
+    /// `None` if the words do not have it.
     fn value(self, name: &str) -> Option<&'a str>
         ensures { word_of name.now (told_by self.entry) ≡ option_map (λ t. t.now) result }
     {
         given(self.found.value_source(name), self.found.get_str(name))
     }
 
-    /// Checks whether the words have the place, option or switch of this name.
+    /// Checks whether the words have the place, option or switch `name`.
     fn has(self, name: &str) -> bool
         ensures { result ≡ has name.now (told_by self.entry) }
     {
         self.value(name).is_some()
     }
 
-    /// Returns a copy of the word at the place of this name.
+    /// Returns a copy of the word at the place `name`, which the words must have.
     fn required(self, alloc: Global, name: &str) -> Result<String, AllocError>
         requires { has name.now (told_by self) ≡ true }
         ensures { IfOk result (λ own. word_of name.now (told_by self.entry) ≡ Some (string_bytes own)) }
@@ -63,7 +63,7 @@ impl<'m, 'a> ParsedWords<'m, 'a> {
         String::from_str(alloc, word)
     }
 
-    /// Returns a copy of the value of this option, or `None` if the words do not have the option.
+    /// Returns a copy of the value of the option `name`, or `None` if the words do not have this option.
     fn optional(self, alloc: Global, name: &str) -> Result<Option<String>, AllocError>
         ensures { IfOk result (λ own. word_of name.now (told_by self.entry) ≡ option_map string_bytes own) }
     {
@@ -73,7 +73,7 @@ impl<'m, 'a> ParsedWords<'m, 'a> {
         })
     }
 
-    /// Returns what the words ask for: a task, and how its answer is printed.
+    /// Returns the request that the words make: a task, and how its answer is printed.
     pub(crate) fn request(self, alloc: Global) -> Result<TaskRequest, TaskError>
         requires { has_places (told_by self) ≡ true }
         ensures request { IfOk result (Asks (told_by self.entry)) }
@@ -87,7 +87,7 @@ impl<'m, 'a> ParsedWords<'m, 'a> {
         })
     }
 
-    /// Returns the task of the subcommand.
+    /// Returns the task that the subcommand and its words name.
     fn task(self, alloc: Global) -> Result<Task, TaskError>
         requires { has_places (told_by self) ≡ true }
         ensures task { IfOk result (Says (told_by self.entry)) }
@@ -112,7 +112,7 @@ impl<'m, 'a> ParsedWords<'m, 'a> {
         }
     }
 
-    /// Returns the task of `check`.
+    /// Builds the task of the subcommand `check` from its words.
     fn check(self, alloc: Global) -> Result<Task, TaskError>
         requires name { self.name.now ≡ codes "check" }
         requires file { has (codes "FILE") (told_by self) ≡ true }
@@ -128,7 +128,7 @@ impl<'m, 'a> ParsedWords<'m, 'a> {
         })
     }
 
-    /// Returns the task of `asm`.
+    /// Builds the task of the subcommand `asm` from its words.
     fn assemble(self, alloc: Global) -> Result<Task, TaskError>
         requires name { self.name.now ≡ codes "asm" }
         requires file { has (codes "FILE") (told_by self) ≡ true }
@@ -146,7 +146,7 @@ impl<'m, 'a> ParsedWords<'m, 'a> {
         })
     }
 
-    /// Returns the task of `asm --partial`.
+    /// Builds the task of the subcommand `asm` with the switch `--partial` from its words.
     fn assemble_partly(self, alloc: Global) -> Result<Task, TaskError>
         requires name { self.name.now ≡ codes "asm" }
         requires file { has (codes "FILE") (told_by self) ≡ true }
@@ -162,7 +162,7 @@ impl<'m, 'a> ParsedWords<'m, 'a> {
         })
     }
 
-    /// Returns the task of `dis`.
+    /// Builds the task of the subcommand `dis` from its words.
     fn disassemble(self, alloc: Global) -> Result<Task, TaskError>
         requires name { self.name.now ≡ codes "dis" }
         requires file { has (codes "FILE") (told_by self) ≡ true }
@@ -180,7 +180,8 @@ impl<'m, 'a> ParsedWords<'m, 'a> {
         })
     }
 
-    /// Returns the task of `dis --partial`.
+    /// Builds the task of the subcommand `dis` with the switch `--partial` from its words. Fails if they also have
+    /// `--units`.
     fn disassemble_partly(self, alloc: Global) -> Result<Task, TaskError>
         requires name { self.name.now ≡ codes "dis" }
         requires file { has (codes "FILE") (told_by self) ≡ true }
@@ -199,7 +200,8 @@ impl<'m, 'a> ParsedWords<'m, 'a> {
         })
     }
 
-    /// Returns the task of `book`. It explains the decisions if `--explain` or `--traitors` is used.
+    /// Builds the task of the subcommand `book` from its words. The task explains the decisions if they have
+    /// `--explain` or `--traitors`.
     fn book(self, alloc: Global) -> Result<Task, TaskError>
         requires name { self.name.now ≡ codes "book" }
         requires file { has (codes "FILE") (told_by self) ≡ true }
@@ -226,7 +228,7 @@ impl<'m, 'a> ParsedWords<'m, 'a> {
         }
     }
 
-    /// Returns the task of `table`.
+    /// Builds the task of the subcommand `table` from its words.
     fn form(self, alloc: Global) -> Result<Task, TaskError>
         requires name { self.name.now ≡ codes "table" }
         requires generals { has (codes "GENERALS") (told_by self) ≡ true }
@@ -243,7 +245,7 @@ impl<'m, 'a> ParsedWords<'m, 'a> {
         })
     }
 
-    /// Returns the task of `refute`.
+    /// Builds the task of the subcommand `refute` from its words.
     fn refute(self, alloc: Global) -> Result<Task, TaskError>
         requires name { self.name.now ≡ codes "refute" }
         requires generals { has (codes "GENERALS") (told_by self) ≡ true }
@@ -261,7 +263,7 @@ impl<'m, 'a> ParsedWords<'m, 'a> {
         })
     }
 
-    /// Returns the task of `play`.
+    /// Builds the task of the subcommand `play` from its words.
     fn play(self, alloc: Global) -> Result<Task, TaskError>
         requires name { self.name.now ≡ codes "play" }
         requires scenario { has (codes "SCENARIO") (told_by self) ≡ true }
@@ -276,7 +278,8 @@ impl<'m, 'a> ParsedWords<'m, 'a> {
         })
     }
 
-    /// Returns the schedule by which a campaign is played.
+    /// Returns the schedule by which a campaign is played: the schedule in the file of `--schedule`, or the random one
+    /// of `--seed`. Fails if the words have both, or `--schedule-out` without `--seed`.
     fn turns(self, alloc: Global) -> Result<Turns, TaskError>
         requires { is_of (codes "play" ∷ []) (told_by self) ≡ true }
         ensures turns { IfOk result (AreTurns (told_by self.entry)) }
@@ -296,7 +299,7 @@ impl<'m, 'a> ParsedWords<'m, 'a> {
         Ok(Turns::OfSeed { seed, target })
     }
 
-    /// Returns the seed of the random schedule, or `None` if the schedule is not random.
+    /// Returns the value of `--seed`, or `None` if the words do not have it. Fails if it is not a seed.
     fn seed(self, alloc: Global) -> Result<Option<u64>, TaskError>
         requires { is_of (codes "play" ∷ []) (told_by self) ≡ true }
         ensures named { IfOk result (NamesSeed (told_by self.entry)) }
@@ -312,7 +315,7 @@ impl<'m, 'a> ParsedWords<'m, 'a> {
         }
     }
 
-    /// Returns the task of `muster`.
+    /// Builds the task of the subcommand `muster` from its words.
     fn muster(self, alloc: Global) -> Result<Task, TaskError>
         requires name { self.name.now ≡ codes "muster" }
         requires scenario { has (codes "SCENARIO") (told_by self) ≡ true }
@@ -325,7 +328,7 @@ impl<'m, 'a> ParsedWords<'m, 'a> {
         })
     }
 
-    /// Returns the task of `audit`.
+    /// Builds the task of the subcommand `audit` from its words.
     fn audit(self, alloc: Global) -> Result<Task, TaskError>
         requires name { self.name.now ≡ codes "audit" }
         requires scenario { has (codes "SCENARIO") (told_by self) ≡ true }
@@ -340,7 +343,7 @@ impl<'m, 'a> ParsedWords<'m, 'a> {
         })
     }
 
-    /// Returns the task of `explore`.
+    /// Builds the task of the subcommand `explore` from its words.
     fn explore(self, alloc: Global) -> Result<Task, TaskError>
         requires name { self.name.now ≡ codes "explore" }
         requires scenario { has (codes "SCENARIO") (told_by self) ≡ true }
@@ -354,7 +357,8 @@ impl<'m, 'a> ParsedWords<'m, 'a> {
         })
     }
 
-    /// Returns the greatest number of orders in which a campaign is played, or `None` if the words set no limit.
+    /// Returns the value of `--most`, the greatest number of orders of accesses that are played, or `None` if the words
+    /// do not have it. Fails if it is not a number from 1 on.
     fn most(self, alloc: Global) -> Result<Option<u64>, TaskError>
         requires { is_of (codes "explore" ∷ []) (told_by self) ≡ true }
         ensures named { IfOk result (NamesCount (codes "most") (told_by self.entry)) }
@@ -369,7 +373,7 @@ impl<'m, 'a> ParsedWords<'m, 'a> {
         }
     }
 
-    /// Returns the task of `tree`.
+    /// Builds the task of the subcommand `tree` from its words.
     fn tree(self, alloc: Global) -> Result<Task, TaskError>
         requires name { self.name.now ≡ codes "tree" }
         requires file { has (codes "FILE") (told_by self) ≡ true }
@@ -386,7 +390,8 @@ impl<'m, 'a> ParsedWords<'m, 'a> {
         })
     }
 
-    /// Returns the lieutenant whose tree is drawn.
+    /// Returns the value of `--of`, the lieutenant whose tree is drawn. Fails if it is missing, or is not the number of
+    /// a general.
     fn whose(self, alloc: Global) -> Result<u8, TaskError>
         requires { is_of (codes "tree" ∷ []) (told_by self) ≡ true }
         ensures named { IfOk result (λ g. NamesGeneral (codes "of") (told_by self.entry) (Some g)) }
@@ -402,7 +407,8 @@ impl<'m, 'a> ParsedWords<'m, 'a> {
         }
     }
 
-    /// Returns the generals whose lies are marked.
+    /// Returns the generals that `--traitors` lists, whose lies are marked, or none if the words do not have it. Fails
+    /// if a part of the list is not the number of a general.
     fn traitors(self, alloc: Global) -> Result<Vec<u8>, TaskError>
         requires { is_of (codes "tree" ∷ []) (told_by self) ≡ true }
         ensures named { IfOk result
@@ -422,7 +428,7 @@ impl<'m, 'a> ParsedWords<'m, 'a> {
         }
     }
 
-    /// Returns how a tree is drawn.
+    /// Returns how a tree is drawn, as `--text`, `--ascii`, `--dot` and `--svg` say. Fails if they name two ways.
     fn drawing(self) -> Result<Drawing, TaskError>
         requires { is_of (codes "tree" ∷ []) (told_by self) ≡ true }
         ensures drawing { IfOk result (IsDrawing (told_by self.entry)) }
@@ -442,7 +448,8 @@ impl<'m, 'a> ParsedWords<'m, 'a> {
         }
     }
 
-    /// Returns how many levels of a tree are drawn below the commander's, 0 to 4. Without the option, it is 4.
+    /// Returns the value of `--depth`, how many levels of a tree are drawn below the commander's: 0 to 4, or 4 if the
+    /// words do not have it. Fails if it is another word.
     fn depth(self, alloc: Global) -> Result<u8, TaskError>
         requires { is_of (codes "tree" ∷ []) (told_by self) ≡ true }
         ensures levels { IfOk result (λ depth. levels_in (word_of (codes "depth") (told_by self.entry)) ≡ Some depth) }
@@ -457,7 +464,7 @@ impl<'m, 'a> ParsedWords<'m, 'a> {
         }
     }
 
-    /// Returns the task of `draw`.
+    /// Builds the task of the subcommand `draw` from its words.
     fn draw(self, alloc: Global) -> Result<Task, TaskError>
         requires name { self.name.now ≡ codes "draw" }
         requires scenario { has (codes "SCENARIO") (told_by self) ≡ true }
@@ -470,7 +477,7 @@ impl<'m, 'a> ParsedWords<'m, 'a> {
         })
     }
 
-    /// Returns the task of `page`.
+    /// Builds the task of the subcommand `page` from its words.
     fn page(self, alloc: Global) -> Result<Task, TaskError>
         requires name { self.name.now ≡ codes "page" }
         requires scenario { has (codes "SCENARIO") (told_by self) ≡ true }
@@ -484,7 +491,8 @@ impl<'m, 'a> ParsedWords<'m, 'a> {
         })
     }
 
-    /// Returns the course that a campaign takes.
+    /// Returns what a campaign follows: the schedule of `--schedule`, or the chronicle of `--chronicle`. Fails if the
+    /// words have both.
     fn course(self, alloc: Global) -> Result<Course, TaskError>
         requires { is_of coursed (told_by self) ≡ true }
         ensures course { IfOk result (IsCourse (told_by self.entry)) }
@@ -500,7 +508,7 @@ impl<'m, 'a> ParsedWords<'m, 'a> {
         Ok(Course::Recorded(chronicle))
     }
 
-    /// Returns the task of `schedule`.
+    /// Builds the task of the subcommand `schedule` from its words.
     fn retrace(self, alloc: Global) -> Result<Task, TaskError>
         requires name { self.name.now ≡ codes "schedule" }
         requires scenario { has (codes "SCENARIO") (told_by self) ≡ true }
@@ -520,7 +528,8 @@ impl<'m, 'a> ParsedWords<'m, 'a> {
         })
     }
 
-    /// Returns how the program is written.
+    /// Returns how the program in a file is written, as `--asm`, `--elf` and `--entry` say. Fails if the first two are
+    /// used together, or `--entry` without `--elf`.
     fn notation(self, alloc: Global) -> Result<Notation, TaskError>
         requires { is_of programs (told_by self) ≡ true }
         ensures notation { IfOk result (IsNotation (told_by self.entry)) }
@@ -542,7 +551,7 @@ impl<'m, 'a> ParsedWords<'m, 'a> {
         Ok(Notation::Bytecode)
     }
 
-    /// Returns how bytecode is written.
+    /// Returns how bytecode is written: as bytes if the words have `--raw`, and otherwise in hex digits.
     fn spelling(self) -> Spelling
         ensures { has (codes "raw") (told_by self.entry) ≡ is_raw result }
     {
@@ -553,7 +562,8 @@ impl<'m, 'a> ParsedWords<'m, 'a> {
         }
     }
 
-    /// Returns whether a campaign is printed as its chronicle or as its message table.
+    /// Returns how a campaign is printed: as its message table if the words have `--table`, and otherwise as its
+    /// chronicle.
     fn account(self) -> Account
         ensures { has (codes "table") (told_by self.entry) ≡ is_table result }
     {
@@ -564,7 +574,8 @@ impl<'m, 'a> ParsedWords<'m, 'a> {
         }
     }
 
-    /// Returns the lieutenants whose decisions are explained, or `None` if no explanation is asked for.
+    /// Returns the lieutenants whose decisions are explained, or `None` if the words do not have `--explain`. Fails if
+    /// the value of `--of` is not the number of a general, or if it is used without `--explain`.
     fn lieutenants(self, alloc: Global) -> Result<Option<Lieutenants>, TaskError>
         requires { is_of campaigns (told_by self) ≡ true }
         ensures explained { IfOk result (AreExplained (told_by self.entry)) }
@@ -587,7 +598,8 @@ impl<'m, 'a> ParsedWords<'m, 'a> {
         }
     }
 
-    /// Returns the rule that `--rule` names, or the default rule without it.
+    /// Returns the rule that `--rule` names, or the default rule if the words do not have it. Fails if no rule has this
+    /// name.
     fn rule(self, alloc: Global) -> Result<Rule, TaskError>
         requires { is_of (codes "refute" ∷ []) (told_by self) ≡ true }
         ensures named { IfOk result (λ rule. rule_in (word_of (codes "rule") (told_by self.entry)) ≡ Some rule) }
@@ -602,7 +614,8 @@ impl<'m, 'a> ParsedWords<'m, 'a> {
         }
     }
 
-    /// Returns the story that `--story` names, or `None` without it.
+    /// Returns the story (one of three campaigns with too few generals) that `--story` numbers, or `None` if the words
+    /// do not have it. Fails if there is no story with this number.
     fn story(self, alloc: Global) -> Result<Option<Story>, TaskError>
         requires { is_of (codes "refute" ∷ []) (told_by self) ≡ true }
         ensures named { IfOk result (NamesStory (told_by self.entry)) }
@@ -617,7 +630,8 @@ impl<'m, 'a> ParsedWords<'m, 'a> {
         }
     }
 
-    /// Returns how a table is filled in, or `None` if it is printed to be filled in.
+    /// Returns how a message table is filled in, as `--loyal` and `--lie` say, or `None` if it is printed without
+    /// orders. Fails if `--lie` is used without `--loyal`, or if a value is wrong.
     fn filling(self, alloc: Global) -> Result<Option<Filling>, TaskError>
         requires { is_of (codes "table" ∷ []) (told_by self) ≡ true }
         ensures filling { IfOk result (IsFilling (told_by self.entry)) }
@@ -639,7 +653,8 @@ impl<'m, 'a> ParsedWords<'m, 'a> {
         }))
     }
 
-    /// Returns the general whose lines of a table are left to be edited, if there is one.
+    /// Returns the value of `--lie`, the general whose lines of a table are left to be edited, or `None` if the words
+    /// do not have it. Fails if it is not the number of a general.
     fn liar(self, alloc: Global) -> Result<Option<u8>, TaskError>
         requires { is_of (codes "table" ∷ []) (told_by self) ≡ true }
         ensures named { IfOk result (NamesGeneral (codes "lie") (told_by self.entry)) }
@@ -655,7 +670,7 @@ impl<'m, 'a> ParsedWords<'m, 'a> {
     }
 }
 
-/// Returns the text if it comes from the words, and `None` if it is a default.
+/// Returns the text if it comes from the command line, and `None` if it is a default or if there is none.
 fn given<'a>(source: Option<ValueSource>, text: Option<&'a str>) -> Option<&'a str>
     ensures { option_map (λ t. t.now) result ≡ (if is_given source then option_map (λ t. t.now) text.entry else None) }
 {

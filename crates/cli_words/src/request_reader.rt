@@ -1,4 +1,4 @@
-//! Reads the words of the command line as a request for a task.
+//! Parses the words of the command line into a request for a task.
 ghost use Rattle.std.specs.Prelude.{◌≡◌, ◌≢◌, IfOk, IfErr, IsSomeAnd, None};
 ghost use Rattle.clap.specs.Words.{IsAmong, fault_of, kind_of};
 ghost use Rattle.cli_words.specs.Asked.{asked, spelt, words_of};
@@ -13,7 +13,7 @@ use clap::Error;
 use clap::error::ErrorKind;
 use std::alloc::Global;
 
-/// Returns the error of the command line for an error of `clap`.
+/// Converts an error of `clap`, the parser of the command line, to a `TaskError`.
 fn refused(error: Error) -> TaskError
     ensures { IsToldBy error result }
 {
@@ -23,12 +23,12 @@ fn refused(error: Error) -> TaskError
     TaskError::Words(error)
 }
 
-/// Reads the words after the program's name.
+/// Parses the words after the program's name into a request: a task, and how its answer is printed.
 ///
 /// # Errors
 ///
-/// `Words` if `clap` rejects the words or they ask for help. `Misuse` if `clap` accepts the words but they name no
-/// task. `Memory` if there is not enough memory.
+/// Fails with `Words` if `clap`, the parser of the command line, rejects the words, or if they ask for help. Fails with
+/// `Misuse` if `clap` accepts the words, but they name no task, and with `Memory` if there is not enough memory.
 pub fn request(alloc: Global, words: &[&str]) -> Result<TaskRequest, TaskError>
     ensures found { IfOk result (λ request. IsSomeAnd (asked (words_of words.now)) (λ told. Asks told request)) }
     ensures refused { IfErr result (λ error. IfRefused error (asked (words_of words.now) ≡ None)) }

@@ -1,4 +1,5 @@
-//! Describes how a subcommand is used, and turns the description into a command for `clap`.
+//! Describes how a subcommand is used, and turns this description into a command for `clap`, the parser of the command
+//! line.
 ghost use Rattle.std.specs.Prelude.{◌≡◌, IfOk, Some, false};
 ghost use Rattle.clap.specs.Words.{rule_of, shape_of};
 ghost use Rattle.clap.specs.declared.builder.command.Command.TheViews.{out-Command};
@@ -8,7 +9,7 @@ ghost use Rattle.cli_words.specs.Subcommand.{help_of, rule_for, shape_for};
 use clap::{Arg, ArgAction, Command};
 use std::alloc::{AllocError, Global};
 
-/// A subcommand: its name, its description in help, its places and its flags.
+/// A subcommand: its name, its description in the help, its positional arguments (places), and its flags.
 #[derive(Clone, Copy)]
 pub(crate) struct Subcommand<'a> {
     pub(crate) name: &'a str,
@@ -17,14 +18,14 @@ pub(crate) struct Subcommand<'a> {
     pub(crate) flags: &'a [Flag<'a>],
 }
 
-/// A place: a positional argument, which is required.
+/// A place: a positional argument of a subcommand, which is required.
 #[derive(Clone, Copy)]
 pub(crate) struct Place<'a> {
     pub(crate) name: &'a str,
     pub(crate) help: &'a str,
 }
 
-/// A flag, which may be used once.
+/// A flag of a subcommand, which may be used once.
 #[derive(Clone, Copy)]
 pub(crate) enum Flag<'a> {
     /// A switch, which has no value: `--NAME`.
@@ -48,7 +49,7 @@ pub(crate) enum Flag<'a> {
 }
 
 impl<'a> Subcommand<'a> {
-    /// Returns the command of this subcommand for `clap`.
+    /// Returns this subcommand as a command for `clap`, the parser of the command line.
     pub(crate) fn command(&self, alloc: Global) -> Result<Command<'a>, AllocError>
         ensures shape { IfOk result (λ c. shape_of c ≡ shape_for self.now) }
         ensures about { IfOk result (λ c. (out-Command c).about ≡ Some self.now.about) }
@@ -66,7 +67,7 @@ impl<'a> Subcommand<'a> {
 }
 
 impl<'a> Place<'a> {
-    /// Returns the argument of this place for `clap`.
+    /// Returns this place as an argument for `clap`, the parser of the command line.
     fn argument(&self, alloc: Global) -> Arg<'a>
         ensures rule { rule_of result ≡ place_rule self.now.name.now }
         ensures help { result.help ≡ Some self.now.help }
@@ -80,7 +81,7 @@ impl<'a> Place<'a> {
 }
 
 impl<'a> Flag<'a> {
-    /// Returns the argument of this flag for `clap`.
+    /// Returns this flag as an argument for `clap`, the parser of the command line.
     #[tactic(auto, unfolding(crate::specs::Subcommand::rule_for))]
     fn argument(&self, alloc: Global) -> Arg<'a>
         ensures rule { rule_of result ≡ rule_for self.now }

@@ -1,4 +1,4 @@
-//! Lists the subcommands, with their places, their flags and the texts of their help.
+//! Lists the subcommands, with their positional arguments (places), their flags and the texts of their help.
 ghost use Rattle.std.specs.Prelude.{◌≡◌, map};
 ghost use Rattle.cli_words.specs.Asked.{words_of};
 ghost use Rattle.cli_words.specs.Lab.{named_in, usages_for};
@@ -8,50 +8,50 @@ ghost use Rattle.cli_words.specs.Usages.{usages};
 use crate::subcommand::{Flag, Place, Subcommand};
 use std::slice;
 
-/// The help of `--explain` for a program.
+/// The help text of `--explain` for subcommands that read a program.
 const EXPLAIN: &str =
     "Prints what is known about each register that is read, and why an instruction is rejected";
 
-/// The help of `--explain` for a campaign.
+/// The help text of `--explain` for subcommands that play a campaign.
 const EXPLAIN_DECISIONS: &str = "Explains how each decision is made, or why a file is refused";
 
-/// The help of `--entry`.
+/// The help text of `--entry`.
 const ENTRY: &str = "The function of the object; by default its only global function";
 
-/// The help of `--json`.
+/// The help text of `--json`.
 const JSON: &str = "Prints JSON Lines: an object for each line, also for a refusal";
 
-/// The help of `--verdicts`.
+/// The help text of `--verdicts`.
 const VERDICTS: &str = "Prints one line for each file, and accepts several files";
 
-/// The help of `--of` for a campaign.
+/// The help text of `--of` for subcommands that play a campaign.
 const OF: &str = "Explains only this lieutenant's decision";
 
-/// The place of a program.
+/// The positional argument for the file with a program.
 const BYTECODE: Place<'static> = Place {
     name: "FILE",
     help: "The program, as raw bytecode",
 };
 
-/// The place of a message table.
+/// The positional argument for the file with a message table.
 const TOLD: Place<'static> = Place {
     name: "FILE",
     help: "The message table: who sent which order to whom",
 };
 
-/// The place of a scenario.
+/// The positional argument for the file with a scenario.
 const SCENARIO: Place<'static> = Place {
     name: "SCENARIO",
     help: "The campaign, as TOML: the generals, the order, the traitors' programs",
 };
 
-/// The place of a chronicle.
+/// The positional argument for the file with a chronicle.
 const CHRONICLE: Place<'static> = Place {
     name: "CHRONICLE",
     help: "The campaign's chronicle, as `play` or `muster` printed it",
 };
 
-/// The place of a chronicle, or of a list of accesses.
+/// The positional argument for the file with a chronicle, or for a list of accesses.
 const ACCESSES: Place<'static> = Place {
     name: "CHRONICLE",
     help: "The campaign's chronicle, as `play` or `muster` printed it; with --accesses the accesses, \
@@ -469,7 +469,7 @@ pub(crate) fn subcommands() -> &'static [Subcommand<'static>]
     ]
 }
 
-/// Returns the subcommand that the first word names, or all subcommands if the first word names none.
+/// Returns the subcommand that the first word names, or all subcommands if it names none or there are no words.
 pub(crate) fn subcommands_for(words: &[&str]) -> &'static [Subcommand<'static>]
     ensures { map usage_of result.now ≡ usages_for (words_of words.now) }
 {
@@ -479,7 +479,7 @@ pub(crate) fn subcommands_for(words: &[&str]) -> &'static [Subcommand<'static>]
     named_among(name, subcommands())
 }
 
-/// Returns only the subcommand of this name, or all of them if none has the name.
+/// Returns only the subcommand with this name, or all of the subcommands if none has it.
 fn named_among(
     name: &str,
     subcommands: &'static [Subcommand<'static>],

@@ -1,25 +1,25 @@
-//! Defines the tasks that the command line can ask for: the subcommands with their files and flags.
+//! The tasks that the command line can ask for: the subcommands with their files and flags.
 
 use bounds::Story;
 use combine::Rule;
 
-/// What the words ask for: a task, and how its answer is printed.
+/// A request of the command line: a task, and how its answer is printed.
 #[derive(Drop)]
 pub struct TaskRequest {
     pub task: Task,
     /// Whether the answer is printed as JSON Lines, with an object for each line.
     pub json: bool,
-    /// Whether the answer is printed as one line only, after the file's name.
+    /// Whether the answer is printed as only one line, which begins with the file's name.
     pub verdicts: bool,
     /// Whether a scenario that names a file is refused, without opening the file.
     pub no_files: bool,
 }
 
-/// A task: a subcommand with the names of its files, and what its flags say.
+/// A task: a subcommand with the names of its files, and the values of its flags.
 #[derive(Drop)]
 pub enum Task {
-    /// Verify a program and run it, in the context that the file `context` describes if there is one. If `explained`,
-    /// the program is explained, and if `traced`, each step of the run is printed.
+    /// Verify a program and run it, in the context that the file `context` describes, if there is one. If `explained`
+    /// is true, the program is explained, and if `traced` is true, each step of the run is printed.
     Check {
         program: String,
         notation: Notation,
@@ -27,29 +27,29 @@ pub enum Task {
         explained: bool,
         traced: bool,
     },
-    /// Translate assembly into bytecode in this spelling, and write it to the file `target` if there is one.
+    /// Translate assembly into bytecode with this spelling, and write it to the file `target`, if there is one.
     Assemble {
         text: String,
         spelling: Spelling,
         target: Option<String>,
         explained: bool,
     },
-    /// Translate assembly in which some units are written as bytes, line by line. A jump to a name of another line is a
-    /// fault.
+    /// Translate assembly in which some units are written as bytes, line by line. A jump to a name that another line
+    /// defines is a fault.
     AssemblePartly {
         text: String,
         spelling: Spelling,
         target: Option<String>,
         explained: bool,
     },
-    /// Translate a program into assembly. If `units`, the unit is printed before each instruction.
+    /// Translate a program into assembly. If `units` is true, the unit is printed before each instruction.
     Disassemble {
         program: String,
         notation: Notation,
         units: bool,
         explained: bool,
     },
-    /// Translate a program into assembly as far as it can be decoded, with the other units as bytes.
+    /// Translate a program into assembly as far as it can be decoded. Its other units are written as bytes.
     DisassemblePartly {
         program: String,
         notation: Notation,
@@ -62,15 +62,15 @@ pub enum Task {
         table: String,
         traitors: Vec<u8>,
     },
-    /// Print a message table for these numbers of a campaign, filled in or to be filled in.
+    /// Print the message table of a campaign with these numbers, either filled in or to be filled in.
     Form {
         generals: String,
         bound: String,
         commander: String,
         filling: Option<Filling>,
     },
-    /// Print the message table of this story or, without one, of the first story that breaks the rule, for these numbers
-    /// of a campaign.
+    /// Print the message table of this story (one of three campaigns with too few generals) for a campaign with these
+    /// numbers. Without a story, it is the first one that breaks the rule.
     Refute {
         generals: String,
         bound: String,
@@ -78,34 +78,35 @@ pub enum Task {
         rule: Rule,
         story: Option<Story>,
     },
-    /// Play a campaign by this schedule.
+    /// Play a campaign by this schedule, and print its chronicle or its message table.
     Play {
         scenario: String,
         turns: Turns,
         account: Account,
         explained: Option<Lieutenants>,
     },
-    /// Run a campaign with a thread for each general.
+    /// Run a campaign with a thread for each general, and print its chronicle.
     Muster {
         scenario: String,
         explained: Option<Lieutenants>,
     },
-    /// Replay the chronicle of a campaign.
+    /// Replay the chronicle of a campaign, and print whether it is sound.
     Audit {
         scenario: String,
         chronicle: String,
         explained: Option<Lieutenants>,
     },
-    /// Play a campaign in each order of its accesses, or in `most` orders, 1 or more, if there are more. The outcomes
-    /// are written to the folder `folder` if there is one.
+    /// Play a campaign in each order of its accesses or, if there are more than `most` orders, in `most` of them.
+    /// `most` is 1 or more. The scenario and a schedule for each outcome are written to the folder `folder`, if there
+    /// is one.
     Explore {
         scenario: String,
         most: Option<u64>,
         folder: Option<String>,
     },
-    /// Draw what this general received, by a message table or in a campaign. The drawing has `depth` levels below the
-    /// commander's, 0 to 4, and marks the lies of `traitors`. If `folded`, it omits what is below a label if the same
-    /// was received for all of it.
+    /// Draw the tree of what this general received, in a message table or in a campaign. The drawing has `depth` levels
+    /// below the commander's, 0 to 4, and marks the lies of `traitors`. If `folded` is true, it omits the labels below
+    /// one if the same was received for all of them.
     Tree {
         file: String,
         general: u8,
@@ -114,26 +115,26 @@ pub enum Task {
         depth: u8,
         folded: bool,
     },
-    /// Draw a campaign that takes this course.
+    /// Draw the campaign of a scenario that follows this schedule or chronicle.
     Draw {
         scenario: String,
         course: Course,
     },
-    /// Print a campaign that takes this course as a page of HTML, or write the page to the file `target` if there is
-    /// one.
+    /// Print the campaign of a scenario that follows this schedule or chronicle as a page of HTML, or write the page to
+    /// the file `target`, if there is one.
     Page {
         scenario: String,
         course: Course,
         target: Option<String>,
     },
-    /// Print the schedule by which a campaign has these accesses.
+    /// Print the schedule by which the campaign of a scenario has these accesses.
     Retrace {
         scenario: String,
         accesses: Accesses,
     },
 }
 
-/// How a program is written.
+/// How the program in a file is written.
 #[derive(Drop)]
 pub enum Notation {
     /// The file is raw bytecode.
@@ -154,11 +155,12 @@ pub enum Spelling {
     Raw,
 }
 
-/// How a message table is filled in: as loyal generals would, after this order of the commander.
+/// How a message table is filled in: as loyal generals would after this order of the commander, but without the orders
+/// of the liar, if there is one.
 #[derive(Clone, Copy)]
 pub struct Filling {
     pub order: u32,
-    /// The general whose lines are left to be edited.
+    /// The liar, a general whose lines are left to be edited, if there is one.
     pub liar: Option<u8>,
 }
 
@@ -175,12 +177,12 @@ pub enum Drawing {
     Svg,
 }
 
-/// The course that a campaign takes.
+/// What a campaign follows: a schedule or a chronicle.
 #[derive(Drop)]
 pub enum Course {
     /// The campaign follows the schedule in this file or, without a file, the empty schedule.
     Scheduled(Option<String>),
-    /// The campaign takes the course that the chronicle in this file describes.
+    /// The campaign does what the chronicle in this file records.
     Recorded(String),
 }
 
@@ -189,20 +191,20 @@ pub enum Course {
 pub enum Turns {
     /// The schedule in this file or, without a file, the empty schedule.
     OfFile(Option<String>),
-    /// The random schedule of this seed, which is written to the file `target` if there is one.
+    /// The random schedule of this seed, which is also written to the file `target`, if there is one.
     OfSeed { seed: u64, target: Option<String> },
 }
 
-/// The accesses of a campaign: which generals use the board, and in which order.
+/// The accesses of a campaign: the generals who use the board, in the order of their accesses.
 #[derive(Drop)]
 pub enum Accesses {
-    /// The accesses in the chronicle in this file.
+    /// The accesses that the chronicle in this file lists.
     OfChronicle(String),
-    /// The accesses that this text lists.
+    /// The accesses that this text lists, such as `5 4 / 4 5`: the generals of round 1, and then of round 2.
     Listed(String),
 }
 
-/// How a campaign that is played is printed.
+/// How a campaign that was played is printed.
 #[derive(Clone, Copy, PartialEq, Eq)]
 pub enum Account {
     /// The chronicle of the campaign is printed.
@@ -216,7 +218,7 @@ pub enum Account {
 pub enum Lieutenants {
     /// All lieutenants.
     All,
-    /// Only this lieutenant.
+    /// Only the lieutenant with this number.
     One(u8),
 }
 
@@ -224,7 +226,7 @@ impl Course {
     ghost use Rattle.std.specs.Prelude.{◌≡◌, option_map};
     ghost use Rattle.cli_words.specs.Tasks.{course_file};
 
-    /// Returns the name of the file with the course, if there is one.
+    /// Returns the name of the file with the schedule or the chronicle, or `None` if the schedule is empty.
     fn file(&self) -> Option<&str>
         ensures { option_map (λ file. file.now) result ≡ course_file self.now }
     {
@@ -239,7 +241,7 @@ impl Turns {
     ghost use Rattle.std.specs.Prelude.{◌≡◌, option_map};
     ghost use Rattle.cli_words.specs.Tasks.{seed_target, turns_file, turns_seed};
 
-    /// Returns the name of the file with the schedule, if there is one.
+    /// Returns the name of the file with the schedule, or `None` if the schedule is random or empty.
     fn file(&self) -> Option<&str>
         ensures { option_map (λ file. file.now) result ≡ turns_file self.now }
     {
@@ -259,7 +261,7 @@ impl Turns {
         }
     }
 
-    /// Returns the name of the file to which the random schedule is written, if there is one.
+    /// Returns the name of the file to which the random schedule is written, or `None` if there is none.
     fn target(&self) -> Option<&str>
         ensures { option_map (λ file. file.now) result ≡ seed_target self.now }
     {
@@ -274,7 +276,7 @@ impl Accesses {
     ghost use Rattle.std.specs.Prelude.{◌≡◌, option_map};
     ghost use Rattle.cli_words.specs.Tasks.{accesses_file};
 
-    /// Returns the name of the file with the accesses, if there is one.
+    /// Returns the name of the file with the chronicle, or `None` if the accesses are listed.
     fn file(&self) -> Option<&str>
         ensures { option_map (λ file. file.now) result ≡ accesses_file self.now }
     {
@@ -289,7 +291,7 @@ impl Task {
     ghost use Rattle.std.specs.Prelude.{◌≡◌, option_map};
     ghost use Rattle.cli_words.specs.Tasks.{file_of, schedule_target_of, second_of, seed_of, target_of};
 
-    /// Returns the name of the only file or of the first one, or `None` if the task reads no file.
+    /// Returns the name of the only file that the task reads, or of the first one. Returns `None` if it reads no file.
     pub fn file(&self) -> Option<&str>
         ensures { option_map (λ file. file.now) result ≡ file_of self.now }
     {
@@ -313,7 +315,7 @@ impl Task {
         }
     }
 
-    /// Returns the name of the second file, if there is one.
+    /// Returns the name of the second file that the task reads, or `None` if there is none.
     pub fn second(&self) -> Option<&str>
         ensures { option_map (λ file. file.now) result ≡ second_of self.now }
     {
@@ -339,7 +341,7 @@ impl Task {
         }
     }
 
-    /// Returns the seed of the schedule by which a campaign is played, or `None` if it is not random.
+    /// Returns the seed of the random schedule by which a campaign is played, or `None` if the schedule is not random.
     pub fn seed(&self) -> Option<u64>
         ensures { result ≡ seed_of self.now }
     {
@@ -349,7 +351,7 @@ impl Task {
         }
     }
 
-    /// Returns the name of the file to which the random schedule is written, if there is one.
+    /// Returns the name of the file to which the random schedule is written, or `None` if there is none.
     pub fn schedule_target(&self) -> Option<&str>
         ensures { option_map (λ file. file.now) result ≡ schedule_target_of self.now }
     {

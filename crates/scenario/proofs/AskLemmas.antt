@@ -1,4 +1,4 @@
--- Files that are gathered one after the other.
+-- Files that are added one after the other, each of them once.
 use Rattle.std.proofs.Common.{◌≡◌, List, [], ◌∷◌, ◌++◌, refl}
 use Rattle.scenario.specs.Asking.{Asked, gathered, with_asked}
 

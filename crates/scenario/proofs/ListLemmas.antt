@@ -29,7 +29,7 @@ no_more zero (v ∷ vs) l = absurd (omega arith)
 no_more (suc i) [] l = refl
 no_more (suc i) (v ∷ vs) l = no_more i vs (omega arith)
 
--- one value more
+-- One more value.
 pub pushed_one : (old new : List Value) (v : Value) (d : Data) → new ≡ old ++ v ∷ [] → view v ≡ d → items_view new ≡ join (items_view old) (item d no_items)
 pushed_one old new v d pushed seen = rw (pushed, items_view-push old v, ← seen) (sym (join_none _) ∙ join_push (items_view old) no_items (view v))
 
@@ -38,7 +38,7 @@ module _ (files : List File) where
       → one_each files ms (items_view (drop i vs)) ≡ item (table (rebuilt files (Some (view v)) ms)) (one_each files ms (items_view (drop (i + 1) vs)))
   one_item ms i vs v l e = rw (items_view-drop vs i v l, ← e) refl
 
-  -- a table for one general more
+  -- A table for one more general.
   pub each_further : (ms : Members) (old new : Items) (one : Data) (i : ℕ) (vs : List Value) (v : Value) (total : Items) → i < length vs → v ≡ get_or vs i v
       → new ≡ join old (item one no_items) → one ≡ table (rebuilt files (Some (view v)) ms)
       → join old (one_each files ms (items_view (drop i vs))) ≡ total → join new (one_each files ms (items_view (drop (i + 1) vs))) ≡ total
@@ -53,7 +53,7 @@ module _ (files : List File) where
       → further files done (items_view (drop i vs)) ≡ further files (with_tables files done (view v)) (items_view (drop (i + 1) vs))
   first_tables done i vs v l e = rw (items_view-drop vs i v l, ← e) refl
 
-  -- one element more
+  -- One more element.
   pub resolved_further : (old new : List Value) (i : ℕ) (vs : List Value) (v : Value) (total : Items) → i < length vs → v ≡ get_or vs i v
       → items_view new ≡ with_tables files (items_view old) (view v)
       → further files (items_view old) (items_view (drop i vs)) ≡ total → further files (items_view new) (items_view (drop (i + 1) vs)) ≡ total
@@ -66,7 +66,7 @@ first_asked : (i : ℕ) (vs : List Value) (v : Value) → i < length vs → v �
     → asked_in i (items_view (drop i vs)) ≡ asked_of i (as_table (view v)) ++ asked_in (i + 1) (items_view (drop (i + 1) vs))
 first_asked i vs v l e = rw (items_view-drop vs i v l, ← e) refl
 
--- the files of one element more
+-- The files of one more element.
 pub asked_further : (old new : List Asked) (i : ℕ) (vs : List Value) (v : Value) (total : List Asked) → i < length vs → v ≡ get_or vs i v
     → new ≡ gathered old (asked_of i (as_table (view v))) → gathered old (asked_in i (items_view (drop i vs))) ≡ total
     → gathered new (asked_in (i + 1) (items_view (drop (i + 1) vs))) ≡ total

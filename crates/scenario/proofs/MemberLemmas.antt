@@ -1,4 +1,4 @@
--- The map of a table beside its members.
+-- The map of a TOML table in the code, and its members in definitions.
 use Rattle.std.proofs.Common.{◌≡◌, ℕ, List, [], ◌∷◌, ◌∙◌, String, Global, Ordering, Less, Equal, Greater, Option, None, Some, Bor, option_map, string_bytes, string_cmp, nat_cmp, refl, ap}
 use Rattle.std.specs.Prelude.{is_some}
 use Rattle.std.specs.BTreeMap.{insert_entry, is_at}
@@ -16,12 +16,12 @@ members_by_order Less a b c = refl
 members_by_order Equal a b c = refl
 members_by_order Greater a b c = refl
 
--- what is inserted is put
+-- Inserting an entry into the map puts it into the members.
 pub inserted : (es : List Entry) (k : String Global) (v : Value) → members_view (insert_entry string_cmp es k v) ≡ put (string_bytes k) (view v) (members_view es)
 inserted [] k v = refl
 inserted (e ∷ es) k v = members_by_order (string_cmp k e.0) _ _ _ ∙ rw (inserted es k v)
 
--- a key is there where its value is
+-- A key is there exactly if it has a value.
 pub found : (r : Option (Bor Value)) (k : List ℕ) (es : List Entry) → option_map (λ x. x.now) r ≡ lookup (is_at (λ x. slice_cmp nat_cmp k (string_bytes x))) es
     → is_some r ≡ is_some (get_member k (members_view es))
 found None k es h = ap is_some (table_get None k es h)

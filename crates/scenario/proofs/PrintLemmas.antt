@@ -1,4 +1,4 @@
--- What is told of a table, by how it was printed.
+-- The text of a table, by the printer's result.
 use Rattle.std.proofs.Common.{◌≡◌, ◌≤◌, Option, None, Some, Global, String, ap, false, string_bytes, subst, sym}
 use Rattle.std.specs.Prelude.{◌↔◌, Result, Ok, Err, IfOk, option_map}
 use Rattle.std.specs.declared.alloc.AllocError.{AllocError}

@@ -1,4 +1,4 @@
--- What the checks of some texts give, computed in the kernel.
+-- The results of the checks for some texts, computed by the proof checker.
 use Rattle.std.specs.Prelude.{◌≡◌, ℕ, List, [], ◌∷◌, ◌++◌, flat_map, replicate, codes, Option, Some, None, Result, Ok, Err, refl}
 use Rattle.std.specs.Option.{option_map, ok_or}
 use Rattle.toml.specs.Data.{get_member, get_item}
@@ -17,15 +17,15 @@ use Rattle.scenario.specs.Checks.{Head, head, number, optional_number, general, 
 use Rattle.scenario.specs.Strategies.{program_named}
 use Rattle.scenario.specs.Tables.{Table, Assembly, source, strategy, table_in, table}
 
--- a text of these lines, checked up to its tables
+-- The head of a text with these lines, checked.
 checked : List (List ℕ) → Option (Result Head Flaw)
 checked lines = option_map (head Both) (parse_document (flat_map (λ l. l ++ 10 ∷ []) lines))
 
--- a fault at a place
+-- The result with a fault at a place.
 stops : ScenarioFault → ScenarioPlace → Option (Result Head Flaw)
 stops fault place = Some (Err (faulty fault place))
 
--- numbers out of their ranges, and what is missing
+-- Numbers out of their ranges, and missing keys.
 too_many : checked (codes "generals = 14" ∷ []) ≡ stops faults.Range (places.Key names.Generals)
 unfolding checked stops toml_on_literals head number optional_number general rule messages board board_words over word
 too_many = refl
@@ -34,7 +34,7 @@ bound_of_four : checked (codes "generals = 4" ∷ codes "bound = 3" ∷ []) ≡ 
 unfolding checked stops toml_on_literals head number optional_number general rule messages board board_words over word
 bound_of_four = refl
 
--- a commander below 0 is out of range, one past the last is no general
+-- A commander below 0 is out of range, and one after the last general does not exist.
 below_the_first : checked (codes "generals = 4" ∷ codes "bound = 1" ∷ codes "commander = -1" ∷ []) ≡ stops faults.Range (places.Key names.Commander)
 unfolding checked stops toml_on_literals head number optional_number general rule messages board board_words over word
 below_the_first = refl
@@ -55,12 +55,12 @@ order_of_text : checked (codes "generals = 4" ∷ codes "bound = 1" ∷ codes "c
 unfolding checked stops toml_on_literals head number optional_number general rule messages board board_words over word
 order_of_text = refl
 
--- an unknown key comes first, the least of several by bytes
+-- An unknown key is the first fault. Of several unknown keys it is the least by bytes.
 least_key : checked (codes "zeta = 1" ∷ codes "alpha = 2" ∷ codes "generals = 14" ∷ []) ≡ Some (Err (unknown None (codes "alpha")))
 unfolding checked stops toml_on_literals head number optional_number general rule messages board board_words over word
 least_key = refl
 
--- all kinds of a board come before any range, and its length between them
+-- In a board, the types of all elements are checked first, then the length, and then the ranges of the elements.
 kinds_first : checked (codes "generals = 4" ∷ codes "bound = 1" ∷ codes "commander = 0" ∷ codes "order = 1" ∷ codes "board = [1, -1, \"x\"]" ∷ []) ≡ stops faults.Kind (places.Word 2)
 unfolding checked stops toml_on_literals head number optional_number general rule messages board board_words over word
 kinds_first = refl
@@ -78,7 +78,7 @@ no_list : checked (codes "generals = 4" ∷ codes "bound = 1" ∷ codes "command
 unfolding checked stops toml_on_literals head number optional_number general rule messages board board_words over word
 no_list = refl
 
--- patience and rule
+-- The patience and the rule.
 no_patience : checked (codes "generals = 4" ∷ codes "bound = 1" ∷ codes "commander = 0" ∷ codes "order = 1" ∷ codes "patience = 0" ∷ []) ≡ stops faults.Range (places.Key names.Patience)
 unfolding checked stops toml_on_literals head number optional_number general rule messages board board_words over word
 no_patience = refl
@@ -104,7 +104,7 @@ patience_before_rule : checked (codes "generals = 4" ∷ codes "bound = 1" ∷ c
 unfolding checked stops toml_on_literals head number optional_number general rule messages board board_words over word
 patience_before_rule = refl
 
--- how orders are sent, behind the rule
+-- How orders are sent is checked after the rule.
 by_carrier : checked (codes "generals = 4" ∷ codes "bound = 1" ∷ codes "commander = 0" ∷ codes "order = 1" ∷ codes "messages = \"carrier\"" ∷ []) ≡ stops faults.Range (places.Key names.Messages)
 unfolding checked stops toml_on_literals head number optional_number general rule messages board board_words over word
 by_carrier = refl
@@ -117,7 +117,7 @@ rule_before_messages : checked (codes "generals = 4" ∷ codes "bound = 1" ∷ c
 unfolding checked stops toml_on_literals head number optional_number general rule messages board board_words over word
 rule_before_messages = refl
 
--- a signed campaign has no rule, and a reader of oral ones stops before that
+-- A signed campaign has no rule. A reader of oral campaigns stops before this check.
 signed_with_rule : checked (codes "generals = 4" ∷ codes "bound = 1" ∷ codes "commander = 0" ∷ codes "order = 1" ∷ codes "messages = \"signed\"" ∷ codes "rule = \"majority\"" ∷ []) ≡ stops faults.Key (places.Key names.Rule)
 unfolding checked stops toml_on_literals head number optional_number general rule messages board board_words over word
 signed_with_rule = refl
@@ -134,7 +134,7 @@ signed : checked (codes "generals = 3" ∷ codes "bound = 1" ∷ codes "commande
 unfolding checked stops toml_on_literals head number optional_number general rule messages board board_words over word
 signed = refl
 
--- what a text without faults gives
+-- The head of a text without faults.
 whole : checked (codes "generals = 4" ∷ codes "bound = 1" ∷ codes "commander = 0" ∷ codes "order = 1" ∷ codes "board = [7, 8]" ∷ codes "patience = 3" ∷ codes "rule = \"median\"" ∷ [])
     ≡ Some (Ok (record { generals = 4; bound = 1; commander = 0; order = 1; board = 7 ∷ 8 ∷ replicate 62 0; patience = Some 3; rule = Median; messages = Oral }))
 unfolding checked stops toml_on_literals head number optional_number general rule messages board board_words over word
@@ -145,19 +145,19 @@ plain : checked (codes "generals = 4" ∷ codes "bound = 1" ∷ codes "commander
 unfolding checked stops toml_on_literals head number optional_number general rule messages board board_words over word
 plain = refl
 
--- the table of this number, where general 3 of 4 is seated
+-- The table with this number, if an earlier table is for general 3 of 4.
 tabled : ℕ → List (List ℕ) → Option (Result Table Flaw)
 tabled i ls = option_map (λ ms. tables (get_member (codes "traitor") ms) >>= λ ds. ok_or (get_item i ds) (unknown None []) >>= λ d. table 4 (None ∷ None ∷ None ∷ Some [] ∷ []) i d) (parse_document (flat_map (λ l. l ++ 10 ∷ []) ls))
 
 halts : ScenarioFault → ScenarioPlace → Option (Result Table Flaw)
 halts fault place = Some (Err (faulty fault place))
 
--- a traitor has one table
+-- A traitor has only one table.
 twice : tabled 1 (codes "[[traitor]]" ∷ codes "general = 2" ∷ codes "asm = \"exit\"" ∷ codes "[[traitor]]" ∷ codes "general = 3" ∷ []) ≡ halts faults.Twice (places.Entry 1 names.General)
 unfolding tabled halts toml_on_literals tables table table_in source general
 twice = refl
 
--- there is no such general, below 0 and past the last alike
+-- A general below 0 or after the last one does not exist.
 nobody : tabled 0 (codes "[[traitor]]" ∷ codes "general = -1" ∷ []) ≡ halts faults.General (places.Entry 0 names.General)
 unfolding tabled halts toml_on_literals tables table table_in source general
 nobody = refl
@@ -170,7 +170,7 @@ nameless : tabled 0 (codes "[[traitor]]" ∷ codes "asm = \"exit\"" ∷ []) ≡ 
 unfolding tabled halts toml_on_literals tables table table_in source general
 nameless = refl
 
--- exactly one of asm, code and strategy, before their kinds
+-- A table must have exactly one of `asm`, `code` and `strategy`. This is checked before their types.
 both : tabled 0 (codes "[[traitor]]" ∷ codes "general = 1" ∷ codes "asm = 1" ∷ codes "code = 2" ∷ []) ≡ halts faults.Key (places.Entry 0 names.Asm)
 unfolding tabled halts toml_on_literals tables table table_in source general
 both = refl

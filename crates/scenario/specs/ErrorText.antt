@@ -14,7 +14,7 @@ use Rattle.scenario.specs.declared.fault.ProgramFault.TheVariants.{Asm, Hex, Cod
 use Rattle.scenario.specs.declared.fault.ScenarioError.{ScenarioError}
 use Rattle.scenario.specs.declared.fault.ScenarioError.TheVariants.{Toml, Unknown, At, Program, Memory}
 
--- Returns the text of a place.
+-- Returns the text of a place in a scenario, such as `board[3]` or `traitor[0].asm`.
 abbrev pub place_text : ScenarioPlace → List ℕ
 place_text (place.Key name) = text_of name
 place_text (place.Word index) = codes "board[" ++ decimal index ++ codes "]"
@@ -33,14 +33,14 @@ abbrev pub scenario_code : ProgramFault → List ℕ
 scenario_code (Verifier reason unit) = codes "S8"
 scenario_code _ = codes "S7"
 
--- Returns the code of a program's fault, with its line or its unit.
+-- Returns the text of a program's fault: its code, and its line or its unit.
 abbrev pub program_text : ProgramFault → List ℕ
 program_text (Asm fault line) = asm.code_of fault ++ codes " line " ++ decimal line
 program_text Hex = codes "hex"
 program_text (Code fault unit) = codec.code_of fault ++ codes " unit " ++ decimal unit
 program_text (Verifier reason unit) = verify.code_of reason ++ codes " unit " ++ decimal unit
 
--- Returns the text of an error: its code and its place.
+-- Returns the text of a scenario's error, such as `S4 bound`: its code and its place.
 abbrev pub told : ScenarioError → List ℕ
 told Toml = codes "S1"
 told (Unknown None key) = codes "S2 " ++ string_bytes key

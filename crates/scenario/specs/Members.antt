@@ -1,11 +1,11 @@
--- Tables with a value put at a key, and lists joined (TOML 1.0: a table's keys have no order; here they ascend by
--- bytes).
+-- A table with one more key, and two lists joined (TOML 1.0). In TOML the keys of a table have no order, but here they
+-- ascend by bytes.
 use Rattle.std.specs.Prelude.{ℕ, List}
 use Rattle.std.specs.Ordering.{nat_cmp, match_ordering}
 use Rattle.std.specs.Cmp.Lexicographic.{slice_cmp}
 use Rattle.toml.specs.Data.{Data, Items, no_items, item, Members, no_members, member}
 
--- Returns the members with the value `d` at the key `k`.
+-- Returns the members of a table with the value `d` at the key `k`, in place of any value there.
 abbrev pub put : List ℕ → Data → Members → Members
 put k d no_members = member k d no_members
 put k d (member l e ms) =

@@ -1,4 +1,4 @@
--- The keys of a scenario, as they are written (own).
+-- The keys of a scenario, as they are written there (own).
 use Rattle.std.specs.Prelude.{ℕ, Bool, ◌||◌, List, codes}
 use Rattle.std.specs.Str.{bytes_eq}
 use Rattle.scenario.specs.declared.place.ScenarioKey.{ScenarioKey}

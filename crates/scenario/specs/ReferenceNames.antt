@@ -4,19 +4,20 @@ use Rattle.toml.specs.Data.{Items, Members, no_items, item, get_member, as_array
 use Rattle.scenario.specs.declared.reference_key.ReferenceKey.{ReferenceKey}
 use Rattle.scenario.specs.declared.reference_key.ReferenceKey.TheVariants.{Assembly, Bytecode, Object}
 
--- Returns the key that names a file of this kind.
+-- Returns the key with the name of a file of this kind: `asm_file`, `code_file` or `elf`.
 abbrev pub reference_of : ReferenceKey → List ℕ
 reference_of Assembly = codes "asm_file"
 reference_of Bytecode = codes "code_file"
 reference_of Object = codes "elf"
 
--- Returns the key of the program that replaces the file's name.
+-- Returns the key with the program itself, `asm` or `code`, which replaces the key with the name of a file of this
+-- kind.
 abbrev pub place_of : ReferenceKey → List ℕ
 place_of Assembly = codes "asm"
 place_of Bytecode = codes "code"
 place_of Object = codes "code"
 
--- Returns the kind of file that a key names, if it names one.
+-- Returns the kind of file that the key `k` names, or `None` for a key that names no file.
 abbrev pub key_of : List ℕ → Option ReferenceKey
 key_of k =
     if bytes_eq k (codes "asm_file") then Some Assembly
@@ -30,40 +31,43 @@ is_same Bytecode Bytecode = true
 is_same Object Object = true
 is_same _ _ = false
 
--- A file that was read: the key and the name by which a table refers to it, an object's function if one is named, and
--- the text that replaces the reference.
+-- A file that a scenario names, after it was read: the key and the name by which a table refers to it, the name of a
+-- function if the table names one in an object file, and the text that replaces the reference.
 pub record File : Type 0 where
   pub key : ReferenceKey
   pub name : List ℕ
   pub function : Option (List ℕ)
   pub text : List ℕ
 
--- Returns whether both functions are absent, or both have the same name.
+-- Returns whether two names of functions are the same, or both `None`.
 abbrev pub are_same : Option (List ℕ) → Option (List ℕ) → Bool
 are_same None None = true
 are_same (Some f) (Some g) = bytes_eq f g
 are_same _ _ = false
 
--- Returns whether a file has this key, this name and this function.
+-- Returns whether a table refers to this file by this key, name and function.
 abbrev pub is_named : File → ReferenceKey → List ℕ → Option (List ℕ) → Bool
 is_named f key name function = is_same f.key key && (bytes_eq f.name name && are_same f.function function)
 
--- Returns the text of the first file that has this key, this name and this function.
+-- Returns the text that replaces the name of a file. It comes from the first file with this key, name and function, and
+-- is `None` if there is no such file.
 abbrev pub text_named : List File → ReferenceKey → List ℕ → Option (List ℕ) → Option (List ℕ)
 text_named [] key name function = None
 text_named (f ∷ fs) key name function =
     cond (is_named f key name function) (Some f.text) (text_named fs key name function)
 
--- Returns whether the table has another source for the program that a file of this kind would give.
+-- Returns whether a traitor's table gives the program by another key, so that it may not name a file of this kind.
 abbrev pub is_taken : ReferenceKey → Members → Bool
 is_taken Object ms = is_some (get_member (codes "code") ms) || is_some (get_member (codes "code_file") ms)
 is_taken key ms = is_some (get_member (place_of key) ms)
 
--- Returns the name of the file that a table gives for this key, if the table has no other source for the program.
+-- Returns the name of the file that a traitor's table gives by this key, or `None` if it gives none, or gives the
+-- program by another key.
 abbrev pub name_at : ReferenceKey → Members → Option (List ℕ)
 name_at key ms = cond (is_taken key ms) None (option_and_then as_str (get_member (reference_of key) ms))
 
--- Returns the name of the object's function that a table gives, if the file is an object.
+-- Returns the name of the function that a traitor's table names in an object file, or `None` if it names none or the
+-- file is of another kind.
 abbrev pub function_at : ReferenceKey → Members → Option (List ℕ)
 function_at Object ms = option_and_then as_str (get_member (codes "entry") ms)
 function_at key ms = None
@@ -74,17 +78,17 @@ first_items n no_items = no_items
 first_items zero (item d ds) = no_items
 first_items (suc n) (item d ds) = item d (first_items n ds)
 
--- Returns the generals who share a table, unless it has a general of its own. At most 13 can be right, so of more than 14
--- the first 14 have the first fault.
+-- Returns the generals who share a traitor's table, or `None` if the table has a key `general` or no list `generals`.
+-- If there are more than 14 generals, it returns the first 14, since a scenario with more than 13 is rejected.
 abbrev pub seats : Members → Option Items
 seats ms = cond (is_some (get_member (codes "general") ms)) None
     (option_map (first_items 14) (option_and_then as_array (get_member (codes "generals") ms)))
 
--- Returns whether a table is shared by an empty list of generals
+-- Returns whether a traitor's table is for an empty list of generals, and so for no one.
 abbrev pub is_nobodys : Option Items → Bool
 is_nobodys (Some no_items) = true
 is_nobodys _ = false
 
--- Returns the list of traitors.
+-- Returns the list of traitors of a scenario, or `None` if it has no such list.
 abbrev pub traitors : Members → Option Items
 traitors ms = option_and_then as_array (get_member (codes "traitor") ms)

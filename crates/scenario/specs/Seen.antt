@@ -19,40 +19,42 @@ use Rattle.scenario.specs.declared.fault.ScenarioError.TheVariants as errors
 use Rattle.scenario.specs.Tables.{Source, Assembly, Hex}
 use Rattle.scenario.specs.Reading.{IsProgramOf, IsFaultOf}
 
--- Returns a program as it is written, with its text as bytes.
+-- Returns the program of a traitor's table as contracts see it.
 abbrev pub source_of : ProgramText → Source
 source_of (written.Asm text) = Assembly text.now
 source_of (written.Code text) = Hex text.now
 
--- States that the result is the program of a source, or why the source gives none.
+-- States that the result is the program that the source of general `g` gives, or what is wrong with the source.
 abbrev pub Makes : ℕ → Source → Result (List Insn) ScenarioError → Type 0
 Makes g source (Ok program) = IsProgramOf source program
 Makes g source (Err (errors.Program h fault)) = (h ≡ g) × IsFaultOf fault source
 Makes g source (Err _) = ⊥
 
--- States that the result is the program if the verifier accepts it, or why it does not.
+-- States that the result is the program of general `g` if the verifier accepts it, and otherwise why the verifier
+-- rejects it.
 abbrev pub Accepts : ℕ → List Insn → Result (List Insn) ScenarioError → Type 0
 Accepts g program (Ok accepted) = (accepted ≡ program) × (judged program ≡ None)
 Accepts g program (Err (errors.Program h (Verifier reason unit))) =
     (h ≡ g) × (judged program ≡ Some (verifier.At reason unit))
 Accepts g program (Err _) = ⊥
 
--- Returns the scenario's error for an error of the assembler, which is out of memory only if that error is.
+-- Returns the scenario's error for an assembler's error in the program of general `g`. It is out of memory only if that
+-- error is.
 abbrev pub unassembled : ℕ → AsmError → ScenarioError
 unassembled g assembler.Memory = errors.Memory
 unassembled g (assembler.At fault line) = errors.Program g (Asm fault line)
 
--- Returns the scenario's error for an error of the hex decoder.
+-- Returns the scenario's error for a hex decoder's error in the program of general `g`.
 abbrev pub unhexed : ℕ → FromHexError → ScenarioError
 unhexed g hex.OutOfMemory = errors.Memory
 unhexed g _ = errors.Program g faults.Hex
 
--- Returns the scenario's error for an error of the decoder.
+-- Returns the scenario's error for a bytecode decoder's error in the program of general `g`.
 abbrev pub undecoded : ℕ → CodecError → ScenarioError
 undecoded g decoder.Memory = errors.Memory
 undecoded g (decoder.At fault unit) = errors.Program g (Code fault unit)
 
--- Returns the scenario's error for an error of the verifier.
+-- Returns the scenario's error for a verifier's error in the program of general `g`.
 abbrev pub unverified : ℕ → VerifyError → ScenarioError
 unverified g verifier.Memory = errors.Memory
 unverified g (verifier.At reason unit) = errors.Program g (Verifier reason unit)

@@ -1,4 +1,4 @@
-//! Defines the errors of scenarios: why a text is not a scenario.
+//! The errors of scenarios: why a text is not a scenario.
 ghost use Rattle.std.specs.Prelude.{◌≡◌};
 ghost use Rattle.scenario.specs.ErrorText.{scenario_code};
 ghost use Rattle.scenario.specs.declared.fault.ScenarioError.TheVariants.{Memory};
@@ -8,19 +8,19 @@ use std::alloc::{AllocError, AllocFailed};
 use std::fmt;
 use verify::Reason;
 
-/// A fault at a place of a scenario.
+/// What is wrong at a place of a scenario.
 #[derive(Clone, Copy, Debug, PartialEq, Eq)]
 pub enum ScenarioFault {
-    /// A required key is missing, or `rule` is set where messages are signed. At `asm`, the table has none or several
-    /// of `asm`, `code` and `strategy`.
+    /// A required key is missing, or `rule` is given in a campaign with signed messages. At the key `asm`, the table
+    /// does not have exactly one of `asm`, `code` and `strategy`.
     Key,
-    /// The value is of the wrong kind.
+    /// The value is of the wrong type.
     Kind,
-    /// The value is out of its range, or no rule or strategy has this name.
+    /// The value is out of its range, or no rule or strategy has the name that it is.
     Range,
-    /// There is no general with this number.
+    /// No general has this number.
     General,
-    /// An earlier table has the same general.
+    /// An earlier table is for the same general.
     Twice,
 }
 
@@ -41,12 +41,12 @@ impl fmt::Display for ScenarioFault {
     }
 }
 
-/// A fault of a traitor's program, and its place in the program.
+/// What is wrong with a traitor's program, and where in the program.
 #[derive(Clone, Copy, Debug, PartialEq, Eq)]
 pub enum ProgramFault {
     /// The assembler reports this fault in this line, counted from 1.
     Asm(asm::AsmFault, u64),
-    /// The text is not a list of bytes in hex.
+    /// The text is not an even number of hex digits.
     Hex,
     /// The decoder reports this fault at this unit, counted from 0.
     Code(codec::CodecFault, usize),
@@ -55,7 +55,8 @@ pub enum ProgramFault {
 }
 
 impl ProgramFault {
-    /// Returns the scenario's error code: S7 if the text gives no program, S8 if the verifier rejects the program.
+    /// Returns the error code of a scenario with this fault: S7 if the text gives no program, S8 if the verifier
+    /// rejects it.
     fn scenario_code(self) -> &'static str
         ensures { result.now ≡ scenario_code self }
     {
@@ -87,11 +88,12 @@ impl fmt::Display for ProgramFault {
 pub enum ScenarioError {
     /// S1: the text is not TOML.
     Toml,
-    /// S2: this key is unknown. It is in the traitor's table of this number, or at the top if there is no number.
+    /// S2: this key is unknown. It is in the traitor's table with this number, counted from 0, or at the top if there
+    /// is no number.
     Unknown(Option<usize>, String),
     /// S2 to S6: there is a fault at this place.
     At(ScenarioFault, ScenarioPlace),
-    /// S7 or S8: the program of this general has a fault.
+    /// S7 or S8: the program of the general with this number has a fault.
     Program(u8, ProgramFault),
     /// An allocation failed.
     Memory,

@@ -1,9 +1,9 @@
-//! Defines the head of a scenario: everything in it except its traitors.
+//! The head of a scenario: everything in it except its traitors.
 use crate::messages::Messages;
 use combine::Rule;
 use std::marker::Model;
 
-/// A campaign's numbers, its rule, and how orders are sent, without its traitors.
+/// The head of a scenario: the numbers of its campaign, the rule that combines orders, and how orders are sent.
 #[derive(Drop)]
 pub struct Head {
     pub generals: u8,

@@ -1,4 +1,4 @@
-//! Checks the values of single keys. Each check returns the value, or fails with the first fault.
+//! Checks single keys and values of a scenario. A check returns the value, or fails with the first fault.
 
 ghost use Rattle.std.specs.Prelude.{◌≡◌, ℕ, ◌≤◌, ◌<◌, ◌^◌, option_map, IfOk, IfSome, MatchResult};
 ghost use Rattle.toml.specs.Data.{get_member};
@@ -35,7 +35,7 @@ pub fn is_entry_key(key: &str) -> bool
     key == "general" || key == "asm" || key == "code" || key == "strategy"
 }
 
-/// Returns the first key that a scenario may not have at its top.
+/// Returns the first key of a scenario that is not allowed at its top, or `None` if all are. Keys ascend by bytes.
 fn first_unknown_at_top(table: &Table) -> Option<&str>
     ensures { option_map (λ k. k.now) result ≡ first_unknown is_top_key (table_view table.now) }
 {
@@ -47,7 +47,7 @@ fn first_unknown_at_top(table: &Table) -> Option<&str>
     None
 }
 
-/// Returns the first key that a traitor's table may not have.
+/// Returns the first key of a traitor's table that is not allowed there, or `None` if all are. Keys ascend by bytes.
 fn first_unknown_in_entry(table: &Table) -> Option<&str>
     ensures { option_map (λ k. k.now) result ≡ first_unknown is_entry_key (table_view table.now) }
 {
@@ -59,7 +59,8 @@ fn first_unknown_in_entry(table: &Table) -> Option<&str>
     None
 }
 
-/// Returns the error for an unknown key, or `Memory` if there was no memory for a copy of the key.
+/// Returns the error for an unknown key, in the traitor's table `at` or at the top. `key` is a copy of the key. If
+/// memory ran out for the copy, returns `Memory`.
 fn unknown(at: Option<usize>, key: Result<String, AllocError>) -> ScenarioError
     ensures { MatchResult key (λ key. result ≡ Unknown at key) (λ _. result ≡ Memory) }
 {
@@ -69,7 +70,8 @@ fn unknown(at: Option<usize>, key: Result<String, AllocError>) -> ScenarioError
     }
 }
 
-/// Fails with an unknown key, if there is one.
+/// Fails with `Unknown` if there is an unknown key, in the traitor's table `at` or at the top, and with `Memory` if
+/// memory runs out.
 fn refuse_unknown(alloc: Global, at: Option<usize>, key: Option<&str>) -> Result<(), ScenarioError>
     ensures { OrMemory (λ r. Gives (λ _. tt) r (known at (option_map (λ k. k.now) key.entry))) result }
 {
@@ -83,18 +85,20 @@ fn refuse_unknown(alloc: Global, at: Option<usize>, key: Option<&str>) -> Result
 ///
 /// # Errors
 ///
-/// `Unknown` with the first unknown key, the least by bytes. `Memory` if an allocation fails.
+/// Fails with `Unknown` and the first unknown key, which is the least by bytes, or with `Memory` if an allocation
+/// fails.
 pub fn top_is_known(alloc: Global, table: &Table) -> Result<(), ScenarioError>
     ensures { OrMemory (λ r. Gives (λ _. tt) r (known None (first_unknown is_top_key (table_view table.now)))) result }
 {
     refuse_unknown(alloc, None, first_unknown_at_top(table))
 }
 
-/// Checks that the traitor's table of this number has only known keys.
+/// Checks that the traitor's table `index`, counted from 0, has only known keys.
 ///
 /// # Errors
 ///
-/// `Unknown` with the number and the first unknown key, the least by bytes. `Memory` if an allocation fails.
+/// Fails with `Unknown`, the index and the first unknown key, which is the least by bytes, or with `Memory` if an
+/// allocation fails.
 pub fn entry_is_known(alloc: Global, index: usize, table: &Table) -> Result<(), ScenarioError>
     ensures { OrMemory (λ r. Gives (λ _. tt) r
         (known (Some index) (first_unknown is_entry_key (table_view table.now)))) result }
@@ -102,18 +106,19 @@ pub fn entry_is_known(alloc: Global, index: usize, table: &Table) -> Result<(), 
     refuse_unknown(alloc, Some(index), first_unknown_in_entry(table))
 }
 
-/// Returns the value at a key, or `None` if the table does not have the key.
+/// Returns the value of a key, or `None` if the table does not have the key.
 pub fn at<'a>(table: &'a Table, name: ScenarioKey) -> Option<&'a Value>
     ensures { option_map (λ v. view v.now) result ≡ get_member (text_of name) (table_view table.now) }
 {
     table.get(name.text())
 }
 
-/// Returns the value of a required key.
+/// Returns the value of a required key. `value` is `None` if the key is missing, and `place` is the place that the
+/// error names.
 ///
 /// # Errors
 ///
-/// `At` with `Key` if the key is missing.
+/// Fails with `At`, the fault `Key` and the place if the key is missing.
 fn required(place: ScenarioPlace, value: Option<&Value>) -> Result<&Value, ScenarioError>
     ensures { Gives (λ v. view v.now) result (required place (option_map (λ v. view v.now) value.entry)) }
 {
@@ -123,11 +128,11 @@ fn required(place: ScenarioPlace, value: Option<&Value>) -> Result<&Value, Scena
     }
 }
 
-/// Returns the integer that a value is.
+/// Returns a value as an integer.
 ///
 /// # Errors
 ///
-/// `At` with `Kind` if the value is not an integer.
+/// Fails with `At`, the fault `Kind` and the place if the value is not an integer.
 pub fn whole(place: ScenarioPlace, value: &Value) -> Result<i64, ScenarioError>
     ensures { Gives (λ z. z) result (whole place (view value.now)) }
 {
@@ -137,11 +142,11 @@ pub fn whole(place: ScenarioPlace, value: &Value) -> Result<i64, ScenarioError>
     }
 }
 
-/// Returns the elements of the array that a value is.
+/// Returns the elements of a value that is an array.
 ///
 /// # Errors
 ///
-/// `At` with `Kind` if the value is not an array.
+/// Fails with `At`, the fault `Kind` and the place if the value is not an array.
 pub fn elements(place: ScenarioPlace, value: &Value) -> Result<&[Value], ScenarioError>
     ensures { Gives (λ a. items_view a.now) result (elements place (view value.now)) }
 {
@@ -151,11 +156,11 @@ pub fn elements(place: ScenarioPlace, value: &Value) -> Result<&[Value], Scenari
     }
 }
 
-/// Returns an integer as a number that is not negative.
+/// Returns a TOML integer as a `u64`.
 ///
 /// # Errors
 ///
-/// `At` with the given fault if the integer is negative.
+/// Fails with `At`, the given fault and the place if the integer is negative.
 pub fn natural(
     fault: ScenarioFault,
     place: ScenarioPlace,
@@ -219,12 +224,13 @@ pub fn optional_number(
     }
 }
 
-/// Returns the number of a general at a required key.
+/// Returns the number of a general at a required key, which must be less than `generals`. `value` is the key's value,
+/// or `None` if the key is missing. `place` is the key's place, which errors name.
 ///
 /// # Errors
 ///
-/// `At` with `Key` if the key is missing, `Kind` if its value is not an integer, the fault `low` if that is negative,
-/// or `General` if there is no such general.
+/// Fails with `At` and the place. The fault is `Key` if the key is missing, `Kind` if its value is not an integer,
+/// `low` if the integer is negative, or `General` if there is no such general.
 #[tactic(auto, unfolding(crate::specs::Checks::general))]
 pub fn general(
     place: ScenarioPlace,

@@ -1,7 +1,7 @@
-//! Defines how the generals of a campaign send orders: orally or with signatures.
+//! How the generals of a campaign send orders: orally or with signatures.
 use round::Scenario;
 
-/// How orders are sent.
+/// How the generals of a campaign send orders.
 #[derive(Clone, Copy, PartialEq, Eq)]
 pub enum Messages {
     /// Orders are sent orally, by the algorithm OM(m).
@@ -10,7 +10,7 @@ pub enum Messages {
     Signed,
 }
 
-/// Which campaigns a reader accepts.
+/// Which campaigns a reader of scenarios accepts.
 #[derive(Clone, Copy, PartialEq, Eq)]
 pub enum Kinds {
     /// The reader accepts only oral campaigns.

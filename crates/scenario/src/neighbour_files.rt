@@ -1,4 +1,4 @@
-//! Holds the files that a scenario names after they were read.
+//! The files that a scenario names, after they were read.
 ghost use Rattle.std.specs.Prelude.{◌≡◌, ◌∷◌, [], IfOk, None, option_map, string_bytes};
 ghost use Rattle.hex.specs.Hex.{encode_lower};
 ghost use Rattle.scenario.specs.ReferenceNames.{are_same, text_named};
@@ -9,8 +9,8 @@ use crate::reference_key::ReferenceKey;
 use std::alloc::{AllocError, Global};
 use std::marker::Model;
 
-/// A file that a scenario names, after it was read. It has the key and the name by which a table refers to it, an
-/// object's function if one is named, and the text that replaces the reference.
+/// A file that a scenario names, after it was read. It has the key and the name by which a table refers to it, and the
+/// text that replaces this reference. For an object file, it can also have the name of a function.
 #[derive(Drop)]
 pub struct LoadedFile {
     key: ReferenceKey,
@@ -34,7 +34,7 @@ impl Model for LoadedFile {
 }
 
 impl LoadedFile {
-    /// Returns a file of assembly with this text.
+    /// Returns an assembly file with this name and this text.
     pub fn assembly(name: String, text: String) -> LoadedFile
         ensures { result ≡ record {
           key = Assembly;
@@ -51,11 +51,11 @@ impl LoadedFile {
         }
     }
 
-    /// Returns a file of bytecode with these bytes. The text that replaces the reference has them in hex.
+    /// Returns a bytecode file with this name and these bytes. In the scenario, the bytes in hex will replace its name.
     ///
     /// # Errors
     ///
-    /// `AllocError` if an allocation fails.
+    /// Fails with `AllocError` if an allocation fails.
     pub fn bytecode(alloc: Global, name: String, bytes: &[u8]) -> Result<LoadedFile, AllocError>
         ensures { IfOk result (λ f. f ≡ record {
           key = Bytecode;
@@ -73,12 +73,12 @@ impl LoadedFile {
         })
     }
 
-    /// Returns an object file whose function has this code. The text that replaces the reference has the code in hex.
-    /// `function` is `None` if the table names no function, which means the only global one.
+    /// Returns an object file with this name. `code` is the code of `function`, or of the only global function if this
+    /// is `None`. In the scenario, the code in hex will replace the file's name.
     ///
     /// # Errors
     ///
-    /// `AllocError` if an allocation fails.
+    /// Fails with `AllocError` if an allocation fails.
     pub fn object(
         alloc: Global,
         name: String,
@@ -101,7 +101,8 @@ impl LoadedFile {
         })
     }
 
-    /// Returns the file's text if the file has this key, this name and this function.
+    /// Returns the text that replaces the name of this file. Returns `None` if this key, name and function refer to
+    /// another file.
     fn text_if(&self, key: ReferenceKey, name: &str, function: Option<&str>) -> Option<&str>
         ensures { option_map (λ t. t.now) result
             ≡ text_named (self.now ∷ []) key name.now (option_map (λ f. f.now) function.entry) }
@@ -116,7 +117,7 @@ impl LoadedFile {
     }
 }
 
-/// Returns whether both functions are absent, or both have the same name.
+/// Returns whether two names of functions are the same, or both `None`.
 pub(crate) fn are_same(own: Option<&str>, other: Option<&str>) -> bool
     ensures { result ≡ are_same (option_map (λ f. f.now) own.entry) (option_map (λ f. f.now) other.entry) }
 {
@@ -127,7 +128,8 @@ pub(crate) fn are_same(own: Option<&str>, other: Option<&str>) -> bool
     }
 }
 
-/// Returns the text of the first file that has this key, this name and this function.
+/// Returns the text that replaces the name of a file. It comes from the first file with this key, name and function,
+/// and is `None` if there is no such file.
 pub(crate) fn text_named<'a>(
     files: &'a [LoadedFile],
     key: ReferenceKey,

@@ -1,4 +1,5 @@
-//! Finds the table of a scenario's text from which a table of the resolved text comes, and the table of a general.
+//! Finds the table of a scenario's text from which a table of the resolved text comes, and the table of a general. The
+//! resolved text has the contents of files in place of their names, and a table for each traitor.
 ghost use Rattle.std.specs.Prelude.{◌≡◌, IfOk};
 ghost use Rattle.toml.specs.Parse.{parse_document};
 ghost use Rattle.toml.specs.View.{items_view, table_view, view};
@@ -10,8 +11,8 @@ use crate::text_tables::{document, seats, traitors, value_at};
 use std::alloc::{AllocError, Global};
 use toml::{Table, Value};
 
-/// Returns the number of tables that replace an element of the list of traitors in the resolved text: one for each
-/// general who shares it, and otherwise one.
+/// Returns how many tables of the resolved text come from an element of the list of traitors: one for each general who
+/// shares this table, and otherwise one.
 #[tactic(auto, using(crate::proofs::OriginLemmas::counted))]
 fn stands_for(value: &Value) -> usize
     ensures { result ≡ stands_for (view value.now) }
@@ -25,8 +26,8 @@ fn stands_for(value: &Value) -> usize
     }
 }
 
-/// Returns the index of the element of `traitors` from which the resolved table at index `number` comes. If there are
-/// too few tables, returns the number of elements.
+/// Returns the index of the element of the list of traitors from which table `number` of the resolved text comes. Both
+/// are counted from 0. If that text has no such table, returns the number of elements.
 fn origin_in(values: &[Value], number: usize) -> usize
     ensures { result ≡ origin_from 0 number (items_view values.now) }
 {
@@ -41,7 +42,7 @@ fn origin_in(values: &[Value], number: usize) -> usize
     values.len()
 }
 
-/// Returns whether the value is this general's number.
+/// Returns whether the value is the number `general`.
 fn is_general(value: &Value, general: u8) -> bool
     ensures { result ≡ is_general general (view value.now) }
 {
@@ -54,7 +55,7 @@ fn is_general(value: &Value, general: u8) -> bool
     }
 }
 
-/// Returns whether the list contains this general's number.
+/// Returns whether the list contains the number `general`.
 fn has_general(values: &[Value], general: u8) -> bool
     ensures { result ≡ has_general general (items_view values.now) }
 {
@@ -66,7 +67,7 @@ fn has_general(values: &[Value], general: u8) -> bool
     false
 }
 
-/// Returns whether the table is for this general, who may share it with others.
+/// Returns whether the traitor's table names this general. It may name others, too.
 fn is_among(table: &Table, general: u8) -> bool
     ensures { result ≡ is_among general (table_view table.now) (seats (table_view table.now)) }
 {
@@ -79,7 +80,7 @@ fn is_among(table: &Table, general: u8) -> bool
     }
 }
 
-/// Returns whether an element of the list is a table for this general, who may share it with others.
+/// Returns whether an element of the list of traitors is a table that names this general. It may name others, too.
 fn is_seat(value: &Value, general: u8) -> bool
     ensures { result ≡ is_seat general (as_table (view value.now)) }
 {
@@ -89,7 +90,8 @@ fn is_seat(value: &Value, general: u8) -> bool
     }
 }
 
-/// Returns the index of the first element that is a table for this general, or `None` if there is none.
+/// Returns the index of the first element of the list of traitors that is a table for this general, or `None` if there
+/// is none.
 fn seat_in(values: &[Value], general: u8) -> Option<usize>
     ensures { result ≡ seat_from 0 general (items_view values.now) }
 {
@@ -101,12 +103,13 @@ fn seat_in(values: &[Value], general: u8) -> Option<usize>
     None
 }
 
-/// Returns the index of the `[[traitor]]` table in a scenario's text from which the table at index `number` in the
-/// resolved text comes. Both are counted from 0. If the text has no list of traitors, returns `number`.
+/// Returns the index of the `[[traitor]]` table in a scenario's text from which table `number` of the resolved text
+/// comes. Both are counted from 0. The resolved text has the contents of files in place of their names, and a table for
+/// each traitor. If the scenario has no list of traitors, returns `number`.
 ///
 /// # Errors
 ///
-/// `AllocError` if an allocation fails.
+/// Fails with `AllocError` if an allocation fails.
 pub fn origin(alloc: Global, text: &str, number: usize) -> Result<usize, AllocError>
     ensures { IfOk result (λ own. own ≡ origin number (parse_document text.now)) }
 {
@@ -120,11 +123,11 @@ pub fn origin(alloc: Global, text: &str, number: usize) -> Result<usize, AllocEr
 }
 
 /// Returns the index, counted from 0, of the first `[[traitor]]` table of a scenario's text that names `general`. The
-/// table may name further generals. Returns `None` if no table names him, or if the text is not TOML.
+/// table may name others, too. Returns `None` if no table names him, or if the text is not TOML.
 ///
 /// # Errors
 ///
-/// `AllocError` if an allocation fails.
+/// Fails with `AllocError` if an allocation fails.
 pub fn seat(alloc: Global, text: &str, general: u8) -> Result<Option<usize>, AllocError>
     ensures { IfOk result (λ own. own ≡ seat general (parse_document text.now)) }
 {

@@ -1,4 +1,4 @@
-//! Defines the keys of a scenario and the places at which a fault can be.
+//! The keys of a scenario, and the places at which a fault can be.
 ghost use Rattle.std.specs.Prelude.{◌≡◌};
 ghost use Rattle.scenario.specs.Names.{text_of};
 
@@ -45,16 +45,16 @@ impl ScenarioKey {
     }
 }
 
-/// A place in a scenario.
+/// A place in a scenario, where a fault is.
 #[derive(Clone, Copy, Debug, PartialEq, Eq)]
 pub enum ScenarioPlace {
-    /// This key at the top.
+    /// The value of this key at the top.
     Key(ScenarioKey),
-    /// The board's word of this number, counted from 0.
+    /// The word with this number, counted from 0, in the list `board`.
     Word(usize),
-    /// The element of this number in the list of traitors, counted from 0.
+    /// The element with this number, counted from 0, in the list of traitors.
     Table(usize),
-    /// This key of the traitor's table of this number, counted from 0.
+    /// This key in the traitor's table with this number, counted from 0.
     Entry(usize, ScenarioKey),
 }
 

@@ -12,7 +12,7 @@ use insn::Program;
 use std::alloc::Global;
 use verify::{Refused, Verified, VerifyError, verify};
 
-/// A traitor's program as it is written in his table.
+/// A traitor's program in the form in which his table contains it.
 #[derive(Clone, Copy)]
 pub enum ProgramText<'a> {
     /// The program is written as assembly.
@@ -21,11 +21,11 @@ pub enum ProgramText<'a> {
     Code(&'a str),
 }
 
-/// Assembles the program of this general.
+/// Assembles the program of this general from its text.
 ///
 /// # Errors
 ///
-/// `Program` with the assembler's fault and its line. `Memory` if an allocation fails.
+/// Fails with `Program`, the assembler's fault and its line, or with `Memory` if an allocation fails.
 fn said(alloc: Global, general: u8, text: &str) -> Result<Program, ScenarioError>
     ensures { OrMemory (Makes general (Assembly text.now)) result }
 {
@@ -35,7 +35,7 @@ fn said(alloc: Global, general: u8, text: &str) -> Result<Program, ScenarioError
     }
 }
 
-/// Returns the scenario's error for an error of the assembler.
+/// Returns the scenario's error for an assembler's error in the program of this general.
 fn unassembled(general: u8, error: AsmError) -> ScenarioError
     ensures { result ≡ unassembled general error }
 {
@@ -51,8 +51,8 @@ fn unassembled(general: u8, error: AsmError) -> ScenarioError
 ///
 /// # Errors
 ///
-/// `Program` with `Hex` if the text is not bytes in hex, otherwise with the decoder's fault and its unit. `Memory` if
-/// an allocation fails.
+/// Fails with `Program` and `Hex` if the text is not an even number of hex digits, or else with `Program`, the
+/// decoder's fault and its unit. Fails with `Memory` if an allocation fails.
 fn spelled(alloc: Global, general: u8, text: &str) -> Result<Program, ScenarioError>
     ensures { OrMemory (Makes general (Hex text.now)) result }
 {
@@ -66,7 +66,7 @@ fn spelled(alloc: Global, general: u8, text: &str) -> Result<Program, ScenarioEr
     }
 }
 
-/// Returns the scenario's error for an error of the hex decoder.
+/// Returns the scenario's error for a hex decoder's error in the program of this general.
 fn unhexed(general: u8, error: FromHexError) -> ScenarioError
     ensures { result ≡ unhexed general error }
 {
@@ -78,7 +78,7 @@ fn unhexed(general: u8, error: FromHexError) -> ScenarioError
     }
 }
 
-/// Returns the scenario's error for an error of the decoder.
+/// Returns the scenario's error for a bytecode decoder's error in the program of this general.
 fn undecoded(general: u8, error: CodecError) -> ScenarioError
     ensures { result ≡ undecoded general error }
 {
@@ -90,11 +90,12 @@ fn undecoded(general: u8, error: CodecError) -> ScenarioError
     }
 }
 
-/// Assembles or decodes the program of this general as it is written in his table.
+/// Assembles or decodes the program of this general from the text in his table.
 ///
 /// # Errors
 ///
-/// `Program` with the fault of the assembler, the hex text or the decoder. `Memory` if an allocation fails.
+/// Fails with `Program` and the fault of the assembler, the hex text or the decoder, or with `Memory` if an allocation
+/// fails.
 pub fn program(
     alloc: Global,
     general: u8,
@@ -112,7 +113,7 @@ pub fn program(
 ///
 /// # Errors
 ///
-/// `Program` with the verifier's reason and its unit. `Memory` if an allocation fails.
+/// Fails with `Program`, the verifier's reason and its unit, or with `Memory` if an allocation fails.
 pub fn accepted(alloc: Global, general: u8, program: Program) -> Result<Verified, ScenarioError>
     ensures { OrMemory (Accepts general program) result }
 {
@@ -122,7 +123,7 @@ pub fn accepted(alloc: Global, general: u8, program: Program) -> Result<Verified
     }
 }
 
-/// Returns the scenario's error for an error of the verifier.
+/// Returns the scenario's error for a verifier's error in the program of this general.
 fn unverified(general: u8, error: VerifyError) -> ScenarioError
     ensures { result ≡ unverified general error }
 {

@@ -1,4 +1,4 @@
-//! Reads scenarios from their text.
+//! Reads the campaign that the text of a scenario describes.
 ghost use Rattle.std.specs.Prelude.{◌≡◌, ◌-◌, ◌≤◌, min, length, replicate, option_map, None, Some, IfOk, OnOk, MatchBool, MatchResult};
 ghost use Rattle.toml.specs.Parse.{parse_document};
 ghost use Rattle.toml.specs.View.{view, table_view, items_view};
@@ -21,11 +21,11 @@ use std::sync::Arc;
 use toml::{Table, Value};
 use verify::Verified;
 
-/// Returns the rule that has this name.
+/// Returns the rule, by which orders are combined, with this name.
 ///
 /// # Errors
 ///
-/// `At` with `Range` at `rule` if there is no such rule.
+/// Fails with `At`, the fault `Range` and the key `rule` if no rule has this name.
 fn rule_by_name(text: &str) -> Result<Rule, ScenarioError>
     ensures { Gives (λ r. r) result (rule_by_name text.now) }
 {
@@ -35,11 +35,13 @@ fn rule_by_name(text: &str) -> Result<Rule, ScenarioError>
     }
 }
 
-/// Returns the rule of a scenario, or the default rule if the key is missing.
+/// Returns the rule by which a scenario combines orders. `value` is the value of the key `rule`. If the key is missing,
+/// it is `None`, and the default rule is returned.
 ///
 /// # Errors
 ///
-/// `At` at `rule`, with `Kind` if the value is not a text, or `Range` if it does not name a rule.
+/// Fails with `At` and the key `rule`. The fault is `Kind` if the value is not a string, or `Range` if no rule has this
+/// name.
 #[tactic(auto, unfolding(crate::specs::Checks::rule))]
 fn rule(value: Option<&Value>) -> Result<Rule, ScenarioError>
     ensures { Gives (λ r. r) result (rule (option_map (λ v. view v.now) value.entry)) }
@@ -53,11 +55,11 @@ fn rule(value: Option<&Value>) -> Result<Rule, ScenarioError>
     }
 }
 
-/// Returns how orders are sent, as a text names it. Only a reader of both kinds accepts `signed`.
+/// Returns how orders are sent, for the text `oral` or `signed`. `signed` is accepted only if `kinds` is `Both`.
 ///
 /// # Errors
 ///
-/// `At` with `Range` at `messages` for any text that the reader does not accept.
+/// Fails with `At`, the fault `Range` and the key `messages` for a text that is not accepted.
 fn messages_by_name(kinds: Kinds, text: &str) -> Result<Messages, ScenarioError>
     ensures { Gives (λ m. m) result (messages_by_name kinds text.now) }
 {
@@ -73,11 +75,13 @@ fn messages_by_name(kinds: Kinds, text: &str) -> Result<Messages, ScenarioError>
     }
 }
 
-/// Returns how orders are sent, which is orally if the key is missing.
+/// Returns how orders are sent in a scenario. `value` is the value of the key `messages`. If the key is missing, it is
+/// `None`, and orders are sent orally.
 ///
 /// # Errors
 ///
-/// `At` at `messages`, with `Kind` if the value is not a text, or `Range` if the reader does not accept it.
+/// Fails with `At` and the key `messages`. The fault is `Kind` if the value is not a string, or `Range` if it is not
+/// accepted.
 #[tactic(auto, unfolding(crate::specs::Checks::messages))]
 fn messages(kinds: Kinds, value: Option<&Value>) -> Result<Messages, ScenarioError>
     ensures { Gives (λ m. m) result (messages kinds (option_map (λ v. view v.now) value.entry)) }
@@ -94,11 +98,11 @@ fn messages(kinds: Kinds, value: Option<&Value>) -> Result<Messages, ScenarioErr
     }
 }
 
-/// Checks that a signed campaign names no rule.
+/// Checks that a signed campaign has no key `rule`, since it combines no orders.
 ///
 /// # Errors
 ///
-/// `At` with `Key` at `rule` if it does.
+/// Fails with `At`, the fault `Key` and the key `rule` if a signed campaign has it.
 fn fitting(messages: Messages, rule: Option<&Value>) -> Result<(), ScenarioError>
     ensures { Gives (λ _. tt) result (fitting messages (option_map (λ v. view v.now) rule.entry)) }
 {
@@ -110,18 +114,20 @@ fn fitting(messages: Messages, rule: Option<&Value>) -> Result<(), ScenarioError
     }
 }
 
-/// Returns the greatest bound that a campaign with this number of generals may have.
+/// Returns the greatest bound of a campaign with this number of generals: 4, or the number of generals less 2 if that
+/// is less.
 fn greatest_bound(generals: u8) -> u8
     ensures { result ≡ min 4 (generals - 2) }
 {
     generals.saturating_sub(2).min(4)
 }
 
-/// Reads everything in a scenario except the traitors, for a reader of these kinds of campaigns.
+/// Reads the head of a scenario: everything except its traitors. `kinds` says which campaigns are accepted.
 ///
 /// # Errors
 ///
-/// `Unknown` with the first unknown key, otherwise `At` with the first fault. `Memory` if an allocation fails.
+/// Fails with `Unknown` and the first unknown key, or else with `At` and the first fault. Fails with `Memory` if an
+/// allocation fails.
 #[tactic(auto, unfolding(crate::specs::Checks::head))]
 fn head(alloc: Global, table: &Table, kinds: Kinds) -> Result<Head, ScenarioError>
     ensures { OrMemory (λ r. Gives (λ h. h) r (head kinds (table_view table.now))) result }
@@ -175,11 +181,12 @@ fn head(alloc: Global, table: &Table, kinds: Kinds) -> Result<Head, ScenarioErro
     })
 }
 
-/// Returns the elements of the list of traitors, which is empty if the key is missing.
+/// Returns the elements of the list of traitors. `value` is the value of the key `traitor`. If the key is missing, it
+/// is `None`, and there are no elements.
 ///
 /// # Errors
 ///
-/// `At` with `Kind` at `traitor` if the value is not a list.
+/// Fails with `At`, the fault `Kind` and the key `traitor` if the value is not a list.
 #[tactic(auto, unfolding(crate::specs::Checks::tables))]
 fn tables(value: Option<&Value>) -> Result<&[Value], ScenarioError>
     ensures { Gives (λ t. items_view t.now) result (tables (option_map (λ v. view v.now) value.entry)) }
@@ -190,11 +197,11 @@ fn tables(value: Option<&Value>) -> Result<&[Value], ScenarioError>
     }
 }
 
-/// Returns a player without a program for each general.
+/// Returns a list with a player for each general. The players have no programs yet.
 ///
 /// # Errors
 ///
-/// `AllocError` if an allocation fails.
+/// Fails with `AllocError` if an allocation fails.
 fn unseated(alloc: Global, generals: u8) -> Result<Vec<Player>, AllocError>
     ensures { IfOk result (λ seats. seats.items ≡ replicate generals None) }
 {
@@ -205,22 +212,24 @@ fn unseated(alloc: Global, generals: u8) -> Result<Vec<Player>, AllocError>
     Ok(seats)
 }
 
-/// Returns the player who is a traitor with this program.
+/// Returns a player who is a traitor with this program.
 ///
 /// # Errors
 ///
-/// `Memory` if an allocation fails.
+/// Fails with `Memory` if an allocation fails.
 fn seat_of(alloc: Global, program: Verified) -> Result<Player, ScenarioError>
     ensures { MatchResult result (λ seat. seat ≡ Some program) (λ e. e ≡ Memory) }
 {
     Ok(Player::new(Some(Arc::new(alloc, program)?)))
 }
 
-/// Reads the traitors' tables, and returns the scenario in which each of these generals has his program.
+/// Reads the tables of the traitors, and returns the scenario with this head in which these traitors have their
+/// programs.
 ///
 /// # Errors
 ///
-/// The first fault of a table or of its program, in the order of the tables. `Memory` if an allocation fails.
+/// Fails with the first fault of a table or of its program, in the order of the tables, or with `Memory` if an
+/// allocation fails.
 fn seated(alloc: Global, head: Head, values: &[Value]) -> Result<Scenario, ScenarioError>
     ensures { OrMemory (Answers (scenario_of head) head.generals 0 (unseated head) (items_view values.now)) result }
 {
@@ -244,11 +253,11 @@ fn seated(alloc: Global, head: Head, values: &[Value]) -> Result<Scenario, Scena
     ))
 }
 
-/// Reads the scenario of an oral campaign from its table.
+/// Reads the scenario of an oral campaign from its parsed text.
 ///
 /// # Errors
 ///
-/// The first fault, in the order that `read` describes. `Memory` if an allocation fails.
+/// Fails with the first fault, in the order that `read` describes, or with `Memory` if an allocation fails.
 fn scenario(alloc: Global, table: &Table) -> Result<Scenario, ScenarioError>
     ensures { Reads (Some (table_view table.now)) result }
 {
@@ -257,7 +266,7 @@ fn scenario(alloc: Global, table: &Table) -> Result<Scenario, ScenarioError>
     seated(alloc, head, values)
 }
 
-/// Returns the campaign of a scenario in which orders are sent in this way.
+/// Returns a scenario as a campaign with oral or signed messages.
 fn campaign_by(messages: Messages, scenario: Scenario) -> Campaign
     ensures { result ≡ campaign_by messages scenario }
 {
@@ -267,11 +276,11 @@ fn campaign_by(messages: Messages, scenario: Scenario) -> Campaign
     }
 }
 
-/// Reads the campaign, oral or signed, from the table of a scenario.
+/// Reads an oral or signed campaign from the parsed text of its scenario.
 ///
 /// # Errors
 ///
-/// The first fault, in the order that `read_any` describes. `Memory` if an allocation fails.
+/// Fails with the first fault, in the order that `read_any` describes, or with `Memory` if an allocation fails.
 fn campaign(alloc: Global, table: &Table) -> Result<Campaign, ScenarioError>
     ensures { ReadsAny (Some (table_view table.now)) result }
 {
@@ -282,7 +291,7 @@ fn campaign(alloc: Global, table: &Table) -> Result<Campaign, ScenarioError>
     Ok(campaign_by(messages, scenario))
 }
 
-/// Returns the error for a text that could not be parsed: out of memory, or the text is not TOML.
+/// Returns the error for a text that the parser does not accept: `Memory` if `is_memory` is true, and otherwise `Toml`.
 fn unparsed(is_memory: bool) -> ScenarioError
     ensures { MatchBool is_memory (result ≡ Memory) (result ≡ Toml) }
 {
@@ -297,10 +306,10 @@ fn unparsed(is_memory: bool) -> ScenarioError
 ///
 /// # Errors
 ///
-/// The first fault, with its place. First it is that the text is not TOML, then an unknown key at the top (the least by
-/// bytes). Then come `generals`, `bound`, `commander`, `order`, `board`, `patience`, `rule` and `messages`, where a
-/// signed campaign is rejected (S4). The list `traitor` and its tables in order are last. `Memory` if an allocation
-/// fails.
+/// Fails with the first fault and its place. The first check is that the text is TOML, and the second that no key at
+/// the top is unknown. Next come `generals`, `bound`, `commander`, `order`, `board`, `patience`, `rule` and `messages`,
+/// where a signed campaign is rejected (S4). The list `traitor` and its tables, in their order, come last. Fails with
+/// `Memory` if an allocation fails.
 pub fn read(alloc: Global, text: &str) -> Result<Scenario, ScenarioError>
     ensures { Reads (parse_document text.now) result }
 {
@@ -310,12 +319,12 @@ pub fn read(alloc: Global, text: &str) -> Result<Scenario, ScenarioError>
     }
 }
 
-/// Reads a campaign, oral or signed, from the text of its scenario.
+/// Reads an oral or signed campaign from the text of its scenario.
 ///
 /// # Errors
 ///
-/// The first fault, with its place, in the order of `read`. After `messages`, a signed campaign is rejected if it has a
-/// key `rule` (S2). `Memory` if an allocation fails.
+/// Fails with the first fault and its place, in the order of `read`. After `messages` comes the check that a signed
+/// campaign has no key `rule` (S2). Fails with `Memory` if an allocation fails.
 pub fn read_any(alloc: Global, text: &str) -> Result<Campaign, ScenarioError>
     ensures { ReadsAny (parse_document text.now) result }
 {

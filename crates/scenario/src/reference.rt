@@ -12,17 +12,17 @@ use std::alloc::{AllocError, Global};
 use std::marker::Model;
 use toml::{Table, Value};
 
-/// How many files are read at most. At most 14 tables matter, of which each names at most three files.
+/// The greatest number of files that are read. At most 14 tables matter, and each names at most three files.
 const MOST_FILES: usize = 42;
 
-/// A reference: a file that a traitor's table names.
+/// A reference: the name of a file in a traitor's table.
 #[derive(Drop)]
 pub struct Reference {
-    /// The number of the table, counted from 0.
+    /// The number of the table in the list of traitors, counted from 0.
     pub index: usize,
     pub key: ReferenceKey,
     pub name: String,
-    /// The function of an object that is the program, or `None` for the only global function.
+    /// The name of the function in an object file that is the program, or `None` for the only global function.
     pub function: Option<String>,
 }
 
@@ -44,7 +44,7 @@ impl Reference {
     ghost use Rattle.std.specs.Prelude.{◌≡◌, ◌&&◌, bytes_eq, option_map};
     ghost use Rattle.scenario.specs.ReferenceNames.{are_same, is_same};
 
-    /// Returns whether the reference has this key, this name and this function.
+    /// Returns whether the reference has this key, this name of a file and this name of a function.
     fn is_for(&self, key: ReferenceKey, name: &str, function: Option<&str>) -> bool
         ensures { result ≡ (is_same self.now.key key && (bytes_eq self.now.name name.now
             && are_same self.now.function (option_map (λ f. f.now) function.entry))) }
@@ -55,11 +55,11 @@ impl Reference {
     }
 }
 
-/// Returns a copy of a text, if there is one.
+/// Returns a copy of a text, or `None` if there is no text.
 ///
 /// # Errors
 ///
-/// `AllocError` if an allocation fails.
+/// Fails with `AllocError` if an allocation fails.
 pub(crate) fn copied(alloc: Global, text: Option<&str>) -> Result<Option<String>, AllocError>
     ensures { IfOk result (λ own. option_map string_bytes own ≡ option_map (λ t. t.now) text.entry) }
 {
@@ -69,7 +69,7 @@ pub(crate) fn copied(alloc: Global, text: Option<&str>) -> Result<Option<String>
     }
 }
 
-/// Returns whether one of these references has this key, this name and this function.
+/// Returns whether one of these references has this key, this name of a file and this name of a function.
 fn is_asked(all: &[Reference], key: ReferenceKey, name: &str, function: Option<&str>) -> bool
     ensures { result ≡ is_asked key name.now (option_map (λ f. f.now) function.entry) all.now }
 {
@@ -81,11 +81,11 @@ fn is_asked(all: &[Reference], key: ReferenceKey, name: &str, function: Option<&
     false
 }
 
-/// Appends a reference, unless there is one to the same file already, or there are 42 references.
+/// Appends a reference to `done`, unless it has a reference to the same file and function already, or 42 references.
 ///
 /// # Errors
 ///
-/// `AllocError` if an allocation fails.
+/// Fails with `AllocError` if an allocation fails.
 fn add(
     alloc: Global,
     done: &mut Vec<Reference>,
@@ -113,11 +113,11 @@ fn add(
     Ok(())
 }
 
-/// Appends the file that a table names by this key, if it names one.
+/// Appends the file that table `index` names by this key, if it names one, to the references in `done`.
 ///
 /// # Errors
 ///
-/// `AllocError` if an allocation fails.
+/// Fails with `AllocError` if an allocation fails.
 fn ask(
     alloc: Global,
     done: &mut Vec<Reference>,
@@ -133,11 +133,11 @@ fn ask(
     }
 }
 
-/// Appends the files that a table names.
+/// Appends the files that table `index` names to the references in `done`.
 ///
 /// # Errors
 ///
-/// `AllocError` if an allocation fails.
+/// Fails with `AllocError` if an allocation fails.
 #[tactic(auto, using(crate::proofs::AskLemmas::gathered_more))]
 fn ask_all(
     alloc: Global,
@@ -152,11 +152,12 @@ fn ask_all(
     ask(alloc, done, index, table, ReferenceKey::Object)
 }
 
-/// Appends the files that an element of the list names. A table for no general names none.
+/// Appends the files that element `index` of the list of traitors names to the references in `done`. An element that is
+/// no table, or that is for an empty list of generals, names none.
 ///
 /// # Errors
 ///
-/// `AllocError` if an allocation fails.
+/// Fails with `AllocError` if an allocation fails.
 fn ask_element(
     alloc: Global,
     done: &mut Vec<Reference>,
@@ -171,11 +172,11 @@ fn ask_element(
     }
 }
 
-/// Returns the files that the tables of the list name: the first 42, each once.
+/// Returns the first 42 files that the list of traitors names, each of them once.
 ///
 /// # Errors
 ///
-/// `AllocError` if an allocation fails.
+/// Fails with `AllocError` if an allocation fails.
 fn asked_in(alloc: Global, values: &[Value]) -> Result<Vec<Reference>, AllocError>
     ensures { IfOk result (λ all. all.items ≡ gathered [] (asked_in 0 (items_view values.now))) }
 {
@@ -186,12 +187,13 @@ fn asked_in(alloc: Global, values: &[Value]) -> Result<Vec<Reference>, AllocErro
     Ok(done)
 }
 
-/// Returns the files that the text of a scenario names, in the order of its tables. Each is listed once, and of more than
-/// 42 the first 42 are listed: no more can be right. There are none if the text is not TOML.
+/// Returns the files that the text of a scenario names, in the order of its tables and each of them once. If there are
+/// more than 42 files, it returns the first 42, since a scenario with more is rejected. If the text is not TOML, it
+/// names none.
 ///
 /// # Errors
 ///
-/// `AllocError` if an allocation fails.
+/// Fails with `AllocError` if an allocation fails.
 pub fn asked(alloc: Global, text: &str) -> Result<Vec<Reference>, AllocError>
     ensures { IfOk result (λ all. all.items ≡ asked (parse_document text.now)) }
 {

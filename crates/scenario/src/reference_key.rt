@@ -1,20 +1,20 @@
-//! Defines the keys by which a traitor's table names a file.
+//! The keys by which a traitor's table names a file.
 ghost use Rattle.std.specs.Prelude.{◌≡◌};
 ghost use Rattle.scenario.specs.ReferenceNames.{is_same, key_of, place_of, reference_of};
 
-/// The kind of a file that a traitor's table names.
+/// The kind of file that a traitor's table names.
 #[derive(Clone, Copy, PartialEq, Eq)]
 pub enum ReferenceKey {
-    /// The file contains assembly.
+    /// A file with assembly.
     Assembly,
-    /// The file contains bytecode.
+    /// A file with bytecode.
     Bytecode,
-    /// The file is an ELF object, and one of its functions is the program.
+    /// An ELF object file. The code of one of its functions is the program.
     Object,
 }
 
 impl ReferenceKey {
-    /// Returns the key that names a file of this kind.
+    /// Returns the key with the name of a file of this kind: `asm_file`, `code_file` or `elf`.
     pub fn reference(self) -> &'static str
         ensures { result.now ≡ reference_of self }
     {
@@ -25,7 +25,8 @@ impl ReferenceKey {
         }
     }
 
-    /// Returns the key of the program that replaces the file's name.
+    /// Returns the key with the program itself, `asm` or `code`, which replaces the key with the name of a file of this
+    /// kind.
     pub fn place(self) -> &'static str
         ensures { result.now ≡ place_of self }
     {
@@ -35,7 +36,8 @@ impl ReferenceKey {
         }
     }
 
-    /// Returns the key named `text`, which is `asm_file`, `code_file` or `elf`. Returns `None` for any other text.
+    /// Returns the kind of file that the key `text` names, which is `asm_file`, `code_file` or `elf`. Returns `None`
+    /// for any other key.
     pub(crate) fn of(text: &str) -> Option<ReferenceKey>
         ensures { result ≡ key_of text.now }
     {
@@ -51,7 +53,7 @@ impl ReferenceKey {
         None
     }
 
-    /// Returns whether both kinds are the same.
+    /// Returns whether this kind of file is the same as `other`.
     pub(crate) fn is_same(self, other: ReferenceKey) -> bool
         ensures { result ≡ is_same self other }
     {

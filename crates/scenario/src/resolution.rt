@@ -15,11 +15,12 @@ use std::alloc::{AllocError, Global};
 use toml::ser::Error;
 use toml::{Table, Value};
 
-/// How many tables replace the list of traitors: one more than there can be.
+/// With how many tables the resolved list of traitors is long enough, so that no more are added. It is one more than a
+/// scenario can have.
 const MOST_TABLES: usize = 14;
 
-/// Returns the kind and the text of the file that a table names by this key. Returns `None` if the key names no file,
-/// or if the file was not read.
+/// Returns the kind of the file that a table names by `key`, and the text that replaces its name. Returns `None` if the
+/// key names no file, or if the file was not read.
 fn program<'a>(files: &'a [LoadedFile], table: &Table, key: &str) -> Option<(ReferenceKey, &'a str)>
     ensures { option_map (λ p. (p.0, (p.1).now)) result ≡ program files.now (table_view table.now) key.now }
 {
@@ -29,7 +30,8 @@ fn program<'a>(files: &'a [LoadedFile], table: &Table, key: &str) -> Option<(Ref
     Some((of, text))
 }
 
-/// Returns whether the key names the function of an object whose code replaces it.
+/// Returns whether the key is `entry` and names a function in an object file that was read. The code of this function
+/// replaces both keys, `elf` and `entry`.
 fn is_spent(files: &[LoadedFile], table: &Table, key: &str) -> bool
     ensures { result ≡ is_spent files.now (table_view table.now) key.now }
 {
@@ -38,12 +40,12 @@ fn is_spent(files: &[LoadedFile], table: &Table, key: &str) -> bool
         && program(files, table, "elf").is_some()
 }
 
-/// Puts an entry of a traitor's table into the new table. A file's name is replaced by the program, and the generals
-/// who share the table by this general.
+/// Copies an entry of the traitor's table `table` into `done`. If the entry names a file, copies the program instead.
+/// If it is `generals` and a general is given, copies the key `general` with him instead.
 ///
 /// # Errors
 ///
-/// `AllocError` if an allocation fails.
+/// Fails with `AllocError` if an allocation fails.
 fn put_entry(
     alloc: Global,
     done: &mut Table,
@@ -67,11 +69,12 @@ fn put_entry(
     }
 }
 
-/// Returns a traitor's table in which programs replace the names of their files. A shared table becomes this general's.
+/// Returns a copy of a traitor's table that contains programs in place of the names of their files. If a general is
+/// given, the copy is only for him, and not for all the generals who share the table.
 ///
 /// # Errors
 ///
-/// `AllocError` if an allocation fails.
+/// Fails with `AllocError` if an allocation fails.
 fn rebuilt(
     alloc: Global,
     files: &[LoadedFile],
@@ -88,22 +91,23 @@ fn rebuilt(
     Ok(done)
 }
 
-/// Appends a value.
+/// Appends a value to a list.
 ///
 /// # Errors
 ///
-/// `AllocError` if an allocation fails.
+/// Fails with `AllocError` if an allocation fails.
 fn push(done: &mut Vec<Value>, value: Value) -> Result<(), AllocError>
     ensures { OnOk result (items_view done.new.items ≡ join (items_view done.old.items) (item (view value) no_items)) }
 {
     Ok(done.push(value)?)
 }
 
-/// Appends a table for each of the generals who share this one.
+/// Appends a table to `done` for each of the generals who share `table`, with the program in place of the name of its
+/// file.
 ///
 /// # Errors
 ///
-/// `AllocError` if an allocation fails.
+/// Fails with `AllocError` if an allocation fails.
 fn push_each(
     alloc: Global,
     done: &mut Vec<Value>,
@@ -121,11 +125,12 @@ fn push_each(
     Ok(())
 }
 
-/// Appends the tables that replace a traitor's table.
+/// Appends to `done` what replaces a traitor's table: a table for each of its generals, with the program in place of
+/// the name of its file.
 ///
 /// # Errors
 ///
-/// `AllocError` if an allocation fails.
+/// Fails with `AllocError` if an allocation fails.
 fn push_tables(
     alloc: Global,
     done: &mut Vec<Value>,
@@ -141,11 +146,12 @@ fn push_tables(
     }
 }
 
-/// Appends the tables that replace an element of the list, or the element itself if it is not a table.
+/// Appends to `done` what replaces an element of the list of traitors: a table for each of its generals, or the element
+/// itself if it is not a table.
 ///
 /// # Errors
 ///
-/// `AllocError` if an allocation fails.
+/// Fails with `AllocError` if an allocation fails.
 fn push_any(
     alloc: Global,
     done: &mut Vec<Value>,
@@ -161,11 +167,12 @@ fn push_any(
     }
 }
 
-/// Appends the tables that replace an element of the list, unless there are 14 tables already.
+/// Appends to `done` what replaces an element of the list of traitors, a table for each of its generals. Appends
+/// nothing if `done` has 14 elements or more.
 ///
 /// # Errors
 ///
-/// `AllocError` if an allocation fails.
+/// Fails with `AllocError` if an allocation fails.
 #[tactic(auto, using(crate::proofs::OriginLemmas::counted))]
 fn push_element(
     alloc: Global,
@@ -182,12 +189,12 @@ fn push_element(
     push_any(alloc, done, files, value)
 }
 
-/// Returns the list of traitors in which each traitor has a table of his own, with his program. It ends with the element
-/// of the fourteenth table: at most 13 traitors can be right.
+/// Returns the list of traitors with a table for each traitor that contains his program. It ends with the element that
+/// brings it to 14 tables or more, since a scenario with more than 13 traitors is rejected.
 ///
 /// # Errors
 ///
-/// `AllocError` if an allocation fails.
+/// Fails with `AllocError` if an allocation fails.
 fn resolved_list(
     alloc: Global,
     files: &[LoadedFile],
@@ -202,14 +209,14 @@ fn resolved_list(
     Ok(done)
 }
 
-/// Returns whether a traitor's table names a file, or generals who share it.
+/// Returns whether a traitor's table names a file, or has the key `generals`.
 fn table_refers(table: &Table) -> bool
     ensures { result ≡ table_refers (table_view table.now) }
 {
     has(table, "asm_file") || has(table, "code_file") || has(table, "elf") || has(table, "generals")
 }
 
-/// Returns whether an element of the list is a table that names a file, or generals who share it.
+/// Returns whether an element of the list of traitors is a table that names a file or has the key `generals`.
 fn element_refers(value: &Value) -> bool
     ensures { result ≡ element_refers (view value.now) }
 {
@@ -219,7 +226,7 @@ fn element_refers(value: &Value) -> bool
     }
 }
 
-/// Returns whether any table of the list names a file, or generals who share it.
+/// Returns whether any table in the list of traitors names a file or has the key `generals`.
 fn refers(values: &[Value]) -> bool
     ensures { result ≡ refers (items_view values.now) }
 {
@@ -231,11 +238,11 @@ fn refers(values: &[Value]) -> bool
     false
 }
 
-/// Returns the text that a printer returned, or `None` if the document has a date without a text.
+/// Returns the text that the TOML printer returned, or `None` if a date of the document has no text.
 ///
 /// # Errors
 ///
-/// `AllocError` if the printer ran out of memory.
+/// Fails with `AllocError` if the printer ran out of memory.
 fn text_of<T: Drop>(printed: Result<T, Error>) -> Result<Option<T>, AllocError>
     ensures { IsTextBy printed result }
 {
@@ -246,11 +253,11 @@ fn text_of<T: Drop>(printed: Result<T, Error>) -> Result<Option<T>, AllocError>
     }
 }
 
-/// Returns the text of a table, or `None` if it has a date without a text.
+/// Returns a table as TOML text, or `None` if it has a date that TOML cannot write.
 ///
 /// # Errors
 ///
-/// `AllocError` if an allocation fails.
+/// Fails with `AllocError` if an allocation fails.
 #[tactic(auto, using(crate::proofs::PrintLemmas::told_so))]
 fn printed(alloc: Global, table: &Table) -> Result<Option<String>, AllocError>
     ensures { IfOk result (λ new. IsPrinted (table_view table.now) (option_map string_bytes new)) }
@@ -258,12 +265,13 @@ fn printed(alloc: Global, table: &Table) -> Result<Option<String>, AllocError>
     text_of(toml::table_to_string(alloc, table))
 }
 
-/// Returns the resolved text of a document: programs replace the names of their files, and each traitor has a table of
-/// his own. Returns `None` if no table names a file or several generals, or if a date has no text.
+/// Returns the resolved text of a scenario, which has programs in place of the names of their files, and a table for
+/// each traitor. Returns `None` if no table names a file or has the key `generals`, or if TOML cannot write one of the
+/// dates.
 ///
 /// # Errors
 ///
-/// `AllocError` if an allocation fails.
+/// Fails with `AllocError` if an allocation fails.
 fn resolved_document(
     alloc: Global,
     files: &[LoadedFile],
@@ -284,16 +292,18 @@ fn resolved_document(
     printed(alloc, &table)
 }
 
-/// Returns the resolved text of a scenario: programs replace the names of their files, and each traitor has a table of
-/// his own. Returns `None` if the text is not TOML, if no table names a file or several generals, or if a date has no
-/// text. The caller then reads the text itself. What is proved holds for TOML that nests at most 80 levels deep.
+/// Returns the resolved text of a scenario, which has programs in place of the names of their files, and a table for
+/// each traitor. Returns `None` if the text is not TOML, if no table names a file or has the key `generals`, or if TOML
+/// cannot write one of the dates. The caller then reads the text itself. The proof covers TOML that nests at most 80
+/// levels deep.
 ///
-/// The name of a file that is not in `files` is kept, and the reader rejects its key as unknown. The same happens to a
-/// file's key next to another source for its program, and to `generals` next to `general`.
+/// If a file is not in `files`, its key stays in the resolved text, and the reader rejects this key as unknown. The
+/// same holds for the key of a file in a table that also has another source of its program, and for `generals` in a
+/// table that also has `general`.
 ///
 /// # Errors
 ///
-/// `AllocError` if an allocation fails.
+/// Fails with `AllocError` if an allocation fails.
 pub fn resolved(
     alloc: Global,
     text: &str,

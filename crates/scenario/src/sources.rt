@@ -1,4 +1,4 @@
-//! Finds a general's program as it is written in a scenario, which may have faults.
+//! Finds the program of a general in a scenario that may have faults.
 ghost use Rattle.std.specs.Prelude.{◌≡◌, option_map};
 ghost use Rattle.toml.specs.View.{view, items_view, table_view};
 ghost use Rattle.scenario.specs.Seen.{source_of};
@@ -9,7 +9,7 @@ use crate::place::ScenarioKey;
 use crate::programs::ProgramText;
 use toml::{Table, Value};
 
-/// Returns whether an integer is this general's number.
+/// Returns whether the integer is the number `general`.
 fn is_number(number: i64, general: u8) -> bool
     ensures { result ≡ is_number general number }
 {
@@ -19,7 +19,7 @@ fn is_number(number: i64, general: u8) -> bool
     }
 }
 
-/// Returns whether a value is this general's number.
+/// Returns whether the value is the number `general`. It is not if there is no value.
 fn is_general(value: Option<&Value>, general: u8) -> bool
     ensures { result ≡ is_general general (option_map (λ v. view v.now) value.entry) }
 {
@@ -32,7 +32,7 @@ fn is_general(value: Option<&Value>, general: u8) -> bool
     }
 }
 
-/// Returns the text that a value is, or `None` if it is of another kind.
+/// Returns the value as a text, or `None` if it is not a text or there is no value.
 fn text_in(value: Option<&Value>) -> Option<&str>
     ensures { option_map (λ t. t.now) result ≡ text_in (option_map (λ v. view v.now) value.entry) }
 {
@@ -42,7 +42,8 @@ fn text_in(value: Option<&Value>) -> Option<&str>
     }
 }
 
-/// Returns the program that a table contains: its assembly, or its bytecode if it has no assembly.
+/// Returns the program that a traitor's table contains: the text at `asm`, or else the text at `code`. Returns `None`
+/// if it has neither.
 fn written_in(table: &Table) -> Option<ProgramText<'_>>
     ensures { option_map source_of result ≡ source_in (table_view table.now) }
 {
@@ -55,7 +56,7 @@ fn written_in(table: &Table) -> Option<ProgramText<'_>>
     }
 }
 
-/// Returns an element of the list as a table, if it is a table of this general.
+/// Returns an element of the list of traitors as a table, or `None` if it is not a table for this general.
 fn table_of(value: &Value, general: u8) -> Option<&Table>
     ensures { option_map (λ t. table_view t.now) result ≡ members_of general (view value.now) }
 {
@@ -65,7 +66,7 @@ fn table_of(value: &Value, general: u8) -> Option<&Table>
     }
 }
 
-/// Returns the program in the first table of this general.
+/// Returns the program in the first table for this general in the list of traitors, or `None` if there is none.
 fn written_among(values: &[Value], general: u8) -> Option<ProgramText<'_>>
     ensures { option_map source_of result ≡ source_among general (items_view values.now) }
 {
@@ -77,8 +78,8 @@ fn written_among(values: &[Value], general: u8) -> Option<ProgramText<'_>>
     None
 }
 
-/// Returns the program of this general as it is written in the scenario: that of the first traitor's table with his
-/// number.
+/// Returns the program of this general in a scenario, which is in the first traitor's table with his number. Returns
+/// `None` if he has no table, or if it contains no program.
 pub fn written_by(table: &Table, general: u8) -> Option<ProgramText<'_>>
     ensures { option_map source_of result ≡ source_by general (table_view table.now) }
 {

@@ -5,7 +5,8 @@ ghost use Rattle.scenario.specs.Strategies.{program_among, program_named, strate
 use crate::strategies::STRATEGIES;
 use std::alloc::{AllocError, Global};
 
-/// Returns the program of the first of these strategies that has this name. Each has its name and its program.
+/// Returns the program of the first strategy with this name, or `None` if there is none. Each strategy is a name and a
+/// program.
 fn program_among(strategies: &[(&'static str, &'static str)], name: &str) -> Option<&'static str>
     ensures { option_map (λ program. program.now) result
         ≡ program_among name.now (map (λ strategy. (strategy.0.now, strategy.1.now)) strategies.now) }
@@ -26,11 +27,11 @@ pub(crate) fn program_named(name: &str) -> Option<&'static str>
     program_among(&STRATEGIES, name)
 }
 
-/// Returns the names of these strategies, in their order.
+/// Returns the names of the strategies, in their order. Each strategy is a name and a program.
 ///
 /// # Errors
 ///
-/// `AllocError` if an allocation fails.
+/// Fails with `AllocError` if an allocation fails.
 fn names_of(
     alloc: Global,
     strategies: &[(&'static str, &'static str)],
@@ -49,7 +50,7 @@ fn names_of(
 ///
 /// # Errors
 ///
-/// `AllocError` if an allocation fails.
+/// Fails with `AllocError` if an allocation fails.
 #[tactic(auto, unfolding(crate::specs::Strategies::strategy_names))]
 pub fn strategy_names(alloc: Global) -> Result<Vec<&'static str>, AllocError>
     ensures { IfOk result (λ names. map (λ name. name.now) names.items ≡ strategy_names) }

@@ -1,4 +1,4 @@
-//! Reads the traitors' tables one after the other.
+//! Reads the tables of a scenario's traitors, one after the other.
 ghost use Rattle.std.specs.Prelude.{◌≡◌, ◌<◌, ◌≤◌, ℕ, not, None, Some, Ok, option_map, ok_or, IfOk, length, replicate};
 ghost use Rattle.toml.specs.Data.{as_table};
 ghost use Rattle.toml.specs.View.{view, items_view, table_view};
@@ -18,11 +18,11 @@ use std::alloc::Global;
 use toml::{Table, Value};
 use verify::Verified;
 
-/// Returns the program of the strategy with this name, for the traitor's table of this number.
+/// Returns the program of the strategy with this name, which the traitor's table `index` names.
 ///
 /// # Errors
 ///
-/// `At` with `Range` at `strategy` if no strategy has this name.
+/// Fails with `At`, the fault `Range` and the table's key `strategy` if no strategy has this name.
 fn source_named<'a>(index: usize, name: &str) -> Result<ProgramText<'a>, ScenarioError>
     ensures { Gives source_of result (source_named index name.now) }
 {
@@ -35,11 +35,12 @@ fn source_named<'a>(index: usize, name: &str) -> Result<ProgramText<'a>, Scenari
     }
 }
 
-/// Returns the program of the strategy that the traitor's table of this number names.
+/// Returns the program of the strategy that the traitor's table `index` names by `value`.
 ///
 /// # Errors
 ///
-/// `At` at `strategy`, with `Kind` if the value is not a text, or `Range` if no strategy has this name.
+/// Fails with `At` and the table's key `strategy`. The fault is `Kind` if the value is not a string, or `Range` if no
+/// strategy has this name.
 #[tactic(auto, unfolding(crate::specs::Tables::strategy))]
 fn strategy<'a>(index: usize, value: &Value) -> Result<ProgramText<'a>, ScenarioError>
     ensures { Gives source_of result (strategy index (view value.now)) }
@@ -53,13 +54,13 @@ fn strategy<'a>(index: usize, value: &Value) -> Result<ProgramText<'a>, Scenario
     }
 }
 
-/// Returns the program as it is written in the traitor's table of this number, or that of the strategy that the table
-/// names.
+/// Returns the program of the traitor's table `index`: its assembly, its bytecode, or the program of the strategy that
+/// it names. `asm`, `code` and `named` are the values of these keys, or `None` for a missing one.
 ///
 /// # Errors
 ///
-/// `At` with `Key` at `asm` unless the table has exactly one of `asm`, `code` and `strategy`. `At` with `Kind` if the
-/// value is not a text, or `Range` if no strategy has this name.
+/// Fails with `At` and one of the table's keys. The fault is `Key`, at `asm`, unless the table has exactly one of
+/// `asm`, `code` and `strategy`. It is `Kind` if the value is not a string, or `Range` if no strategy has this name.
 #[tactic(auto, unfolding(crate::specs::Tables::source))]
 fn written<'a>(
     index: usize,
@@ -99,7 +100,7 @@ fn written<'a>(
     }
 }
 
-/// Returns whether an earlier table is this general's.
+/// Returns whether an earlier table gave this general a program.
 fn is_seated(seats: &[Player], general: u8) -> bool
     requires { general < length seats.now }
     ensures { result ≡ is_seated seats.now general }
@@ -107,11 +108,11 @@ fn is_seated(seats: &[Player], general: u8) -> bool
     seats[usize::from(general)].program().is_some()
 }
 
-/// Checks that no earlier table is this general's.
+/// Checks that no earlier table gave this general a program.
 ///
 /// # Errors
 ///
-/// `At` with `Twice` at this place if there is one.
+/// Fails with `At`, the fault `Twice` and the place if an earlier table did.
 fn once(place: ScenarioPlace, seats: &[Player], general: u8) -> Result<(), ScenarioError>
     requires { general < length seats.now }
     ensures { Gives (λ _. tt) result (test (not (is_seated seats.now general)) ScenarioFault.Twice place) }
@@ -122,11 +123,11 @@ fn once(place: ScenarioPlace, seats: &[Player], general: u8) -> Result<(), Scena
     Ok(())
 }
 
-/// Returns the element of this number in the list as a table.
+/// Returns element `index` of the list of traitors as a table.
 ///
 /// # Errors
 ///
-/// `At` with `Kind` at the element if it is not a table.
+/// Fails with `At`, the fault `Kind` and the element if it is not a table.
 fn as_table(index: usize, value: &Value) -> Result<&Table, ScenarioError>
     ensures { Gives (λ t. table_view t.now) result
         (ok_or (as_table (view value.now)) (faulty ScenarioFault.Kind (ScenarioPlace.Table index))) }
@@ -137,11 +138,12 @@ fn as_table(index: usize, value: &Value) -> Result<&Table, ScenarioError>
     }
 }
 
-/// Returns the general of the table of this number, and his program as it is written there.
+/// Returns the general of the traitor's table `index`, and his program as the table contains it.
 ///
 /// # Errors
 ///
-/// `Unknown` with the first unknown key, otherwise `At` with the first fault. `Memory` if an allocation fails.
+/// Fails with `Unknown` and the first unknown key, or else with `At` and the first fault. Fails with `Memory` if an
+/// allocation fails.
 #[tactic(auto, unfolding(crate::specs::Tables::table_in))]
 fn in_table<'a>(
     alloc: Global,
@@ -175,11 +177,12 @@ fn in_table<'a>(
     Ok((general, written))
 }
 
-/// Returns the general of the element of this number, and his program as it is written there.
+/// Returns the general of element `index` of the list of traitors, and his program as this table contains it.
 ///
 /// # Errors
 ///
-/// `Unknown` with the first unknown key, otherwise `At` with the first fault. `Memory` if an allocation fails.
+/// Fails with `Unknown` and the first unknown key, or else with `At` and the first fault. Fails with `Memory` if an
+/// allocation fails.
 #[tactic(auto, unfolding(crate::specs::Tables::table))]
 fn table<'a>(
     alloc: Global,
@@ -198,12 +201,12 @@ fn table<'a>(
     in_table(alloc, generals, seats, index, as_table(index, value)?)
 }
 
-/// Returns the general of the element of this number, and his verified program.
+/// Returns the general of element `index` of the list of traitors, and his program, which the verifier has accepted.
 ///
 /// # Errors
 ///
-/// `Unknown` or `At` with the table's first fault, otherwise `Program` with the program's. `Memory` if an allocation
-/// fails.
+/// Fails with `Unknown` or `At` and the first fault of the table, or else with `Program` and the first fault of the
+/// program. Fails with `Memory` if an allocation fails.
 pub fn traitor(
     alloc: Global,
     generals: u8,

@@ -1,4 +1,4 @@
-//! Parses a scenario's text into a TOML table, and looks up keys of such tables.
+//! Parses the text of a scenario as TOML, and returns values in its tables.
 ghost use Rattle.std.specs.Prelude.{◌≡◌, IfOk, OnOk, Some, is_some, option_and_then, option_map, codes};
 ghost use Rattle.toml.specs.Data.{as_array, as_str, get_member};
 ghost use Rattle.toml.specs.Parse.{parse_document};
@@ -12,14 +12,15 @@ use std::alloc::{AllocError, Global};
 use toml::de::Error;
 use toml::{Table, Value};
 
-/// How many of the generals who share a table are looked at: one more than there can be.
+/// The greatest number of generals that are read from the list of a shared table. It is one more than a campaign can
+/// have.
 const MOST_SEATS: usize = 14;
 
-/// Returns the table of a parsed text, or `None` if the text is not TOML.
+/// Returns the table that the parser returned, or `None` if the text is not TOML.
 ///
 /// # Errors
 ///
-/// `AllocError` if the parser ran out of memory.
+/// Fails with `AllocError` if the parser ran out of memory.
 fn told(parsed: Result<Table, Error>) -> Result<Option<Table>, AllocError>
     ensures { IsDocumentOf parsed result }
 {
@@ -30,11 +31,11 @@ fn told(parsed: Result<Table, Error>) -> Result<Option<Table>, AllocError>
     }
 }
 
-/// Parses a text, and returns its table, or `None` if the text is not TOML.
+/// Parses a text as TOML, and returns its table, or `None` if the text is not TOML.
 ///
 /// # Errors
 ///
-/// `AllocError` if an allocation fails.
+/// Fails with `AllocError` if an allocation fails.
 pub(crate) fn document(alloc: Global, text: &str) -> Result<Option<Table>, AllocError>
     ensures { IfOk result (λ table. option_map table_view table ≡ parse_document text.now) }
 {
@@ -48,7 +49,7 @@ pub(crate) fn has(table: &Table, key: &str) -> bool
     table.get(key).is_some()
 }
 
-/// Returns the text at a key, or `None` if there is no text.
+/// Returns the text at a key, or `None` if the key is missing or its value is not a text.
 fn text_at<'a>(table: &'a Table, key: &str) -> Option<&'a str>
     ensures { option_map (λ t. t.now) result ≡ option_and_then as_str (get_member key.now (table_view table.now)) }
 {
@@ -58,7 +59,7 @@ fn text_at<'a>(table: &'a Table, key: &str) -> Option<&'a str>
     }
 }
 
-/// Returns the elements of the list at a key, or `None` if there is no list.
+/// Returns the elements of the list at a key, or `None` if the key is missing or its value is not a list.
 fn list_at<'a>(table: &'a Table, key: &str) -> Option<&'a [Value]>
     ensures { option_map (λ ds. items_view ds.now) result
         ≡ option_and_then as_array (get_member key.now (table_view table.now)) }
@@ -72,8 +73,8 @@ fn list_at<'a>(table: &'a Table, key: &str) -> Option<&'a [Value]>
     }
 }
 
-/// Returns whether a traitor's table has another source for the program that a file of this kind would give. Next to an
-/// object, that is `code` or `code_file`.
+/// Returns whether a traitor's table gives the program by another key, so that it may not name a file of this kind.
+/// Such a key is `asm` for an assembly file, `code` for a bytecode file, and `code` or `code_file` for an object file.
 fn is_taken(table: &Table, key: ReferenceKey) -> bool
     ensures { result ≡ is_taken key (table_view table.now) }
 {
@@ -83,8 +84,8 @@ fn is_taken(table: &Table, key: ReferenceKey) -> bool
     }
 }
 
-/// Returns the name of the file that a traitor's table gives for this key, or `None` if the table has another source
-/// for the program.
+/// Returns the name of the file that a traitor's table gives by this key. Returns `None` if it gives none, or if the
+/// table gives the program by another key.
 pub(crate) fn name_at<'a>(table: &'a Table, key: ReferenceKey) -> Option<&'a str>
     ensures { option_map (λ n. n.now) result ≡ name_at key (table_view table.now) }
 {
@@ -94,7 +95,8 @@ pub(crate) fn name_at<'a>(table: &'a Table, key: ReferenceKey) -> Option<&'a str
     text_at(table, key.reference())
 }
 
-/// Returns the name of the object's function that a traitor's table gives, or `None` if the file is not an object.
+/// Returns the name of the function that a traitor's table names in an object file. Returns `None` if it names none, or
+/// for a file of another kind.
 pub(crate) fn function_at<'a>(table: &'a Table, key: ReferenceKey) -> Option<&'a str>
     ensures { option_map (λ f. f.now) result ≡ function_at key (table_view table.now) }
 {
@@ -104,7 +106,7 @@ pub(crate) fn function_at<'a>(table: &'a Table, key: ReferenceKey) -> Option<&'a
     }
 }
 
-/// Returns the list, or its first 14 values if it has more.
+/// Returns the first 14 values of a list, or all of them if there are fewer.
 #[tactic(auto, using(crate::proofs::FirstLemmas::all_items, crate::proofs::FirstLemmas::cut_items))]
 fn first(list: &[Value]) -> &[Value]
     ensures { items_view result.now ≡ first_items 14 (items_view list.now) }
@@ -116,8 +118,8 @@ fn first(list: &[Value]) -> &[Value]
     }
 }
 
-/// Returns the generals who share a traitor's table, or `None` if the table has a general of its own. Of more than 14
-/// generals, returns the first 14: at most 13 can be right.
+/// Returns the generals who share a traitor's table. If there are more than 14, it returns the first 14, since a
+/// scenario with more than 13 is rejected. Returns `None` if the table has a key `general`, or no list `generals`.
 pub(crate) fn seats(table: &Table) -> Option<&[Value]>
     ensures { option_map (λ ds. items_view ds.now) result ≡ seats (table_view table.now) }
 {
@@ -130,7 +132,7 @@ pub(crate) fn seats(table: &Table) -> Option<&[Value]>
     }
 }
 
-/// Returns whether a table is shared by an empty list of generals.
+/// Returns whether a traitor's table is for an empty list of generals, and so for no one.
 pub(crate) fn is_nobodys(table: &Table) -> bool
     ensures { result ≡ is_nobodys (seats (table_view table.now)) }
 {
@@ -151,7 +153,7 @@ fn is_nobody(generals: &[Value]) -> bool
     }
 }
 
-/// Returns the list of traitors of a scenario, or `None` if there is no list.
+/// Returns the list of traitors of a scenario, or `None` if it has no such list.
 pub(crate) fn traitors(table: &Table) -> Option<&[Value]>
     ensures { option_map (λ ds. items_view ds.now) result ≡ traitors (table_view table.now) }
 {
@@ -165,11 +167,11 @@ pub(crate) fn value_at<'a>(table: &'a Table, key: &str) -> Option<&'a Value>
     table.get(key)
 }
 
-/// Puts a value at a key, in place of any value there.
+/// Sets the value at a key of a table, and replaces any value there.
 ///
 /// # Errors
 ///
-/// `AllocError` if an allocation fails.
+/// Fails with `AllocError` if an allocation fails.
 pub(crate) fn put(
     alloc: Global,
     table: &mut Table,

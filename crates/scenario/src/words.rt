@@ -1,4 +1,4 @@
-//! Reads the board's opening words.
+//! Reads the words with which the board of a scenario begins.
 
 ghost use Rattle.std.specs.Prelude.{◌≡◌, ℕ, ◌≤◌, length, replicate, option_map};
 ghost use Rattle.toml.specs.View.{view, items_view};
@@ -10,7 +10,7 @@ use crate::keys::{elements, natural, whole};
 use crate::place::{ScenarioKey, ScenarioPlace};
 use toml::Value;
 
-/// Checks that all elements are integers, or fails with the first one that is not.
+/// Checks that all elements of the list `board` are integers, or fails with the place of the first one that is not.
 fn are_integers(values: &[Value]) -> Result<(), ScenarioError>
     ensures { Gives (λ _. tt) result (over is_integer 0 tt (items_view values.now)) }
 {
@@ -21,7 +21,7 @@ fn are_integers(values: &[Value]) -> Result<(), ScenarioError>
 }
 
 #[tactic(auto, unfolding(crate::specs::Checks::word))]
-/// Returns a word of the board, which is an integer that is not negative.
+/// Returns word `index` of the list `board`. Fails with its place if the value is not an integer, or if it is negative.
 fn word(index: usize, value: &Value) -> Result<u64, ScenarioError>
     ensures { Gives (λ n. n) result (word index (view value.now)) }
 {
@@ -29,7 +29,8 @@ fn word(index: usize, value: &Value) -> Result<u64, ScenarioError>
     natural(ScenarioFault::Range, ScenarioPlace::Word(index), integer)
 }
 
-/// Returns the board with these words first and 0 after them.
+/// Returns the board's 64 words: these values, at most 64, and then zeros. Fails with the first value that is not a
+/// word.
 fn words(values: &[Value]) -> Result<[u64; 64], ScenarioError>
     requires { length values.now ≤ 64 }
     ensures { Gives (λ ws. ws) result (over set_word 0 (replicate 64 0) (items_view values.now)) }
@@ -42,7 +43,7 @@ fn words(values: &[Value]) -> Result<[u64; 64], ScenarioError>
 }
 
 #[tactic(auto, unfolding(crate::specs::Checks::board_words), using(crate::proofs::Items::items_length_view))]
-/// Returns the board's 64 words from a list of at most 64 integers that are not negative.
+/// Returns the board's 64 words, from a list of at most 64 integers that are not negative. Fails with the first fault.
 fn board_words(values: &[Value]) -> Result<[u64; 64], ScenarioError>
     ensures { Gives (λ ws. ws) result (board_words (items_view values.now)) }
 {
@@ -53,12 +54,12 @@ fn board_words(values: &[Value]) -> Result<[u64; 64], ScenarioError>
     words(values)
 }
 
-/// Returns the board's 64 words. Those that the scenario does not give are 0.
+/// Returns the board's 64 words. Words that the scenario does not give are 0.
 ///
 /// # Errors
 ///
-/// `At` with the first fault: `board` is not a list, an element is not an integer, there are more than 64 elements, or
-/// an element is negative.
+/// Fails with `At` and the first fault. In this order, the checks are that `board` is a list, that its elements are
+/// integers, that there are at most 64 of them, and that none is negative.
 #[tactic(auto, unfolding(crate::specs::Checks::board))]
 pub fn board(value: Option<&Value>) -> Result<[u64; 64], ScenarioError>
     ensures { Gives (λ ws. ws) result (board (option_map (λ v. view v.now) value.entry)) }

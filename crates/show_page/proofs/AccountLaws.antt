@@ -1,4 +1,4 @@
--- Campaigns' pages are elements.
+-- The pages of campaigns are XML elements.
 use Rattle.std.proofs.Common.{ℕ, zero, suc, ◌≡◌, ◌==◌, nat_lt, Bool, false, List, [], ◌∷◌, ◌++◌, length, Option, None, Some, codes, encode_utf8, refl, subst, sym}
 use Rattle.std.specs.Prelude.{if◌then◌else◌}
 use Rattle.std.specs.Fmt.{decimal}
@@ -48,11 +48,11 @@ pub all : (f : ℕ → List ℕ) (xs : List ℕ) → ((x : ℕ) → IsContent (f
 all f [] h = text [] no_text
 all f (x ∷ xs) h = joined (f x) (flat_map f xs) (h x) (all f xs h)
 
--- a heading, and what stands below it
+-- A heading and the content below it.
 pub below : (words parts : List ℕ) → IsContent parts → IsContent (heading words ++ parts)
 below words parts c = joined (heading words) parts (proved_parts_are_content.heading words) c
 
--- a part, and what stands in its place where there is no room for it
+-- The paragraph that replaces a section for which there is no room.
 over_content : (room : ℕ) (who : List ℕ) → IsContent (over room who)
 over_content room who = proved_parts_are_content.paragraph (over_words room who)
 
@@ -63,7 +63,7 @@ lines_content : (room : ℕ) (who words : List ℕ) → IsContent (lines_told ro
 lines_content room who words =
     cond_both (nat_lt room_for_sections (length words)) (over room who) (lines words) IsContent (λ _. over_content room who) (λ _. proved_parts_are_content.lines words)
 
--- a section of content, in whose place stands that it is left out
+-- A section of content, with the paragraph that may replace it.
 filled : (title : List ℕ) (room : ℕ) (who told : List ℕ) → IsContent told → IsFilled (roomed title room who told)
 filled title room who told is = (is, over_content room who)
 
@@ -121,7 +121,7 @@ programs_filled s =
       cond_both (nat_lt room_for_programs (length told)) (each_program (share s.generals) s) [] IsContent (λ _. each_content (share s.generals) s) (λ _. text [] no_text),
     )
 
--- a picture that is an element, and a line feed
+-- A diagram, which is an XML element and a line feed.
 pub picture_filled : (wide : Bool) (svg element : List ℕ) → IsElement element → svg ≡ element ++ codes "\n" → IsFilled (picture_section wide svg)
 picture_filled wide svg element is e =
     let drawn : IsContent svg =
@@ -215,7 +215,7 @@ verdict_content v bound =
     (proved_parts_are_content.paragraph (obeyed_words v.obeyed)))
     (proved_parts_are_content.paragraph bound)
 
--- sections that are filled, and a verdict
+-- Sections with content, and a verdict.
 pub sections_content : (ss : List Section) (verdict : List ℕ) → AllByRecursion IsFilled ss → IsContent verdict → IsContent (sections_in room_for_sections ss ++ verdict)
 sections_content ss verdict each is =
     joined (sections_in room_for_sections ss) verdict (proved_sections_are_fitted.content room_for_sections ss (All-from_recursion IsFilled ss each)) is

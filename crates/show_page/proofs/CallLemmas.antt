@@ -1,4 +1,4 @@
--- Calls by the helpers' names.
+-- The helper calls of a program with the helpers' names.
 use Rattle.std.proofs.Common.{ℕ, zero, suc, ◌+◌, ◌<◌, ◌≡◌, List, [], ◌∷◌, ◌++◌, length, length-append, refl, sym, ap, ◌∙◌, arith, inl, inr, Option, Some, String, string_bytes}
 use Rattle.std.specs.declared.alloc.Global.{Global}
 use Rattle.std.specs.Prelude.{slice_get}
@@ -9,7 +9,7 @@ use Rattle.insn.specs.Program.{instruction_at, joined, slots_of}
 use Rattle.explain.specs.Units.{in_lists, text_or_none}
 use Rattle.show_page.specs.Calls.{call_if, named_calls}
 
--- the texts of the first units are those of their calls
+-- The texts of the first `count` units are those of their calls.
 pub record AreNamed (program : List Insn) (texts : List (String Global)) (count : ℕ) : Type 0 where
   pub long : length texts ≡ count
   pub each : (k : ℕ) → k < count → text_or_none (slice_get texts k) ≡ call_if (instruction_at program k)
@@ -17,7 +17,7 @@ pub record AreNamed (program : List Insn) (texts : List (String Global)) (count 
 pub none_named : (program : List Insn) (texts : List (String Global)) → texts ≡ [] → AreNamed program texts 0
 none_named program texts e = record { long = ap length e; each = λ k l. absurd (omega arith) }
 
--- one unit more
+-- One more unit.
 pub one_named : (program : List Insn) (old new : List (String Global)) (count : ℕ) (text : String Global) → AreNamed program old count
     → string_bytes text ≡ call_if (instruction_at program count) → new ≡ old ++ text ∷ [] → AreNamed program new (count + 1)
 one_named program old new count text is so e =
@@ -43,7 +43,7 @@ one_named program old new count text is so e =
     behind [] = refl
     behind (x ∷ xs) = behind xs
 
--- those of all
+-- All units.
 pub all_named : (program : List Insn) (texts : List (String Global)) (count : ℕ) → AreNamed program texts count → count ≡ length (slots_of program) → in_lists [] texts ≡ named_calls program
 unfolding named_calls
 all_named program texts count is whole = λ i unit. (nothing unit i, told unit i)
@@ -61,5 +61,5 @@ all_named program texts count is whole = λ i unit. (nothing unit i, told unit i
               ∙ sym (ap (λ (s : Option (Option Insn)). call_if (joined s)) (slice_get_past (slots_of program) unit (omega arith)))
         ]
 
--- texts, from none on
+-- The texts, from the first unit to the last.
 pub ruleset naming = (all_named, none_named, one_named)

@@ -1,4 +1,4 @@
--- What stands in the folds of a page.
+-- What the folds of a page contain.
 use Rattle.std.proofs.Common.{ℕ, zero, suc, ◌<◌, ◌≤◌, length, ◌≡◌, ◌≢◌, Bool, true, false, List, [], ◌∷◌, ◌++◌, refl, sym, ap, subst, ◌∙◌, arith, inl, inr, Option, codes}
 use Rattle.std.specs.Prelude.{◌==◌, if◌then◌else◌}
 use Rattle.std.specs.List.{AllByRecursion, flat_map, range_with_len}
@@ -30,7 +30,7 @@ use Rattle.show_page.specs.Trees.{item_by, items_below, tree_told}
 between : (part whole before after : List ℕ) → StandsIn part whole → StandsIn part (before ++ whole ++ after)
 between part whole before after is = ahead part (before ++ whole) after (behind part whole before is)
 
--- what stands in a part of a text stands in the text
+-- What a part of a text contains, the text contains.
 within : (part inner whole : List ℕ) → StandsIn part inner → StandsIn inner whole → StandsIn part whole
 within part inner whole is there = subst (StandsIn part) (sym there.2) (between part inner there.0 there.1 is)
 
@@ -38,7 +38,7 @@ weaker : (P Q : Node → Type 0) (xs : List Node) → ((x : Node) → P x → Q 
 weaker P Q [] h a = tt
 weaker P Q (x ∷ xs) h a = (h x a.0, weaker P Q xs h a.1)
 
--- a label whose labels below are shown, and one whose are not
+-- A label with an open fold below it, and one without.
 label_shows : (b : Bool) (node : Node) (nodes : List Node) (below : List ℕ) → AllByRecursion (Shows below) nodes
     → AllByRecursion (Shows (if b then item (fold (said node) (list below)) else text_item (said node))) (node ∷ (if b then nodes else []))
 label_shows true node nodes below a =
@@ -55,7 +55,7 @@ label_shows true node nodes below a =
     )
 label_shows false node nodes below a = ((codes "<li>", codes "</li>\n", refl), tt)
 
--- labels one after the other
+-- Labels, one after the other.
 all_show : (F : ℕ → List Node) (G : ℕ → List ℕ) (xs : List ℕ) → ((j : ℕ) → AllByRecursion (Shows (G j)) (F j)) → AllByRecursion (Shows (flat_map G xs)) (flat_map F xs)
 all_show F G [] h = tt
 all_show F G (x ∷ xs) h =
@@ -90,7 +90,7 @@ tree_shows t traitors view p =
     root_shows (is_open node.extent) node (nodes_below t traitors (deeper view) t.bound (t.commander ∷ []) p) (items_below t traitors (deeper view) t.bound (t.commander ∷ []) p)
     (items_show t traitors (deeper view) t.bound (t.commander ∷ []) p)
 
--- what stands in the part of one stands in that of all
+-- What the text of one general contains, the text of all contains.
 among_all : (part : List ℕ) (G : ℕ → List ℕ) (xs : List ℕ) (j : ℕ) → on xs j ≡ true → StandsIn part (G j) → StandsIn part (flat_map G xs)
 among_all part G [] j there is = cc
 among_all part G (x ∷ xs) j there is = elim (or_cases (x == j) (on xs j) there) [
@@ -98,7 +98,7 @@ among_all part G (x ∷ xs) j there is = elim (or_cases (x == j) (on xs j) there
   | inr later ↦ behind part (flat_map G xs) (G x) (among_all part G xs j later is)
 ]
 
--- the parts of the lieutenants stand in the page, if they are within their own room
+-- The page contains the texts of the lieutenants, if they have room in their section.
 lieutenants_stand : (words : List ℕ) (schedule : Option (List (List Repeat))) (t : MessageTable) (c : Chronicle)
     → length (each_lieutenant t (traitors_of c.scenario) (view_of c.scenario)) ≤ room_for_lieutenants
     → StandsIn (each_lieutenant t (traitors_of c.scenario) (view_of c.scenario)) (page_text words schedule t c)

@@ -1,4 +1,4 @@
--- No page is long.
+-- The length of a page is limited.
 use Rattle.std.proofs.Common.{ℕ, zero, suc, ◌+◌, ◌*◌, ◌^◌, ◌<◌, ◌≤◌, ◌≡◌, Bool, true, false, List, [], ◌∷◌, ◌++◌, length, length-append, refl, arith, codes, encode_utf8, Option, None, Some}
 use Rattle.std.specs.Prelude.{nat_le, nat_lt}
 use Rattle.std.specs.Fmt.{decimal}
@@ -28,7 +28,7 @@ use Rattle.show_page.specs.Room.{fitted, lines_told, over, over_words, room_for_
 use Rattle.show_page.specs.Story.{story}
 use Rattle.show_page.proofs.ShortLemmas.{both, known, shown_short}
 
--- a text between two that are written out
+-- The length of a text between two fixed texts.
 pub paragraph_short : (text : List ℕ) (n : ℕ) → length text ≤ n → length (paragraph text) ≤ 9 * n + 8
 paragraph_short text n short =
     let start : length (codes "<p>") ≤ 3 = known (codes "<p>") 3 refl in
@@ -43,7 +43,7 @@ heading_short text n short =
     let told = shown_short text n short in
     omega (arith, length-append (codes "<h2>" ++ shown text) (codes "</h2>\n"), length-append (codes "<h2>") (shown text))
 
--- what stands in place of a section that there is no room for
+-- The length of the text that replaces a section for which there is no room.
 over_words_short : (room : ℕ) (who : List ℕ) → room < 10 ^ 6 → length who ≤ 130 → length (over_words room who) ≤ 200
 unfolding over_words
 over_words_short room who low short =
@@ -65,7 +65,7 @@ lower n middle m one two = omega arith
 roomy : (title : List ℕ) (room : ℕ) (who told : List ℕ) → 2000 ≤ room → room < 10 ^ 6 → length who ≤ 130 → IsRoomy (roomed title room who told)
 roomy title room who told high low short = lower (length (over room who)) 2000 room (over_short room who low short) high
 
--- ---- each section
+-- ---- the replacement of each section has room
 
 pub scenario_roomy : (words : List ℕ) → IsRoomy (scenario_section words)
 unfolding scenario_printer
@@ -97,7 +97,7 @@ program_short room g (Some program) high low few =
     let four = both (fold_start name ++ told) fold_end (120 + room) 11 three (known fold_end 11 refl) in
     omega arith
 
--- so often a number
+-- The sum of n equal numbers.
 times : ℕ → ℕ → ℕ
 times zero k = 0
 times (suc n) k = k + times n k
@@ -148,7 +148,7 @@ pub chronicle_roomy : (words : List ℕ) → IsRoomy (chronicle_section words)
 unfolding chronicle_printer
 chronicle_roomy words = roomy chronicle_heading 400000 chronicle_printer (lines_told 400000 chronicle_printer (flat_map encode_utf8 words)) (omega arith) (omega arith) (known chronicle_printer 130 refl)
 
--- ---- their headings
+-- ---- the headings of the sections
 
 pub scenario_headed : (tale : List ℕ) → length (heading (scenario_heading tale)) ≤ 487
 unfolding scenario_heading
@@ -210,7 +210,7 @@ verdict_short v bound short =
     let whole = both (heading verdict_heading ++ paragraph (alike_words v.alike) ++ paragraph (obeyed_words v.obeyed)) (paragraph bound) 1586 1808 (omega arith) (omega arith) in
     omega arith
 
--- the campaign's numbers
+-- The length of the campaign's description.
 words_short : (n m c order : ℕ) → n < 10 ^ 2 → m < 10 ^ 2 → c < 10 ^ 2 → order < 10 ^ 10 → length (campaign_words n m c order) ≤ 100
 unfolding campaign_words
 words_short n m c order hn hm hc ho =
@@ -229,7 +229,7 @@ words_short n m c order hn hm hc ho =
 pub title_short : (s : Scenario) → IsScenario s → length (title s) ≤ 100
 title_short s is = words_short s.generals s.bound s.commander s.order (omega arith) (omega arith) (omega arith) (omega arith)
 
--- a page, but for its parts
+-- The length of a page without its sections.
 preamble_short : length preamble ≤ 500
 unfolding preamble
 preamble_short = known preamble 500 refl
@@ -259,7 +259,7 @@ page_short title parts n short few =
     let end : length page_end ≤ 100 = known page_end 100 refl in
     omega (arith, length-append (page_start title ++ parts) page_end, length-append (page_start title) parts)
 
--- sections and a verdict
+-- The length of the sections and the verdict.
 pub sections_short : (ss : List Section) (verdict : List ℕ) → rooms ss ≤ 1987000 → All IsRoomy ss → heading_bytes ss ≤ 3500 → length verdict ≤ 4000 → length (sections_in 1987000 ss ++ verdict) ≤ 1994500
 sections_short ss verdict low each few short =
     let all = proved_sections_are_fitted.short 1987000 ss low each in

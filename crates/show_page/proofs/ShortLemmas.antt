@@ -1,4 +1,4 @@
--- How long a text of others is at most, as it is shown.
+-- The greatest length of a text after its characters are escaped.
 use Rattle.std.proofs.Common.{ℕ, zero, suc, ◌+◌, ◌*◌, ◌-◌, ◌/◌, ◌%◌, ◌<◌, ◌≤◌, ◌≡◌, Bool, true, false, List, [], ◌∷◌, ◌++◌, length, length-append, refl, sym, ap, subst, ◌∙◌, arith, append-nil, codes, encode_utf8, encode_utf8_all, Option, None, Some}
 use Rattle.std.specs.Prelude.{◌==◌, nat_le, nat_lt, if◌then◌else◌, unwrap_or}
 use Rattle.std.specs.Str.{chars, chars_after, continuation_len, lead_bits}
@@ -10,19 +10,19 @@ use Rattle.html.specs.Escaped.{escaped, reference, shown as character, written}
 use Rattle.html.specs.Page.{shown}
 use Rattle.html.specs.Visible.{digit, fifth, is_hidden, made_visible, numbered, visible}
 
--- characters as they are written, in bytes
+-- Escaped characters as bytes.
 abbrev E : List ℕ → List ℕ
 E cs = encode_utf8_all (escaped cs)
 
--- a text that is written out
+-- The length of a fixed text.
 pub known : (text : List ℕ) (n : ℕ) → nat_le (length text) n ≡ true → length text ≤ n
 known text n e = leb-true (length text) n e
 
--- one text behind another
+-- The length of two joined texts.
 pub both : (a b : List ℕ) (n m : ℕ) → length a ≤ n → length b ≤ m → length (a ++ b) ≤ n + m
 both a b n m first second = omega (arith, length-append a b)
 
--- a text has at least a byte for each character
+-- A text has at least one byte for each character.
 after_short : (n c : ℕ) (bs : List ℕ) → length (chars_after n c bs) ≤ suc (length bs)
 unfolding chars
 after_short zero c [] = omega arith
@@ -35,7 +35,7 @@ unfolding chars
 chars_short [] = omega arith
 chars_short (b ∷ bs) = after_short (continuation_len b) (lead_bits b) bs
 
--- a character, or the reference that stands for it, has at most six bytes
+-- A character, or the reference that replaces it, has at most six bytes.
 record IsShort (c : ℕ) (o : Option (List ℕ)) : Type 0 where
   few : length (encode_utf8_all (unwrap_or o (character c ∷ []))) ≤ 6
 
@@ -62,14 +62,14 @@ written_short c =
     (one_more c (c == 10) (codes "&#10;") _ refl
     (one_more c (c == 13) (codes "&#13;") None refl (by_itself c))))))))
 
--- characters one behind the other
+-- Two joined texts, escaped.
 E_append : (xs ys : List ℕ) → E (xs ++ ys) ≡ E xs ++ E ys
 E_append xs ys = ap encode_utf8_all (flat_map-append written xs ys) ∙ encodes-append (escaped xs) (escaped ys)
 
 first_short : (c : ℕ) → length (E (c ∷ [])) ≤ 6
 first_short c = subst (λ (xs : List ℕ). length (encode_utf8_all xs) ≤ 6) (sym (append-nil (written c))) (written_short c).few
 
--- the digits of a character's number
+-- The digits of a character's number.
 digit_short : (d : ℕ) → d < 16 → length (E (digit d ∷ [])) ≤ 1
 unfolding encode
 digit_short d small = leb-true (length (E (digit d ∷ []))) 1 (agree_below_at (λ x. nat_le (length (E (digit x ∷ []))) 1) (λ _. true) 16 d refl small)

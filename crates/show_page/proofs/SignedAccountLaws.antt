@@ -1,4 +1,4 @@
--- Signed campaigns' pages are elements.
+-- The pages of signed campaigns are XML elements.
 use Rattle.std.proofs.Common.{ℕ, ◌==◌, false, List, [], Option}
 use Rattle.std.specs.List.{range_with_len}
 use Rattle.std.proofs.lemmas.Bool.{cond_both}

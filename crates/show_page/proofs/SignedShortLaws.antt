@@ -1,4 +1,4 @@
--- No signed page is long.
+-- The length of a signed campaign's page is limited.
 use Rattle.std.proofs.Common.{◌+◌, ◌≤◌, ℕ, Bool, true, false, List, ◌++◌, length, refl, arith, codes, Option}
 use Rattle.std.specs.List.{All}
 use Rattle.std.proofs.lemmas.Bool.{leb-true}

@@ -1,4 +1,4 @@
--- A story ends between characters.
+-- A story ends between two characters.
 use Rattle.std.proofs.Common.{ℕ, zero, suc, ◌+◌, ◌-◌, ◌<◌, ◌≤◌, ◌≡◌, Bool, true, false, not, ◌&&◌, ◌||◌, List, [], ◌∷◌, length, take, get_or, refl, sym, subst, ap, ◌∙◌, arith, inl, inr, ◌⊎◌}
 use Rattle.std.specs.Prelude.{◌==◌}
 use Rattle.std.specs.Str.{IsCharBoundary, IsUtf8}
@@ -7,7 +7,7 @@ use Rattle.std.proofs.lemmas.Str.{IsCharBoundary-after_ascii, IsCharBoundary-end
 use Rattle.label.specs.Labels.{on}
 use Rattle.show_page.specs.Story.{bytes_on, head_bytes, is_blank, story_bytes}
 
--- so many bytes end where the text does, or begins, or behind a character of one byte
+-- n bytes end at the end of the text, at its start, or after a character of one byte.
 Ends : Bool → List ℕ → ℕ → Type 0
 Ends within cs n = (n ≡ length cs) ⊎ (((n ≡ 0) × (within ≡ false)) ⊎ ((0 < n) × (get_or cs (n - 1) 0 < 128)))
 
@@ -23,7 +23,7 @@ blank_low c e = elim (or_cases (c == 32) (c == 9 || (c == 13 || c == 10)) e) [
   ]
 ]
 
--- a character behind which no comment goes on
+-- A byte that ends a comment or is outside of one is a character of one byte.
 last_low : (within : Bool) (c : ℕ) → (within || (is_blank c || c == 35)) ≡ true → (not (c == 10) && (within || c == 35)) ≡ false → c < 128
 last_low within c goes ends = elim (cases_Bool (c == 10)) [
   | inl feed ↦ (let s = eqb-true c 10 feed in omega arith)

@@ -13,19 +13,19 @@ use Rattle.show_tree.specs.Words.{said}
 use Rattle.html.specs.Page.{fold_start, fold_end, fold, item, item_start, item_end, list, list_start, list_end, text_item}
 use Rattle.show_page.specs.Trees.{item_by, items_below, label_item}
 
--- where no relay is left
+-- If the order cannot be relayed any further, there are no items.
 pub items_last : (t : MessageTable) (traitors : List ℕ) (view : View) (r : ℕ) (w : List ℕ) (p : ℕ) → r ≡ 0 → items_below t traitors view r w p ≡ []
 unfolding items_below
 items_last t traitors view zero w p e = refl
 items_last t traitors view (suc k) w p e = absurd (omega arith)
 
--- and where there are relays
+-- If the order can be relayed further, there is an item for each general who may relay it.
 pub items_more : (t : MessageTable) (traitors : List ℕ) (view : View) (r k : ℕ) (w : List ℕ) (p : ℕ) → r ≡ suc k
     → items_below t traitors view r w p ≡ flat_map (item_by t traitors view k w p) (others t.generals (p ∷ w))
 unfolding items_below
 items_more t traitors view r k w p e = ap (λ (i : ℕ). items_below t traitors view i w p) e
 
--- that of a general who goes on with a label
+-- The item of the label that one more general extends.
 pub item_same : (t : MessageTable) (traitors : List ℕ) (view : View) (k : ℕ) (w : List ℕ) (j p : ℕ) (v next : List ℕ) (mark : Trust) (node : Node)
     → v ≡ w ++ j ∷ [] → next ≡ w ++ j ∷ [] → mark ≡ mark_at t traitors w j p → node ≡ node_at t traitors view mark k v p
     → label_item node (items_below t traitors (deeper view) k next p) ≡ item_by t traitors view k w p j
@@ -34,11 +34,11 @@ item_same t traitors view k w j p v next mark node same_v same_next same_mark sa
     (same_node ∙ (ap (λ m. node_at t traitors view m k v p) same_mark ∙ ap (λ u. node_at t traitors view (mark_at t traitors w j p) k u p) same_v))
     ∙ ap (λ u. label_item (node_at t traitors view (mark_at t traitors w j p) k (w ++ j ∷ []) p) (items_below t traitors (deeper view) k u p)) same_next
 
--- seven pieces behind a text, one after the other
+-- Seven texts after another text, joined in either order.
 pieces : (old a b c d e f g : List ℕ) → ((((((old ++ a) ++ b) ++ c) ++ d) ++ e) ++ f) ++ g ≡ old ++ ((a ++ ((b ++ ((c ++ d) ++ e)) ++ f)) ++ g)
 pieces old a b c d e f g = simp append_assoc
 
--- the item of a label whose labels below are shown, piece by piece
+-- The item of a label with an open fold, text by text.
 pub opened : (t : MessageTable) (traitors : List ℕ) (view next : View) (k : ℕ) (w : List ℕ) (p : ℕ) (node : Node) (words old o1 o2 o3 o4 o5 o6 o7 : List ℕ)
     → is_open node.extent ≡ true → words ≡ said node → next ≡ deeper view
     → o1 ≡ old ++ item_start → o2 ≡ o1 ++ fold_start words → o3 ≡ o2 ++ list_start → o4 ≡ o3 ++ items_below t traitors next k w p

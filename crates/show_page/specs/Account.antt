@@ -1,4 +1,4 @@
--- A campaign with oral messages as a page of HTML, section by section.
+-- The page of a campaign with oral messages in HTML, section by section.
 use Rattle.std.specs.Prelude.{ℕ, ◌==◌, nat_lt, Bool, true, false, if◌then◌else◌, List, [], ◌∷◌, ◌++◌, length, flat_map, codes, encode_utf8, Option, None, Some}
 use Rattle.std.specs.Fmt.{decimal}
 use Rattle.std.specs.List.{list_all, range_with_len}
@@ -32,7 +32,7 @@ use Rattle.show_page.specs.Trees.{tree_told}
 
 -- ---- headings
 
--- Writes the heading of a scenario with a story, or without one.
+-- Writes the heading of the scenario's section, which mentions the story unless it is empty.
 unfoldable pub scenario_heading : List ℕ → List ℕ
 scenario_heading [] = codes "Scenario"
 scenario_heading (c ∷ cs) = codes "Story and scenario"
@@ -81,19 +81,19 @@ picture_hint =
 
 -- ---- sections
 
--- Writes the story of a scenario, if there is one.
+-- Writes the lines of a story, or nothing if there is no story.
 abbrev pub story_told : List ℕ → List ℕ
 story_told [] = []
 story_told (c ∷ cs) = lines (c ∷ cs)
 
--- Writes the replacement of a scenario for which there is no room: the story, if there is room for it, and where to
--- find the text.
+-- Writes what replaces a scenario for which the page has no room: the story, if there is room for it, and where to find
+-- the text.
 abbrev pub scenario_instead : List ℕ → List ℕ
 scenario_instead text =
     fitted room_for_story scenario_printer (story_told (story text)) ++ over room_for_scenario scenario_printer
 
--- Writes the scenario as it is written, with its story set apart. If its text is longer than all sections together may
--- be, it is replaced at once.
+-- Writes a scenario: its story, and then its other lines. If the text is longer than all sections together may be,
+-- writes what replaces it.
 abbrev pub scenario_told : List ℕ → List ℕ
 scenario_told text =
     if nat_lt room_for_sections (length text)
@@ -108,7 +108,8 @@ scenario_section text = record {
   instead = scenario_instead text;
 }
 
--- Writes the schedule by which the campaign was played, unless the campaign comes from a chronicle.
+-- Writes a schedule: its lines, and a paragraph on what happens in a round after its line. If the schedule has no
+-- entries, writes a paragraph that says so.
 abbrev pub schedule_told : List (List Repeat) → List ℕ
 schedule_told schedule =
     if list_all (λ line. length line == 0) schedule
@@ -122,7 +123,8 @@ course_told (Some schedule) = schedule_told schedule
 abbrev pub schedule_section : Option (List (List Repeat)) → Section
 schedule_section schedule = roomed schedule_heading room_for_schedule schedule_printer (course_told schedule)
 
--- Writes the program of a traitor, and what the verifier knows of it, if the program is short enough.
+-- Writes a general's name, such as `General 2`. The definitions after it write the program of a traitor, and what the
+-- verifier knows about it if it is short enough.
 abbrev pub general_name : ℕ → List ℕ
 general_name g = codes "General " ++ decimal g
 
@@ -142,7 +144,7 @@ program_if room g (Some program) = program_told room g program
 abbrev pub program_part : ℕ → Scenario → ℕ → List ℕ
 program_part room s g = program_if room g (program_of s g)
 
--- Writes the program of each traitor, which may take `room` bytes.
+-- Writes the programs of all traitors. The explanation of each program may have `room` bytes.
 abbrev pub each_program : ℕ → Scenario → List ℕ
 each_program room s = flat_map (program_part room s) (range_with_len 0 s.generals)
 
@@ -153,7 +155,8 @@ abbrev pub programs_told : List ℕ → List ℕ
 programs_told [] = paragraph no_programs
 programs_told (c ∷ cs) = c ∷ cs
 
--- Writes the replacement if there is no room for all programs, in which each program has its share.
+-- Writes what replaces the programs, which have `bytes` bytes, if there is no room for them. In the replacement each
+-- program has its share of the room.
 abbrev pub programs_shared : Scenario → ℕ → List ℕ
 programs_shared s bytes = if nat_lt room_for_programs bytes then each_program (share s.generals) s else []
 
@@ -168,8 +171,8 @@ programs_roomed s told = record {
 abbrev pub programs_section : Scenario → Section
 programs_section s = programs_roomed s (programs_told (each_program room_for_sections s))
 
--- The diagram, and a hint on how to get it as a file of its own. A wide diagram is printed on a wide sheet, because a
--- narrow sheet would make its letters too small to be read.
+-- Checks whether a diagram is too wide for a narrow sheet, on which its letters would be too small to be read. It is
+-- then printed on a wide sheet.
 abbrev pub is_wide : Scenario → List Access → Bool
 is_wide s accesses = nat_lt narrow_sheet (width s.generals accesses)
 
@@ -182,8 +185,8 @@ picture_section is_wide svg = roomed picture_heading room_for_picture picture_pr
 abbrev pub diagram_section : MessageTable → Chronicle → Section
 diagram_section t c = picture_section (is_wide c.scenario c.accesses) (svg_text t c)
 
--- Returns the part of a lieutenant: his decision, his tree, and how he reaches his decision. The tree is shown two
--- levels below the commander's, and less deep where he received the same for all labels.
+-- Returns how a page shows the trees of the lieutenants: with two levels of labels below the commander's. The labels
+-- below a label are left out if the lieutenant received the same for all of them.
 abbrev pub view_of : Scenario → View
 view_of s = record { depth = 2; folds = true; order = Some s.order }
 
@@ -195,7 +198,7 @@ lieutenant_words g is_traitor order =
     codes "Lieutenant " ++ (decimal g ++ (traitor_words is_traitor ++ (codes " decides " ++ decimal order)))
 
 -- Writes the words that say how to print the lists by which a lieutenant decides. In a campaign of five rounds he may
--- have more than a thousand lists, so a page leaves them out.
+-- have more than a thousand lists, so a page omits them.
 unfoldable pub elsewhere_words : ℕ → List ℕ
 elsewhere_words g =
     codes "With five rounds a page leaves out the lists by which he decides: byzlab play, with --schedule as here, "
@@ -214,15 +217,15 @@ lieutenant_part t traitors view g = if g == t.commander then [] else lieutenant_
 abbrev pub each_lieutenant : MessageTable → List ℕ → View → List ℕ
 each_lieutenant t traitors view = flat_map (lieutenant_part t traitors view) (range_with_len 0 t.generals)
 
--- Returns the section of the lieutenants with this text, under a title.
+-- Returns the section about the lieutenants with this title and this HTML.
 abbrev pub lieutenants_roomed : List ℕ → List ℕ → Section
 lieutenants_roomed title told = roomed title room_for_lieutenants lieutenants_printer told
 
 abbrev pub lieutenants_section : MessageTable → Scenario → Section
 lieutenants_section t s = lieutenants_roomed lieutenants_heading (each_lieutenant t (traitors_of s) (view_of s))
 
--- The accesses, in the order in which the board received them, as a table with a row for each. There is no table if
--- there are none.
+-- Writes the heads of the columns in the table of accesses. The table has a row for each access, in the order in which
+-- the board received them. There is no table if there are no accesses.
 abbrev pub access_heads : List ℕ
 access_heads = row (head (codes "Round") ++ head (codes "General") ++ head (codes "What he does")
     ++ head (codes "What the board answers"))
@@ -241,19 +244,19 @@ accesses_told (a ∷ accesses) = access_table (a ∷ accesses)
 abbrev pub accesses_section : List Access → Section
 accesses_section accesses = roomed accesses_heading room_for_accesses accesses_printer (accesses_told accesses)
 
--- Returns the chronicle, with each of its bytes as a character.
+-- Returns the section with the chronicle, in which each byte is the Unicode character with this number.
 abbrev pub chronicle_section : List ℕ → Section
 chronicle_section text =
     roomed chronicle_heading room_for_chronicle chronicle_printer
     (lines_told room_for_chronicle chronicle_printer (flat_map encode_utf8 text))
 
--- The verdict, and the promise that holds (TOPLAS 1982, IC1 and IC2).
+-- The words for what the algorithm promises if the bound holds (TOPLAS 1982, IC1 and IC2).
 unfoldable pub promise_words : List ℕ
 promise_words =
     codes "The bound holds: there are few enough traitors, so that loyal lieutenants decide alike, and obey a loyal "
     ++ codes "commander, whatever the traitors do."
 
--- Writes the promise, or the words that nothing is promised if the bound does not hold.
+-- Writes the words for what the algorithm promises if the bound holds, and otherwise the words `without`.
 abbrev pub bound_told : Bool → List ℕ → List ℕ
 bound_told bound without = if bound then promise_words else without
 
@@ -264,21 +267,21 @@ verdict_told v bound =
 abbrev pub verdict_part : Verdict → List ℕ
 verdict_part v = verdict_told v (bound_told v.bound (bound_words false))
 
--- Returns all sections except the verdict. `t` is the message table of the chronicle's letters, `text` is the text of
--- its scenario, and `schedule` is the schedule by which the campaign was played, if any.
+-- Returns all sections of a page. `t` is the message table of the chronicle's letters, `text` is the text of the
+-- chronicle's scenario, and `schedule` is the schedule by which the campaign was played, if there is one.
 abbrev pub sections : List ℕ → Option (List (List Repeat)) → MessageTable → Chronicle → List Section
 sections text schedule t c =
     scenario_section text ∷ schedule_section schedule ∷ programs_section c.scenario ∷ diagram_section t c
     ∷ lieutenants_section t c.scenario ∷ accesses_section c.accesses ∷ chronicle_section (chronicle_text c) ∷ []
 
--- Writes all sections in their room, and the verdict.
+-- Writes all sections, as far as there is room for them, and then the verdict.
 unfoldable pub parts : List ℕ → Option (List (List Repeat)) → MessageTable → Chronicle → List ℕ
 parts text schedule t c = sections_in room_for_sections (sections text schedule t c) ++ verdict_part c.verdict
 
--- Writes the description of a campaign, as its diagram has it.
+-- Writes the description of a campaign, with the same words as its diagram.
 abbrev pub title : Scenario → List ℕ
 title s = campaign_words s.generals s.bound s.commander s.order
 
--- Writes the page, with the description of the campaign as its title.
+-- Writes the page of a campaign, with the campaign's description as its title.
 abbrev pub page_text : List ℕ → Option (List (List Repeat)) → MessageTable → Chronicle → List ℕ
 page_text text schedule t c = page (title c.scenario) (parts text schedule t c)

@@ -1,4 +1,4 @@
--- The calls of a program, as the assembly writes them: by the helpers' names.
+-- The helper calls of a program with the helpers' names, as assembly writes them.
 use Rattle.std.specs.Prelude.{ℕ, List, [], ◌++◌, codes, Option, None, Some}
 use Rattle.explain.specs.Names.{helper_name}
 use Rattle.explain.specs.Units.{Writing}
@@ -8,12 +8,14 @@ use Rattle.insn.specs.Program.{instruction_at}
 use Rattle.semantics.specs.Call.{helper_of}
 use Rattle.semantics.specs.declared.request.Helper.{Helper}
 
--- Writes the text of a call of the helper. It is empty if there is no such helper, so that the number is written.
+-- Writes a call of the helper, such as `call sway`. If there is no such helper, writes nothing, so that the call is
+-- written with its number.
 abbrev pub call_of : Option Helper → List ℕ
 call_of None = []
 call_of (Some helper) = codes "call " ++ helper_name helper
 
--- Writes the text of an instruction if it is a call. It is empty for other instructions, which are written as usual.
+-- Writes an instruction that is a call of a helper, such as `call sway`. Writes nothing for another instruction, which
+-- is written as usual.
 abbrev pub call_text : Insn → List ℕ
 call_text (Call number) = call_of (helper_of number)
 call_text _ = []
@@ -22,6 +24,6 @@ abbrev pub call_if : Option Insn → List ℕ
 call_if None = []
 call_if (Some i) = call_text i
 
--- Returns the texts of the calls at the units of a program.
+-- Returns for each unit of a program the text of its call, such as `call sway`, or an empty text.
 unfoldable pub named_calls : List Insn → Writing
 named_calls program unit = ([], call_if (instruction_at program unit))

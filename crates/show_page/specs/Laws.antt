@@ -15,27 +15,27 @@ use Rattle.world.specs.declared.schedule.Repeat.{Repeat}
 use Rattle.show_page.specs.Account.{each_lieutenant, page_text, view_of}
 use Rattle.show_page.specs.Room.{longest_page, room_for_lieutenants}
 
--- States that a page consists of the document type line, one XML element, and a line feed, whatever the scenario's text
--- contains.
+-- States that the page of a campaign consists of the document type line, one XML element, and a line feed, whatever the
+-- scenario's text, the schedule, the table and the chronicle contain.
 abbrev pub CampaignPagesAreElements : Type 0
 CampaignPagesAreElements =
     (scenario : List ℕ) (schedule : Option (List (List Repeat))) (t : MessageTable) (c : Chronicle)
     → (text : List ℕ) × IsElement text
     × (page_text scenario schedule t c ≡ codes "<!DOCTYPE html>\n" ++ text ++ codes "\n")
 
--- States that no page of a campaign within its limits is longer than `longest_page`, whatever the scenario's text, the
--- schedule, the table and the letters contain.
+-- States that the page of a campaign within its limits has at most `longest_page` bytes, whatever the scenario's text,
+-- the schedule, the table and the letters contain.
 abbrev pub CampaignPagesAreShort : Type 0
 CampaignPagesAreShort =
     (scenario : List ℕ) (schedule : Option (List (List Repeat))) (t : MessageTable) (c : Chronicle)
     → IsScenario c.scenario → length (page_text scenario schedule t c) ≤ longest_page
 
--- States that a page contains what is said of a label.
+-- States that the text of a page contains the words for a node of a tree: its label, and what was received for it.
 abbrev pub IsShownIn : List ℕ → Node → Type 0
 IsShownIn text node = StandsIn (shown (said node)) text
 
--- States that, if there is room for the lieutenants, a page contains what is said of every label that a lieutenant's
--- tree shows. A closed fold leaves none out.
+-- States that a page with room for the lieutenants contains the words for every label that a lieutenant's tree shows.
+-- Labels in a closed fold are included.
 abbrev pub FoldsHideNothing : Type 0
 FoldsHideNothing =
     (scenario : List ℕ) (schedule : Option (List (List Repeat))) (t : MessageTable) (c : Chronicle) (p : ℕ)

@@ -1,5 +1,4 @@
--- Hints for the reader: where to find a part for which a page has no room, by the same schedule or in the same
--- chronicle.
+-- Hints for the readers of a page: where to find a part of the campaign for which the page has no room.
 use Rattle.std.specs.Prelude.{ℕ, List, ◌++◌, codes}
 
 unfoldable pub scenario_printer : List ℕ

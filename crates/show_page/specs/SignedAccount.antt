@@ -1,4 +1,4 @@
--- A campaign with signed messages as a page of HTML, section by section.
+-- The page of a campaign with signed messages in HTML, section by section.
 use Rattle.std.specs.Prelude.{ℕ, ◌==◌, Bool, true, false, if◌then◌else◌, List, [], ◌∷◌, ◌++◌, flat_map, codes, slice_get, Option, None, Some}
 use Rattle.std.specs.Fmt.{decimal}
 use Rattle.std.specs.List.{range_with_len}
@@ -16,15 +16,16 @@ use Rattle.world.specs.declared.verdict.Verdict.{Verdict}
 use Rattle.show_page.specs.Account.{accesses_section, bound_told, chronicle_section, is_wide, lieutenant_words, lieutenants_roomed, picture_section, programs_section, scenario_section, schedule_section, verdict_told}
 use Rattle.show_page.specs.Room.{room_for_sections}
 
--- Returns the section with the diagram.
+-- Returns the section with the space-time diagram of a signed campaign.
 abbrev pub diagram_section : Chronicle → Section
 diagram_section c = picture_section (is_wide c.scenario c.accesses) (signed_svg c)
 
--- The section that says which orders a lieutenant accepts, by which chains, and what he decides.
+-- The heading of the section that says which orders each lieutenant accepted, by which chains, and what he decides.
 unfoldable pub lieutenants_heading : List ℕ
 lieutenants_heading = codes "What each lieutenant accepted, and why he decides so"
 
--- Writes a lieutenant's name and his decision, if there is one.
+-- Writes a lieutenant's name and his decision, such as `Lieutenant 2 decides 1`. Without a decision, it is only the
+-- name.
 abbrev pub deciding_words : ℕ → Bool → Option ℕ → List ℕ
 deciding_words g is_traitor None = codes "Lieutenant " ++ decimal g
 deciding_words g is_traitor (Some order) = lieutenant_words g is_traitor order
@@ -45,22 +46,22 @@ each_lieutenant c = flat_map (lieutenant_part c) (range_with_len 0 c.scenario.ge
 abbrev pub lieutenants_section : Chronicle → Section
 lieutenants_section c = lieutenants_roomed lieutenants_heading (each_lieutenant c)
 
--- Writes the verdict, and the promise that holds (TOPLAS 1982, Theorem 2).
+-- Writes the verdict, and what the algorithm promises if the bound holds (TOPLAS 1982, Theorem 2).
 abbrev pub verdict_part : Verdict → List ℕ
 verdict_part v = verdict_told v (bound_told v.bound (bound_words false))
 
--- Returns all sections except the verdict. `text` is the text of the chronicle's scenario, and `schedule` is the
--- schedule by which the campaign was played, if any.
+-- Returns all sections of the page. `text` is the text of the chronicle's scenario, and `schedule` is the schedule by
+-- which the campaign was played, if there is one.
 abbrev pub sections : List ℕ → Option (List (List Repeat)) → Chronicle → List Section
 sections text schedule c =
     scenario_section text ∷ schedule_section schedule ∷ programs_section c.scenario ∷ diagram_section c
     ∷ lieutenants_section c ∷ accesses_section c.accesses ∷ chronicle_section (signed_text c) ∷ []
 
--- Writes all sections in their room, and the verdict.
+-- Writes all sections, as far as there is room for them, and then the verdict.
 unfoldable pub parts : List ℕ → Option (List (List Repeat)) → Chronicle → List ℕ
 parts text schedule c =
     sections_in room_for_sections (sections text schedule c) ++ verdict_part c.verdict
 
--- Writes the page, with the description of the campaign as its title, as the diagram has it.
+-- Writes the page of a signed campaign, with the campaign's description, in the words of its diagram, as its title.
 abbrev pub signed_page_text : List ℕ → Option (List (List Repeat)) → Chronicle → List ℕ
 signed_page_text text schedule c = page (signed_words c.scenario) (parts text schedule c)

@@ -1,4 +1,4 @@
-//! The section of a page that lists the accesses to the board, as a table.
+//! The section of a page that lists the accesses to the shared board in a table.
 ghost use Rattle.std.specs.Prelude.{◌≡◌, ◌++◌, decimal, flat_map, string_bytes, IfOk, OnOk};
 ghost use Rattle.semantics.specs.Replies.{words_in};
 ghost use Rattle.show_diagram.specs.Words.{answered_words, asked_words};
@@ -15,7 +15,7 @@ use semantics::{Reply, Request};
 use show_diagram::words::{put_answered, put_asked};
 use std::alloc::{AllocError, Global};
 
-/// Returns the section with the table of these accesses. It has no text if there are none.
+/// Returns the section with the table of these accesses to the board. Its text is empty if there are none.
 ///
 /// # Errors
 ///
@@ -33,7 +33,7 @@ pub fn accesses_section(alloc: Global, accesses: &[Access]) -> Result<Section, A
     )
 }
 
-/// Returns the table of these accesses, or an empty text if there are none.
+/// Returns the HTML table of these accesses, or an empty text if there are none.
 fn accesses_told(alloc: Global, accesses: &[Access]) -> Result<String, AllocError>
     ensures { IfOk result (λ told. string_bytes told ≡ accesses_told accesses.now) }
 {
@@ -45,7 +45,7 @@ fn accesses_told(alloc: Global, accesses: &[Access]) -> Result<String, AllocErro
     Ok(told)
 }
 
-/// Appends a table of these accesses.
+/// Appends an HTML table of these accesses.
 fn put_table(alloc: Global, out: &mut String, accesses: &[Access]) -> Result<(), AllocError>
     ensures { OnOk result (string_bytes out.new ≡ string_bytes out.old ++ access_table accesses.now) }
 {
@@ -55,7 +55,7 @@ fn put_table(alloc: Global, out: &mut String, accesses: &[Access]) -> Result<(),
     put_table_end(out)
 }
 
-/// Appends the row with the heads of the columns.
+/// Appends the table row with the headings of the columns.
 fn put_heads(out: &mut String) -> Result<(), AllocError>
     ensures { OnOk result (string_bytes out.new ≡ string_bytes out.old ++ access_heads) }
 {
@@ -67,7 +67,7 @@ fn put_heads(out: &mut String) -> Result<(), AllocError>
     put_row_end(out)
 }
 
-/// Appends a row for each access.
+/// Appends a table row for each access.
 fn put_rows(alloc: Global, out: &mut String, accesses: &[Access]) -> Result<(), AllocError>
     ensures { OnOk result (string_bytes out.new ≡ string_bytes out.old ++ flat_map access_row accesses.now) }
 {
@@ -77,7 +77,7 @@ fn put_rows(alloc: Global, out: &mut String, accesses: &[Access]) -> Result<(), 
     Ok(())
 }
 
-/// Appends the row of an access.
+/// Appends the table row of an access.
 fn put_access(alloc: Global, out: &mut String, access: &Access) -> Result<(), AllocError>
     ensures { OnOk result (string_bytes out.new ≡ string_bytes out.old ++ access_row access.now) }
 {
@@ -89,7 +89,7 @@ fn put_access(alloc: Global, out: &mut String, access: &Access) -> Result<(), Al
     put_row_end(out)
 }
 
-/// Appends the cell of a number.
+/// Appends a table cell with this number.
 fn put_number(alloc: Global, out: &mut String, number: u32) -> Result<(), AllocError>
     ensures { OnOk result (string_bytes out.new ≡ string_bytes out.old ++ cell (decimal number)) }
 {
@@ -97,7 +97,7 @@ fn put_number(alloc: Global, out: &mut String, number: u32) -> Result<(), AllocE
     put_cell(out, text.as_str())
 }
 
-/// Appends the cell of a request to the board.
+/// Appends a table cell that says what a traitor asks the board to do.
 fn put_request(alloc: Global, out: &mut String, request: &Request) -> Result<(), AllocError>
     ensures { OnOk result (string_bytes out.new ≡ string_bytes out.old ++ cell (asked_words request.now)) }
 {
@@ -106,7 +106,7 @@ fn put_request(alloc: Global, out: &mut String, request: &Request) -> Result<(),
     put_cell(out, text.as_str())
 }
 
-/// Appends the cell of the board's reply.
+/// Appends a table cell that says what the board replies.
 fn put_reply(alloc: Global, out: &mut String, reply: &Reply) -> Result<(), AllocError>
     ensures { OnOk result (string_bytes out.new ≡ string_bytes out.old ++ cell (answered_words (words_in reply.now))) }
 {
@@ -115,7 +115,7 @@ fn put_reply(alloc: Global, out: &mut String, reply: &Reply) -> Result<(), Alloc
     put_cell(out, text.as_str())
 }
 
-/// Returns the heading of the accesses.
+/// Returns the heading of the section with the accesses.
 #[tactic(auto, unfolding(crate::specs::Account::accesses_heading))]
 fn accesses_heading() -> &'static str
     ensures { result.now ≡ accesses_heading }

@@ -25,8 +25,8 @@ use trace::{Latch, write_chronicle};
 use world::{Chronicle, Schedule};
 
 /// Returns a campaign as one page of HTML. `table` is the message table of the chronicle's letters, and `scenario_text`
-/// is the text of its scenario. `schedule` is the schedule by which the campaign was played, or `None` if it comes from
-/// a chronicle.
+/// is the text of the chronicle's scenario. `schedule` is the schedule by which the campaign was played, or `None` if
+/// it comes from a chronicle.
 ///
 /// # Errors
 ///
@@ -48,7 +48,7 @@ pub fn page_text<H: Heard>(
     Ok(out)
 }
 
-/// Appends all sections, and the verdict.
+/// Appends all sections of the page of a campaign, and then the verdict.
 fn put_parts<H: Heard>(
     alloc: Global,
     out: &mut String,
@@ -111,7 +111,7 @@ fn title(alloc: Global, scenario: &Scenario) -> Result<String, AllocError>
     Ok(words)
 }
 
-/// Returns the section with the diagram of a campaign.
+/// Returns the section with the space-time diagram of a campaign.
 fn diagram_section<H: Heard>(
     alloc: Global,
     table: &H,
@@ -124,7 +124,8 @@ fn diagram_section<H: Heard>(
     picture_section(alloc, wide, svg.as_str())
 }
 
-/// Checks whether the diagram of a campaign with these accesses is printed on a wide sheet.
+/// Checks whether the diagram of a campaign with these accesses is too wide for a narrow sheet, so that it is printed
+/// on a wide one.
 ///
 /// # Errors
 ///
@@ -135,7 +136,8 @@ pub fn is_wide(alloc: Global, scenario: &Scenario, accesses: &[Access]) -> Resul
     Ok(width(alloc, scenario.generals(), accesses)? > NARROW_SHEET)
 }
 
-/// Returns the section with a diagram, and with a hint on how to get the diagram as a file of its own.
+/// Returns the section with a diagram in SVG, and with a hint on how to get the diagram as a separate file. If
+/// `is_wide` is true, the diagram is printed on a wide sheet.
 ///
 /// # Errors
 ///
@@ -154,7 +156,7 @@ pub fn picture_section(alloc: Global, is_wide: bool, svg: &str) -> Result<Sectio
     )
 }
 
-/// Appends a hint on how to get this diagram as a file of its own, then the diagram.
+/// Appends a hint on how to get a diagram as a separate file, and then the diagram, which is in SVG.
 fn put_hinted(out: &mut String, is_wide: bool, svg: &str) -> Result<(), AllocError>
     ensures { OnOk result (string_bytes out.new ≡ string_bytes out.old ++ hinted is_wide svg.now) }
 {
@@ -162,7 +164,7 @@ fn put_hinted(out: &mut String, is_wide: bool, svg: &str) -> Result<(), AllocErr
     put_picture(out, is_wide, picture_name(), svg)
 }
 
-/// Returns the section with the campaign's chronicle.
+/// Returns the section with the text of a campaign's chronicle.
 fn section_of(alloc: Global, chronicle: &Chronicle) -> Result<Section, AllocError>
     ensures { IfOk result (λ section. section ≡ chronicle_section (chronicle_text chronicle.now)) }
 {
@@ -170,7 +172,7 @@ fn section_of(alloc: Global, chronicle: &Chronicle) -> Result<Section, AllocErro
     chronicle_section(alloc, text.as_slice())
 }
 
-/// Returns the section with a chronicle that has the given text.
+/// Returns the section with this text of a chronicle.
 pub fn chronicle_section(alloc: Global, text: &[u8]) -> Result<Section, AllocError>
     ensures { IfOk result (λ section. section ≡ chronicle_section text.now) }
 {
@@ -180,7 +182,7 @@ pub fn chronicle_section(alloc: Global, text: &[u8]) -> Result<Section, AllocErr
     roomed(alloc, chronicle_heading(), ROOM_FOR_CHRONICLE, who, told)
 }
 
-/// Returns the text of a chronicle.
+/// Returns the text of a campaign's chronicle.
 fn chronicle_text(alloc: Global, chronicle: &Chronicle) -> Result<Vec<u8>, AllocError>
     ensures { IfOk result (λ text. text.items ≡ chronicle_text chronicle.now) }
 {
@@ -191,7 +193,7 @@ fn chronicle_text(alloc: Global, chronicle: &Chronicle) -> Result<Vec<u8>, Alloc
     }
 }
 
-/// Converts bytes to text: each byte becomes the character with that number.
+/// Converts bytes to text: each byte becomes the Unicode character with this number.
 fn text_of(alloc: Global, bytes: &[u8]) -> Result<String, AllocError>
     ensures { IfOk result (λ text. string_bytes text ≡ flat_map encode_utf8 bytes.now) }
 {
@@ -202,14 +204,14 @@ fn text_of(alloc: Global, bytes: &[u8]) -> Result<String, AllocError>
     Ok(text)
 }
 
-/// Appends the character with this number.
+/// Appends the Unicode character with this number, 0 to 255.
 fn put_byte(out: &mut String, byte: u8) -> Result<(), AllocError>
     ensures { OnOk result (string_bytes out.new ≡ string_bytes out.old ++ encode_utf8 byte) }
 {
     out.push(char::from(byte))
 }
 
-/// Returns the heading of the diagram.
+/// Returns the heading of the section with the diagram.
 #[tactic(auto, unfolding(crate::specs::Account::picture_heading))]
 fn picture_heading() -> &'static str
     ensures { result.now ≡ picture_heading }
@@ -217,7 +219,7 @@ fn picture_heading() -> &'static str
     "Who sent what to whom"
 }
 
-/// Returns the heading of the chronicle.
+/// Returns the heading of the section with the chronicle.
 #[tactic(auto, unfolding(crate::specs::Account::chronicle_heading))]
 fn chronicle_heading() -> &'static str
     ensures { result.now ≡ chronicle_heading }
@@ -225,7 +227,7 @@ fn chronicle_heading() -> &'static str
     "Chronicle"
 }
 
-/// Returns the accessible name of the diagram.
+/// Returns the name of the diagram, which screen readers read out.
 #[tactic(auto, unfolding(crate::specs::Account::picture_name))]
 fn picture_name() -> &'static str
     ensures { result.now ≡ picture_name }
@@ -233,7 +235,7 @@ fn picture_name() -> &'static str
     "Space-time diagram"
 }
 
-/// Returns the hint on how to get the diagram as a file of its own.
+/// Returns the hint on how to get the diagram as a separate file.
 #[tactic(auto, unfolding(crate::specs::Account::picture_hint))]
 fn picture_hint() -> &'static str
     ensures { result.now ≡ picture_hint }

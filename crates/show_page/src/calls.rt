@@ -1,4 +1,4 @@
-//! Writes the helper calls of a program by name, as the assembly does.
+//! Writes the helper calls of a program with the helpers' names, as assembly does.
 ghost use Rattle.std.specs.Prelude.{◌≡◌, [], IfOk, string_bytes};
 ghost use Rattle.explain.specs.Explained.{explained_at};
 ghost use Rattle.explain.specs.Units.{in_lists};
@@ -9,7 +9,8 @@ use helper::{Helper, helper_of};
 use insn::{Insn, Program};
 use std::alloc::{AllocError, Global};
 
-/// Returns what the verifier knows at each unit of a program. Calls are written with the names of their helpers.
+/// Returns the explanation of a program: what the verifier knows at each unit. Calls are written with the names of
+/// their helpers.
 pub(crate) fn explanation(alloc: Global, program: &Program) -> Result<String, AllocError>
     ensures { IfOk result (λ text. string_bytes text ≡ explained_at (named_calls program.now) program.now) }
 {
@@ -21,7 +22,8 @@ pub(crate) fn explanation(alloc: Global, program: &Program) -> Result<String, Al
     explanation_at(alloc, program, &written)
 }
 
-/// Returns the text of the call at each unit of a program. The text is empty for units without a call.
+/// Returns for each unit of a program the text of its call, such as `call sway`. The text is empty for a unit without a
+/// call.
 #[tactic(auto, using(crate::proofs::CallLemmas::naming))]
 fn statements(alloc: Global, program: &Program) -> Result<Vec<String>, AllocError>
     ensures { IfOk result (λ texts. in_lists [] texts.items ≡ named_calls program.now) }
@@ -34,8 +36,8 @@ fn statements(alloc: Global, program: &Program) -> Result<Vec<String>, AllocErro
     Ok(statements)
 }
 
-/// Returns the text of an instruction if it is a call, and an empty text otherwise or if no instruction starts at the
-/// unit.
+/// Returns the text of an instruction that is a call of a helper, such as `call sway`. Returns an empty text for
+/// another instruction, or if no instruction starts at the unit, so that `insn` is `None`.
 fn call_if(alloc: Global, insn: Option<Insn>) -> Result<String, AllocError>
     ensures { IfOk result (λ text. string_bytes text ≡ call_if insn) }
 {
@@ -45,7 +47,8 @@ fn call_if(alloc: Global, insn: Option<Insn>) -> Result<String, AllocError>
     }
 }
 
-/// Returns the text of an instruction if it is a call of a helper, and an empty text otherwise.
+/// Returns the text of an instruction that is a call of a helper, such as `call sway`, and an empty text for another
+/// instruction.
 fn call_text(alloc: Global, insn: Insn) -> Result<String, AllocError>
     ensures { IfOk result (λ text. string_bytes text ≡ call_text insn) }
 {
@@ -55,7 +58,7 @@ fn call_text(alloc: Global, insn: Insn) -> Result<String, AllocError>
     }
 }
 
-/// Returns the text of a call of the helper, or an empty text if there is no such helper.
+/// Returns the text of a call of the helper, such as `call sway`, or an empty text if there is no such helper.
 fn call_of(alloc: Global, helper: Option<Helper>) -> Result<String, AllocError>
     ensures { IfOk result (λ text. string_bytes text ≡ call_of helper) }
 {

@@ -1,20 +1,20 @@
 //! Laws of the pages of campaigns with oral messages. Each function does nothing, and its contract is the law.
 ghost use Rattle.show_page.specs.Laws.{CampaignPagesAreElements, CampaignPagesAreShort, FoldsHideNothing};
 
-/// States that a campaign's page consists of a document type line, one XML element, and a line feed, whatever the
-/// scenario's text, the table and the chronicle.
+/// Does nothing. Its contract says that the page of a campaign with oral messages is a document type line, one XML
+/// element, and a line feed. This does not depend on what the scenario's text, the table and the chronicle contain.
 pub fn campaign_pages_are_elements()
     ensures { CampaignPagesAreElements }
 {}
 
-/// States that no page of a campaign within its limits is longer than 2,000,000 bytes, whatever the scenario's text,
-/// the schedule, the table and the letters.
+/// Does nothing. Its contract says that the page of a campaign within its limits has at most 2,000,000 bytes, whatever
+/// the scenario's text, the schedule, the table and the letters contain.
 pub fn campaign_pages_are_short()
     ensures { CampaignPagesAreShort }
 {}
 
-/// States that a page contains the words for every label that a lieutenant's tree shows, whichever folds are open, if
-/// it has room for the lieutenants.
+/// Does nothing. Its contract says that a page with room for the lieutenants contains the words for every label that a
+/// lieutenant's tree shows. Labels in a closed fold are included.
 pub fn folds_hide_nothing()
     ensures { FoldsHideNothing }
 {}

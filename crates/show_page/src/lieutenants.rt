@@ -1,4 +1,4 @@
-//! The section of a signed campaign's page that says what each lieutenant accepted, and why he decides so.
+//! The section of a signed campaign's page that says which orders each lieutenant accepted, and why he decides so.
 ghost use Rattle.std.specs.Prelude.{◌≡◌, ◌<◌, ◌++◌, slice_get, string_bytes, IfOk, OnOk};
 ghost use Rattle.show_diagram.specs.Foot.{place_of};
 ghost use Rattle.show_page.specs.SignedAccount.{deciding_words, each_lieutenant, lieutenant_part, lieutenants_heading, lieutenants_section};
@@ -9,7 +9,7 @@ use show_diagram::foot::place_of;
 use signed::{SignedChronicle, explain_one_signed};
 use std::alloc::{AllocError, Global};
 
-/// Returns the section that says what each lieutenant accepted.
+/// Returns the section that says which orders each lieutenant accepted, and why he decides so.
 pub(crate) fn lieutenants_section(
     alloc: Global,
     chronicle: &SignedChronicle,
@@ -21,7 +21,7 @@ pub(crate) fn lieutenants_section(
     lieutenants_roomed(alloc, lieutenants_heading(), told)
 }
 
-/// Appends the part of each lieutenant.
+/// Appends for each lieutenant which orders he accepted, and why he decides so.
 fn put_each_lieutenant(
     alloc: Global,
     out: &mut String,
@@ -35,7 +35,7 @@ fn put_each_lieutenant(
     Ok(())
 }
 
-/// Appends the part of a general, if he is a lieutenant.
+/// Appends which orders a general accepted, and why he decides so. Appends nothing for the commander.
 fn put_lieutenant_of(
     alloc: Global,
     out: &mut String,
@@ -57,7 +57,7 @@ fn put_lieutenant_of(
     put_fold_end(out)
 }
 
-/// Returns the decision of a lieutenant, if the chronicle has one.
+/// Returns the decision of a lieutenant, or `None` if the chronicle has none for him.
 fn decision_of(chronicle: &SignedChronicle, general: u8) -> Option<u32>
     ensures { result ≡ slice_get chronicle.now.decisions (place_of chronicle.now.scenario.commander general) }
 {
@@ -65,7 +65,8 @@ fn decision_of(chronicle: &SignedChronicle, general: u8) -> Option<u32>
     chronicle.decisions().get(place).copied()
 }
 
-/// Returns a lieutenant's name and his decision, if there is one.
+/// Returns a lieutenant's name and his decision, such as `Lieutenant 2 decides 1`. Without a decision, it is only the
+/// name.
 fn deciding_name(
     alloc: Global,
     general: u8,
@@ -80,7 +81,7 @@ fn deciding_name(
     }
 }
 
-/// Returns the heading of the lieutenants.
+/// Returns the heading of the section about the lieutenants.
 #[tactic(auto, unfolding(crate::specs::SignedAccount::lieutenants_heading))]
 fn lieutenants_heading() -> &'static str
     ensures { result.now ≡ lieutenants_heading }

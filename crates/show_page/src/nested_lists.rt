@@ -1,4 +1,4 @@
-//! Writes a lieutenant's tree as nested HTML lists, in which labels with labels below them are folds.
+//! Writes a lieutenant's tree as nested HTML lists. A label with labels below it is a fold, which a reader can open.
 ghost use Rattle.std.specs.Prelude.{◌≡◌, ◌≢◌, ◌<◌, ◌+◌, ◌++◌, length, true, string_bytes, IfOk, OnOk};
 ghost use Rattle.book.specs.Grammar.{is_place};
 ghost use Rattle.show_tree.specs.Shown.{deeper};
@@ -14,7 +14,8 @@ use label::Label;
 use show_tree::{Node, View, deeper, is_open, mark_at, node_at, put_said, root_node};
 use std::alloc::{AllocError, Global};
 
-/// Appends what a lieutenant received, as far as the view shows it. `traitors` are the generals named as traitors.
+/// Appends the tree of the orders that lieutenant `general` received, as nested HTML lists, as far as the view shows
+/// it. `traitors` are the generals who are marked as traitors.
 #[tactic(auto, unfolding(crate::specs::Trees::tree_told))]
 pub(crate) fn put_tree<H: Heard>(
     alloc: Global,
@@ -52,7 +53,7 @@ pub(crate) fn put_tree<H: Heard>(
     put_list_end(out)
 }
 
-/// Returns the name of a label and what is said of it.
+/// Returns the words for a node of the tree: its label, and what was received for it.
 fn words(alloc: Global, node: &Node) -> Result<String, AllocError>
     ensures { IfOk result (λ words. string_bytes words ≡ said node.now) }
 {
@@ -61,8 +62,8 @@ fn words(alloc: Global, node: &Node) -> Result<String, AllocError>
     Ok(words)
 }
 
-/// Appends the list item of a label. If the labels that extend it are shown, their items are inside. `relays` relays
-/// are left.
+/// Appends the list item of a label. If the view shows the labels that extend it, their items are in a fold inside this
+/// item. `relays` is how many more times the order can be relayed.
 #[cycle(items)]
 fn put_item<H: Heard>(
     alloc: Global,
@@ -103,7 +104,8 @@ fn put_item<H: Heard>(
     Ok(())
 }
 
-/// Appends the list items of the labels that extend this one, with `relays` relays left.
+/// Appends the list items of the labels that extend `label` by one general. `relays` is how many more times the order
+/// can be relayed.
 #[cycle(items)]
 fn put_items<H: Heard>(
     alloc: Global,

@@ -1,5 +1,4 @@
-//! Hints for the reader: where to find a part for which a page has no room, by the same schedule or in the same
-//! chronicle.
+//! Hints for the readers of a page: where to find a part of the campaign for which the page has no room.
 ghost use Rattle.std.specs.Prelude.{◌≡◌};
 ghost use Rattle.show_page.specs.Printers.{accesses_printer, chronicle_printer, lieutenants_printer, picture_printer, programs_printer, scenario_printer, schedule_printer};
 
@@ -19,7 +18,7 @@ pub(crate) fn schedule_printer() -> &'static str
     "it is the file of --schedule."
 }
 
-/// Returns the hint that says how to print what is known of a program.
+/// Returns the hint that says how to print what the verifier knows about a program.
 #[tactic(auto, unfolding(crate::specs::Printers::programs_printer))]
 pub(crate) fn programs_printer() -> &'static str
     ensures { result.now ≡ programs_printer }
@@ -35,7 +34,7 @@ pub(crate) fn picture_printer() -> &'static str
     "byzlab draw writes it, with --schedule or --chronicle as here."
 }
 
-/// Returns the hint that says how to print why the lieutenants decide so.
+/// Returns the hint that says how to print the explanation of the lieutenants' decisions.
 #[tactic(auto, unfolding(crate::specs::Printers::lieutenants_printer))]
 pub(crate) fn lieutenants_printer() -> &'static str
     ensures { result.now ≡ lieutenants_printer }
@@ -44,7 +43,7 @@ pub(crate) fn lieutenants_printer() -> &'static str
      decide so."
 }
 
-/// Returns the hint that says where to find the accesses.
+/// Returns the hint that says where to find the accesses to the board.
 #[tactic(auto, unfolding(crate::specs::Printers::accesses_printer))]
 pub(crate) fn accesses_printer() -> &'static str
     ensures { result.now ≡ accesses_printer }

@@ -1,56 +1,56 @@
-//! Limits on the length of a page: the room of each section in bytes, and the text that replaces a section for which
-//! there is no room. Every function here that returns a `Result` fails only if memory runs out.
+//! Limits on the length of a page. Each section has a room in bytes, and a text that replaces it if there is no room
+//! for it. Every function here that returns a `Result` fails only if memory runs out.
 ghost use Rattle.std.specs.Prelude.{◌≡◌, ◌++◌, string_bytes, IfOk, OnOk};
 ghost use Rattle.show_page.specs.Room.{fitted, lines_told, over, over_words, roomed, share, units_words};
 
 use html::{Section, put_lines, put_paragraph};
 use std::alloc::{AllocError, Global};
 
-/// The number of bytes of HTML that all sections share, which is the sum of their own rooms. What one section leaves
-/// can be used by longer ones.
+/// How many bytes of HTML all sections may have together, which is the sum of their rooms. A section may use what other
+/// sections leave of their rooms.
 pub const ROOM_FOR_SECTIONS: usize = 1_987_000;
 
-/// The number of bytes of HTML for which there is always room in the scenario's section.
+/// How many bytes of HTML the scenario's section may always have.
 pub(crate) const ROOM_FOR_SCENARIO: usize = 151_000;
 
-/// The number of bytes of HTML for the story at the head of the scenario, if there is no room for the rest of it.
+/// How many bytes of HTML the story at the head of the scenario may have, if there is no room for the whole scenario.
 pub(crate) const ROOM_FOR_STORY: usize = 20_000;
 
-/// The number of bytes of HTML for which there is always room in the schedule's section.
+/// How many bytes of HTML the schedule's section may always have.
 pub(crate) const ROOM_FOR_SCHEDULE: usize = 31_000;
 
-/// The number of bytes of HTML for which there is always room in the section of the traitors' programs.
+/// How many bytes of HTML the section of the traitors' programs may always have.
 pub(crate) const ROOM_FOR_PROGRAMS: usize = 150_000;
 
-/// The number of bytes of HTML for which there is always room in the diagram's section.
+/// How many bytes of HTML the diagram's section may always have.
 pub(crate) const ROOM_FOR_PICTURE: usize = 600_000;
 
-/// The number of bytes of HTML for which there is always room in the section of the lieutenants' trees and lists.
+/// How many bytes of HTML the section about the lieutenants may always have.
 pub(crate) const ROOM_FOR_LIEUTENANTS: usize = 525_000;
 
-/// The number of bytes of HTML for which there is always room in the section of accesses.
+/// How many bytes of HTML the section of the accesses may always have.
 pub(crate) const ROOM_FOR_ACCESSES: usize = 130_000;
 
-/// The number of bytes of HTML for which there is always room in the chronicle's section.
+/// How many bytes of HTML the chronicle's section may always have.
 pub(crate) const ROOM_FOR_CHRONICLE: usize = 400_000;
 
-/// Returns the number of bytes of HTML for each program if there is no room for all: one of `generals + 1` equal shares
-/// of 145,000 bytes.
+/// Returns how many bytes of HTML each program may have, if there is no room for all of them in full: 145,000, divided
+/// by `generals + 1`.
 pub(crate) fn share(generals: u8) -> usize
     ensures { result ≡ share generals }
 {
     145_000 / (usize::from(generals) + 1)
 }
 
-/// The largest number of units of a program that a page explains.
+/// The greatest number of units of a program that a page explains.
 pub(crate) const ROOM_FOR_UNITS: usize = 256;
 
-/// The largest width of a diagram that is printed on a narrow sheet. It does not count the margins, which are 16 units
-/// in all.
+/// The greatest width of a diagram that is printed on a narrow sheet, in units of SVG. It does not include the margins,
+/// which are 16 units in all.
 pub(crate) const NARROW_SHEET: u128 = 1300;
 
-/// Returns a section with the given text and room. If there is no room for the text, the section says that it is too
-/// long, and where to find it.
+/// Returns a section with this title, text and room in bytes. If the page has no room for the text, a paragraph
+/// replaces it. It says that the text is too long and, in the words of `who`, where to find it.
 ///
 /// # Errors
 ///
@@ -74,8 +74,8 @@ pub(crate) fn roomed(
     })
 }
 
-/// Appends a part of a section. If the part is longer than `room` bytes, appends instead that it is, and where to find
-/// it.
+/// Appends `told`, a part of a section, if it has at most `room` bytes. Otherwise appends a paragraph in its place. It
+/// says that the part is too long and, in the words of `who`, where to find it.
 pub(crate) fn put_fitted(
     alloc: Global,
     out: &mut String,
@@ -91,8 +91,9 @@ pub(crate) fn put_fitted(
     out.push_str(told)
 }
 
-/// Returns a text as preformatted lines. If the text is longer than all sections together may be, returns instead that
-/// it is longer than `room`.
+/// Returns a text as preformatted lines of HTML. If the text is longer than all sections together may be, returns a
+/// paragraph in its place. It says that the text is longer than `room` bytes and, in the words of `who`, where to find
+/// it.
 pub(crate) fn lines_told(
     alloc: Global,
     room: usize,
@@ -110,7 +111,8 @@ pub(crate) fn lines_told(
     Ok(told)
 }
 
-/// Appends a paragraph that says that a part is longer than `room` bytes, and where to find it.
+/// Appends a paragraph that says that a part of a page is longer than `room` bytes and, in the words of `who`, where to
+/// find it.
 pub(crate) fn put_over(
     alloc: Global,
     out: &mut String,
@@ -123,7 +125,8 @@ pub(crate) fn put_over(
     put_paragraph(out, words.as_str())
 }
 
-/// Returns the words that a part is longer than `room` bytes, and where to find it.
+/// Returns the sentence that a part of a page is longer than `room` bytes. It ends with `who`, the words that say where
+/// to find this part.
 #[tactic(auto, unfolding(crate::specs::Room::over_words))]
 fn over_words(alloc: Global, room: usize, who: &str) -> Result<String, AllocError>
     ensures { IfOk result (λ words. string_bytes words ≡ over_words room who.now) }
@@ -131,8 +134,8 @@ fn over_words(alloc: Global, room: usize, who: &str) -> Result<String, AllocErro
     format!(in alloc; "This part is longer than its share, {room} bytes of HTML: {who}")
 }
 
-/// Returns the words that a program has `count` units, which are too many to be explained, and where to find an
-/// explanation.
+/// Returns the sentence that a program has `count` units, too many to be explained on a page. It ends with `who`, the
+/// words that say where to find the explanation.
 #[tactic(auto, unfolding(crate::specs::Room::units_words))]
 pub(crate) fn units_words(alloc: Global, count: usize, who: &str) -> Result<String, AllocError>
     ensures { IfOk result (λ words. string_bytes words ≡ units_words count who.now) }

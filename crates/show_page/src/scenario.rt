@@ -9,8 +9,8 @@ use crate::story::parted;
 use html::{Section, put_lines};
 use std::alloc::{AllocError, Global};
 
-/// Returns the section with the scenario's text, in which the story is set apart. If there is no room for the text, the
-/// section has the story.
+/// Returns the section with the scenario's text, in which the story is separated from the other lines. If the page has
+/// no room for the text, the section shows only the story.
 ///
 /// # Errors
 ///
@@ -29,8 +29,8 @@ pub fn scenario_section(alloc: Global, text: &str) -> Result<Section, AllocError
     })
 }
 
-/// Returns the story and the lines after it. If the text is longer than all sections together may be, returns the
-/// replacement.
+/// Returns the HTML of a scenario: its story, and then its other lines. If the text is longer than all sections
+/// together may be, returns what replaces it: the story, and where to find the text.
 fn scenario_told(alloc: Global, text: &str) -> Result<String, AllocError>
     ensures { IfOk result (λ told. string_bytes told ≡ scenario_told text.now) }
 {
@@ -43,8 +43,8 @@ fn scenario_told(alloc: Global, text: &str) -> Result<String, AllocError>
     Ok(told)
 }
 
-/// Returns the replacement of a scenario that is too long: the story, if there is room for it, and where to find the
-/// text.
+/// Returns what replaces a scenario for which the page has no room: the story, if there is room for it, and a paragraph
+/// that says where to find the text.
 fn scenario_instead(alloc: Global, text: &str) -> Result<String, AllocError>
     ensures { IfOk result (λ told. string_bytes told ≡ scenario_instead text.now) }
 {
@@ -57,7 +57,7 @@ fn scenario_instead(alloc: Global, text: &str) -> Result<String, AllocError>
     Ok(told)
 }
 
-/// Returns the lines of a story, or an empty text if there is no story.
+/// Returns the lines of a story as HTML, or an empty text if there is no story.
 fn story_told(alloc: Global, story: &str) -> Result<String, AllocError>
     ensures { IfOk result (λ told. string_bytes told ≡ story_told story.now) }
 {
@@ -69,7 +69,7 @@ fn story_told(alloc: Global, story: &str) -> Result<String, AllocError>
     Ok(told)
 }
 
-/// Returns the heading of a scenario with this story, which may be empty.
+/// Returns the heading of the scenario's section, which mentions the story unless `story` is empty.
 #[tactic(auto, unfolding(crate::specs::Account::scenario_heading))]
 fn scenario_heading(story: &str) -> &'static str
     ensures { result.now ≡ scenario_heading story.now }

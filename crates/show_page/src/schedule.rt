@@ -12,7 +12,7 @@ use html::{Section, put_paragraph};
 use std::alloc::{AllocError, Global};
 use world::{Schedule, ScheduleLine};
 
-/// Returns the section with the schedule by which the campaign was played. If there is none, the section says that the
+/// Returns the section with the schedule by which a campaign was played. If there is none, the section says that the
 /// campaign comes from a chronicle.
 ///
 /// # Errors
@@ -31,7 +31,8 @@ pub fn schedule_section(alloc: Global, schedule: Option<&Schedule>) -> Result<Se
     )
 }
 
-/// Returns the text of the section: the schedule, or that the campaign comes from a chronicle.
+/// Returns the HTML of a schedule. If there is none, returns a paragraph that says that the campaign comes from a
+/// chronicle.
 fn course_told(alloc: Global, schedule: Option<&Schedule>) -> Result<String, AllocError>
     ensures { IfOk result (λ told. string_bytes told ≡ course_told (option_map (λ s. s.now) schedule.entry)) }
 {
@@ -41,8 +42,8 @@ fn course_told(alloc: Global, schedule: Option<&Schedule>) -> Result<String, All
     }
 }
 
-/// Returns the text of a schedule, and what happens after each of its lines. If the schedule has no entries, returns a
-/// paragraph that says so.
+/// Returns the HTML of a schedule: its lines, and a paragraph on what happens in a round after its line. If the
+/// schedule has no entries, returns a paragraph that says so.
 fn schedule_told(alloc: Global, schedule: &Schedule) -> Result<String, AllocError>
     ensures { IfOk result (λ told. string_bytes told ≡ schedule_told schedule.now) }
 {
@@ -55,21 +56,21 @@ fn schedule_told(alloc: Global, schedule: &Schedule) -> Result<String, AllocErro
     Ok(told)
 }
 
-/// Checks whether no line of a schedule has an entry.
+/// Checks whether a schedule has no entries.
 fn is_silent(schedule: &Schedule) -> bool
     ensures { result ≡ list_all (λ line. length line == 0) schedule.now }
 {
     schedule.lines.iter().all(|line| is_empty(line))
 }
 
-/// Checks whether a line of a schedule has no entry.
+/// Checks whether a line of a schedule has no entries.
 fn is_empty(line: &ScheduleLine) -> bool
     ensures { result ≡ (length line.now == 0) }
 {
     line.repeats.is_empty()
 }
 
-/// Returns a paragraph of these words.
+/// Returns an HTML paragraph with these words.
 fn said(alloc: Global, words: &str) -> Result<String, AllocError>
     ensures { IfOk result (λ told. string_bytes told ≡ paragraph words.now) }
 {
@@ -78,7 +79,7 @@ fn said(alloc: Global, words: &str) -> Result<String, AllocError>
     Ok(told)
 }
 
-/// Returns the heading of the schedule.
+/// Returns the heading of the section with the schedule.
 #[tactic(auto, unfolding(crate::specs::Account::schedule_heading))]
 fn schedule_heading() -> &'static str
     ensures { result.now ≡ schedule_heading }
@@ -94,7 +95,7 @@ fn recorded_words() -> &'static str
     "As in the chronicle: the accesses to the board are made in its order."
 }
 
-/// Returns the words for what happens in a round after its line of the schedule.
+/// Returns the words about what happens in a round after its line of the schedule.
 #[tactic(auto, unfolding(crate::specs::Account::behind_words))]
 fn behind_words() -> &'static str
     ensures { result.now ≡ behind_words }

@@ -1,4 +1,4 @@
-//! The sections of a page with a part for each general: the traitors' programs, and what each lieutenant received.
+//! The sections of a page with an entry for each general: the traitors' programs, and what each lieutenant received.
 //! Every function here that returns a `Result` fails only if memory runs out.
 ghost use Rattle.std.specs.Prelude.{◌≡◌, ◌<◌, ◌++◌, string_bytes, IfOk, OnOk};
 ghost use Rattle.show_page.specs.Account.{each_lieutenant, each_program, elsewhere_words, explained_told, general_name, lieutenant_part, lieutenant_words, lieutenants_heading, lieutenants_roomed, lieutenants_section, no_programs, program_part, program_told, programs_heading, programs_section, programs_shared, programs_told, traitor_words, view_of, why_part};
@@ -22,7 +22,7 @@ use show_tree::View;
 use std::alloc::{AllocError, Global};
 use world::Chronicle;
 
-/// Returns the section with the traitors' programs, and with what the verifier knows of each.
+/// Returns the section with the traitors' programs, and with what the verifier knows about each of them.
 ///
 /// # Errors
 ///
@@ -40,7 +40,7 @@ pub fn programs_section(alloc: Global, scenario: &Scenario) -> Result<Section, A
     })
 }
 
-/// Returns the text for each traitor's program, or a paragraph that says that there is no traitor.
+/// Returns the HTML of all traitors' programs, or a paragraph that says that there is no traitor.
 fn programs_told(alloc: Global, scenario: &Scenario) -> Result<String, AllocError>
     ensures { IfOk result (λ told. string_bytes told ≡ programs_told (each_program room_for_sections scenario.now)) }
 {
@@ -50,7 +50,7 @@ fn programs_told(alloc: Global, scenario: &Scenario) -> Result<String, AllocErro
     Ok(told)
 }
 
-/// Appends these programs, or a paragraph that says that there is no traitor.
+/// Appends the HTML of all traitors' programs. If it is empty, appends a paragraph that says that there is no traitor.
 fn put_programs_told(out: &mut String, programs: &str) -> Result<(), AllocError>
     ensures { OnOk result (string_bytes out.new ≡ string_bytes out.old ++ programs_told programs.now) }
 {
@@ -60,8 +60,8 @@ fn put_programs_told(out: &mut String, programs: &str) -> Result<(), AllocError>
     out.push_str(programs)
 }
 
-/// Returns the replacement for programs that take `bytes` bytes, in which each program has its share of the room. It is
-/// empty if there is room for all of them.
+/// Returns what replaces the HTML of the traitors' programs, which has `bytes` bytes, if there is no room for it. In
+/// the replacement each program has its share of the room. It is empty if there is room for all of them.
 fn programs_shared(alloc: Global, scenario: &Scenario, bytes: usize) -> Result<String, AllocError>
     ensures { IfOk result (λ told. string_bytes told ≡ programs_shared scenario.now bytes) }
 {
@@ -71,7 +71,7 @@ fn programs_shared(alloc: Global, scenario: &Scenario, bytes: usize) -> Result<S
     each_program(alloc, scenario, share(scenario.generals()))
 }
 
-/// Returns the text for each traitor's program, of which each may take `room` bytes.
+/// Returns the HTML of all traitors' programs. The explanation of each program may have `room` bytes.
 fn each_program(alloc: Global, scenario: &Scenario, room: usize) -> Result<String, AllocError>
     ensures { IfOk result (λ told. string_bytes told ≡ each_program room scenario.now) }
 {
@@ -88,7 +88,7 @@ fn no_programs() -> &'static str
     "None: all generals are loyal."
 }
 
-/// Appends the program of each traitor, of which each may take `room` bytes.
+/// Appends the HTML of all traitors' programs. The explanation of each program may have `room` bytes.
 fn put_each_program(
     alloc: Global,
     out: &mut String,
@@ -104,7 +104,8 @@ fn put_each_program(
     Ok(())
 }
 
-/// Appends the program of a general, if he is a traitor. It may take `room` bytes.
+/// Appends the HTML of a traitor's program, whose explanation may have `room` bytes. Appends nothing for a loyal
+/// general.
 fn put_program_of(
     alloc: Global,
     out: &mut String,
@@ -121,7 +122,7 @@ fn put_program_of(
     }
 }
 
-/// Appends the program of the given general. Its explanation may take `room` bytes.
+/// Appends the HTML of this general's program, whose explanation may have `room` bytes.
 fn put_program(
     alloc: Global,
     out: &mut String,
@@ -138,7 +139,8 @@ fn put_program(
     put_fold_end(out)
 }
 
-/// Returns what the verifier knows of a program, or its number of units if they are too many.
+/// Returns the HTML of what the verifier knows about a program. If the program has more than 256 units, returns a
+/// paragraph that says how many it has.
 fn explained_told(alloc: Global, program: &Program) -> Result<String, AllocError>
     ensures { IfOk result (λ told. string_bytes told ≡ explained_told program.now) }
 {
@@ -147,7 +149,8 @@ fn explained_told(alloc: Global, program: &Program) -> Result<String, AllocError
     Ok(told)
 }
 
-/// Appends what the verifier knows of a program, or its number of units if they are too many.
+/// Appends the HTML of what the verifier knows about a program. If the program has more than 256 units, appends a
+/// paragraph that says how many it has.
 fn put_explained(alloc: Global, out: &mut String, program: &Program) -> Result<(), AllocError>
     ensures { OnOk result (string_bytes out.new ≡ string_bytes out.old ++ explained_told program.now) }
 {
@@ -160,7 +163,7 @@ fn put_explained(alloc: Global, out: &mut String, program: &Program) -> Result<(
     put_begun_lines(out, told.as_str())
 }
 
-/// Returns a general's name.
+/// Returns a general's name, such as `General 2`.
 fn general_name(alloc: Global, general: u8) -> Result<String, AllocError>
     ensures { IfOk result (λ name. string_bytes name ≡ general_name general) }
 {
@@ -179,7 +182,7 @@ pub(crate) fn lieutenants_section<H: Heard>(
     lieutenants_roomed(alloc, lieutenants_heading(), told)
 }
 
-/// Returns the section of the lieutenants with this text, under a title.
+/// Returns the section about the lieutenants with this title and this HTML.
 pub fn lieutenants_roomed(
     alloc: Global,
     title: &'static str,
@@ -196,7 +199,7 @@ pub fn lieutenants_roomed(
     )
 }
 
-/// Returns the parts of all lieutenants.
+/// Returns the HTML about all lieutenants: their names, decisions and trees, and why they decide so.
 fn lieutenants<H: Heard>(
     alloc: Global,
     table: &H,
@@ -212,7 +215,7 @@ fn lieutenants<H: Heard>(
     Ok(told)
 }
 
-/// Appends the part of each lieutenant. `traitors` are the generals named as traitors.
+/// Appends the HTML about each lieutenant. `traitors` are the generals who are marked as traitors.
 fn put_each_lieutenant<H: Heard>(
     alloc: Global,
     out: &mut String,
@@ -229,7 +232,8 @@ fn put_each_lieutenant<H: Heard>(
     Ok(())
 }
 
-/// Appends the part of a general, if he is a lieutenant: his name, his decision, his tree, and why he decides so.
+/// Appends the HTML about a lieutenant: his name, his decision, his tree, and why he decides so. Appends nothing for
+/// the commander.
 fn put_lieutenant_of<H: Heard>(
     alloc: Global,
     out: &mut String,
@@ -253,8 +257,8 @@ fn put_lieutenant_of<H: Heard>(
     put_fold_end(out)
 }
 
-/// Returns the view of a tree on a page: two levels below the commander's, with labels folded if the same was received
-/// for all. It includes the commander's order.
+/// Returns how a page shows the trees of the lieutenants: with two levels of labels below the commander's, and with the
+/// commander's order. The labels below a label are left out if the lieutenant received the same for all of them.
 fn view_of(scenario: &Scenario) -> View
     ensures { result ≡ view_of scenario.now }
 {
@@ -265,15 +269,15 @@ fn view_of(scenario: &Scenario) -> View
     }
 }
 
-/// Checks whether the list contains the general.
+/// Checks whether `generals` contains `general`.
 fn has(generals: &[u8], general: u8) -> bool
     ensures { result ≡ on generals.now general }
 {
     generals.iter().any(|x| *x == general)
 }
 
-/// Appends an explanation of how a lieutenant reaches his decision. For a campaign of five rounds, appends instead how
-/// to print it.
+/// Appends how a lieutenant reaches his decision. In a campaign of five rounds, where this is too long, appends a
+/// paragraph that says how to print it.
 fn put_why<H: Heard>(
     alloc: Global,
     out: &mut String,
@@ -292,7 +296,7 @@ fn put_why<H: Heard>(
     put_lines(out, why.as_str())
 }
 
-/// Returns the words that say how to print the explanation of a lieutenant's decision.
+/// Returns the words that say how to print the explanation of this lieutenant's decision.
 #[tactic(auto, unfolding(crate::specs::Account::elsewhere_words))]
 fn elsewhere_words(alloc: Global, general: u8) -> Result<String, AllocError>
     ensures { IfOk result (λ words. string_bytes words ≡ elsewhere_words general) }
@@ -303,7 +307,7 @@ fn elsewhere_words(alloc: Global, general: u8) -> Result<String, AllocError>
     )
 }
 
-/// Returns a lieutenant's name and his decision.
+/// Returns a lieutenant's name and his decision, such as `Lieutenant 2, a traitor, decides 1`.
 ///
 /// # Errors
 ///
@@ -321,14 +325,14 @@ pub fn lieutenant_name(
     format!(in alloc; "Lieutenant {general}{mark} decides {order}")
 }
 
-/// Returns the words that mark a traitor, or an empty text for a loyal general.
+/// Returns the words that follow a traitor's name, or an empty text for a loyal general.
 fn traitor_words(is_traitor: bool) -> &'static str
     ensures { result.now ≡ traitor_words is_traitor }
 {
     if is_traitor { ", a traitor," } else { "" }
 }
 
-/// Returns the heading of the programs.
+/// Returns the heading of the section with the traitors' programs.
 #[tactic(auto, unfolding(crate::specs::Account::programs_heading))]
 fn programs_heading() -> &'static str
     ensures { result.now ≡ programs_heading }
@@ -336,7 +340,7 @@ fn programs_heading() -> &'static str
     "Programs of the traitors"
 }
 
-/// Returns the heading of the lieutenants.
+/// Returns the heading of the section about the lieutenants.
 #[tactic(auto, unfolding(crate::specs::Account::lieutenants_heading))]
 fn lieutenants_heading() -> &'static str
     ensures { result.now ≡ lieutenants_heading }

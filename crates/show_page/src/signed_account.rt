@@ -43,7 +43,7 @@ pub fn signed_page_text(
     Ok(out)
 }
 
-/// Appends all sections, and the verdict.
+/// Appends all sections of the page of a signed campaign, and then the verdict.
 fn put_parts(
     alloc: Global,
     out: &mut String,
@@ -89,7 +89,7 @@ fn accesses_of(alloc: Global, chronicle: &SignedChronicle) -> Result<Section, Al
     accesses_section(alloc, chronicle.accesses())
 }
 
-/// Appends the verdict of a chronicle.
+/// Appends the verdict of a signed campaign's chronicle.
 fn put_verdict_of(out: &mut String, chronicle: &SignedChronicle) -> Result<(), AllocError>
     ensures { OnOk result (string_bytes out.new ≡ string_bytes out.old
         ++ verdict_part chronicle.now.verdict) }
@@ -106,7 +106,7 @@ fn signed_title(alloc: Global, scenario: &Scenario) -> Result<String, AllocError
     Ok(words)
 }
 
-/// Returns the section with the diagram of a campaign.
+/// Returns the section with the space-time diagram of a signed campaign.
 fn diagram_section(alloc: Global, chronicle: &SignedChronicle) -> Result<Section, AllocError>
     ensures { IfOk result (λ section. section ≡ diagram_section chronicle.now) }
 {
@@ -115,7 +115,7 @@ fn diagram_section(alloc: Global, chronicle: &SignedChronicle) -> Result<Section
     picture_section(alloc, wide, svg.as_str())
 }
 
-/// Returns the section with the campaign's chronicle.
+/// Returns the section with the text of a signed campaign's chronicle.
 fn section_of(alloc: Global, chronicle: &SignedChronicle) -> Result<Section, AllocError>
     ensures { IfOk result (λ section. section ≡ chronicle_section (signed_text chronicle.now)) }
 {
@@ -123,7 +123,7 @@ fn section_of(alloc: Global, chronicle: &SignedChronicle) -> Result<Section, All
     chronicle_section(alloc, text.as_slice())
 }
 
-/// Returns the text of a chronicle.
+/// Returns the text of a signed campaign's chronicle.
 fn chronicle_text(alloc: Global, chronicle: &SignedChronicle) -> Result<Vec<u8>, AllocError>
     ensures { IfOk result (λ text. text.items ≡ signed_text chronicle.now) }
 {

@@ -1,4 +1,5 @@
-//! Splits the text of a scenario into its story, which is the comments and blank lines at its head, and the rest.
+//! Splits the text of a scenario into its story, which is the comments and blank lines at its head, and the text after
+//! it.
 ghost use Rattle.std.specs.Prelude.{◌≡◌, ◌≤◌, length};
 ghost use Rattle.show_page.specs.Story.{behind_story, head_bytes, is_blank, story, story_bytes};
 ghost use Rattle.label.specs.Labels.{on};
@@ -20,7 +21,7 @@ fn story_bytes(text: &[u8]) -> usize
     if has_comment(&text[..end]) { end } else { 0 }
 }
 
-/// Checks whether the head of a text contains a comment.
+/// Checks whether the head of a scenario, which is its first comments and blank lines, contains a comment.
 fn has_comment(head: &[u8]) -> bool
     ensures { result ≡ on head.now 35 }
 {

@@ -7,7 +7,7 @@ use show_diagram::foot::{alike_words, bound_words, obeyed_words};
 use std::alloc::AllocError;
 use world::{Chronicle, Verdict};
 
-/// Appends the verdict, with a paragraph for each of its parts.
+/// Appends the verdict on a campaign with oral messages, with a paragraph for each of its statements.
 pub(crate) fn put_verdict(out: &mut String, chronicle: &Chronicle) -> Result<(), AllocError>
     ensures { OnOk result (string_bytes out.new ≡ string_bytes out.old ++ verdict_part chronicle.now.verdict) }
 {
@@ -15,7 +15,7 @@ pub(crate) fn put_verdict(out: &mut String, chronicle: &Chronicle) -> Result<(),
     put_verdict_told(out, verdict, bound_told(verdict.bound, bound_words(false)))
 }
 
-/// Appends the given verdict, with these words about its bound.
+/// Appends this verdict, with a paragraph for each of its statements. `bound` contains the words about the bound.
 ///
 /// # Errors
 ///
@@ -29,8 +29,8 @@ pub fn put_verdict_told(out: &mut String, verdict: Verdict, bound: &str) -> Resu
     put_paragraph(out, bound)
 }
 
-/// Returns the words for what the algorithm promises (TOPLAS 1982, IC1 and IC2), or `without` if the bound does not
-/// hold.
+/// Returns the words for what the algorithm promises (TOPLAS 1982, IC1 and IC2) if the bound holds, and otherwise
+/// `without`.
 pub fn bound_told(bound: bool, without: &'static str) -> &'static str
     ensures { result.now ≡ bound_told bound without.now }
 {

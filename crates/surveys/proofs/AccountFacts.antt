@@ -1,4 +1,4 @@
--- The account of a campaign.
+-- Facts about the account of a campaign.
 use Rattle.std.proofs.Common.{ℕ, ◌≡◌, List}
 use Rattle.std.specs.Prelude.{filter}
 use Rattle.std.specs.List.{range_with_len}

@@ -1,4 +1,4 @@
--- Holes and doubles lie apart.
+-- The ranges that `holes` and `doubles` return are apart: between two of them there is always a seed.
 use Rattle.std.proofs.Common.{ℕ, ◌+◌, ◌-◌, ◌≤◌, ◌≡◌, Bool, true, false, cond, List, [], ◌∷◌, ◌++◌, refl, arith}
 use Rattle.std.specs.Prelude.{nat_le, nat_lt, min, max}
 use Rattle.std.proofs.lemmas.Bool.{leb-true, leb-false, ltb-true}
@@ -13,7 +13,7 @@ stretch_apart : (a b : ℕ) (t : Bool) → nat_le a b ≡ t → AreApartFrom a (
 stretch_apart a b true e = (omega arith, leb-true a b e, tt)
 stretch_apart a b false e = tt
 
--- a stretch before others, if it has seeds
+-- A range before other ranges keeps them apart if it has seeds and ends early enough.
 front_apart : (a b : ℕ) (ss : List Stretch) (t : Bool) → nat_le a b ≡ t → AreApartFrom (b + 2) ss → AreApartFrom a ss → AreApartFrom a (cond t (record { first = a; last = b } ∷ []) [] ++ ss)
 front_apart a b ss true e near far = (omega arith, leb-true a b e, near)
 front_apart a b ss false e near far = far
@@ -33,7 +33,7 @@ gaps_apart next (s ∷ seeds) last = gap_apart next s last (gaps (max next (s + 
 pub all_gaps_apart : (first : ℕ) (seeds : List ℕ) (last : ℕ) → AreApart (gaps first seeds last)
 all_gaps_apart first seeds last = apart_later 0 first (gaps first seeds last) (omega arith) (gaps_apart first seeds last)
 
--- one seed more, in the stretch that has come so far, or in another
+-- One more seed continues the current range or begins another one. In both cases the ranges are apart.
 next_apart : (a b s : ℕ) (seeds : List ℕ) (t : Bool) → nat_le s (b + 1) ≡ t → a ≤ b → AreApartFrom a (stretches_from a (max b s) seeds) → AreApartFrom s (stretches_from s s seeds)
     → AreApartFrom a (cond t (stretches_from a (max b s) seeds) (record { first = a; last = b } ∷ stretches_from s s seeds))
 next_apart a b s seeds true e le same other = same

@@ -1,4 +1,4 @@
--- The results of many seeds.
+-- The results of the campaigns of many seeds.
 use Rattle.std.proofs.Common.{ℕ, zero, suc, ◌+◌, ◌-◌, ◌<◌, ◌≤◌, ◌≡◌, ◌≢◌, ◌∙◌, List, [], ◌∷◌, ◌++◌, ap, map, length, get_or, take, drop, subst, sym, arith, Ok, Err, Option, None, Some, ◌⊎◌, ⊎_elim}
 use Rattle.std.specs.declared.result.Result.{Result}
 use Rattle.std.specs.List.{All, AllZip, range_with_len}
@@ -11,7 +11,7 @@ use Rattle.surveys.specs.declared.breach.Breach.{Breach}
 use Rattle.surveys.specs.Shrinking.{ComesWell}
 use Rattle.surveys.specs.Breaches.{AreAllSound, IsAnswerTo, IsFirstError, IsLeastBreach, IsRefusedIn, IsShrunk}
 
--- where all are good, so it is with all
+-- If no answer is an error, the values are right for their seeds.
 all_good : (plots : ℕ → Plot) (seeds : List ℕ) (found : List (Option Breach)) → AllZip (IsAnswerTo plots) seeds (map Ok found) → AllZip (IsShrunk plots) seeds found
 all_good plots [] [] h = tt
 all_good plots [] (f ∷ fs) h = absurd h
@@ -21,11 +21,11 @@ all_good plots (s ∷ seeds) (f ∷ fs) h = (h.0.0, all_good plots seeds fs h.1)
 pub all_found : (plots : ℕ → Plot) (seeds : List ℕ) (answers : List (Result (Option Breach) ScenarioError)) (found : List (Option Breach)) → AllZip (IsAnswerTo plots) seeds answers → answers ≡ map Ok found → AllZip (IsShrunk plots) seeds found
 all_found plots seeds answers found h is = all_good plots seeds found (subst (AllZip (IsAnswerTo plots) seeds) is h)
 
--- a first number, or a later one
+-- A number that is at least `a` is `a` or greater.
 pub first_or_later : (a seed : ℕ) → a ≤ seed → (a ≡ seed) ⊎ (a < seed)
 first_or_later a seed low = grind arith
 
--- behind good answers an error is that of a number, before which all are good
+-- The error after answers without an error is the error of a seed, and no earlier seed has one.
 error_at : (plots : ℕ → Plot) (a n : ℕ) (before : List (Option Breach)) (e : ScenarioError) (rest : List (Result (Option Breach) ScenarioError)) → e ≢ Memory
     → AllZip (IsAnswerTo plots) (range_with_len a n) (map Ok before ++ Err e ∷ rest) → IsRefusedIn plots a (a + n) e
 error_at plots a zero [] e rest other h = absurd h
@@ -57,7 +57,7 @@ first_refused plots first end answers e other h is =
     let high = at.before in
     record { seed = at.seed; behind = low; before = omega (arith, low, high); refused = at.refused; earlier = at.earlier }
 
--- the first error among the answers, behind those that were taken
+-- If the answers before this one have no error, this one is the first error.
 behind_good : (found : List (Option Breach)) (answers : List (Result (Option Breach) ScenarioError)) (e : ScenarioError) → map Ok found ≡ take (length found) answers → length found < length answers
     → Err e ≡ get_or answers (length found) (Err e) → answers ≡ map Ok found ++ Err e ∷ drop (suc (length found)) answers
 behind_good [] [] e so lt at = absurd (omega arith)
@@ -77,7 +77,7 @@ first_error found answers taken e is so lt at =
       behind_good found answers e (sym is ∙ so ∙ ap (λ n. take n answers) many) (subst (λ n. n < length answers) many lt) (subst (λ n. Err e ≡ get_or answers n (Err e)) many at),
     )
 
--- where nothing is left of any of them, agreement is broken in none
+-- If a seed has no reduced campaign, its campaign is not broken.
 sound_one : (f : ℕ → Plot) (seed : ℕ) (o : Option Breach) → o ≡ None → IsShrunk f seed o → ComesWell (f seed)
 sound_one f seed None e h = h
 sound_one f seed (Some b) e h = absurd (cc)

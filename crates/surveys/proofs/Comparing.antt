@@ -1,4 +1,4 @@
--- Tests on numbers, case by case.
+-- Comparisons of numbers, case by case.
 use Rattle.std.proofs.Common.{ℕ, ◌+◌, ◌-◌, ◌<◌, ◌≤◌, ◌≡◌, Bool, true, false, cond, refl, sym, ap, subst, ◌∙◌, arith, ◌⊎◌, ⊎_elim}
 use Rattle.std.specs.Prelude.{◌==◌, nat_le, nat_lt, min, max, ◌&&◌, ◌||◌}
 use Rattle.std.proofs.lemmas.Bool.{cases_lt, eq-eqb, eqb-true, eqb-false, le-leb, leb-false, leb-true, lt-leb, lt-ltb, le-ltb, ne_eqb}
@@ -31,7 +31,7 @@ apart s x lt = ne_eqb s x (λ e. omega (arith, e, lt))
 above : (s x : ℕ) → s < x → (s == x) ≡ false
 above s x lt = ne_eqb s x (λ e. omega (arith, e, lt))
 
--- nothing is from a greater number up to a lesser one
+-- No number is from a greater number to a lesser one.
 pub empty_has : (x a b : ℕ) → nat_le a b ≡ false → false ≡ (nat_le a x && nat_le x b)
 empty_has x a b h = ⊎_elim below beyond (cases_lt x a)
   where
@@ -47,7 +47,7 @@ empty_has x a b h = ⊎_elim below beyond (cases_lt x a)
 pub last_gap : (p q : Bool) → (p && q) ≡ (p && (q && true))
 last_gap p q = ap (λ (y : Bool). p && y) (sym (and_true q))
 
--- a gap before a seed, and what is behind it
+-- A number x from `next` to `last` is missing exactly if it is in the gap before the seed s, or is missing after s.
 abbrev pub Gap : ℕ → ℕ → ℕ → ℕ → ℕ → Type 0
 Gap next s x last t =
     ((nat_lt next s && (nat_le next x && nat_le x (min (s - 1) last))) || (nat_le (max next (s + 1)) x && (nat_le x last && (t == 0))))
@@ -105,7 +105,7 @@ gap_step next s x last t none =
     same : s ≤ x → x ≤ s → x ≡ s
     same ge le = omega (arith, ge, le)
 
--- which stand twice
+-- Which seeds occur twice.
 pub twice_one : (a x : ℕ) → false ≡ nat_le 2 (cond (a == x) 1 0 + 0)
 twice_one a x = go (a == x)
   where
@@ -139,7 +139,7 @@ less_is a b le h = ⊎_elim (λ lt. lt) (λ ge. absurd (eqb-false a b h (same ge
     same : b ≤ a → a ≡ b
     same ge = omega (arith, ge, le)
 
--- stretches
+-- Which seeds are in the ranges.
 pub first_stretch : (s x t : ℕ) → ((nat_le s x && nat_le x s) || nat_lt 0 t) ≡ nat_lt 0 (cond (s == x) 1 0 + t)
 first_stretch s x t = ⊎_elim before (λ ge. ⊎_elim beyond (λ le. at (same ge le)) (cases_lt s x)) (cases_lt x s)
   where

@@ -1,4 +1,4 @@
--- The words of an object's members.
+-- The values of a JSON object's members.
 use Rattle.std.proofs.Common.{ℕ, ◌≡◌, ◌<◌, ◌^◌, true, List, ◌∷◌, ◌++◌, refl, sym, ap, ◌∙◌, arith, drop}
 use Rattle.std.specs.Prelude.{decimal, not}
 use Rattle.std.proofs.lemmas.Bool.Decides.{nat_tests}
@@ -20,14 +20,14 @@ pub rest_of : (stop : Stop) (front w : List ℕ) (c : ℕ) (behind : List ℕ) �
 rest_of stop front w c behind free none is =
     ap (λ x. from stop (drop 1 x)) (from-append colon front 58 (w ++ c ∷ behind) free refl) ∙ from-append stop w c behind none is
 
--- of equal texts the words are equal, and what stands behind them
+-- If two texts that begin with a member are equal, the values of the members are equal.
 pub same_word : (stop : Stop) (front w v : List ℕ) (c : ℕ) (behind after : List ℕ) → Lacks colon front → Lacks stop w → Lacks stop v → is_stop stop c ≡ true → member front w (c ∷ behind) ≡ member front v (c ∷ after) → w ≡ v
 same_word stop front w v c behind after free none lack is e = sym (word_of stop front w c behind free none is) ∙ (ap (word stop) e ∙ word_of stop front v c after free lack is)
 
 pub same_rest : (stop : Stop) (front w v : List ℕ) (c : ℕ) (behind after : List ℕ) → Lacks colon front → Lacks stop w → Lacks stop v → is_stop stop c ≡ true → member front w (c ∷ behind) ≡ member front v (c ∷ after) → c ∷ behind ≡ c ∷ after
 same_rest stop front w v c behind after free none lack is e = sym (rest_of stop front w c behind free none is) ∙ (ap (rest stop) e ∙ rest_of stop front v c after free lack is)
 
--- no stop stands in a word
+-- A digit is not a comma.
 no_comma : (c : ℕ) → is_within 48 57 c ≡ true → not (is_stop comma c) ≡ true
 no_comma c h = grind (arith, nat_tests)
 

@@ -1,4 +1,4 @@
--- Stretches have just the seeds that they are to have.
+-- The ranges that `holes` and `doubles` return have exactly the right seeds.
 use Rattle.std.proofs.Common.{ℕ, ◌+◌, ◌-◌, ◌<◌, ◌≤◌, ◌≡◌, Bool, true, false, cond, List, [], ◌∷◌, ◌++◌, refl, sym, ap, ◌∙◌, arith, ◌⊎◌}
 use Rattle.std.specs.Prelude.{◌==◌, nat_le, nat_lt, min, max, ◌&&◌, ◌||◌, count_by}
 use Rattle.std.proofs.lemmas.List.Folds.{list_any-append}
@@ -9,7 +9,7 @@ use Rattle.surveys.specs.Covering.{AreAscending, AreDoubles, AreHoles, gaps, is_
 use Rattle.surveys.proofs.Comparing.{another, empty_has, equal_is, first_stretch, gap_step, last_gap, less_is, longer, or_false, twice_one, twice_other, twice_same, zero_plus}
 use Rattle.surveys.proofs.Rising.{AreFrom, Rise, are_from_less, none_below, repeated_rise, rise}
 
--- a stretch from a to b, if it has seeds
+-- A number is in the range from a to b exactly if it is at least a and at most b.
 stretch_has : (x a b : ℕ) → is_in x (stretch a b) ≡ (nat_le a x && nat_le x b)
 stretch_has x a b = go (nat_le a b) refl
   where
@@ -17,12 +17,12 @@ stretch_has x a b = go (nat_le a b) refl
     go true e = or_false (nat_le a x && nat_le x b)
     go false e = empty_has x a b e
 
--- the same, where it is to be there
+-- The same holds for a range that is there only if a flag is true.
 if_has : (x a b : ℕ) (t : Bool) → is_in x (cond t (stretch a b) []) ≡ (t && (nat_le a x && nat_le x b))
 if_has x a b true = stretch_has x a b
 if_has x a b false = refl
 
--- how often a seed stands in a list with one more
+-- How often a number occurs in a list with one more seed.
 pub times_more : (x s : ℕ) (seeds : List ℕ) → times x (s ∷ seeds) ≡ cond (s == x) 1 0 + times x seeds
 times_more x s seeds =
     sum_by-append (λ (y : ℕ). cond (y == x) 1 0) (s ∷ []) seeds ∙ ap (λ n. n + times x seeds) (zero_plus (cond (s == x) 1 0))
@@ -37,14 +37,14 @@ gaps_have next last (s ∷ seeds) h x =
     list_any-append (is_within x) (cond (nat_lt next s) (stretch next (min (s - 1) last)) []) (gaps (max next (s + 1)) seeds last)
     ∙ (step ∙ ap (λ n. nat_le next x && (nat_le x last && (n == 0))) (sym (times_more x s seeds)))
 
--- where ascending seeds are those of a list, it has each as often
+-- A sorted list contains each seed as often as the list does.
 as_often : (seeds sorted : List ℕ) → AreAscending seeds sorted → (x : ℕ) → times x sorted ≡ times x seeds
 as_often seeds sorted h x = sum_by-IsPermutation (λ s. cond (s == x) 1 0) seeds sorted h.same
 
 pub holes_exact : (first last : ℕ) (seeds sorted : List ℕ) → AreAscending seeds sorted → AreHoles first last seeds (gaps first sorted last)
 holes_exact first last seeds sorted h = λ x. rw (as_often seeds sorted h x) at (gaps_have first last sorted (rise sorted h.ascending) x)
 
--- one seed more that stands twice, or does not
+-- One more seed equals the seed after it, or not. In both cases the repeated seeds are those that occur twice.
 repeated_next : (a b x : ℕ) (seeds : List ℕ) → a ≤ b → AreFrom b (b ∷ seeds) → (t : Bool) → (a == b) ≡ t → nat_lt 0 (times x (repeated (b ∷ seeds))) ≡ nat_le 2 (times x (b ∷ seeds))
     → nat_lt 0 (times x (cond t (b ∷ []) [] ++ repeated (b ∷ seeds))) ≡ nat_le 2 (times x (a ∷ b ∷ seeds))
 repeated_next a b x seeds le h true e more =
@@ -60,7 +60,7 @@ repeated_have [] h x = refl
 repeated_have (a ∷ []) h x = twice_one a x ∙ ap (nat_le 2) (sym (times_more x a []))
 repeated_have (a ∷ b ∷ seeds) h x = repeated_next a b x seeds h.0.0 (omega arith, h.1.0) (a == b) refl (repeated_have (b ∷ seeds) h.1 x)
 
--- one seed more, in the stretch that has come so far, or in another
+-- One more seed continues the current range or begins another one. In both cases the ranges have the right seeds.
 stretches_next : (a b s x : ℕ) (seeds : List ℕ) → a ≤ b → b ≤ s → (t : Bool) → nat_le s (b + 1) ≡ t
     → is_in x (stretches_from a (max b s) seeds) ≡ ((nat_le a x && nat_le x (max b s)) || nat_lt 0 (times x seeds))
     → is_in x (stretches_from s s seeds) ≡ ((nat_le s x && nat_le x s) || nat_lt 0 (times x seeds))

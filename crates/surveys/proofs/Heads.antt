@@ -1,4 +1,4 @@
--- Families with the same head have the same campaigns.
+-- Families with the same head draw the same campaigns.
 use Rattle.std.proofs.Common.{ℕ, ◌+◌, ◌≡◌, ◌<◌, ◌^◌, true, false, List, [], ◌∷◌, ◌++◌, ◌%◌, drop, refl, sym, ap, ◌∙◌, arith, append_assoc, codes, Option, None, Some}
 use Rattle.std.specs.Prelude.{Bool, cond, decimal, bytes_eq, IfSome, not, string_bytes, map, take, ◌==◌}
 use Rattle.std.proofs.lemmas.Bool.Decides.{nat_tests}
@@ -28,7 +28,7 @@ use Rattle.surveys.specs.Plotting.{bound_of, chosen, commander_of, count_of, do_
 use Rattle.surveys.specs.Wording.{campaign_text, plot_text}
 use Rattle.surveys.proofs.Cuts.{decimal_lacks_brace, decimal_lacks_comma, same_rest, same_word}
 
--- ---- what stands behind each member
+-- ---- the text of a head after each member
 
 abbrev from_low : Family → List ℕ
 from_low f = member (codes ",\"traitors_low\"") (decimal f.traitors.low) (codes "}\n")
@@ -63,7 +63,7 @@ from_least f = member (codes ",\"bound_low\"") (decimal f.bound.low) (from_comma
 abbrev from_bound : Family → List ℕ
 from_bound f = member (codes ",\"bound_high\"") (decimal f.bound.high) (from_least f)
 
--- ---- words
+-- ---- the values of the members contain no comma
 
 manner_lacks : (m : Manner) → Lacks comma (manner_word m)
 manner_lacks (Oral rule) = all-append (λ c. not (is_stop comma c)) (codes "\"") (rule_name rule ++ codes "\"") refl (all-append (λ c. not (is_stop comma c)) (rule_name rule) (codes "\"") (name_lacks_comma rule) refl)
@@ -77,7 +77,7 @@ patience_lacks : (p : Option ℕ) → IfSome p (λ steps. steps < 2 ^ 64) → La
 patience_lacks None h = refl
 patience_lacks (Some steps) h = decimal_lacks_comma steps h
 
--- numbers with the same digits are the same
+-- Numbers with the same digits are equal.
 same_number : (n m : ℕ) → n < 2 ^ 64 → m < 2 ^ 64 → decimal n ≡ decimal m → n ≡ m
 same_number n m few less e =
     let a = decimal_of-decimal n few in
@@ -88,11 +88,11 @@ same_number n m few less e =
 unlike : {A : Type 0} (xs ys zs : List ℕ) → bytes_eq xs zs ≡ true → bytes_eq ys zs ≡ false → xs ≡ ys → A
 unlike xs ys zs like other e = let same = ap (λ l. bytes_eq l zs) e in absurd (let z : true ≡ false = sym like ∙ (same ∙ other) in cc)
 
--- a word in quotation marks is the word
+-- If two words in quotation marks are equal, the words are equal.
 unquoted : (xs ys : List ℕ) → codes "\"" ++ (xs ++ codes "\"") ≡ codes "\"" ++ (ys ++ codes "\"") → xs ≡ ys
 unquoted xs ys e = append_cancel_right xs ys (codes "\"") (ap (drop 1) e)
 
--- no rule has this word
+-- No rule has the name `signed`.
 no_rule : {A : Type 0} (rule : Rule) → rule_name rule ≡ codes "signed" → A
 no_rule rule e = let so : Some rule ≡ rule_named (codes "signed") = sym (name_read rule) ∙ ap rule_named e in absurd (let z : Some rule ≡ None = so in cc)
 
@@ -119,7 +119,7 @@ same_patience None (Some n) h k e = (let a = decimal_of-decimal n k in let b : N
 same_patience (Some n) None h k e = (let a = decimal_of-decimal n h in let b : decimal_of (decimal n) ≡ None = ap decimal_of e in absurd (let z : None ≡ Some n = sym b ∙ a in cc))
 same_patience (Some n) (Some m) h k e = ap Some (same_number n m h k e)
 
--- what adversaries with the same word do
+-- Adversaries with the same word in the head draw the same.
 pub record DoSame (a b : Adversary) : Type 0 where
   pub given : given_in a ≡ given_in b
   pub counts : do_count a ≡ do_count b
@@ -145,7 +145,7 @@ same_deeds (Given h) (Given k) e =
     let more : string_bytes h ++ 34 ∷ [] ≡ string_bytes k ++ 34 ∷ [] = ap (drop 3) e in
     record { given = ap Some (append_cancel_right (string_bytes h) (string_bytes k) (34 ∷ []) more); counts = refl; lies = λ m v c seed n g. refl }
 
--- seeds give the same of both
+-- Families with the same ranges and choices draw the same campaign from a seed.
 same_plot : (f g : Family) (seed : ℕ) → f.generals ≡ g.generals → f.bound ≡ g.bound → f.traitors ≡ g.traitors → f.commander ≡ g.commander → f.orders ≡ g.orders → f.grid ≡ g.grid → f.manner ≡ g.manner → f.patience ≡ g.patience → DoSame f.adversary g.adversary → plot_of f seed ≡ plot_of g seed
 unfolding plot_of
 same_plot f g seed generals bound traitors commander orders grid manner patience same =
@@ -172,7 +172,7 @@ small n lt = omega arith
 small_lacks : (n : ℕ) → n < 256 → Lacks comma (decimal n)
 small_lacks n lt = decimal_lacks_comma n (small n lt)
 
--- who commands, and what stands behind it
+-- The member `commander`, which is left out if it is 0, and the text after it.
 zero_is : (a : ℕ) → a == 0 ≡ true → a ≡ 0
 zero_is a h = grind (arith, nat_tests)
 
@@ -193,7 +193,7 @@ same_commander false false a b xs ys ha hb la lb e = (
   same_rest comma (codes ",\"commander\"") (decimal a) (decimal b) 44 _ _ refl (small_lacks a la) (small_lacks b lb) refl e,
 )
 
--- the greatest order, and what stands behind it
+-- The member `orders`, which is left out if it is 1, and the text after it.
 one_is : (a : ℕ) → a == 1 ≡ true → a ≡ 1
 one_is a h = grind (arith, nat_tests)
 
@@ -250,7 +250,7 @@ same_families f g seed hf hg e =
     let low = same_number f.traitors.low g.traitors.low (small f.traitors.low hf.traitors.0) (small g.traitors.low hg.traitors.0) (same_word (Byte 125) (codes ",\"traitors_low\"") (decimal f.traitors.low) (decimal g.traitors.low) 125 _ _ refl (decimal_lacks_brace f.traitors.low (small f.traitors.low hf.traitors.0)) (decimal_lacks_brace g.traitors.low (small g.traitors.low hg.traitors.0)) refl e9) in
     ap plot_text (same_plot f g seed (span_of f.generals g.generals generals_low generals_high) (span_of f.bound g.bound bound_low bound_high) (span_of f.traitors g.traitors low high) commanders.0 orders.0 grid manner patience (same_deeds f.adversary g.adversary adversary))
 
--- ---- a head is a whole line
+-- ---- a head ends with a line feed
 
 abbrev Ends : List ℕ → Type 0
 Ends xs = (front : List ℕ) × (xs ≡ front ++ 10 ∷ [])

@@ -12,11 +12,11 @@ greatest_suc : (p : ℕ → Bool) (n : ℕ) → greatest p (suc n) ≡ cond (p n
 unfolding greatest
 greatest_suc p n = refl
 
--- one number more that passes, or does not
+-- The greatest number below a limit that passes a test, if the limit is 1 greater.
 pub greatest_more : (p : ℕ → Bool) (n : ℕ) → greatest p (n + 1) ≡ cond (p n) n (greatest p n)
 greatest_more p n = ap (greatest p) (add-one n) ∙ greatest_suc p n
 
--- what passes if 0 does, and that nothing greater does
+-- q passes the test, and no greater number below the limit does.
 record IsGreatest (p : ℕ → Bool) (limit q : ℕ) : Type 0 where
   passes : p q ≡ true
   within : q < limit
@@ -52,7 +52,7 @@ greatest_is p (suc limit) h =
 none_below : (n k : ℕ) → is_below n k 0 ≡ true
 none_below n k = refl
 
--- whether a share is below, case by case
+-- Whether a share is at most the lower end of the interval, case by case.
 pub at_zero : (n k q : ℕ) → q ≡ 0 → is_below n k q ≡ true
 at_zero n k q none = ap (is_below n k) none ∙ none_below n k
 
@@ -71,7 +71,7 @@ not_below n k q some le = rw (no_zero q some, no_less (n * q) (k * 10000) le) re
 pub as_below : (n k q : ℕ) → q ≢ 0 → n * q < k * 10000 → is_below n k q ≡ nat_le (2401 * n * (q * (10000 - q))) (25 * (k * 10000 - n * q) * (25 * (k * 10000 - n * q)))
 as_below n k q some less = rw (no_zero q some, is_less (n * q) (k * 10000) less) refl
 
--- the lower end, which the shares up to a limit give
+-- The lower end of the interval, as the greatest share that is at most this end.
 pub lower_same : (n k end q : ℕ) → end ≡ 10001 → q ≡ greatest (is_below n k) end → q ≡ lower n k
 unfolding lower
 lower_same n k end q e h = h ∙ ap (greatest (is_below n k)) e

@@ -1,4 +1,4 @@
--- Where the bound is kept, all is well.
+-- If the bound of a campaign holds, its verdict is sound.
 use Rattle.std.proofs.Common.{◌≡◌, ◌≢◌, Bool, true, false, [], ◌∷◌, refl, Option, None, Some}
 use Rattle.std.specs.Prelude.{◌&&◌, not}
 use Rattle.world.specs.declared.verdict.Verdict.{Verdict}

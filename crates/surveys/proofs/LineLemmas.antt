@@ -9,7 +9,7 @@ use Rattle.surveys.specs.Account.{Account}
 use Rattle.surveys.specs.Accounting.{account_back, account_front, account_middle, account_text, list_text}
 use Rattle.surveys.specs.Lines.{answer_text, back_text, flag_text, front_text, line_text}
 
--- a name, and what stands behind it
+-- A text, a name and the text after it, joined in either order.
 pub named : (s t n a : List ℕ) → t ≡ (s ++ n) ++ a → t ≡ s ++ (n ++ a)
 named s t n a e = e ∙ append_assoc s n a
 
@@ -25,11 +25,11 @@ four_pieces s t u v w a b c d e f g h = three_pieces s u v w (a ++ b) c d (two_p
 pub five_pieces : (s t u v w x a b c d k : List ℕ) → t ≡ s ++ a → u ≡ t ++ b → v ≡ u ++ c → w ≡ v ++ d → x ≡ w ++ k → x ≡ s ++ (a ++ (b ++ (c ++ (d ++ k))))
 five_pieces s t u v w x a b c d k e f g h i = four_pieces s u v w x (a ++ b) c d k (two_pieces s t u a b e f) g h i ∙ ap (λ y. s ++ y) (append_assoc a b (c ++ (d ++ k)))
 
--- a line's halves
+-- The two halves of a campaign's line, joined.
 pub joined_halves : (old : List ℕ) (f : Finding) → (old ++ front_text f) ++ back_text f ≡ old ++ line_text f
 joined_halves old f = simp append_assoc
 
--- an account's parts
+-- The parts of an account's line, joined.
 flat_account : (o a1 x1 a2 x2 a3 x3 b1 y1 b2 y2 b3 y3 c1 z1 c2 z2 c3 z3 c4 : List ℕ)
     → ((o ++ (a1 ++ (x1 ++ (a2 ++ (x2 ++ (a3 ++ x3)))))) ++ (b1 ++ (y1 ++ (b2 ++ (y2 ++ (b3 ++ y3)))))) ++ (c1 ++ (z1 ++ (c2 ++ (z2 ++ (c3 ++ (z3 ++ c4))))))
     ≡ o ++ (a1 ++ (x1 ++ (a2 ++ (x2 ++ (a3 ++ (x3 ++ (b1 ++ (y1 ++ (b2 ++ (y2 ++ (b3 ++ (y3 ++ (c1 ++ (z1 ++ (c2 ++ (z2 ++ (c3 ++ (z3 ++ c4))))))))))))))))))
@@ -40,7 +40,7 @@ joined_account old a =
     flat_account old (codes "{\"alike\":") (flag_text a.finding.verdict.alike) (codes ",\"bound\":") (decimal a.finding.bound) (codes ",\"decisions\":") (list_text a.decisions) (codes ",\"generals\":") (decimal a.finding.generals) (codes ",\"kept\":")
     (flag_text a.finding.verdict.bound) (codes ",\"line\":\"account\",\"obeyed\":") (answer_text a.finding.verdict.obeyed) (codes ",\"order\":") (decimal a.order) (codes ",\"seed\":") (decimal a.finding.seed) (codes ",\"traitors\":") (list_text a.traitors) (codes "}\n")
 
--- a head's parts
+-- The parts of a head, joined.
 flat : (p w f1 x1 f2 x2 k f3 x3 f4 x4 m0 y0 m1 y1 r m2 y2 e1 z1 e2 z2 e3 : List ℕ)
     → (((p ++ w) ++ (f1 ++ (x1 ++ (f2 ++ (x2 ++ (k ++ (f3 ++ (x3 ++ (f4 ++ x4))))))))) ++ (m0 ++ (y0 ++ (m1 ++ (y1 ++ (r ++ (m2 ++ y2))))))) ++ (e1 ++ (z1 ++ (e2 ++ (z2 ++ e3))))
     ≡ p ++ (w ++ (f1 ++ (x1 ++ (f2 ++ (x2 ++ (k ++ (f3 ++ (x3 ++ (f4 ++ (x4 ++ (m0 ++ (y0 ++ (m1 ++ (y1 ++ (r ++ (m2 ++ (y2 ++ (e1 ++ (z1 ++ (e2 ++ (z2 ++ e3)))))))))))))))))))))

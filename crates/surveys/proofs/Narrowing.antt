@@ -1,4 +1,4 @@
--- Families of which seeds give the same.
+-- Families that draw the same campaign from each seed.
 use Rattle.std.proofs.Common.{ℕ, ◌+◌, ◌≡◌, map}
 use Rattle.std.specs.Prelude.{◌%◌}
 use Rattle.surveys.specs.declared.adversary.Adversary.{Adversary}

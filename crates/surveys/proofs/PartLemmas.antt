@@ -12,7 +12,7 @@ use Rattle.surveys.specs.declared.parts.PartError.{PartError}
 use Rattle.surveys.specs.Lines.{line_text}
 use Rattle.surveys.specs.Parts.{Adds, AddsAll, AreOf, IsFaulty, IsHeadLine, IsLine, IsOf, IsReadOn, IsSized, IsUnfed, IsWrong, StopsAt, found_in, row_text, cut_off, unknown, foreign, earlier, later}
 
--- a line up to its line feed, and with it
+-- A line up to its line feed, and including it.
 same_ten : (c : ℕ) → c == 10 ≡ true → c ≡ 10
 same_ten c e = grind (arith, nat_tests)
 
@@ -35,7 +35,7 @@ line_ends (c ∷ cs) lt = by (c == 10) refl (λ h. line_ends cs h) lt
 pub whole_line : (bytes line : List ℕ) → line ≡ take (until feed bytes + 1) bytes → until feed bytes < length bytes → IsLine line
 whole_line bytes line is lt = let h = line_ends bytes lt in record { front = h.0; free = h.1; whole = is ∙ h.2 }
 
--- a text in which no line feed is found has none
+-- If a search finds no line feed in a text, the text has none.
 pub unfed_all : (bytes : List ℕ) → length bytes ≤ until feed bytes → IsUnfed bytes
 unfed_all [] le = refl
 unfed_all (c ∷ cs) le = by (c == 10) refl (λ h. unfed_all cs h) le
@@ -47,7 +47,7 @@ unfed_all (c ∷ cs) le = by (c == 10) refl (λ h. unfed_all cs h) le
 pub line_length : (line : List ℕ) → IsLine line → 0 < length line
 line_length line h = (let e = ap length h.whole in let l = length-append h.front (10 ∷ []) in omega arith)
 
--- lines one behind the other
+-- The text of rows and one more row.
 texts_more : (head : List ℕ) (rows : List (Option Finding)) (row : Option Finding) → flat_map (row_text head) (rows ++ row ∷ []) ≡ flat_map (row_text head) rows ++ row_text head row
 texts_more head [] row = append-nil (row_text head row)
 texts_more head (r ∷ rows) row = ap (λ (l : List ℕ). row_text head r ++ l) (texts_more head rows row) ∙ sym (append_assoc (row_text head r) (flat_map (row_text head) rows) (row_text head row))
@@ -61,7 +61,7 @@ pub all_both : {A : Type 0} (P : A → Type 0) (xs ys : List A) → AllByRecursi
 all_both P [] ys h k = k
 all_both P (x ∷ xs) ys h k = (h.0, all_both P xs ys h.1 k)
 
--- the lines up to here, of which the next has this number
+-- The lines up to here were read. The next line has this number.
 pub record IsOn (head lines rest : List ℕ) (first last number : ℕ) (before now : List Finding) : Type 0 where
   pub rows : List (Option Finding)
   pub whole : lines ≡ flat_map (row_text head) rows ++ rest
@@ -101,7 +101,7 @@ pub on_ends : (head lines rest : List ℕ) (first last number : ℕ) (before now
 on_ends head lines rest first last number before now on none =
     record { rows = on.rows; whole = on.whole ∙ (ap (λ (l : List ℕ). flat_map (row_text head) on.rows ++ l) (empty rest none) ∙ append-nil (flat_map (row_text head) on.rows)); behind = on.behind; seeds = on.seeds }
 
--- a line that is wrong is so before others
+-- A line that is wrong by itself is also wrong before other lines.
 fed : (front more : List ℕ) → IsUnfed (front ++ 10 ∷ more) → ⊥
 fed [] more h = (let z : false ≡ true = h in cc)
 fed (c ∷ cs) more h = fed cs more (and_parts (not (c == 10)) (list_all (λ x. not (x == 10)) (cs ++ 10 ∷ more)) h).1
@@ -124,14 +124,14 @@ pub stops_at : (head lines rest : List ℕ) (first last number : ℕ) (before no
 stops_at head lines rest first last number before now after e on same wrong =
     record { rows = on.rows; rest = rest; whole = on.whole; behind = same ∙ on.behind; seeds = on.seeds; wrong = subst (λ (n : ℕ). IsWrong head rest first last n e) on.count wrong }
 
--- one line
+-- A line that repeats the head adds no result.
 pub head_again : (head line : List ℕ) (first last : ℕ) (now : List Finding) → line ≡ head → Adds head line first last now now
 head_again head line first last now e = record { row = None; text = e; behind = sym (append-nil now); seeds = tt }
 
 pub one_more : (head line : List ℕ) (first last : ℕ) (f : Finding) (now after : List Finding) → line ≡ line_text f → first ≤ f.seed → f.seed ≤ last → IsSized f → after ≡ now ++ f ∷ [] → Adds head line first last now after
 one_more head line first last f now after e low high sized is = record { row = Some f; text = e; behind = is; seeds = ((low, high, sized), tt) }
 
--- a whole part
+-- A head and the lines after it, which were read, are a further part of a survey.
 pub read_on : (before head line behind bytes : List ℕ) (first last : ℕ) (old new : List Finding) → bytes ≡ line ++ behind → head ≡ line → IsHeadLine line → (before ≢ [] → head ≡ before) → AddsAll head behind first last old new → IsReadOn before head bytes first last old new
 read_on before head line behind bytes first last old new cut is whole same adds =
     let P : List ℕ → Type 0 = λ l. IsHeadLine l in
@@ -162,7 +162,7 @@ read_none head bytes first last now none =
       behind = sym (append-nil now);
     }
 
--- a front that may be shorter
+-- The first n bytes of a text that may be shorter.
 pub take_min : (n : ℕ) (xs : List ℕ) → take (min (length xs) n) xs ≡ take n xs
 take_min n xs = ⊎_elim
     (λ (lt : length xs < n). (let e : min (length xs) n ≡ length xs = omega arith in ap (λ k. take k xs) e ∙ (take_all (length xs) xs (omega arith) ∙ sym (take_all n xs (omega arith)))))
@@ -172,12 +172,12 @@ take_min n xs = ⊎_elim
 pub head_some : (head : List ℕ) → IsHeadLine head → head ≢ []
 head_some head h e = let some = line_length head h.line in let none = ap length e in omega arith
 
--- a first line that is wrong
+-- If the first line is wrong, nothing of the text is read.
 pub first_wrong : (head bytes : List ℕ) (first last : ℕ) (now : List Finding) (e : PartError) → IsWrong head bytes first last 1 e → IsFaulty head head bytes first last now now e
 first_wrong head bytes first last now e wrong =
     record { rows = []; rest = bytes; led = tt; whole = refl; same = λ k. refl; unread = λ k. refl; behind = sym (append-nil now); seeds = tt; wrong = wrong }
 
--- and one behind a head
+-- If a line after the head is wrong, the lines before it are read.
 pub wrong_behind_head : (before head line behind bytes : List ℕ) (first last : ℕ) (old new : List Finding) (e : PartError) → bytes ≡ line ++ behind → head ≡ line → IsHeadLine line → (before ≢ [] → head ≡ before) → StopsAt head behind first last old new e
     → IsFaulty before head bytes first last old new e
 wrong_behind_head before head line behind bytes first last old new e cut is whole same st =

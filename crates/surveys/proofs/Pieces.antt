@@ -1,10 +1,10 @@
--- Lists that are gathered piece by piece.
+-- Lists that are made piece by piece, with a piece for each number.
 use Rattle.std.proofs.Common.{ℕ, ◌+◌, ◌≡◌, List, [], ◌∷◌, ◌++◌, sym, ap, ◌∙◌, append_assoc}
 use Rattle.std.specs.List.{flat_map, range_with_len}
 use Rattle.std.proofs.lemmas.List.{flat_map_more}
 use Rattle.book.proofs.Gathering.{range_more}
 
--- what one number more adds
+-- The piece of one more number is appended.
 pub pieces : {A : Type 0} (piece : ℕ → List A) (n : ℕ) → flat_map piece (range_with_len 0 n) ++ piece n ≡ flat_map piece (range_with_len 0 (n + 1))
 pieces piece n = flat_map_more piece [] (range_with_len 0 n) n ∙ ap (flat_map piece) (sym (range_more n))
 

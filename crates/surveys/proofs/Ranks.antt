@@ -1,4 +1,4 @@
--- The least of breaches.
+-- The least of reduced campaigns.
 use Rattle.std.proofs.Common.{ℕ, ◌≡◌, Bool, true, false, List, [], ◌∷◌, ◌++◌, length, refl, arith, Option, None, Some}
 use Rattle.std.specs.Prelude.{cond, IfSome}
 use Rattle.std.proofs.lemmas.Bool.Decides.{nat_tests}
@@ -6,7 +6,8 @@ use Rattle.std.proofs.lemmas.List.Elements.{All-append, All-cons, All-nil, All-w
 use Rattle.surveys.specs.declared.breach.Breach.{Breach}
 use Rattle.surveys.specs.Breaches.{IsLeastOf, better, is_before, is_below, statements}
 
--- by three numbers: none is below itself; what is not below a number is not below a lesser one, and neither is a greater one below it
+-- The order of triples: none is less than itself, and a triple that is not less than another is not less than a lesser
+-- one.
 never_itself : (a b c : ℕ) → is_below a b c a b c ≡ false
 never_itself a b c = grind (arith, nat_tests)
 
@@ -20,7 +21,7 @@ still_not : (c a b : Breach) → is_before c a ≡ false → is_before b a ≡ t
 still_not c a b o l =
     below_less (length c.plot.traitors) (statements c.plot) c.seed (length a.plot.traitors) (statements a.plot) a.seed (length b.plot.traitors) (statements b.plot) b.seed o l
 
--- what is below another is below all that this is below, and below all that is not below this
+-- If a triple is less than another, it is less than each triple that is not less than that one.
 below_both : (a b c d e f g h i : ℕ) → is_below a b c d e f ≡ true → is_below d e f g h i ≡ true → is_below a b c g h i ≡ true
 below_both a b c d e f g h i o l = grind (arith, nat_tests)
 
@@ -35,7 +36,7 @@ pub before_not_less : (a b c : Breach) → is_before a b ≡ true → is_before 
 before_not_less a b c o l =
     below_not_less (length a.plot.traitors) (statements a.plot) a.seed (length b.plot.traitors) (statements b.plot) b.seed (length c.plot.traitors) (statements c.plot) c.seed o l
 
--- nothing of these comes before it
+-- The reduced campaign, if there is one, is not less than `b`.
 abbrev Bounds : Breach → Option Breach → Type 0
 Bounds b o = IfSome o (λ c. is_before c b ≡ false)
 
@@ -58,7 +59,7 @@ other_bounds a b l (Some c) h = not_between c a b h l
     not_between c a b p q =
         between (length c.plot.traitors) (statements c.plot) c.seed (length a.plot.traitors) (statements a.plot) a.seed (length b.plot.traitors) (statements b.plot) b.seed p q
 
--- of two parts
+-- The least of two lists is the lesser of the two least ones.
 pub least_of_both : (xs ys : List (Option Breach)) (a b : Option Breach) → IsLeastOf xs a → IsLeastOf ys b → IsLeastOf (xs ++ ys) (better a b)
 least_of_both xs ys None None h k = All-append (λ o. o ≡ None) xs ys h k
 least_of_both xs ys None (Some b) h k =
@@ -75,6 +76,6 @@ least_of_one : (o : Option Breach) → IsLeastOf (o ∷ []) o
 least_of_one None = All-cons (λ o. o ≡ None) None [] refl (All-nil (λ o. o ≡ None))
 least_of_one (Some b) = (Contains-push [] (Some b), All-cons (Bounds b) (Some b) [] (not_before b) (All-nil (Bounds b)))
 
--- and one more
+-- The least of a list and one more result.
 pub least_more : (xs : List (Option Breach)) (a o : Option Breach) → IsLeastOf xs a → IsLeastOf (xs ++ o ∷ []) (better a o)
 least_more xs a o h = least_of_both xs (o ∷ []) a o h (least_of_one o)

@@ -1,4 +1,4 @@
--- A line is read as what it was written of.
+-- A line is read as the result that it was written from.
 use Rattle.std.proofs.Common.{ℕ, ◌≡◌, ◌<◌, ◌^◌, Bool, true, false, List, [], ◌∷◌, drop, refl, sym, subst, ap, ◌∙◌, arith, codes, Option, None, Some}
 use Rattle.std.specs.Prelude.{decimal, ◌==◌}
 use Rattle.std.proofs.lemmas.Bool.Decides.{nat_tests}
@@ -23,7 +23,7 @@ answer_lacks : (a : Option Bool) → Lacks comma (answer_text a)
 answer_lacks None = refl
 answer_lacks (Some b) = flag_lacks b
 
--- each word says what it was written of
+-- Each word is parsed as the value that it was written from.
 flag_again : (b : Bool) → flag_told (flag_text b) ≡ Some b
 flag_again true = refl
 flag_again false = refl
@@ -56,7 +56,7 @@ found_again f h =
 same_found : (a b c d e g h i j k l m n o : List ℕ) → a ≡ i → b ≡ j → c ≡ k → d ≡ l → e ≡ m → g ≡ n → h ≡ o → found_by a b c d e g h ≡ found_by i j k l m n o
 same_found a b c d e g h i j k l m n o p q r s t u v = cc
 
--- the text of a line from each member on
+-- The text of a campaign's line from each member on.
 abbrev from_traitors : Finding → List ℕ
 from_traitors f = member (codes ",\"traitors\"") (decimal f.traitors) (codes "}\n")
 
@@ -110,7 +110,7 @@ told_again f h =
     (ap (word (Byte 125)) j ∙ word_of (Byte 125) (codes ",\"traitors\"") (decimal f.traitors) 125 _ refl (decimal_lacks_brace f.traitors traitors) refl)
     ∙ found_again f h
 
--- lines that are alike tell the same
+-- Results with the same line are equal.
 pub same_findings : (f g : Finding) → AreNumbers f → AreNumbers g → line_text f ≡ line_text g → f ≡ g
 same_findings f g h k e =
     let a = told_again f h in
@@ -119,11 +119,11 @@ same_findings f g h k e =
     let z : Some f ≡ Some g = sym a ∙ (same ∙ b) in
     cc
 
--- the members of a line, one behind the other
+-- The members of a campaign's line, one after the other.
 pub number_says : (limit n : ℕ) (w : List ℕ) → n < limit → n < 2 ^ 64 → w ≡ decimal n → number_told limit w ≡ Some n
 number_says limit n w lt fits e = ap (number_told limit) e ∙ number_again limit n lt fits
 
--- what is told of a text that begins with a member
+-- `w` and `r` are the word of the member with which a text begins, and the text after this word.
 abbrev pub Cut : ℕ → List ℕ → List ℕ → List ℕ → Type 0
 Cut ends bytes w r = ((v behind : List ℕ) → HasMember ends bytes v behind → w ≡ v) × ((v behind : List ℕ) → HasMember ends bytes v behind → r ≡ ends ∷ behind)
 
@@ -145,14 +145,14 @@ words_of f bytes a b m c n d k e x g o i s j t l h is c1 c2 c3 c4 c5 c6 c7 c8 =
     let eight = cut_on 125 j (from_traitors f) t l (decimal f.traitors) (10 ∷ []) c8 seven.1 (record { front = codes ",\"traitors\""; plain = refl; short = decimal_lacks_brace f.traitors h.traitors; whole = refl }) in
     record { alike = one.0; bound = two.0; generals = three.0; kept = four.0; obeyed = six.0; seed = seven.0; traitors = eight.0 }
 
--- the word and the rest of a text that begins with a member
+-- The word of the member with which a text begins, and the text after this word.
 pub member_word : (ends : ℕ) (bytes w behind : List ℕ) → HasMember ends bytes w behind → word (Byte ends) bytes ≡ w
 member_word ends bytes w behind h = ap (word (Byte ends)) h.whole ∙ word_of (Byte ends) h.front w ends behind h.plain h.short (same_byte ends)
 
 pub member_rest : (ends : ℕ) (bytes w behind : List ℕ) → HasMember ends bytes w behind → rest (Byte ends) bytes ≡ ends ∷ behind
 member_rest ends bytes w behind h = ap (rest (Byte ends)) h.whole ∙ rest_of (Byte ends) h.front w ends behind h.plain h.short (same_byte ends)
 
--- what is found by the words is what they were written of
+-- A result made of the parsed words is the one from which the words were written.
 pub found_is : (f : Finding) (s n m t : ℕ) (a k : Bool) (o : Option Bool) → Some s ≡ Some f.seed → Some n ≡ Some f.generals → Some m ≡ Some f.bound → Some t ≡ Some f.traitors → Some a ≡ Some f.verdict.alike → Some k ≡ Some f.verdict.bound
     → Some o ≡ Some f.verdict.obeyed → Some (record { seed = s; generals = n; bound = m; traitors = t; verdict = record { alike = a; obeyed = o; bound = k } }) ≡ Some f
 found_is f s n m t a k o e1 e2 e3 e4 e5 e6 e7 =
@@ -167,6 +167,6 @@ found_is f s n m t a k o e1 e2 e3 e4 e5 e6 e7 =
     (λ i. record { seed = seed i; generals = generals i; bound = bound i; traitors = traitors i; verdict = record { alike = alike i; obeyed = obeyed i; bound = kept i } }) in
     ap Some same
 
--- a word that says no number is not that of one
+-- The decimal text of a number below the limit is parsed.
 pub number_is_said : {A : Type 0} (limit n : ℕ) (w : List ℕ) → None ≡ number_told limit w → n < limit → n < 2 ^ 64 → w ≡ decimal n → A
 number_is_said limit n w none lt fits e = (let is = number_says limit n w lt fits e in absurd (let z : None ≡ Some n = none ∙ is in cc))

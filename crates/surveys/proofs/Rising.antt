@@ -5,12 +5,12 @@ use Rattle.std.specs.List.Sorted.{IsNonDecreasing}
 use Rattle.surveys.proofs.Comparing.{apart}
 use Rattle.surveys.specs.Covering.{repeated, times}
 
--- each is at least so great
+-- Each seed is at least `a`.
 abbrev pub AreFrom : ℕ → List ℕ → Type 0
 AreFrom a [] = ⊤
 AreFrom a (s ∷ seeds) = (a ≤ s) × AreFrom a seeds
 
--- each is at most each behind it
+-- Each seed is at most each later one.
 abbrev pub Rise : List ℕ → Type 0
 Rise [] = ⊤
 Rise (s ∷ seeds) = AreFrom s seeds × Rise seeds
@@ -28,14 +28,14 @@ pub are_from_less : (a b : ℕ) (seeds : List ℕ) → a ≤ b → AreFrom b see
 are_from_less a b [] le h = tt
 are_from_less a b (s ∷ seeds) le h = let more = h.0 in (omega arith, are_from_less a b seeds le h.1)
 
--- none below them stands there
+-- A number less than all seeds does not occur among them.
 pub none_below : (x a : ℕ) (seeds : List ℕ) → x < a → AreFrom a seeds → times x seeds ≡ 0
 none_below x a [] lt h = refl
 none_below x a (s ∷ seeds) lt h =
     let le = h.0 in
     rw (apart s x (omega arith), none_below x a seeds lt h.1) refl
 
--- nothing is repeated in a list of one
+-- A list of one seed has no repeated seed.
 pub last_none : (seeds : List ℕ) (k : ℕ) → length seeds ≤ k + 1 → repeated (drop k seeds) ≡ []
 last_none [] zero le = refl
 last_none [] (suc k) le = refl
@@ -43,7 +43,7 @@ last_none (a ∷ []) zero le = refl
 last_none (a ∷ b ∷ seeds) zero le = absurd (omega arith)
 last_none (a ∷ seeds) (suc k) le = last_none seeds k (omega arith)
 
--- those that stand twice
+-- The repeated seeds are at least the first seed.
 from_if : (a b : ℕ) (t : Bool) (seeds : List ℕ) → a ≤ b → AreFrom a seeds → AreFrom a (cond t (b ∷ []) [] ++ seeds)
 from_if a b true seeds le h = (le, h)
 from_if a b false seeds le h = h

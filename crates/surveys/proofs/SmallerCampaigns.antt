@@ -1,4 +1,4 @@
--- What is taken out makes a campaign smaller.
+-- If a traitor or a statement is removed, the campaign is smaller.
 use Rattle.std.proofs.Common.{ℕ, suc, ◌+◌, ◌<◌, ◌≤◌, ◌≡◌, length, take, drop, get_or, ap, arith, add-one, Bool, true, false, subst, sym, ⊎_elim}
 use Rattle.std.proofs.lemmas.Bool.{cases_lt}
 use Rattle.std.specs.Prelude.{sum_by, IfNone, IfSome, Option, None, Some}
@@ -10,7 +10,7 @@ use Rattle.surveys.specs.Plot.{Plot, Traitor}
 use Rattle.surveys.specs.Wording.{plot_text}
 use Rattle.surveys.specs.Shrinking.{Comes, ComesWell, IsBroken, IsLess, IsPartOf, IsRefusedOf, IsStillBroken, without_lie, without_traitor, loyal, silent, whole, lessened, nobody, quieter, size, traitor_at}
 
--- a traitor with his statements
+-- How many traitors and statements a traitor counts for.
 abbrev weight : Traitor → ℕ
 weight t = length t.lies + 1
 
@@ -27,7 +27,7 @@ less_size p (silent place index lt within) =
     let fewer = length-remove (traitor_at p place).lies index within in
     omega arith
 
--- a part is no larger, and a part of a part is a part
+-- A campaign with traitors or statements removed is not larger, and may be reduced further.
 pub part_size : (p : Plot) {q : Plot} → IsPartOf p q → size q ≤ size p
 part_size p whole = omega arith
 part_size p (lessened q r h l) = let smaller = less_size q l in let before = part_size p h in omega arith
@@ -36,7 +36,7 @@ pub part_on : (p q : Plot) {r : Plot} → IsPartOf p q → IsPartOf q r → IsPa
 part_on p q h whole = h
 part_on p q h (lessened s r k l) = lessened s r (part_on p q h k) l
 
--- what is left with one traitor or statement less
+-- The campaign with one traitor made loyal, or without one statement, is still broken.
 pub still_traitor : (p q : Plot) (place : ℕ) (b : Bool) → place < length p.traitors → q ≡ without_traitor p place → Comes b q → b ≡ false → IsStillBroken p q
 still_traitor p q place b lt is c e = record { less = subst (IsLess p) (sym is) (loyal place lt); broken = subst (λ x. Comes x q) e c }
 
@@ -46,18 +46,18 @@ still_lie p q place index b lt within is c e = record { less = subst (IsLess p) 
 pub well_so : (p q : Plot) (b : Bool) → q ≡ p → Comes b q → b ≡ true → ComesWell p
 well_so p q b is c e = subst (λ x. Comes x p) e (subst (Comes b) is c)
 
--- one number more
+-- What holds of all numbers below `n` and of `n` holds of all numbers below `n` + 1.
 pub upto_more : (P : ℕ → Type 0) (n : ℕ) → ((k : ℕ) → k < n → P k) → P n → (k : ℕ) → k < n + 1 → P k
 upto_more P n h p k lt = ⊎_elim (λ l. h k l) (λ le. subst P (same le) p) (cases_lt k n)
   where
     same : n ≤ k → n ≡ k
     same le = omega (arith, le, lt)
 
--- one step more
+-- One more removal leads to another reduction of the campaign.
 pub out_on : (p q r : Plot) → IsPartOf p q → IsStillBroken q r → IsBroken r × IsPartOf p r
 out_on p q r h s = (s.broken, lessened q r h s.less)
 
--- what is said of an option, where it is known
+-- If an option is `None`, what `IfNone` says of it holds.
 pub none_of : (o : Option Plot) (P : Type 0) → o ≡ None → IfNone o P → P
 none_of None P e h = h
 none_of (Some q) P e h = absurd (cc)
@@ -71,7 +71,7 @@ less_then p q r s h =
     let part = part_size q h in
     omega (arith, smaller, part)
 
--- a text that is refused is that of a part
+-- A fault of a campaign's text is also a fault of a reduction's text: the campaign is its own reduction.
 pub refused_here : (p : Plot) (e : ScenarioError) → IsRefused (plot_text p) e → IsRefusedOf p e
 refused_here p e h = record { left = p; part = whole; refused = h }
 

@@ -1,4 +1,4 @@
--- Sums of parts.
+-- The counts of two parts of a survey together.
 use Rattle.std.proofs.Common.{ℕ, ◌+◌, ◌≡◌, cond, List, [], ◌∷◌, ◌++◌, length, refl, sym, ap, ◌∙◌, arith, length-append, Option, None, Some}
 use Rattle.std.specs.Prelude.{count_by}
 use Rattle.std.proofs.lemmas.List.Sums.{sum_by-append}
@@ -33,7 +33,7 @@ least-append outcome (f ∷ fs) back =
 pub count-append : (outcome : CampaignOutcome) (front back : List Finding) → count_by (has outcome) (front ++ back) ≡ count_by (has outcome) front + count_by (has outcome) back
 count-append outcome front back = sum_by-append (λ f. cond (has outcome f) 1 0) front back
 
--- a tally by its parts
+-- The count of an outcome and the least seed, as a record.
 abbrev tally : ℕ → Option ℕ → Tally
 tally c a = record { count = c; first = a }
 

@@ -1,4 +1,4 @@
--- A part is read in one way, and what is right in it is no fault.
+-- A part of a survey can be read in only one way, and a valid part has no fault.
 use Rattle.std.proofs.Common.{ℕ, ◌+◌, ◌<◌, ◌≡◌, ◌≢◌, ◌^◌, Bool, true, false, List, [], ◌∷◌, ◌++◌, length, drop, refl, sym, ap, subst, ◌∙◌, arith, append_assoc, append-nil, length-append, Option, None, Some, codes}
 use Rattle.std.specs.Prelude.{◌==◌, not, decimal, flat_map, IfErr, IfSome, OnOk, Result, Ok, Err}
 use Rattle.std.specs.List.{AllByRecursion}
@@ -19,7 +19,7 @@ use Rattle.surveys.proofs.Rereading.{same_findings}
 
 -- ---- lines
 
--- texts that begin with a line begin with the same, if they are the same
+-- If two texts that begin with a line are equal, the lines and the texts after them are equal.
 pub same_lines : (l m x y : List ℕ) → IsLine l → IsLine m → l ++ x ≡ m ++ y → (l ≡ m) × (x ≡ y)
 same_lines l m x y h k e =
     let a = h.front in
@@ -58,7 +58,7 @@ numbers_of f h =
     let c = h.0.traitors in
     record { seed = h.1; generals = omega arith; bound = omega arith; traitors = omega arith }
 
--- what is not taken of a line that is no head is wrong there
+-- If the line after a head describes no accepted result, it is a wrong line.
 pub untaken_wrong : (head line : List ℕ) (first last number : ℕ) (told : Option Finding) (e : PartError) → IsLine line → is_head line ≡ false → 1 < number → IfSome told (λ f. line ≡ line_text f)
     → ((f : Finding) → AreNumbers f → line ≡ line_text f → told ≡ Some f) → IsUntaken first last number told e → IsWrong head line first last number e
 untaken_wrong head line first last number _ _ is bare lt own back untold =
@@ -118,7 +118,7 @@ campaigns_of first last (f ∷ found) lt h = let top = h.0.1 in ((h.0.2, omega a
 nothing : {A : Type 0} (l x : List ℕ) → IsLine l → l ++ x ≡ [] → A
 nothing l x h e = let some = line_length l h in let long = length-append l x in let none = ap length e in absurd (omega arith)
 
--- lines that begin with these rows have more behind them
+-- The text begins with these rows, and further rows follow.
 pub record Beyond (head : List ℕ) (rows all : List (Option Finding)) (rest : List ℕ) : Type 0 where
   pub more : List (Option Finding)
   pub split : all ≡ rows ++ more
@@ -138,7 +138,7 @@ walk head (r ∷ rows) (q ∷ all) rest h a b e =
     let is = same_row head r q h c.0 d.0 both.0 in
     record { more = w.more; split = λ i. sym is i ∷ w.split i; left = w.left }
 
--- ---- one reading
+-- ---- a part has only one reading
 
 same_none : (head : List ℕ) (more : List (Option Finding)) → IsHeadLine head → AllByRecursion IsCampaign (found_in more) → [] ≡ flat_map (row_text head) more → more ≡ []
 same_none head [] h a e = refl
@@ -160,19 +160,19 @@ same_rows h k bytes (None ∷ rows) (None ∷ all) l m a b e f =
     let is : all ≡ rows = w.split ∙ (ap (λ (x : List (Option Finding)). rows ++ x) none ∙ append-nil rows) in
     ap found_in (sym is)
 
--- what a right part tells is one list
+-- Two readings of a valid part have the same results.
 pub told_once : (before h k bytes : List ℕ) (first last : ℕ) (told other : List Finding) → last < 2 ^ 64 → IsFurther before h bytes first last told → IsFurther before k bytes first last other → told ≡ other
 told_once before h k bytes first last told other lt a b =
     let p = a.part in
     let q = b.part in
     p.told ∙ (same_rows h k bytes p.rows q.rows p.led q.led (campaigns_of first last (found_in p.rows) lt (subst (AreOf first last) p.told a.seeds)) (campaigns_of first last (found_in q.rows) lt (subst (AreOf first last) q.told b.seeds)) p.whole q.whole ∙ sym q.told)
 
--- ---- no fault
+-- ---- a valid part has no fault
 
 less_than : {A : Type 0} (n : ℕ) → n < n → A
 less_than n lt = absurd (omega arith)
 
--- what is wrong is no row
+-- A valid row is not wrong.
 wrong_row : (head rest x : List ℕ) (first last number : ℕ) (r : Option Finding) (e : PartError) → last < 2 ^ 64 → IsHeadLine head → IfSome r (IsOf first last) → IfSome r IsCampaign → 1 < number → rest ≡ row_text head r ++ x → IsWrong head rest first last number e → ⊥
 wrong_row head rest x first last number r _ lt h o c one is (cut_off some none) = line_fed (row_text head r) x (row_line head r h c) (subst IsUnfed is none)
 wrong_row head rest x first last number None _ lt h o c one is (unknown line more at l bare none) =
@@ -197,7 +197,7 @@ wrong_row head rest x first last number (Some g) _ lt h o c one is (later f more
     let top = o.1 in
     absurd (omega arith)
 
--- nor the end
+-- The end of the text is not wrong.
 wrong_end : (head rest : List ℕ) (first last number : ℕ) (e : PartError) → rest ≡ [] → IsWrong head rest first last number e → ⊥
 wrong_end head rest first last number _ none (cut_off some bare) = some none
 wrong_end head rest first last number _ none (unknown line more at l bare none') = nothing line more l (sym at ∙ none)
@@ -205,7 +205,7 @@ wrong_end head rest first last number _ none (foreign line more at l some other)
 wrong_end head rest first last number _ none (earlier f more at c one low) = nothing (line_text f) more (line_is f (numbers_of f c)) (sym at ∙ none)
 wrong_end head rest first last number _ none (later f more at c one high) = nothing (line_text f) more (line_is f (numbers_of f c)) (sym at ∙ none)
 
--- in the first line
+-- The head in the first line is not wrong.
 wrong_first : (head h rest x : List ℕ) (first last : ℕ) (e : PartError) → IsHeadLine h → (head ≢ [] → h ≡ head) → rest ≡ h ++ x → IsWrong head rest first last 1 e → ⊥
 wrong_first head h rest x first last _ l same is (cut_off some none) = line_fed h x l.line (subst IsUnfed is none)
 wrong_first head h rest x first last _ l same is (unknown line more at m bare none) = true_false (is_head h) l.begins (ap is_head (sym (same_lines line h more x m l.line (sym at ∙ is)).0) ∙ bare)
@@ -237,7 +237,7 @@ never before head h bytes rest first last (None ∷ rows) (None ∷ all) e lt l 
     let w = walk head rows all rest l (campaigns_of first last (found_in rows) lt a) (campaigns_of first last (found_in all) lt b) on in
     wrong_behind head rest first last (length (None ∷ rows) + 1) rows w.more all e lt l b w.split w.left (omega arith) wrong
 
--- a right part has no fault
+-- A valid part has no fault.
 pub never_faulty : (before head h bytes : List ℕ) (first last : ℕ) (old new told : List Finding) (e : PartError) → last < 2 ^ 64 → IsFurther before h bytes first last told → IsFaulty before head bytes first last old new e → ⊥
 never_faulty before head h bytes first last old new told e lt a f =
     let p = a.part in
@@ -249,7 +249,7 @@ must_be_memory (Family n) h = absurd (h (λ k. (let z : Family n ≡ Memory = k 
 must_be_memory (Seed n s) h = absurd (h (λ k. (let z : Seed n s ≡ Memory = k in cc)))
 must_be_memory Memory h = refl
 
--- so it is with what reading a part answers
+-- So the result of reading a valid part is no error, except out of memory.
 pub taken_by : {A : Type 0} (before head h bytes : List ℕ) (first last : ℕ) (old new told : List Finding) (r : Result A PartError) → last < 2 ^ 64 → IsFurther before h bytes first last told
     → IfErr r (λ e. e ≢ Memory → IsFaulty before head bytes first last old new e) → IfErr r (λ e. e ≡ Memory)
 taken_by before head h bytes first last old new told (Ok x) lt f w = tt

@@ -1,4 +1,4 @@
--- How the words of a line are found, and what is found by them: that lines that are alike tell the same.
+-- How the words of a line are found and parsed. It follows that results with the same line are equal.
 use Rattle.std.specs.Prelude.{ℕ, ◌^◌, Bool, true, false, if◌then◌else◌, List, drop, bytes_eq, codes, Option, None, Some}
 use Rattle.text.specs.Options.{◌>>=◌}
 use Rattle.text.specs.Parts.{before, from}
@@ -8,7 +8,7 @@ use Rattle.text.specs.declared.stop.Stop.TheVariants.{Byte}
 use Rattle.surveys.specs.declared.finding.Finding.{Finding}
 use Rattle.surveys.specs.Lines.{number_told}
 
--- what stands behind the first colon up to the stop, and from there on
+-- The word from the first colon up to the stop, and the text from the stop on.
 abbrev pub word : Stop → List ℕ → List ℕ
 word stop bytes = before stop (drop 1 (from colon bytes))
 
@@ -22,7 +22,7 @@ flag_told bytes =
 abbrev pub answer_told : List ℕ → Option (Option Bool)
 answer_told bytes = if bytes_eq bytes (codes "null") then Some None else flag_told bytes >>= λ b. Some (Some b)
 
--- what is found by these words, in the order of the line
+-- The result that these words describe, in the order of the line.
 unfoldable pub found_by : List ℕ → List ℕ → List ℕ → List ℕ → List ℕ → List ℕ → List ℕ → Option Finding
 found_by alike bound generals kept obeyed seed traitors =
     flag_told alike >>= λ a.
@@ -40,7 +40,7 @@ found_by alike bound generals kept obeyed seed traitors =
       verdict = record { alike = a; obeyed = o; bound = k };
     })
 
--- by the words behind the colons of a line, of which the fifth says what the line is
+-- The result that the words after the colons of a line describe. The fifth word says what kind of line it is.
 unfoldable pub line_told : List ℕ → Option Finding
 line_told a =
     let b = rest comma a in

@@ -1,4 +1,4 @@
--- What is written of a family's campaigns is a part.
+-- The text that is written for campaigns of a family is a valid part of a survey.
 use Rattle.std.proofs.Common.{ℕ, ◌≡◌, ◌<◌, ◌^◌, List, [], ◌∷◌, ◌++◌, map, refl, ap, arith, codes, Option, None, Some}
 use Rattle.std.specs.Prelude.{◌==◌, Bool, true, false, cond, decimal, flat_map, IfSome, not}
 use Rattle.combine.specs.Rule.{rule_name}

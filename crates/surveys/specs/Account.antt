@@ -2,8 +2,8 @@
 use Rattle.std.specs.Prelude.{ℕ, List}
 use Rattle.surveys.specs.declared.finding.Finding.{Finding}
 
--- An account: the result of a campaign, the commander's order, the traitors, ascending, and the decisions of the
--- lieutenants, in ascending order of the lieutenants.
+-- The account of a campaign: its result, the commander's order, the numbers of the traitors, ascending, and the
+-- decisions of the lieutenants, in ascending order of the lieutenants' numbers.
 pub record Account : Type 0 where
   pub finding : Finding
   pub order : ℕ

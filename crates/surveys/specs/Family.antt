@@ -4,9 +4,9 @@ use Rattle.surveys.specs.declared.adversary.Adversary.{Adversary}
 use Rattle.surveys.specs.declared.span.CountRange.{CountRange}
 use Rattle.surveys.specs.declared.manner.Manner.{Manner}
 
--- A family: the ranges of the number of generals, the bound and the number of traitors, the commander, the greatest
--- order, whether seeds go through the ranges in turn, how orders are sent, how many steps a traitor may take, and what
--- traitors do.
+-- A family: the ranges of the number of generals, the bound and the number of traitors, the commander and the greatest
+-- order. It also says whether consecutive seeds go through all combinations of the ranges, how orders are sent, how
+-- many steps a traitor may take in a round, and what traitors do.
 pub record Family : Type 0 where
   pub generals : CountRange
   pub bound : CountRange
@@ -18,7 +18,8 @@ pub record Family : Type 0 where
   pub patience : Option ℕ
   pub adversary : Adversary
 
--- States that no range is empty, that there are 2 to 13 generals, and that a patience is 1 to 4,096 steps.
+-- States that no range is empty, that there are 2 to 13 generals, and that a patience, if there is one, is 1 to 4,096
+-- steps.
 pub record IsFamily (f : Family) : Type 0 where
   pub some : f.generals.low ≤ f.generals.high
   pub least : 2 ≤ f.generals.low

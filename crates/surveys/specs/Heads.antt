@@ -1,5 +1,5 @@
--- The head of a survey: a JSON object (RFC 8259) that describes the family of its campaigns, with its members in
--- ascending order of their names.
+-- The head of a survey: a line with a JSON object (RFC 8259) that describes the family of its campaigns. The members
+-- are in ascending order of their names.
 use Rattle.std.specs.Prelude.{ℕ, ◌≡◌, ◌<◌, ◌^◌, ◌==◌, cond, not, true, false, Bool, IfSome, List, [], ◌∷◌, ◌++◌, take, decimal, bytes_eq, codes, Option, None, Some, string_bytes}
 use Rattle.std.specs.List.{list_all}
 use Rattle.combine.specs.Rule.{rule_name}
@@ -12,37 +12,38 @@ use Rattle.surveys.specs.Family.{Family}
 use Rattle.surveys.specs.Lines.{member}
 use Rattle.surveys.specs.Wording.{campaign_text}
 
--- Writes what the traitors do. For a given program this is its bytecode in hex.
+-- Writes what the traitors do as a JSON string. For a given program it is `0x` with the bytecode in hex.
 abbrev pub adversary_word : Adversary → List ℕ
 adversary_word Lies = codes "\"lies\""
 adversary_word Silent = codes "\"silent\""
 adversary_word Collude = codes "\"collude\""
 adversary_word (Given hex) = codes "\"0x" ++ (string_bytes hex ++ codes "\"")
 
--- Writes how orders are sent.
+-- Writes how orders are sent as a JSON string: the name of the rule that combines oral messages, or `signed`.
 abbrev pub manner_word : Manner → List ℕ
 manner_word (Oral rule) = codes "\"" ++ (rule_name rule ++ codes "\"")
 manner_word Signed = codes "\"signed\""
 
--- Writes whether the numbers of campaigns are drawn, or the seeds go through the ranges in turn.
+-- Writes the value of the member `line`: `grid` if consecutive seeds go through all combinations of the ranges, and
+-- `family` if each seed draws at random.
 abbrev pub line_word : Bool → List ℕ
 line_word false = codes "\"family\""
 line_word true = codes "\"grid\""
 
--- Writes how many steps a traitor may take, or `null` if they are unlimited.
+-- Writes how many steps a traitor may take in a round, or `null` if they are not limited.
 abbrev pub patience_word : Option ℕ → List ℕ
 patience_word None = codes "null"
 patience_word (Some steps) = decimal steps
 
--- Writes the member of a head that names the commander, unless this is general 0.
+-- Writes the JSON member `commander`, unless general 0 commands.
 abbrev pub commander_text : ℕ → List ℕ
 commander_text c = cond (c == 0) [] (codes ",\"commander\":" ++ decimal c)
 
--- Writes the member of a head with the greatest order, unless this is 1.
+-- Writes the JSON member `orders` with the greatest order, unless this is 1.
 abbrev pub orders_text : ℕ → List ℕ
 orders_text v = cond (v == 1) [] (codes ",\"orders\":" ++ decimal v)
 
--- Writes the head of a family.
+-- Writes the head of a survey of this family: a JSON object and a line feed.
 abbrev pub head_text : Family → List ℕ
 head_text f =
     member (codes "{\"adversary\"") (adversary_word f.adversary)
@@ -56,29 +57,29 @@ head_text f =
     (member (codes ",\"traitors_high\"") (decimal f.traitors.high)
     (member (codes ",\"traitors_low\"") (decimal f.traitors.low) (codes "}\n"))))))))))))
 
--- Writes the members of a head that describe the bound, the commander and the generals.
+-- Writes the JSON members `bound_high`, `bound_low`, `commander` (unless it is 0), `generals_high` and `generals_low`.
 abbrev pub head_front : CountRange → ℕ → CountRange → List ℕ
 head_front bound c generals =
     codes ",\"bound_high\":" ++ (decimal bound.high ++ (codes ",\"bound_low\":" ++ (decimal bound.low
     ++ (commander_text c ++ (codes ",\"generals_high\":"
     ++ (decimal generals.high ++ (codes ",\"generals_low\":" ++ decimal generals.low)))))))
 
--- Writes the members of a head that say how numbers are found and orders sent, the greatest order and the patience.
+-- Writes the JSON members `line`, `manner`, `orders` (unless it is 1) and `patience`.
 abbrev pub head_middle : Bool → List ℕ → ℕ → List ℕ → List ℕ
 head_middle grid manner v patience =
     codes ",\"line\":" ++ (line_word grid ++ (codes ",\"manner\":" ++ (manner ++ (orders_text v
     ++ (codes ",\"patience\":" ++ patience)))))
 
--- Writes the members of a head that describe the traitors, and ends the line.
+-- Writes the JSON members `traitors_high` and `traitors_low`, the closing brace, and a line feed.
 abbrev pub head_end : CountRange → List ℕ
 head_end traitors = codes ",\"traitors_high\":"
     ++ (decimal traitors.high ++ (codes ",\"traitors_low\":" ++ (decimal traitors.low ++ codes "}\n")))
 
--- Checks whether a line begins as a head does.
+-- Checks whether a line begins with `{"adversary":`, as a head does.
 abbrev pub is_head : List ℕ → Bool
 is_head line = bytes_eq (take 13 line) (codes "{\"adversary\":")
 
--- States that the line begins as a head does and ends with a line feed.
+-- States that a line begins with `{"adversary":`, as a head does, and ends with a line feed.
 pub record IsHead (line : List ℕ) : Type 0 where
   pub begins : is_head line ≡ true
   pub front : List ℕ
@@ -95,7 +96,7 @@ pub record IsTold (f : Family) : Type 0 where
   pub patience : IfSome f.patience (λ steps. steps < 2 ^ 64)
   pub adversary : list_all (λ c. not (c == 44)) (adversary_word f.adversary) ≡ true
 
--- States that families with the same head have the same campaigns, so that each seed gives the same text. It also
+-- States that two families with the same head, for which `IsTold` holds, draw the same campaign from each seed. It also
 -- states that each family has a head.
 pub record HeadsTellFamilies : Type 0 where
   pub campaigns : (f g : Family) (seed : ℕ) → IsTold f → IsTold g → head_text f ≡ head_text g →

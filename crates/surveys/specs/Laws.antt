@@ -10,13 +10,14 @@ use Rattle.surveys.specs.Lines.{line_text}
 use Rattle.surveys.specs.Parts.{IsHeadLine, IsPart, IsUnfed}
 use Rattle.surveys.specs.Sums.{is_sound}
 
--- States that no seed's campaign has a bound that holds and a verdict that is not sound.
+-- States that in every campaign of a seed whose bound holds, the loyal lieutenants decide alike and obey a loyal
+-- commander.
 abbrev pub KeptAreSound : Type 0
 KeptAreSound = (f : Family) (seeds : List ℕ) (found : List Finding) → AllZip (IsFindingOf f) seeds found
     → count_by (λ (x : Finding). x.verdict.bound && not (is_sound x.verdict)) found ≡ 0
 
--- States that the head of a family whose bytecode has no line feed is a line. It also states that a head, with the
--- lines of campaigns after it, is a part with just these campaigns.
+-- States that a family's head is one line, if its bytecode has no line feed. It also states that a head and the lines
+-- of campaigns after it are a valid part of a survey, and describe exactly these campaigns.
 pub record WrittenAreParts : Type 0 where
   pub heads : (f : Family) → IsTold f → IsUnfed (adversary_word f.adversary) → IsHeadLine (head_text f)
   pub parts : (f : Family) (found : List Finding) → IsHeadLine (head_text f)

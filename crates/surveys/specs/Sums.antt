@@ -7,37 +7,38 @@ use Rattle.surveys.specs.declared.sums.CampaignOutcome.TheVariants.{Kept, Broken
 use Rattle.surveys.specs.declared.sums.Sums.{Sums}
 use Rattle.surveys.specs.declared.sums.Tally.{Tally}
 
--- Checks whether there is an answer and it is no.
+-- Checks whether the answer is no. It is false if there is no answer.
 abbrev pub is_denied : Option Bool → Bool
 is_denied None = false
 is_denied (Some b) = not b
 
--- Checks whether the loyal lieutenants decide alike and obey a loyal commander (TOPLAS 1982, IC1 and IC2).
+-- Checks whether a verdict is sound: the loyal lieutenants decide alike and obey a loyal commander (TOPLAS 1982, IC1
+-- and IC2).
 abbrev pub is_sound : Verdict → Bool
 is_sound v = v.alike && not (is_denied v.obeyed)
 
--- Checks whether a campaign has the outcome.
+-- Checks whether a campaign's result has this outcome.
 abbrev pub has : CampaignOutcome → Finding → Bool
 has Kept f = f.verdict.bound
 has Broken f = not f.verdict.alike
 has Disobeyed f = is_denied f.verdict.obeyed
 
--- Returns the lesser of two seeds, or the one that there is.
+-- Returns the lesser of two seeds. If only one is given, returns that one.
 abbrev pub lesser : Option ℕ → Option ℕ → Option ℕ
 lesser None b = b
 lesser (Some a) None = Some a
 lesser (Some a) (Some b) = Some (min a b)
 
--- Returns the seed of a campaign if it has the outcome.
+-- Returns the seed of a campaign if the campaign has this outcome, and otherwise `None`.
 abbrev pub seed_of : CampaignOutcome → Finding → Option ℕ
 seed_of outcome f = cond (has outcome f) (Some f.seed) None
 
--- Returns the least seed of a campaign with the outcome, if there is one.
+-- Returns the least seed of the campaigns with this outcome, or `None` if there are no such campaigns.
 abbrev pub least : CampaignOutcome → List Finding → Option ℕ
 least outcome [] = None
 least outcome (f ∷ fs) = lesser (seed_of outcome f) (least outcome fs)
 
--- Returns how many of the campaigns have the outcome, and the least seed of one.
+-- Returns how many of the campaigns have this outcome, and the least of their seeds, if there are any.
 abbrev pub tally_of : CampaignOutcome → List Finding → Tally
 tally_of outcome fs = record { count = count_by (has outcome) fs; first = least outcome fs }
 
@@ -50,11 +51,11 @@ sums_of fs = record {
   disobeyed = tally_of Disobeyed fs;
 }
 
--- Returns the tally of two parts together.
+-- Returns the counts of an outcome in two parts of a survey together.
 abbrev pub tally_joined : Tally → Tally → Tally
 tally_joined a b = record { count = a.count + b.count; first = lesser a.first b.first }
 
--- Returns the sums of two parts together.
+-- Returns the counts of all outcomes in two parts of a survey together.
 abbrev pub joined : Sums → Sums → Sums
 joined a b = record {
   campaigns = a.campaigns + b.campaigns;
@@ -63,7 +64,8 @@ joined a b = record {
   disobeyed = tally_joined a.disobeyed b.disobeyed;
 }
 
--- States that the sums of two parts add up to those of the whole, in whichever order the parts are.
+-- States that if a survey is cut into two parts, their counts add up to the counts of the whole survey, whichever part
+-- is first.
 pub record SumsOfParts : Type 0 where
   pub whole : (front back : List Finding) → sums_of (front ++ back) ≡ joined (sums_of front) (sums_of back)
   pub swapped : (front back : List Finding) → sums_of (front ++ back) ≡ sums_of (back ++ front)

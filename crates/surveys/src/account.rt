@@ -2,7 +2,7 @@
 use crate::finding::Finding;
 use std::marker::Model;
 
-/// The account of a seed's campaign.
+/// The account of the campaign that a seed draws: its result, the commander's order, the traitors and the decisions.
 #[derive(Drop)]
 pub struct Account {
     /// The result of the campaign.
@@ -11,7 +11,7 @@ pub struct Account {
     pub order: u32,
     /// The numbers of the traitors, ascending.
     pub traitors: Vec<u32>,
-    /// What the lieutenants decide, in ascending order of the lieutenants.
+    /// The decisions of the lieutenants, in ascending order of the lieutenants' numbers.
     pub decisions: Vec<u32>,
 }
 

@@ -1,4 +1,4 @@
-//! Writes the lines of accounts, as JSON objects.
+//! Writes accounts of campaigns as lines, each a JSON object.
 ghost use Rattle.std.specs.Prelude.{◌≡◌, ◌++◌, IfOk, OnOk, flat_map, string_bytes};
 ghost use Rattle.surveys.specs.Accounting.{account_back, account_front, account_middle, account_text, list_text, next_text, numbers_text};
 
@@ -7,7 +7,7 @@ use crate::lines::{put_answer, put_flag};
 use crate::number_text::{put_number, put_numbered};
 use std::alloc::{AllocError, Global};
 
-/// Writes numbers, each after a comma.
+/// Appends the numbers in decimal, each after a comma: `[3, 5]` gives `,3,5`.
 fn put_rest(out: &mut String, numbers: &[u32]) -> Result<(), AllocError>
     ensures { OnOk result (string_bytes out.new ≡ string_bytes out.old ++ flat_map next_text numbers.now) }
 {
@@ -17,7 +17,7 @@ fn put_rest(out: &mut String, numbers: &[u32]) -> Result<(), AllocError>
     Ok(())
 }
 
-/// Writes a number after a comma.
+/// Appends a comma and then the number in decimal.
 fn put_next(out: &mut String, number: u32) -> Result<(), AllocError>
     ensures { OnOk result (string_bytes out.new ≡ string_bytes out.old ++ next_text number) }
 {
@@ -25,7 +25,7 @@ fn put_next(out: &mut String, number: u32) -> Result<(), AllocError>
     put_number(out, u64::from(number))
 }
 
-/// Writes numbers between commas.
+/// Appends the numbers in decimal, with commas between them: `[3, 5]` gives `3,5`.
 fn put_numbers(out: &mut String, numbers: &[u32]) -> Result<(), AllocError>
     ensures { OnOk result (string_bytes out.new ≡ string_bytes out.old ++ numbers_text numbers.now) }
 {
@@ -36,7 +36,7 @@ fn put_numbers(out: &mut String, numbers: &[u32]) -> Result<(), AllocError>
     put_rest(out, rest)
 }
 
-/// Writes a list of numbers after its name.
+/// Appends `name`, which is a JSON name with its colon, and then the numbers as a JSON array, such as `[3,5]`.
 fn put_list(out: &mut String, name: &str, numbers: &[u32]) -> Result<(), AllocError>
     ensures { OnOk result (string_bytes out.new ≡ string_bytes out.old ++ name.now ++ list_text numbers.now) }
 {
@@ -46,7 +46,7 @@ fn put_list(out: &mut String, name: &str, numbers: &[u32]) -> Result<(), AllocEr
     out.push_str("]")
 }
 
-/// Appends the members of an account's line up to the decisions.
+/// Appends the first members of an account's JSON object, with the opening brace: `alike`, `bound` and `decisions`.
 fn put_front(out: &mut String, account: &Account) -> Result<(), AllocError>
     ensures { OnOk result (string_bytes out.new ≡ string_bytes out.old ++ account_front account.now) }
 {
@@ -56,7 +56,7 @@ fn put_front(out: &mut String, account: &Account) -> Result<(), AllocError>
     Ok(())
 }
 
-/// Appends the members of an account's line from the number of generals up to whether the commander is obeyed.
+/// Appends the middle members of an account's JSON object: `generals`, `kept`, `line` and `obeyed`.
 fn put_middle(out: &mut String, account: &Account) -> Result<(), AllocError>
     ensures { OnOk result (string_bytes out.new ≡ string_bytes out.old ++ account_middle account.now) }
 {
@@ -70,7 +70,8 @@ fn put_middle(out: &mut String, account: &Account) -> Result<(), AllocError>
     Ok(())
 }
 
-/// Appends the members of an account's line from the order on, the closing brace of the JSON object, and a line feed.
+/// Appends the last members of an account's JSON object, `order`, `seed` and `traitors`, the closing brace, and a line
+/// feed.
 fn put_back(out: &mut String, account: &Account) -> Result<(), AllocError>
     ensures { OnOk result (string_bytes out.new ≡ string_bytes out.old ++ account_back account.now) }
 {
@@ -81,7 +82,7 @@ fn put_back(out: &mut String, account: &Account) -> Result<(), AllocError>
     Ok(())
 }
 
-/// Appends the line of an account: a JSON object and a line feed.
+/// Appends an account as a line: a JSON object and a line feed.
 fn put_account(out: &mut String, account: &Account) -> Result<(), AllocError>
     ensures { OnOk result (string_bytes out.new ≡ string_bytes out.old ++ account_text account.now) }
 {
@@ -91,7 +92,7 @@ fn put_account(out: &mut String, account: &Account) -> Result<(), AllocError>
     Ok(())
 }
 
-/// Returns the lines of these accounts.
+/// Returns a line for each account, in the given order: a JSON object and a line feed.
 ///
 /// # Errors
 ///

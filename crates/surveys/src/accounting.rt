@@ -1,4 +1,4 @@
-//! Plays the campaign of a text or a seed, and returns its account.
+//! Plays a campaign, which a text describes or a seed draws, and returns its account.
 ghost use Rattle.std.specs.Prelude.{◌≡◌, ◌≢◌, ◌++◌, [], ◌∷◌, IfOk, IfErr, OnOk, cond, filter};
 ghost use Rattle.std.specs.List.{range_with_len};
 ghost use Rattle.round.specs.Scenario.{is_traitor};
@@ -21,7 +21,7 @@ use signed::play_signed;
 use std::alloc::{AllocError, Global};
 use world::{Verdict, play};
 
-/// Returns the end with this verdict and a copy of these decisions.
+/// Returns the ending of a campaign: the verdict and a copy of the decisions.
 fn ended(alloc: Global, verdict: Verdict, decisions: &[u32]) -> Result<CampaignEnding, AllocError>
     ensures verdict { IfOk result (λ e. e.verdict ≡ verdict) }
     ensures decisions { IfOk result (λ e. e.decisions.items ≡ decisions.now) }
@@ -32,7 +32,7 @@ fn ended(alloc: Global, verdict: Verdict, decisions: &[u32]) -> Result<CampaignE
     })
 }
 
-/// Returns the end of an oral campaign that is played without a schedule.
+/// Plays an oral campaign without a schedule, and returns its verdict and its lieutenants' decisions.
 fn oral_ending(alloc: Global, scenario: Scenario) -> Result<CampaignEnding, AllocError>
     ensures verdict { IfOk result (λ e. e.verdict ≡ verdict_in (Oral scenario)) }
     ensures decisions { IfOk result (λ e. e.decisions.items ≡ decisions_in (Oral scenario)) }
@@ -42,7 +42,7 @@ fn oral_ending(alloc: Global, scenario: Scenario) -> Result<CampaignEnding, Allo
     ended(alloc, chronicle.verdict(), chronicle.decisions())
 }
 
-/// Returns the end of a signed campaign that is played without a schedule.
+/// Plays a signed campaign without a schedule, and returns its verdict and its lieutenants' decisions.
 fn signed_ending(alloc: Global, scenario: Scenario) -> Result<CampaignEnding, AllocError>
     ensures verdict { IfOk result (λ e. e.verdict ≡ verdict_in (Signed scenario)) }
     ensures decisions { IfOk result (λ e. e.decisions.items ≡ decisions_in (Signed scenario)) }
@@ -52,7 +52,7 @@ fn signed_ending(alloc: Global, scenario: Scenario) -> Result<CampaignEnding, Al
     ended(alloc, chronicle.verdict(), chronicle.decisions())
 }
 
-/// Returns the end of a campaign that is played without a schedule.
+/// Plays an oral or signed campaign without a schedule, and returns its verdict and its lieutenants' decisions.
 fn ending_in(alloc: Global, campaign: Campaign) -> Result<CampaignEnding, AllocError>
     ensures verdict { IfOk result (λ e. e.verdict ≡ verdict_in campaign) }
     ensures decisions { IfOk result (λ e. e.decisions.items ≡ decisions_in campaign) }
@@ -64,7 +64,7 @@ fn ending_in(alloc: Global, campaign: Campaign) -> Result<CampaignEnding, AllocE
     }
 }
 
-/// Appends a general if he is a traitor.
+/// Appends the number `general` to `traitors` if `is_traitor` is true.
 fn push_traitor(traitors: &mut Vec<u32>, is_traitor: bool, general: u8) -> Result<(), AllocError>
     ensures { OnOk result (traitors.new.items ≡ traitors.old.items ++ cond is_traitor (general ∷ []) []) }
 {
@@ -74,7 +74,7 @@ fn push_traitor(traitors: &mut Vec<u32>, is_traitor: bool, general: u8) -> Resul
     Ok(())
 }
 
-/// Returns the traitors of the scenario, ascending.
+/// Returns the numbers of the scenario's traitors, ascending.
 fn listed_traitors(alloc: Global, scenario: &Scenario) -> Result<Vec<u32>, AllocError>
     ensures { IfOk result (λ traitors. traitors.items
         ≡ filter (is_traitor scenario.now) (range_with_len 0 scenario.now.generals)) }
@@ -86,7 +86,7 @@ fn listed_traitors(alloc: Global, scenario: &Scenario) -> Result<Vec<u32>, Alloc
     Ok(traitors)
 }
 
-/// Plays the campaign of a text and returns its account, with `seed` as its seed.
+/// Plays the campaign that the TOML text describes, and returns its account. The account names `seed` as its seed.
 ///
 /// # Errors
 ///
@@ -117,7 +117,7 @@ pub fn account_of(alloc: Global, text: &str, seed: u64) -> Result<Account, Scena
     })
 }
 
-/// Plays the campaign that a seed draws from a family and returns its account.
+/// Plays the campaign that `seed` draws from `family`, and returns its account.
 ///
 /// # Errors
 ///

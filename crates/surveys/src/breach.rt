@@ -1,21 +1,22 @@
-//! Campaigns that break agreement, reduced as far as they stay broken.
+//! Broken campaigns, reduced to the traitors and statements without which they would not be broken.
 use crate::plot::Plot;
 
-/// A broken campaign of a seed, reduced until nothing more can be removed: without any one of its traitors or
-/// statements it is not broken. Removing in another order may leave less.
+/// A broken campaign that a seed draws, after its reduction. A campaign is broken if its loyal lieutenants do not
+/// decide alike or do not obey a loyal commander. The reduction removes traitors, and statements of their programs,
+/// until the removal of any single one would mend the campaign. Another order of removals might leave fewer.
 #[derive(Drop)]
 pub struct Breach {
-    /// The seed.
+    /// The seed that draws the campaign.
     pub seed: u64,
-    /// The reduced campaign.
+    /// The campaign after its reduction.
     pub plot: Plot,
 }
 
-/// The least of the reduced campaigns with several numbers of traitors.
+/// The least broken campaign that a search with several numbers of traitors found, after its reduction.
 #[derive(Drop)]
 pub struct Breaking {
-    /// How many traitors the seed's campaign had before it was reduced.
+    /// The number of traitors with which the search found the campaign, before its reduction.
     pub traitors: u8,
-    /// The reduced campaign.
+    /// The campaign after its reduction.
     pub breach: Breach,
 }

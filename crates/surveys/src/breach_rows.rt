@@ -1,4 +1,4 @@
-//! Writes reduced broken campaigns as rows of a table or as scenarios.
+//! Writes reduced broken campaigns as rows of a table, or as scenarios after a comment line.
 ghost use Rattle.std.specs.Prelude.{◌≡◌, ◌++◌, IfOk, OnOk, codes, option_map, string_bytes};
 ghost use Rattle.surveys.specs.Breakings.{breaking_head, breaking_row, breaking_text, left_text, numbers_text, seed_left, statements_left, traitors_left};
 ghost use Rattle.surveys.specs.Tables.{number_text, padded};
@@ -9,7 +9,7 @@ use crate::cells::put_padded;
 use crate::scenario_text::plot_text;
 use std::alloc::{AllocError, Global};
 
-/// Returns a number in decimal, or `-` if there is none.
+/// Returns a number in decimal, or `-` for `None`.
 fn number_text(alloc: Global, number: Option<u128>) -> Result<String, AllocError>
     ensures { IfOk result (λ text. string_bytes text ≡ number_text number) }
 {
@@ -19,7 +19,7 @@ fn number_text(alloc: Global, number: Option<u128>) -> Result<String, AllocError
     }
 }
 
-/// Returns how many traitors the reduced campaign has, if there is one.
+/// Returns how many traitors the campaign that a search found has after its reduction, or `None` if it found none.
 fn traitors_left(found: Option<&Breaking>) -> Option<u128>
     ensures { result ≡ traitors_left (option_map (λ b. b.now) found.entry) }
 {
@@ -29,7 +29,7 @@ fn traitors_left(found: Option<&Breaking>) -> Option<u128>
     }
 }
 
-/// Returns how many statements the reduced campaign has, if there is one.
+/// Returns how many statements the campaign that a search found has after its reduction, or `None` if it found none.
 fn statements_left(found: Option<&Breaking>) -> Option<u128>
     ensures { result ≡ statements_left (option_map (λ b. b.now) found.entry) }
 {
@@ -39,7 +39,7 @@ fn statements_left(found: Option<&Breaking>) -> Option<u128>
     }
 }
 
-/// Returns the seed of the reduced campaign, if there is one.
+/// Returns the seed of the campaign that a search found, or `None` if it found none.
 fn seed_left(found: Option<&Breaking>) -> Option<u128>
     ensures { result ≡ seed_left (option_map (λ b. b.now) found.entry) }
 {
@@ -49,7 +49,7 @@ fn seed_left(found: Option<&Breaking>) -> Option<u128>
     }
 }
 
-/// Appends a cell that is not the first of its row.
+/// Appends a space, and then `text` with spaces before it up to a width of `width` bytes.
 fn put_next(out: &mut String, width: usize, text: &str) -> Result<(), AllocError>
     ensures { OnOk result (string_bytes out.new ≡ string_bytes out.old ++ (codes " " ++ padded width text.now)) }
 {
@@ -57,7 +57,7 @@ fn put_next(out: &mut String, width: usize, text: &str) -> Result<(), AllocError
     put_padded(out, width, text)
 }
 
-/// Returns the table row with these words.
+/// Returns a table row with these five texts, right-aligned in columns of 8, 5, 8, 10 and 4 bytes, and a line feed.
 fn breaking_row(
     alloc: Global,
     generals: &str,
@@ -79,7 +79,8 @@ fn breaking_row(
     Ok(out)
 }
 
-/// Returns the comment line with these words.
+/// Returns a comment line with these five texts, such as
+/// `# generals 4 bound 1 least found: traitors 2 statements 3 seed 7`, and a line feed.
 fn breaking_head(
     alloc: Global,
     generals: &str,
@@ -96,7 +97,7 @@ fn breaking_head(
     )
 }
 
-/// Returns these words as a row if `is_table`, otherwise as a comment line.
+/// Returns the five texts as a table row if `is_table` is true, and otherwise as a comment line, which begins with `#`.
 fn words_text(
     alloc: Global,
     is_table: bool,
@@ -116,7 +117,9 @@ fn words_text(
     }
 }
 
-/// Returns the numbers of the reduced campaign as a table row or a comment line.
+/// Returns the result of a search as a table row if `is_table` is true, and otherwise as a comment line. It has five
+/// numbers: the generals, the bound, and the traitors, the statements and the seed of the campaign found. If none was
+/// found, the last three are `-`.
 fn numbers_text(
     alloc: Global,
     is_table: bool,
@@ -145,7 +148,8 @@ fn numbers_text(
     )
 }
 
-/// Returns the reduced campaign as a scenario, or an empty text in a table.
+/// Returns the campaign that a search found as a scenario in TOML. The text is empty if `is_table` is true, or if the
+/// search found none.
 fn left_text(alloc: Global, is_table: bool, found: Option<&Breaking>) -> Result<String, AllocError>
     ensures { IfOk result (λ text. string_bytes text
         ≡ left_text is_table (option_map (λ b. b.now) found.entry)) }
@@ -159,9 +163,9 @@ fn left_text(alloc: Global, is_table: bool, found: Option<&Breaking>) -> Result<
     }
 }
 
-/// Returns the text of a search with this number of generals and this bound. In a table it is a row with the numbers of
-/// the reduced campaign. Otherwise it is a comment line with these numbers, and then the reduced campaign as a
-/// scenario, if there is one.
+/// Returns the result of a search with `generals` generals and the bound `bound`. If `is_table` is true, it is a table
+/// row with the numbers of the reduced campaign. Otherwise it is a comment line with these numbers, and then the
+/// reduced campaign as a scenario, if one was found.
 ///
 /// # Errors
 ///

@@ -1,4 +1,4 @@
-//! Searches the campaigns of many seeds for the least one that breaks agreement.
+//! Searches the campaigns of many seeds for the least broken one.
 ghost use Rattle.std.specs.Prelude.{◌≡◌, ◌≢◌, ◌≤◌, IfErr, IfOk, IfSome, IfNone, Ok, map};
 ghost use Rattle.std.specs.List.{AllZip};
 ghost use Rattle.rayon.specs.Numbers.{nat_range};
@@ -18,12 +18,12 @@ use scenario::ScenarioError;
 use std::alloc::{AllocError, Global};
 use std::thread::Threads;
 
-/// Returns the seed's campaign, reduced, if agreement is broken in it.
+/// Plays the campaign that `seed` draws from `family`. If it is broken, which means that its loyal lieutenants do not
+/// decide alike or do not obey a loyal commander, returns the reduced campaign. Otherwise returns `None`.
 ///
 /// # Errors
 ///
-/// Returns the first fault of the text of the seed's campaign or of a reduction of it. Fails with `Memory` if it runs
-/// out of memory.
+/// Returns the first fault of the campaign's text or of a reduction's text, or `Memory` if it runs out of memory.
 pub fn breach_of(alloc: Global, family: &Family, seed: u64) -> Result<Option<Breach>, ScenarioError>
     ensures shrunk { IfOk result (IsShrunk (plot_of family.now) seed) }
     ensures refused { IfErr result (IsRefusedBy (plot_of family.now) seed) }
@@ -35,8 +35,8 @@ pub fn breach_of(alloc: Global, family: &Family, seed: u64) -> Result<Option<Bre
     }
 }
 
-/// Returns the reduced campaign of each seed from `first` up to but not including `end`, if it is broken, or its error.
-/// The search uses as many threads as there are processors.
+/// Plays the campaigns of the seeds from `first` to `end` - 1 in as many threads as there are processors. Returns an
+/// entry for each seed in ascending order: its reduced campaign, `None` if its campaign is not broken, or its error.
 fn gathered<R: Threads + Sync>(
     rt: &R,
     alloc: Global,
@@ -57,10 +57,10 @@ fn gathered<R: Threads + Sync>(
         .collect(rt, alloc)
 }
 
-/// The least number of campaigns for which a thread is worth its cost.
+/// The least number of campaigns for which a thread is worth its cost, if each is played and may be reduced.
 const LEAST_PIECE: usize = 8;
 
-/// Returns the results of all answers, or the first error among them.
+/// Returns the values of all answers in their order, or the first error among the answers.
 fn all_of(
     alloc: Global,
     answers: Vec<Result<Option<Breach>, ScenarioError>>,
@@ -76,7 +76,8 @@ fn all_of(
 }
 
 /// Plays the campaign that `family` makes from each seed from `first` to `end` - 1. Returns an entry for each seed in
-/// ascending order: the reduced campaign if the seed's campaign is broken, and otherwise `None`.
+/// ascending order: the reduced campaign if the seed's campaign is broken, and otherwise `None`. A campaign is broken
+/// if its loyal lieutenants do not decide alike or do not obey a loyal commander.
 ///
 /// # Errors
 ///
@@ -96,7 +97,8 @@ pub fn breaches<R: Threads + Sync>(
     all_of(alloc, answers)
 }
 
-/// Returns the first of two reduced campaigns, unless the second is less. If there is only one, it is returned.
+/// Returns the lesser of two reduced campaigns by `is_before`, or the first if neither is less. If only one is given,
+/// returns that one.
 pub fn better(first: Option<Breach>, second: Option<Breach>) -> Option<Breach>
     ensures { result ≡ better first second }
 {
@@ -111,7 +113,7 @@ pub fn better(first: Option<Breach>, second: Option<Breach>) -> Option<Breach>
     }
 }
 
-/// Returns the least of the reduced campaigns, if there is one.
+/// Returns the least of the reduced campaigns by `is_before`, or `None` if there are none.
 pub fn least(found: Vec<Option<Breach>>) -> Option<Breach>
     ensures { IsLeastOf found.items result }
 {
@@ -122,8 +124,8 @@ pub fn least(found: Vec<Option<Breach>>) -> Option<Breach>
     least
 }
 
-/// Returns the least of the reduced campaigns of the seeds from `first` up to but not including `end`. Returns `None`
-/// if agreement is broken in none of them.
+/// Returns the least of the reduced campaigns of the seeds from `first` to `end` - 1, by `is_before`. Returns `None` if
+/// no campaign of these seeds is broken.
 ///
 /// # Errors
 ///
@@ -142,8 +144,8 @@ pub fn least_breach<R: Threads + Sync>(
     Ok(least(breaches(rt, alloc, family, first, end)?))
 }
 
-/// Returns the earlier result, unless there is none or the reduced campaign `breach` is less. That one was found with
-/// this number of traitors.
+/// Returns the lesser of the earlier result and the reduced campaign `breach`, which was found with `traitors`
+/// traitors. Returns the earlier result if neither is less. If only one is given, returns that one.
 fn least_so_far(traitors: u8, breach: Option<Breach>, earlier: Option<Breaking>) -> Option<Breaking>
     ensures { result ≡ least_so_far traitors breach earlier }
 {
@@ -158,14 +160,16 @@ fn least_so_far(traitors: u8, breach: Option<Breach>, earlier: Option<Breaking>)
     }
 }
 
-/// Returns the least of the reduced campaigns with this number of generals and this bound. The campaigns are those of
-/// the seeds from `first` up to but not including `end`, with each number of traitors in the range. Returns `None` if
-/// agreement is broken in none of them. Of equal ones it is the one that had the fewest traitors before it was reduced.
+/// Searches for the least broken campaign with `generals` generals, 2 to 13, and the bound `bound`, after its
+/// reduction. The search plays the campaigns of the seeds from `first` to `end` - 1 with each number of traitors in the
+/// range `traitors`. Returns `None` if none of them is broken. If several campaigns are equally small, it returns the
+/// one that was found with the fewest traitors.
 ///
 /// # Errors
 ///
-/// Returns the fault of the first seed whose campaign, or a reduction of it, has a faulty text. Fails with `Memory` if
-/// it runs out of memory.
+/// Returns a fault of a campaign's text or of a reduction's text. If several campaigns have one, it is from the
+/// campaign with the fewest traitors and, among these, with the least seed. Fails with `Memory` if it runs out of
+/// memory.
 pub fn breaking<R: Threads + Sync>(
     rt: &R,
     alloc: Global,

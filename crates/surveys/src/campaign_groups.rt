@@ -1,4 +1,4 @@
-//! Groups the campaigns of a survey by their numbers of generals, bounds and numbers of traitors.
+//! Groups the campaigns of a survey by number of generals, bound and number of traitors.
 ghost use Rattle.std.specs.Prelude.{◌≡◌, ◌++◌, IfOk, OnOk};
 ghost use Rattle.surveys.specs.Groups.{failed_in, group_of, groups_by_bound, groups_in, groups_of, of_bound, of_generals, of_traitors};
 
@@ -7,7 +7,7 @@ use crate::group::Group;
 use crate::summation::{is_sound, sums_of};
 use std::alloc::{AllocError, Global};
 
-/// Returns the campaigns with this number of generals.
+/// Returns the results of the campaigns with `generals` generals, in their order.
 fn of_generals(
     alloc: Global,
     findings: &[Finding],
@@ -24,7 +24,7 @@ fn of_generals(
     Ok(some)
 }
 
-/// Returns the campaigns with this bound.
+/// Returns the results of the campaigns with the bound `bound`, in their order.
 fn of_bound(alloc: Global, findings: &[Finding], bound: u8) -> Result<Vec<Finding>, AllocError>
     ensures { IfOk result (λ some. some.items ≡ of_bound bound findings.now) }
 {
@@ -37,7 +37,7 @@ fn of_bound(alloc: Global, findings: &[Finding], bound: u8) -> Result<Vec<Findin
     Ok(some)
 }
 
-/// Returns the campaigns with this number of traitors.
+/// Returns the results of the campaigns with `traitors` traitors, in their order.
 fn of_traitors(
     alloc: Global,
     findings: &[Finding],
@@ -54,7 +54,8 @@ fn of_traitors(
     Ok(some)
 }
 
-/// Returns in how many of the campaigns the loyal lieutenants do not decide alike or do not obey a loyal commander.
+/// Returns how many of the campaigns failed: the loyal lieutenants do not decide alike or do not obey a loyal
+/// commander.
 pub fn failed_in(findings: &[Finding]) -> u64
     ensures { result ≡ failed_in findings.now }
 {
@@ -67,8 +68,8 @@ pub fn failed_in(findings: &[Finding]) -> u64
     count
 }
 
-/// Appends the group of those of the given campaigns that have this number of traitors, if there are some. The given
-/// campaigns are those with this number of generals and this bound.
+/// Appends the group of the campaigns in `findings` that have `traitors` traitors, if there are any. All campaigns in
+/// `findings` have `generals` generals and the bound `bound`.
 fn push_group(
     alloc: Global,
     groups: &mut Vec<Group>,
@@ -93,8 +94,8 @@ fn push_group(
     Ok(())
 }
 
-/// Appends the groups of the given campaigns by their numbers of traitors. The given campaigns are those with this
-/// number of generals and this bound.
+/// Appends a group for each number of traitors, 0 to 13, that occurs in `findings`. All campaigns in `findings` have
+/// `generals` generals and the bound `bound`.
 #[tactic(auto, unfolding(crate::specs::Groups::groups_in))]
 fn push_groups(
     alloc: Global,
@@ -111,8 +112,8 @@ fn push_groups(
     Ok(())
 }
 
-/// Appends the groups of those of the given campaigns that have this bound. The given campaigns are those with this
-/// number of generals.
+/// Appends the groups of the campaigns in `findings` that have the bound `bound`: one for each number of traitors that
+/// occurs. All campaigns in `findings` have `generals` generals.
 fn push_bound(
     alloc: Global,
     groups: &mut Vec<Group>,
@@ -127,8 +128,8 @@ fn push_bound(
     push_groups(alloc, groups, some.as_slice(), generals, bound)
 }
 
-/// Appends the groups of the given campaigns by their bounds and numbers of traitors. The given campaigns are those
-/// with this number of generals.
+/// Appends a group for each combination of a bound, 0 to 4, and a number of traitors that occurs in `findings`. All
+/// campaigns in `findings` have `generals` generals.
 #[tactic(auto, unfolding(crate::specs::Groups::groups_by_bound))]
 fn push_bounds(
     alloc: Global,
@@ -144,7 +145,8 @@ fn push_bounds(
     Ok(())
 }
 
-/// Appends the groups of the campaigns that have this number of generals.
+/// Appends the groups of the campaigns in `findings` that have `generals` generals: one for each combination of bound
+/// and number of traitors that occurs.
 fn push_generals(
     alloc: Global,
     groups: &mut Vec<Group>,
@@ -158,8 +160,9 @@ fn push_generals(
     push_bounds(alloc, groups, some.as_slice(), generals)
 }
 
-/// Returns the campaigns in groups, by number of generals, bound and number of traitors, each ascending. There are no
-/// empty groups.
+/// Returns a group for each combination of number of generals, bound and number of traitors that occurs in `findings`,
+/// in ascending order of the three. Campaigns with more than 13 generals or traitors or with a bound above 4 are left
+/// out.
 ///
 /// # Errors
 ///

@@ -1,11 +1,11 @@
-//! Compares reduced broken campaigns: which of two is less.
+//! Compares reduced broken campaigns, to find the least.
 ghost use Rattle.std.specs.Prelude.{◌≡◌};
 ghost use Rattle.surveys.specs.Breaches.{is_before, statements};
 
 use crate::breach::Breach;
 use crate::plot::Plot;
 
-/// Returns how many statements the traitors of a campaign have.
+/// Returns how many statements a campaign's traitors have in all.
 pub fn statements(plot: &Plot) -> u128
     ensures { result ≡ statements plot.now }
 {
@@ -16,8 +16,8 @@ pub fn statements(plot: &Plot) -> u128
     count
 }
 
-/// Checks whether the first campaign is less than the second: by the number of traitors, then by the number of
-/// statements, then by the seed.
+/// Checks whether the first campaign is less than the second. It compares the numbers of traitors, if these are equal
+/// the numbers of statements, and if these are equal, too, the seeds.
 pub fn is_before(first: &Breach, second: &Breach) -> bool
     ensures { result ≡ is_before first.now second.now }
 {

@@ -1,6 +1,6 @@
 //! A cell of a table: a number and its column's width.
 
-/// A number, or none, in a column of this width.
+/// A table cell: its column's width in bytes, and its number, or `None` if it is empty.
 #[derive(Clone, Copy)]
 pub struct NumberCell {
     pub width: usize,

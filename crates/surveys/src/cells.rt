@@ -6,7 +6,7 @@ use crate::cell::NumberCell;
 use itoa::Buffer;
 use std::alloc::AllocError;
 
-/// Appends a text with spaces before it so that it has this width, or the text only if it is longer.
+/// Appends `text` with spaces before it up to a width of `width` bytes. A longer text is appended as it is.
 pub(crate) fn put_padded(out: &mut String, width: usize, text: &str) -> Result<(), AllocError>
     ensures { OnOk result (string_bytes out.new ≡ string_bytes out.old ++ padded width text.now) }
 {
@@ -16,7 +16,7 @@ pub(crate) fn put_padded(out: &mut String, width: usize, text: &str) -> Result<(
     out.push_str(text)
 }
 
-/// Appends a cell after a space.
+/// Appends a space and then a cell, right-aligned in its column. An empty cell is written as `-`.
 fn put_cell(out: &mut String, cell: NumberCell) -> Result<(), AllocError>
     ensures { OnOk result (string_bytes out.new ≡ string_bytes out.old ++ cell_text cell) }
 {
@@ -30,7 +30,7 @@ fn put_cell(out: &mut String, cell: NumberCell) -> Result<(), AllocError>
     }
 }
 
-/// Appends a row of these cells.
+/// Appends the cells, each after a space, and a line feed.
 pub(crate) fn put_row(out: &mut String, cells: &[NumberCell]) -> Result<(), AllocError>
     ensures { OnOk result (string_bytes out.new ≡ string_bytes out.old ++ row_text cells.now) }
 {

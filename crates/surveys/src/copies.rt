@@ -17,7 +17,7 @@ fn traitor_copied(alloc: Global, traitor: &Traitor) -> Result<Traitor, AllocErro
     })
 }
 
-/// Returns copies of these traitors.
+/// Returns copies of the traitors, in their order.
 fn traitors_copied(alloc: Global, traitors: &[Traitor]) -> Result<Vec<Traitor>, AllocError>
     ensures { IfOk result (λ copies. copies.items ≡ traitors.now) }
 {
@@ -28,7 +28,7 @@ fn traitors_copied(alloc: Global, traitors: &[Traitor]) -> Result<Vec<Traitor>, 
     Ok(copies)
 }
 
-/// Returns a copy of the bytecode, if there is some.
+/// Returns a copy of the traitors' bytecode in hex, or `None` if `given` is `None`.
 fn given_copied(alloc: Global, given: Option<&str>) -> Result<Option<String>, AllocError>
     ensures { IfOk result (λ copy. option_map string_bytes copy ≡ option_map (λ hex. hex.now) given.entry) }
 {

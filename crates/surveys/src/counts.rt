@@ -1,4 +1,4 @@
-//! Writes the sums of a survey as lines, and the lines of its campaigns.
+//! Writes the counts of a survey's outcomes as lines, and a line for each of its campaigns.
 ghost use Rattle.std.specs.Prelude.{◌≡◌, ◌++◌, IfOk, OnOk, flat_map, string_bytes};
 ghost use Rattle.surveys.specs.Lines.{line_text};
 ghost use Rattle.surveys.specs.Sums.{sums_of};
@@ -10,7 +10,8 @@ use crate::summation::sums_of;
 use crate::sums::Tally;
 use std::alloc::{AllocError, Global};
 
-/// Appends the line of an outcome.
+/// Appends the line of an outcome, such as `agreement broken 3 first seed 17`. The seed is the least of a campaign with
+/// this outcome, and is left out if there is none.
 fn put_tally(out: &mut String, name: &str, tally: Tally) -> Result<(), AllocError>
     ensures { OnOk result (string_bytes out.new ≡ string_bytes out.old ++ tally_text name.now tally) }
 {
@@ -21,15 +22,15 @@ fn put_tally(out: &mut String, name: &str, tally: Tally) -> Result<(), AllocErro
     }
 }
 
-/// Appends the line that says how many campaigns there are.
+/// Appends the line with the number of campaigns, such as `campaigns 100`.
 fn put_campaigns(out: &mut String, campaigns: u64) -> Result<(), AllocError>
     ensures { OnOk result (string_bytes out.new ≡ string_bytes out.old ++ campaigns_text campaigns) }
 {
     writeln!(out, "campaigns {campaigns}")
 }
 
-/// Returns the sums of a survey: a line with the number of campaigns, and a line for each outcome with its count and
-/// the least seed.
+/// Returns the counts of a survey's outcomes: a line with the number of campaigns, and a line for each outcome. This
+/// line has the number of campaigns with the outcome and the least of their seeds.
 ///
 /// # Errors
 ///
@@ -47,7 +48,7 @@ pub fn sums_text(alloc: Global, findings: &[Finding]) -> Result<String, AllocErr
     Ok(out)
 }
 
-/// Returns the lines of these campaigns.
+/// Returns a line for each campaign, in the given order: a JSON object and a line feed.
 ///
 /// # Errors
 ///

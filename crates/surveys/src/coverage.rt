@@ -6,7 +6,7 @@ use crate::finding::Finding;
 use crate::stretch::Stretch;
 use std::alloc::{AllocError, Global};
 
-/// Returns the seeds of these campaigns.
+/// Returns the seeds of these campaigns, in the order of the campaigns.
 ///
 /// # Errors
 ///
@@ -21,7 +21,7 @@ pub fn seeds_in(alloc: Global, findings: &[Finding]) -> Result<Vec<u64>, AllocEr
     Ok(seeds)
 }
 
-/// Returns the seeds of these campaigns, ascending.
+/// Returns the seeds of these campaigns in ascending order. A repeated seed stays repeated.
 fn ascending(alloc: Global, findings: &[Finding]) -> Result<Vec<u64>, AllocError>
     ensures { IfOk result (λ seeds. AreAscending (seeds_in findings.now) seeds.items) }
 {
@@ -30,7 +30,7 @@ fn ascending(alloc: Global, findings: &[Finding]) -> Result<Vec<u64>, AllocError
     Ok(seeds)
 }
 
-/// Appends the range from one seed to another, if it is not empty.
+/// Appends the range of the seeds from `first` to `last`, unless `first` is greater than `last`.
 fn push_stretch(found: &mut Vec<Stretch>, first: u128, last: u64) -> Result<(), AllocError>
     ensures { OnOk result (found.new.items ≡ found.old.items ++ stretch first last) }
 {
@@ -43,7 +43,7 @@ fn push_stretch(found: &mut Vec<Stretch>, first: u128, last: u64) -> Result<(), 
     Ok(())
 }
 
-/// Returns the ranges of the seeds from `next` to `last` that are not among these seeds, which are ascending.
+/// Returns the ranges of the seeds from `next` to `last` that are missing in `seeds`, which are ascending.
 fn gaps(alloc: Global, next: u64, seeds: &[u64], last: u64) -> Result<Vec<Stretch>, AllocError>
     ensures { IfOk result (λ found. found.items ≡ gaps next seeds.now last) }
 {
@@ -59,7 +59,8 @@ fn gaps(alloc: Global, next: u64, seeds: &[u64], last: u64) -> Result<Vec<Stretc
     Ok(found)
 }
 
-/// Returns the ranges of seeds from `first` to `last` for which there is no campaign. No two ranges touch.
+/// Returns the ranges of the seeds from `first` to `last`, both included, for which there is no campaign. Between two
+/// ranges there is always a seed that has a campaign.
 ///
 /// # Errors
 ///
@@ -77,7 +78,7 @@ pub fn holes(
     gaps(alloc, first, seeds.as_slice(), last)
 }
 
-/// Returns the seeds, which are ascending, that repeat the seed before them.
+/// Returns each of the ascending `seeds` that equals the seed before it.
 fn repeated(alloc: Global, seeds: &[u64]) -> Result<Vec<u64>, AllocError>
     ensures { IfOk result (λ found. found.items ≡ repeated seeds.now) }
 {
@@ -90,7 +91,8 @@ fn repeated(alloc: Global, seeds: &[u64]) -> Result<Vec<u64>, AllocError>
     Ok(found)
 }
 
-/// Returns the ranges that these seeds, which are ascending, form with a range that has already begun.
+/// Continues the range `begun` with the ascending `seeds` as far as they are consecutive, and puts later seeds into
+/// further ranges. Returns all these ranges.
 fn stretches_from(alloc: Global, begun: Stretch, seeds: &[u64]) -> Result<Vec<Stretch>, AllocError>
     ensures { IfOk result (λ found. found.items ≡ stretches_from begun.first begun.last seeds.now) }
 {
@@ -111,7 +113,7 @@ fn stretches_from(alloc: Global, begun: Stretch, seeds: &[u64]) -> Result<Vec<St
     Ok(found)
 }
 
-/// Returns the ranges that these seeds, which are ascending, form.
+/// Returns the ascending `seeds` as ranges of consecutive seeds: `[3, 4, 8]` gives 3 to 4, and 8 to 8.
 fn stretches(alloc: Global, seeds: &[u64]) -> Result<Vec<Stretch>, AllocError>
     ensures { IfOk result (λ found. found.items ≡ stretches seeds.now) }
 {
@@ -128,7 +130,8 @@ fn stretches(alloc: Global, seeds: &[u64]) -> Result<Vec<Stretch>, AllocError>
     }
 }
 
-/// Returns the ranges of seeds for which there is more than one campaign. No two ranges touch.
+/// Returns the ranges of the seeds for which there is more than one campaign. Between two ranges there is always a seed
+/// that has at most one.
 ///
 /// # Errors
 ///

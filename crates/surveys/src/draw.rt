@@ -5,10 +5,11 @@ ghost use Rattle.surveys.specs.Plotting.{count_in};
 
 use crate::span::CountRange;
 
-/// The number by which the generator's state grows from one number to the next.
+/// The number that SplitMix64 adds to its state from one random number to the next.
 const STEP: u64 = 0x9e37_79b9_7f4a_7c15;
 
-/// Folds a word down by `places` bits, by exclusive or, and multiplies the result by a factor.
+/// Combines a word with itself, shifted right by `places` bits, by exclusive or, and multiplies the result by `factor`,
+/// modulo 2^64. `places` is 0 to 63.
 fn folded(word: u64, places: u32, factor: u64) -> u64
     requires { places < 64 }
     ensures { result ≡ folded word places factor }
@@ -16,7 +17,7 @@ fn folded(word: u64, places: u32, factor: u64) -> u64
     (word ^ (word >> places)).wrapping_mul(factor)
 }
 
-/// Returns a word with its bits mixed.
+/// Mixes the bits of a word: returns the random number that SplitMix64 computes from this state.
 #[tactic(auto, unfolding(crate::specs::Draws::mixed))]
 fn mixed(word: u64) -> u64
     ensures { result ≡ mixed word }
@@ -35,7 +36,7 @@ pub(crate) fn draw(seed: u64, place: u16) -> u64
     mixed(seed.wrapping_add((u64::from(place) + 1).wrapping_mul(STEP)))
 }
 
-/// Returns how many numbers a range has.
+/// Returns how many numbers a range contains, its ends included.
 pub(crate) fn count_in(span: CountRange) -> u64
     requires { span.low ≤ span.high }
     ensures number { result ≡ count_in span }

@@ -1,4 +1,4 @@
-//! Families of campaigns: which campaigns a survey plays.
+//! Families of campaigns. A family says what campaigns a survey makes from seeds.
 ghost use Rattle.std.specs.Prelude.{◌≡◌, SomeIff, IfSome};
 
 use crate::adversary::Adversary;
@@ -54,12 +54,12 @@ impl Model for Family {
 impl Family {
     ghost use Rattle.surveys.specs.Family.{Family as Seen, IsFamily};
 
-    /// Returns a family of campaigns. A seed draws the number of generals, the bound and the number of traitors from
-    /// these ranges. If `grid` is true, the seeds go through the ranges in turn, through the first one fastest. The
-    /// number of generals is 2 to 13. A bound above 4 or above the number of generals less 2 is cut to that, and a
-    /// number of traitors above the number of generals is cut to that. In a campaign without a general `commander` the
-    /// last general commands. Orders are from 0 to `orders`. If `patience` is given, 1 to 4,096, a traitor may take that
-    /// many steps. Otherwise he runs to his end.
+    /// Returns a family of campaigns. It has ranges for the number of generals (2 to 13), the bound and the number of
+    /// traitors. A seed draws a number from each. If `grid` is true, consecutive seeds instead go through all
+    /// combinations, and change the number of generals fastest. A bound is cut to 4 and to the number of generals less
+    /// 2, and a number of traitors to the number of generals. General `commander` commands, or the last general if
+    /// there are not enough generals. Orders are from 0 to `orders`. A traitor may take `patience` steps, 1 to 4,096,
+    /// in a round, or any number for `None`.
     pub fn new(
         generals: CountRange,
         bound: CountRange,
@@ -131,42 +131,43 @@ impl Family {
         self.traitors
     }
 
-    /// Returns the commander of the campaigns that have a general of this number.
+    /// Returns the number of the general who commands. In a campaign with too few generals the last one commands
+    /// instead.
     pub fn commander(&self) -> u8
         ensures { result ≡ self.now.commander }
     {
         self.commander
     }
 
-    /// Returns the greatest order.
+    /// Returns the greatest order. Orders are from 0 to this number.
     pub fn orders(&self) -> u8
         ensures { result ≡ self.now.orders }
     {
         self.orders
     }
 
-    /// Returns whether seeds go through the ranges in turn.
+    /// Returns whether consecutive seeds go through all combinations of the ranges. If not, each seed draws at random.
     pub fn grid(&self) -> bool
         ensures { result ≡ self.now.grid }
     {
         self.grid
     }
 
-    /// Returns how orders are sent.
+    /// Returns how orders are sent: orally, with the rule by which they are combined, or signed.
     pub fn manner(&self) -> Manner
         ensures { result ≡ self.now.manner }
     {
         self.manner
     }
 
-    /// Returns how many steps a traitor may take, or `None` if he runs to his end.
+    /// Returns how many steps a traitor may take in a round, or `None` if they are not limited.
     pub fn patience(&self) -> Option<u32>
         ensures { result ≡ self.now.patience }
     {
         self.patience
     }
 
-    /// Returns what the traitors do.
+    /// Returns what the traitors do in the campaigns of the family.
     pub fn adversary(&self) -> &Adversary
         ensures { result.now ≡ self.now.adversary }
     {

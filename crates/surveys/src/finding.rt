@@ -1,17 +1,17 @@
 //! The result of one campaign in a survey.
 use world::Verdict;
 
-/// The result of a seed's campaign.
+/// The result of the campaign that a seed draws.
 #[derive(Clone, Copy)]
 pub struct Finding {
     /// The seed of the campaign.
     pub seed: u64,
-    /// How many generals it has.
+    /// The number of generals.
     pub generals: u8,
-    /// How many traitors it must tolerate.
+    /// The bound: how many traitors the algorithm must tolerate.
     pub bound: u8,
-    /// How many traitors it has.
+    /// The number of traitors.
     pub traitors: u64,
-    /// The verdict on what the lieutenants decide.
+    /// The verdict on the lieutenants' decisions.
     pub verdict: Verdict,
 }

@@ -9,7 +9,8 @@ use crate::number_text::put_numbered;
 use crate::span::CountRange;
 use std::alloc::{AllocError, Global};
 
-/// Returns the JSON word for what the traitors do.
+/// Returns what the traitors do as a JSON string, such as `"lies"`. For a given program it is `0x` with the bytecode in
+/// hex.
 fn adversary_word(alloc: Global, adversary: &Adversary) -> Result<String, AllocError>
     ensures { IfOk result (λ word. string_bytes word ≡ adversary_word adversary.now) }
 {
@@ -21,7 +22,7 @@ fn adversary_word(alloc: Global, adversary: &Adversary) -> Result<String, AllocE
     }
 }
 
-/// Returns the JSON word for how orders are sent.
+/// Returns how orders are sent as a JSON string: the name of the rule that combines oral messages, or `"signed"`.
 fn manner_word(alloc: Global, manner: Manner) -> Result<String, AllocError>
     ensures { IfOk result (λ word. string_bytes word ≡ manner_word manner) }
 {
@@ -31,14 +32,14 @@ fn manner_word(alloc: Global, manner: Manner) -> Result<String, AllocError>
     }
 }
 
-/// Returns a word in quotation marks.
+/// Returns a word between quotation marks.
 fn quoted(alloc: Global, word: &str) -> Result<String, AllocError>
     ensures { IfOk result (λ text. string_bytes text ≡ codes "\"" ++ (word.now ++ codes "\"")) }
 {
     format!(in alloc; "\"{word}\"")
 }
 
-/// Returns the JSON word for how many steps a traitor may take, or `null` if they are unlimited.
+/// Returns how many steps a traitor may take in a round as a JSON number, or `null` if they are not limited.
 fn patience_word(alloc: Global, patience: Option<u32>) -> Result<String, AllocError>
     ensures { IfOk result (λ word. string_bytes word ≡ patience_word patience) }
 {
@@ -48,7 +49,7 @@ fn patience_word(alloc: Global, patience: Option<u32>) -> Result<String, AllocEr
     }
 }
 
-/// Writes a word after its name.
+/// Appends a JSON member: `name`, which contains the colon, and then `word`.
 fn put_word(out: &mut String, name: &str, word: &str) -> Result<(), AllocError>
     ensures { OnOk result (string_bytes out.new ≡ string_bytes out.old ++ name.now ++ word.now) }
 {
@@ -56,7 +57,7 @@ fn put_word(out: &mut String, name: &str, word: &str) -> Result<(), AllocError>
     out.push_str(word)
 }
 
-/// Writes who commands, unless it is general 0.
+/// Appends the JSON member `commander`, unless general 0 commands.
 fn put_commander(out: &mut String, commander: u8) -> Result<(), AllocError>
     ensures { OnOk result (string_bytes out.new ≡ string_bytes out.old ++ commander_text commander) }
 {
@@ -66,7 +67,8 @@ fn put_commander(out: &mut String, commander: u8) -> Result<(), AllocError>
     put_numbered(out, ",\"commander\":", u64::from(commander))
 }
 
-/// Writes the range of the bound, who commands, and the range of the number of generals.
+/// Appends the JSON members `bound_high`, `bound_low`, `commander` (unless it is 0), `generals_high` and
+/// `generals_low`.
 fn put_front(
     out: &mut String,
     bound: CountRange,
@@ -83,7 +85,7 @@ fn put_front(
     Ok(())
 }
 
-/// Writes the greatest order, unless it is 1.
+/// Appends the JSON member `orders` with the greatest order, unless this is 1.
 fn put_orders(out: &mut String, orders: u8) -> Result<(), AllocError>
     ensures { OnOk result (string_bytes out.new ≡ string_bytes out.old ++ orders_text orders) }
 {
@@ -93,14 +95,15 @@ fn put_orders(out: &mut String, orders: u8) -> Result<(), AllocError>
     put_numbered(out, ",\"orders\":", u64::from(orders))
 }
 
-/// Returns the JSON word for how the numbers of campaigns are found.
+/// Returns the value of the JSON member `line`: `"grid"` if the seeds go through all combinations of the ranges, and
+/// `"family"` if each seed draws at random.
 fn line_word(grid: bool) -> &'static str
     ensures { result.now ≡ line_word grid }
 {
     if grid { "\"grid\"" } else { "\"family\"" }
 }
 
-/// Writes how numbers are found and orders sent, the greatest order, and how many steps a traitor may take.
+/// Appends the JSON members `line`, `manner`, `orders` (unless it is 1) and `patience`.
 fn put_middle(
     out: &mut String,
     grid: bool,
@@ -117,7 +120,7 @@ fn put_middle(
     Ok(())
 }
 
-/// Writes the range of the number of traitors, and ends the line.
+/// Appends the JSON members `traitors_high` and `traitors_low`, the closing brace, and a line feed.
 fn put_end(out: &mut String, traitors: CountRange) -> Result<(), AllocError>
     ensures { OnOk result (string_bytes out.new ≡ string_bytes out.old ++ head_end traitors) }
 {
@@ -127,7 +130,7 @@ fn put_end(out: &mut String, traitors: CountRange) -> Result<(), AllocError>
     Ok(())
 }
 
-/// Returns the head of a survey of this family: a JSON object and a line feed.
+/// Returns the head of a survey, its first line: a JSON object that describes the family, and a line feed.
 ///
 /// # Errors
 ///
@@ -157,7 +160,7 @@ pub fn head(alloc: Global, family: &Family) -> Result<String, AllocError>
     Ok(out)
 }
 
-/// Checks whether a line begins with `{"adversary":`, the first member of a head.
+/// Checks whether a line begins with `{"adversary":`, as the head of a survey does.
 pub(crate) fn is_head(line: &[u8]) -> bool
     ensures { result ≡ is_head line.now }
 {

@@ -1,4 +1,4 @@
-//! Plays the campaign of a text or a seed, and returns its verdict.
+//! Plays a campaign, which a text describes or a seed draws, and returns its verdict.
 ghost use Rattle.std.specs.Prelude.{◌≡◌, ◌≢◌, [], IfOk, IfErr};
 ghost use Rattle.scenario.specs.declared.messages.Campaign.TheVariants.{Oral, Signed};
 ghost use Rattle.scenario.specs.declared.fault.ScenarioError.TheVariants.{Memory};
@@ -15,7 +15,7 @@ use signed::play_signed;
 use std::alloc::{AllocError, Global};
 use world::{Schedule, Verdict, play};
 
-/// Returns the schedule without entries.
+/// Returns an empty schedule.
 pub(crate) fn unscheduled(alloc: Global) -> Schedule
     ensures { result ≡ [] }
 {
@@ -24,7 +24,7 @@ pub(crate) fn unscheduled(alloc: Global) -> Schedule
     }
 }
 
-/// Returns the verdict on an oral campaign that is played without a schedule.
+/// Plays an oral campaign without a schedule, and returns the verdict on it.
 fn oral_verdict(alloc: Global, scenario: Scenario) -> Result<Verdict, AllocError>
     ensures same { IfOk result (λ v. v ≡ verdict_in (Oral scenario)) }
     ensures well { IfOk result IsWellUnderBound }
@@ -33,7 +33,7 @@ fn oral_verdict(alloc: Global, scenario: Scenario) -> Result<Verdict, AllocError
     Ok(chronicle.verdict())
 }
 
-/// Returns the verdict on a signed campaign that is played without a schedule.
+/// Plays a signed campaign without a schedule, and returns the verdict on it.
 fn signed_verdict(alloc: Global, scenario: Scenario) -> Result<Verdict, AllocError>
     ensures same { IfOk result (λ v. v ≡ verdict_in (Signed scenario)) }
     ensures well { IfOk result IsWellUnderBound }
@@ -42,7 +42,7 @@ fn signed_verdict(alloc: Global, scenario: Scenario) -> Result<Verdict, AllocErr
     Ok(chronicle.verdict())
 }
 
-/// Returns the verdict on a campaign that is played without a schedule.
+/// Plays an oral or signed campaign without a schedule, and returns the verdict on it.
 fn verdict_in(alloc: Global, campaign: Campaign) -> Result<Verdict, AllocError>
     ensures same { IfOk result (λ v. v ≡ verdict_in campaign) }
     ensures well { IfOk result IsWellUnderBound }
@@ -53,7 +53,7 @@ fn verdict_in(alloc: Global, campaign: Campaign) -> Result<Verdict, AllocError>
     }
 }
 
-/// Plays the campaign of a text without a schedule and returns the verdict of its chronicle.
+/// Plays, without a schedule, the campaign that the TOML text describes. Returns the verdict on it.
 ///
 /// # Errors
 ///
@@ -66,7 +66,7 @@ pub fn verdict_on(alloc: Global, text: &str) -> Result<Verdict, ScenarioError>
     Ok(verdict_in(alloc, campaign)?)
 }
 
-/// Returns the scenario of a campaign.
+/// Returns the scenario of an oral or signed campaign.
 pub(crate) fn scenario_in(campaign: &Campaign) -> &Scenario
     ensures { result.now ≡ scenario_in campaign.now }
 {
@@ -90,7 +90,7 @@ pub(crate) fn traitors_in(scenario: &Scenario) -> u64
     count
 }
 
-/// Plays the campaign of a text and returns its result, with `seed` as its seed.
+/// Plays the campaign that the TOML text describes, and returns its result. The result names `seed` as its seed.
 ///
 /// # Errors
 ///
@@ -113,7 +113,7 @@ pub fn found(alloc: Global, text: &str, seed: u64) -> Result<Finding, ScenarioEr
     })
 }
 
-/// Plays the campaign that a seed draws from a family and returns its result.
+/// Plays the campaign that `seed` draws from `family`, and returns its result.
 ///
 /// # Errors
 ///

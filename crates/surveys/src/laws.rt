@@ -3,24 +3,25 @@ ghost use Rattle.surveys.specs.Heads.{HeadsTellFamilies};
 ghost use Rattle.surveys.specs.Laws.{KeptAreSound, WrittenAreParts};
 ghost use Rattle.surveys.specs.Sums.{SumsOfParts};
 
-/// Does nothing. Its contract says that the sums of two parts of a survey add up to those of the whole.
+/// Does nothing. Its contract says that if a survey is cut into two parts, their counts add up to the counts of the
+/// whole survey.
 pub fn sums_of_parts()
     ensures { SumsOfParts }
 {}
 
-/// Does nothing. Its contract says that in each seed's campaign whose bound holds the loyal lieutenants decide alike
-/// and obey a loyal commander.
+/// Does nothing. Its contract says that if the bound of a seed's campaign holds, its loyal lieutenants decide alike and
+/// obey a loyal commander.
 pub fn kept_are_sound()
     ensures { KeptAreSound }
 {}
 
-/// Does nothing. Its contract says that families with the same head have the same campaigns, seed by seed.
+/// Does nothing. Its contract says that two families with the same head draw the same campaign from each seed.
 pub fn heads_tell_families()
     ensures { HeadsTellFamilies }
 {}
 
-/// Does nothing. Its contract says that the head of a family and the lines of campaigns after it are a part with just
-/// these campaigns.
+/// Does nothing. Its contract says that a family's head and the lines of campaigns after it are a valid part of a
+/// survey, and that this part describes exactly these campaigns.
 pub fn written_are_parts()
     ensures { WrittenAreParts }
 {}

@@ -1,5 +1,6 @@
-//! Surveys: makes many campaigns of a family from seeds, plays them, and counts their outcomes. Reduces broken campaigns
-//! to the least that is still broken, and tabulates and draws the counts. The definitions are in specs/.
+//! Surveys: makes many campaigns of a family from seeds, plays them, and counts their outcomes. Removes from a broken
+//! campaign each traitor and statement that it does not need to stay broken. Writes the counts as tables and pictures.
+//! The definitions are in specs/.
 #![tactic(auto)]
 
 mod account;

@@ -1,4 +1,4 @@
-//! Reads the line of a campaign in a survey.
+//! Parses the line of a campaign in a survey.
 ghost use Rattle.std.specs.Prelude.{◌≡◌, ◌^◌, ◌∷◌, ◌↔◌, ℕ, Bool, List, Option, IfOk, IfSome, IsTrue, Some};
 ghost use Rattle.surveys.specs.Lines.{AreNumbers, AreWords, HasMember, answer_text, flag_text, line_text, number_told};
 ghost use Rattle.surveys.specs.declared.finding.Finding.{Finding as Found};
@@ -9,7 +9,7 @@ use std::alloc::{AllocError, Global};
 use text::{Stop, cut, decimal};
 use world::Verdict;
 
-/// Returns the word after the first colon up to the byte `end`, and the bytes from there on.
+/// Returns the word between the first colon and the next byte `end`, and the bytes from this `end` on.
 fn member(end: u8, bytes: &[u8]) -> (&[u8], &[u8])
     ensures word { (w behind : List ℕ) → HasMember end bytes.now w behind → result.0.now ≡ w }
     ensures rest { (w behind : List ℕ) → HasMember end bytes.now w behind → result.1.now ≡ end ∷ behind }
@@ -21,7 +21,7 @@ fn member(end: u8, bytes: &[u8]) -> (&[u8], &[u8])
     }
 }
 
-/// Returns the flag that a word is, if it is one.
+/// Parses `true` or `false`. Returns `None` for another word.
 fn flag_told(word: &[u8]) -> Option<bool>
     ensures { (b : Bool) → word.now ≡ flag_text b → result ≡ Some b }
 {
@@ -34,7 +34,8 @@ fn flag_told(word: &[u8]) -> Option<bool>
     None
 }
 
-/// Returns the answer that a word is, if it is one. `null` is no answer.
+/// Parses an answer: `true`, `false`, or `null` for no answer, which gives `Some(None)`. Returns `None` for another
+/// word.
 fn answer_told(word: &[u8]) -> Option<Option<bool>>
     ensures { (a : Option Bool) → word.now ≡ answer_text a → result ≡ Some a }
 {
@@ -44,7 +45,7 @@ fn answer_told(word: &[u8]) -> Option<Option<bool>>
     Some(Some(flag_told(word)?))
 }
 
-/// Returns the number below 2^64 that a word is, if it is one.
+/// Parses a decimal number below 2^64. Returns `None` for another word.
 fn number_told(word: &[u8]) -> Option<u64>
     ensures { result ≡ number_told (2 ^ 64) word.now }
 {
@@ -56,7 +57,7 @@ fn number_told(word: &[u8]) -> Option<u64>
     }
 }
 
-/// Returns the number below 256 that a word is, if it is one.
+/// Parses a decimal number below 256. Returns `None` for another word.
 fn small_told(word: &[u8]) -> Option<u8>
     ensures { result ≡ number_told 256 word.now }
 {
@@ -68,7 +69,8 @@ fn small_told(word: &[u8]) -> Option<u8>
     }
 }
 
-/// Returns the campaign's result that these words describe, in the order of the line, if each word is valid.
+/// Parses the values of a campaign's line, in the order of the line. Returns the campaign's result, or `None` if a
+/// value is not valid.
 fn found_by(
     alike: &[u8],
     bound: &[u8],
@@ -101,7 +103,8 @@ fn found_by(
     })
 }
 
-/// Returns the campaign's result that the words of a line describe, whatever bytes are between them.
+/// Parses the values in the line of a campaign, without a check of the text between them. Returns the campaign's
+/// result, or `None` if a value is not valid.
 fn line_told(bytes: &[u8]) -> Option<Finding>
     ensures { (f : Found) → AreNumbers f → bytes.now ≡ line_text f → result ≡ Some f }
 {
@@ -116,7 +119,7 @@ fn line_told(bytes: &[u8]) -> Option<Finding>
     found_by(alike, bound, generals, kept, obeyed, seed, traitors)
 }
 
-/// Checks whether these bytes are the line of a campaign's result.
+/// Checks whether the bytes are exactly the line of this campaign's result.
 fn is_line(alloc: Global, finding: &Finding, bytes: &[u8]) -> Result<bool, AllocError>
     ensures { IfOk result (λ same. IsTrue same ↔ (bytes.now ≡ line_text finding.now)) }
 {
@@ -124,7 +127,7 @@ fn is_line(alloc: Global, finding: &Finding, bytes: &[u8]) -> Result<bool, Alloc
     Ok(bytes == again.as_bytes())
 }
 
-/// Returns the campaign's result if these bytes are its line.
+/// Returns the campaign's result if the bytes are exactly its line, and otherwise `None`.
 fn if_line(alloc: Global, finding: Finding, bytes: &[u8]) -> Result<Option<Finding>, AllocError>
     ensures told { IfOk result (λ told. IfSome told (λ f. bytes.now ≡ line_text f)) }
     ensures kept { bytes.now ≡ line_text finding → IfOk result (λ told. told ≡ Some finding) }
@@ -136,7 +139,8 @@ fn if_line(alloc: Global, finding: Finding, bytes: &[u8]) -> Result<Option<Findi
     Ok(None)
 }
 
-/// Returns the campaign's result that a line describes, or `None` if it is not such a line.
+/// Returns the campaign's result that a line describes. Returns `None` if the bytes are not exactly the line of a
+/// campaign.
 ///
 /// # Errors
 ///

@@ -1,4 +1,4 @@
-//! Writes the line of a campaign in a survey, as a JSON object.
+//! Writes the result of a campaign in a survey as a line with a JSON object.
 ghost use Rattle.std.specs.Prelude.{◌≡◌, ◌++◌, IfOk, OnOk, string_bytes};
 ghost use Rattle.surveys.specs.Lines.{answer_text, back_text, flag_text, front_text, line_text};
 
@@ -6,14 +6,14 @@ use crate::finding::Finding;
 use crate::number_text::put_numbered;
 use std::alloc::{AllocError, Global};
 
-/// Returns `true` or `false`.
+/// Returns the JSON word for a flag, `true` or `false`.
 fn flag_text(flag: bool) -> &'static str
     ensures { result.now ≡ flag_text flag }
 {
     if flag { "true" } else { "false" }
 }
 
-/// Returns `true` or `false`, or `null` if there is no answer.
+/// Returns the JSON word for an answer: `true` or `false`, or `null` if there is no answer.
 fn answer_text(answer: Option<bool>) -> &'static str
     ensures { result.now ≡ answer_text answer }
 {
@@ -23,7 +23,7 @@ fn answer_text(answer: Option<bool>) -> &'static str
     }
 }
 
-/// Writes a flag after its name.
+/// Appends a JSON member: `name`, which contains the colon, and then `true` or `false`.
 pub(crate) fn put_flag(out: &mut String, name: &str, flag: bool) -> Result<(), AllocError>
     ensures { OnOk result (string_bytes out.new ≡ string_bytes out.old ++ name.now ++ flag_text flag) }
 {
@@ -31,7 +31,8 @@ pub(crate) fn put_flag(out: &mut String, name: &str, flag: bool) -> Result<(), A
     out.push_str(flag_text(flag))
 }
 
-/// Writes an answer after its name.
+/// Appends a JSON member: `name`, which contains the colon, and then `true` or `false`, or `null` if there is no
+/// answer.
 pub(crate) fn put_answer(
     out: &mut String,
     name: &str,
@@ -43,7 +44,7 @@ pub(crate) fn put_answer(
     out.push_str(answer_text(answer))
 }
 
-/// Appends the first half of a campaign's line, the beginning of a JSON object: the members `alike`, `bound`,
+/// Appends the first half of a campaign's line: the opening brace of the JSON object, and its members `alike`, `bound`,
 /// `generals` and `kept`.
 fn put_front(out: &mut String, finding: &Finding) -> Result<(), AllocError>
     ensures { OnOk result (string_bytes out.new ≡ string_bytes out.old ++ front_text finding.now) }
@@ -71,7 +72,7 @@ fn put_back(out: &mut String, finding: &Finding) -> Result<(), AllocError>
     Ok(())
 }
 
-/// Appends the line of a campaign: a JSON object and a line feed.
+/// Appends the result of a campaign as a line: a JSON object and a line feed.
 ///
 /// # Errors
 ///
@@ -84,7 +85,7 @@ pub fn put_line(out: &mut String, finding: &Finding) -> Result<(), AllocError>
     Ok(())
 }
 
-/// Returns the line of a campaign: a JSON object and a line feed.
+/// Returns the result of a campaign as a line: a JSON object and a line feed.
 ///
 /// # Errors
 ///

@@ -4,8 +4,8 @@ use combine::Rule;
 /// How the generals of a campaign send orders.
 #[derive(Clone, Copy)]
 pub enum Manner {
-    /// As oral messages, by OM(m). Orders are combined by this rule.
+    /// Orally, by the algorithm OM(m) with this rule for combining orders.
     Oral(Rule),
-    /// As signed messages, by SM(m).
+    /// With signatures, by the algorithm SM(m).
     Signed,
 }

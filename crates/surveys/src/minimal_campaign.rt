@@ -1,4 +1,4 @@
-//! Reduces a broken campaign until nothing more can be removed.
+//! Reduces a broken campaign until nothing more can be removed from it.
 ghost use Rattle.std.specs.Prelude.{◌≢◌, IfErr, IfOk, IfSome, IfNone};
 ghost use Rattle.scenario.specs.declared.fault.ScenarioError.TheVariants.{Memory};
 ghost use Rattle.surveys.specs.Shrinking.{ComesWell, IsBroken, IsLeast, IsPartOf, IsRefusedOf, IsWalked, ShrinksTo};
@@ -8,8 +8,8 @@ use crate::reductions::{comes_well, fewest_lies, fewest_traitors, less};
 use scenario::ScenarioError;
 use std::alloc::Global;
 
-/// Returns the campaign after one pass over its traitors and one over their statements. Each pass removes what can be
-/// removed.
+/// Goes once through the traitors of a broken campaign and then once through their statements. It removes each one that
+/// the campaign does not need to stay broken, and returns the campaign that remains.
 fn walked(alloc: Global, plot: Plot) -> Result<Plot, ScenarioError>
     requires { IsBroken plot }
     ensures broken { IfOk result IsBroken }
@@ -21,14 +21,13 @@ fn walked(alloc: Global, plot: Plot) -> Result<Plot, ScenarioError>
     fewest_lies(alloc, fewer)
 }
 
-/// Returns the campaign reduced until nothing more can be removed. Traitors and statements are removed one by one while
-/// the campaign stays broken, which means that its loyal lieutenants do not decide alike or do not obey a loyal
-/// commander. Returns `None` if the campaign is not broken.
+/// Reduces a broken campaign: one in which the loyal lieutenants do not decide alike or do not obey a loyal commander.
+/// Traitors and statements are removed one by one while the campaign stays broken, until it needs all that remain.
+/// Returns `None` if the campaign is not broken.
 ///
 /// # Errors
 ///
-/// Returns the first fault of the text of the campaign or of a reduction of it. Fails with `Memory` if it runs out of
-/// memory.
+/// Returns the first fault of the campaign's text or of a reduction's text, or `Memory` if it runs out of memory.
 pub fn shrunk(alloc: Global, plot: Plot) -> Result<Option<Plot>, ScenarioError>
     ensures least { IfOk result (λ left. IfSome left IsLeast) }
     ensures part { IfOk result (λ left. IfSome left (IsPartOf plot)) }

@@ -1,4 +1,4 @@
-//! Narrows a family to fixed numbers of generals, bound and traitors.
+//! Narrows a family to one number of generals, one bound and one number of traitors.
 ghost use Rattle.std.specs.Prelude.{◌≡◌, ◌≤◌, IfOk};
 ghost use Rattle.surveys.specs.Breaches.{narrowed, only};
 ghost use Rattle.surveys.specs.Plotting.{plot_of};
@@ -8,7 +8,7 @@ use crate::family::Family;
 use crate::span::CountRange;
 use std::alloc::{AllocError, Global};
 
-/// Returns the range of one number.
+/// Returns the range that contains only `number`.
 fn only(number: u8) -> CountRange
     ensures { result ≡ only number }
 {
@@ -18,8 +18,8 @@ fn only(number: u8) -> CountRange
     }
 }
 
-/// Returns the family whose campaigns have this number of generals, this bound and this number of traitors, and are
-/// otherwise those of `family`.
+/// Returns a family that differs from `family` in three ranges: the number of generals is always `generals`, the bound
+/// `bound`, and the number of traitors `traitors`.
 pub(crate) fn narrowed(
     alloc: Global,
     family: &Family,

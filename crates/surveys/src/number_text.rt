@@ -4,7 +4,7 @@ ghost use Rattle.std.specs.Prelude.{◌≡◌, ◌++◌, OnOk, decimal, string_b
 use itoa::Buffer;
 use std::alloc::AllocError;
 
-/// Writes a number in decimal.
+/// Appends a number in decimal.
 pub(crate) fn put_number(out: &mut String, number: u64) -> Result<(), AllocError>
     ensures { OnOk result (string_bytes out.new ≡ string_bytes out.old ++ decimal number) }
 {
@@ -12,7 +12,7 @@ pub(crate) fn put_number(out: &mut String, number: u64) -> Result<(), AllocError
     out.push_str(buffer.format(number))
 }
 
-/// Writes a number in decimal after its name.
+/// Appends `name` and then the number in decimal.
 pub(crate) fn put_numbered(out: &mut String, name: &str, number: u64) -> Result<(), AllocError>
     ensures { OnOk result (string_bytes out.new ≡ string_bytes out.old ++ name.now ++ decimal number) }
 {

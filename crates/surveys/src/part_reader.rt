@@ -1,4 +1,4 @@
-//! Reads a part of a survey line by line.
+//! Reads a part of a survey, which is a text, line by line.
 ghost use Rattle.std.specs.Prelude.{◌≡◌, ◌≢◌, ◌↔◌, ◌+◌, ◌<◌, ◌^◌, ◌++◌, ℕ, List, [], length, IfErr, IfNone, IfSome, IsTrue, MatchResult, OnOk, Some, true};
 ghost use Rattle.surveys.specs.declared.finding.Finding.{Finding as Found};
 ghost use Rattle.surveys.specs.Heads.{is_head};
@@ -11,7 +11,8 @@ use crate::parts::{PartError, Parts};
 use std::alloc::{AllocError, Global};
 use text::{Stop, find};
 
-/// Returns the first line with its line feed, and the bytes after it. Returns `None` if there is no line feed.
+/// Cuts the bytes after the first line feed: returns the first line with its line feed, and the bytes after it. Returns
+/// `None` if there is no line feed.
 fn first_line(bytes: &[u8]) -> Option<(&[u8], &[u8])>
     ensures line { IfSome result (λ cut. IsLine cut.0.now) }
     ensures whole { IfSome result (λ cut. bytes.now ≡ cut.0.now ++ cut.1.now) }
@@ -24,7 +25,8 @@ fn first_line(bytes: &[u8]) -> Option<(&[u8], &[u8])>
     None
 }
 
-/// Stores the head of a part. If there were parts before, it must be their head.
+/// Stores `line` as the head that all parts of the survey share. If a head is already stored, fails with `Family(1)`
+/// unless `line` is the same.
 fn take_head(head: &mut Vec<u8>, line: &[u8]) -> Result<(), PartError>
     ensures taken { OnOk result (head.new.items ≡ line.now) }
     ensures same { OnOk result (head.old.items ≢ [] → head.new.items ≡ head.old.items) }
@@ -43,7 +45,8 @@ fn take_head(head: &mut Vec<u8>, line: &[u8]) -> Result<(), PartError>
     Err(PartError::Family(1))
 }
 
-/// Checks whether the numbers of a campaign's result are within their limits.
+/// Checks whether a campaign can have these numbers. It has at most 13 generals, and at most as many traitors. Its
+/// bound is at most 4, and at most the number of generals less 2.
 fn is_sized(finding: &Finding) -> bool
     ensures { IsTrue result ↔ IsSized finding.now }
 {
@@ -53,12 +56,12 @@ fn is_sized(finding: &Finding) -> bool
         && finding.traitors <= u64::from(finding.generals)
 }
 
-/// Returns the campaign's result that the line with this number describes, if its seed is in the range `seeds`, both
+/// Returns `told`, the campaign's result that was read from line `number`, if its seed is in the range `seeds`, both
 /// ends included.
 ///
 /// # Errors
 ///
-/// Returns `Line` if the line does not describe a campaign, and `Seed` if the campaign has another seed.
+/// Returns `Line` if no possible result was read, and `Seed` if the campaign's seed is not in the range.
 fn taken(told: Option<Finding>, number: u64, seeds: (u64, u64)) -> Result<Finding, PartError>
     ensures taken { MatchResult result (λ f. (told ≡ Some f) × IsOf seeds.0 seeds.1 f)
         (IsUntaken seeds.0 seeds.1 number told) }
@@ -77,8 +80,8 @@ fn taken(told: Option<Finding>, number: u64, seeds: (u64, u64)) -> Result<Findin
     Ok(finding)
 }
 
-/// Appends the campaign's result that the line with this number describes. A line that repeats the head is skipped. The
-/// seed must be in the range `seeds`, both ends included.
+/// Parses line `number` of a part, and appends the campaign's result that it describes. The seed must be in the range
+/// `seeds`, both ends included. A line that repeats the head is skipped.
 fn add_row(
     alloc: Global,
     head: &[u8],
@@ -109,7 +112,8 @@ fn add_row(
     Ok(())
 }
 
-/// Appends the results that the lines after a head describe. The first of these lines has number 2.
+/// Appends the campaigns' results that the lines after a head describe, up to the first invalid line, which it returns
+/// as an error. The line after the head has number 2.
 fn add_rows(
     alloc: Global,
     head: &[u8],
@@ -136,14 +140,14 @@ fn add_rows(
     Ok(())
 }
 
-/// Reads a part of a survey after others. Its first line is the head, which must be that of the earlier parts. The
-/// other lines are those of campaigns whose seeds are in the range `seeds`, both ends included, or repeat the head. An
-/// empty text is a part too.
+/// Reads a part of a survey, and appends its campaigns' results to `parts`. The first line is the head, which must be
+/// the same in all parts. Each other line describes a campaign whose seed is in the range `seeds`, both ends included,
+/// or repeats the head. A part may be empty.
 ///
 /// # Errors
 ///
-/// Returns the first line that is none of these. The results of the lines before it are kept, and the lines after it
-/// are not read. Fails with `Memory` if it runs out of memory.
+/// Returns the first invalid line and why it is invalid. The results of the lines before it are kept, and the lines
+/// after it are not read. Fails with `Memory` if it runs out of memory.
 pub fn read_part(
     alloc: Global,
     parts: &mut Parts,

@@ -5,23 +5,25 @@ ghost use Rattle.surveys.specs.declared.parts.PartError.TheVariants.{Memory};
 use crate::finding::Finding;
 use std::alloc::{AllocError, AllocFailed};
 
-/// The contents of the parts of a survey, one after another.
+/// What was read from the parts of a survey.
 #[derive(Drop)]
 pub struct Parts {
-    /// The common head of the parts, with its line feed. It is empty if there is none yet.
+    /// The head, with its line feed, that all parts share. It is empty as long as no head was read.
     pub head: Vec<u8>,
-    /// The results of the campaigns.
+    /// The results of the campaigns, in the order in which they were read.
     pub findings: Vec<Finding>,
 }
 
-/// Why a text is rejected as a further part of a survey. Lines are counted from 1.
+/// Why a text is rejected as a part of a survey. Lines are counted from 1.
 #[derive(Clone, Copy, Drop)]
 pub enum PartError {
-    /// This line is cut off, or it is neither a head nor the line of a campaign. The first line must be a head.
+    /// The line with this number is cut off, or is neither a head nor the line of a campaign. The first line must be a
+    /// head.
     Line(u64),
-    /// This line is the head of another family than that of the earlier parts.
+    /// The line with this number is a head, but differs from the head of the earlier parts.
     Family(u64),
-    /// This line is that of a campaign whose seed is not among the requested ones.
+    /// The line with the first number describes a campaign, but its seed, the second number, is not among the requested
+    /// seeds.
     Seed(u64, u64),
     /// Out of memory.
     Memory,

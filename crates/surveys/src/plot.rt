@@ -1,4 +1,4 @@
-//! Drawn campaigns: their numbers and what their traitors do.
+//! Drawn campaigns, with the programs of their traitors as lists of statements.
 use crate::lie::Lie;
 use crate::manner::Manner;
 use std::marker::Model;
@@ -8,9 +8,9 @@ use std::marker::Model;
 pub struct Traitor {
     /// The traitor's number.
     pub general: u8,
-    /// Whether he first increments a count on the board.
+    /// Whether his program first increments a count on the shared board.
     pub counts: bool,
-    /// His statements, in their order.
+    /// The statements of his program, in their order.
     pub lies: Vec<Lie>,
 }
 
@@ -22,22 +22,22 @@ impl Model for Traitor {
     ghost view = { λ t. record { general = t.general; counts = t.counts; lies = t.lies.items } };
 }
 
-/// A campaign that a seed draws.
+/// A campaign that a seed draws from a family.
 #[derive(Drop)]
 pub struct Plot {
-    /// How many generals it has.
+    /// The number of generals.
     pub generals: u8,
-    /// How many traitors it must tolerate.
+    /// The bound: how many traitors the algorithm must tolerate.
     pub bound: u8,
-    /// The commander.
+    /// The number of the general who commands.
     pub commander: u8,
     /// The commander's order.
     pub order: u8,
     /// How orders are sent.
     pub manner: Manner,
-    /// How many steps a traitor may take, or `None` if he runs to his end.
+    /// How many steps a traitor may take in a round, or `None` if they are not limited.
     pub patience: Option<u32>,
-    /// The bytecode of all traitors in hex, if it replaces their statements.
+    /// The bytecode of all traitors in hex, or `None` if each traitor's program is made of his statements.
     pub given: Option<String>,
     /// The traitors, ascending by number.
     pub traitors: Vec<Traitor>,

@@ -1,4 +1,4 @@
-//! Reduces a broken campaign by a traitor or a statement, if it stays broken.
+//! Removes a traitor or a statement from a broken campaign, if the campaign stays broken.
 ghost use Rattle.std.specs.Prelude.{◌≡◌, ◌≢◌, ◌<◌, IfErr, IfOk, IfSome, IfNone, length};
 ghost use Rattle.scenario.specs.declared.fault.ScenarioError.TheVariants.{Memory};
 ghost use Rattle.surveys.specs.Shrinking.{AllLiesAreNeeded, Comes, ComesWell, IsBroken, IsPartOf, IsRefusedOf, IsStillBroken, IsWithoutFirst, IsWithoutFirstLie, IsWithoutFirstLieOf, IsWithoutFirstTraitor, LieWalk, LieWalks, LiesAreNeeded, TraitorWalk, TraitorsAreNeeded, traitor_at, without_lie, without_traitor};
@@ -13,7 +13,7 @@ use crate::summation::is_sound;
 use scenario::ScenarioError;
 use std::alloc::{AllocError, Global};
 
-/// Returns the campaign in which the traitor at this index is loyal.
+/// Returns the campaign with the traitor at index `place` made loyal.
 fn without_traitor(alloc: Global, plot: &Plot, place: usize) -> Result<Plot, AllocError>
     requires { place < length plot.now.traitors }
     ensures { IfOk result (λ less. less ≡ without_traitor plot.now place) }
@@ -23,7 +23,7 @@ fn without_traitor(alloc: Global, plot: &Plot, place: usize) -> Result<Plot, All
     Ok(less)
 }
 
-/// Returns the campaign without one statement of the traitor at this index.
+/// Returns the campaign without the statement at index `index` of the traitor at index `place`.
 fn without_lie(alloc: Global, plot: &Plot, place: usize, index: usize) -> Result<Plot, AllocError>
     requires place { place < length plot.now.traitors }
     requires index { index < length (traitor_at plot.now place).lies }
@@ -44,7 +44,7 @@ pub(crate) fn comes_well(alloc: Global, plot: &Plot) -> Result<bool, ScenarioErr
     Ok(is_sound(verdict))
 }
 
-/// Returns the campaign in which the traitor at this index is loyal, if it is still broken.
+/// Returns the campaign with the traitor at index `place` made loyal if it is still broken, and otherwise `None`.
 fn less_traitor(alloc: Global, plot: &Plot, place: usize) -> Result<Option<Plot>, ScenarioError>
     requires { place < length plot.now.traitors }
     ensures some { IfOk result (λ less. IfSome less (IsStillBroken plot.now)) }
@@ -59,7 +59,8 @@ fn less_traitor(alloc: Global, plot: &Plot, place: usize) -> Result<Option<Plot>
     Ok(Some(less))
 }
 
-/// Returns the campaign without one statement of the traitor at this index, if it is still broken.
+/// Returns the campaign without the statement at index `index` of the traitor at index `place` if it is still broken,
+/// and otherwise `None`.
 fn less_lie(
     alloc: Global,
     plot: &Plot,
@@ -80,7 +81,8 @@ fn less_lie(
     Ok(Some(less))
 }
 
-/// Returns the campaign without the first traitor whose removal leaves it broken, if there is one.
+/// Returns the campaign with the first traitor made loyal that it does not need to stay broken, or `None` if it needs
+/// all traitors.
 fn fewer_traitors(alloc: Global, plot: &Plot) -> Result<Option<Plot>, ScenarioError>
     ensures some { IfOk result (λ less. IfSome less (IsStillBroken plot.now)) }
     ensures first { IfOk result (λ less. IfSome less (IsWithoutFirstTraitor plot.now)) }
@@ -96,8 +98,8 @@ fn fewer_traitors(alloc: Global, plot: &Plot) -> Result<Option<Plot>, ScenarioEr
     Ok(None)
 }
 
-/// Returns the campaign without the first statement of the traitor at this index whose removal leaves it broken, if
-/// there is one.
+/// Removes the first statement of the traitor at index `place` that the campaign does not need to stay broken. Returns
+/// the campaign that remains, or `None` if it needs all of this traitor's statements.
 fn fewer_lies_of(alloc: Global, plot: &Plot, place: usize) -> Result<Option<Plot>, ScenarioError>
     requires { place < length plot.now.traitors }
     ensures some { IfOk result (λ less. IfSome less (IsStillBroken plot.now)) }
@@ -114,7 +116,8 @@ fn fewer_lies_of(alloc: Global, plot: &Plot, place: usize) -> Result<Option<Plot
     Ok(None)
 }
 
-/// Returns the campaign without the first statement whose removal leaves it broken, if there is one.
+/// Removes the first statement that the campaign does not need to stay broken. Returns the campaign that remains, or
+/// `None` if it needs all statements.
 fn fewer_lies(alloc: Global, plot: &Plot) -> Result<Option<Plot>, ScenarioError>
     ensures some { IfOk result (λ less. IfSome less (IsStillBroken plot.now)) }
     ensures first { IfOk result (λ less. IfSome less (IsWithoutFirstLie plot.now)) }
@@ -130,8 +133,8 @@ fn fewer_lies(alloc: Global, plot: &Plot) -> Result<Option<Plot>, ScenarioError>
     Ok(None)
 }
 
-/// Returns the campaign without the first traitor whose removal leaves it broken. If all traitors are needed, it
-/// returns the campaign without the first such statement, if there is one.
+/// Removes the first traitor that the campaign does not need to stay broken, or, if it needs all traitors, the first
+/// such statement. Returns the campaign that remains, or `None` if it needs everything.
 pub(crate) fn less(alloc: Global, plot: &Plot) -> Result<Option<Plot>, ScenarioError>
     ensures some { IfOk result (λ less. IfSome less (IsStillBroken plot.now)) }
     ensures first { IfOk result (λ less. IfSome less (IsWithoutFirst plot.now)) }
@@ -146,8 +149,8 @@ pub(crate) fn less(alloc: Global, plot: &Plot) -> Result<Option<Plot>, ScenarioE
     fewer_lies(alloc, plot)
 }
 
-/// Returns the campaign after one pass over its traitors. The pass removes each traitor whose removal leaves the
-/// campaign broken while the later ones are still there.
+/// Goes once through the traitors of a broken campaign, in order, and removes each one that it does not need to stay
+/// broken. Returns the campaign that remains.
 pub(crate) fn fewest_traitors(alloc: Global, plot: Plot) -> Result<Plot, ScenarioError>
     requires { IsBroken plot }
     ensures broken { IfOk result IsBroken }
@@ -166,8 +169,8 @@ pub(crate) fn fewest_traitors(alloc: Global, plot: Plot) -> Result<Plot, Scenari
     Ok(left)
 }
 
-/// Returns the campaign after one pass over the statements of the traitor at this index. The pass removes each
-/// statement whose removal leaves the campaign broken while the later ones are still there.
+/// Goes once through the statements of the traitor at index `place`, in order, and removes each one that the campaign
+/// does not need to stay broken. Returns the campaign that remains.
 fn fewest_lies_of(alloc: Global, plot: Plot, place: usize) -> Result<Plot, ScenarioError>
     requires place { place < length plot.traitors }
     requires broken { IsBroken plot }
@@ -187,8 +190,8 @@ fn fewest_lies_of(alloc: Global, plot: Plot, place: usize) -> Result<Plot, Scena
     Ok(left)
 }
 
-/// Returns the campaign after one pass over the statements of all traitors. The pass removes each statement whose
-/// removal leaves the campaign broken while the later ones are still there.
+/// Goes once through the statements of all traitors of a broken campaign, in order, and removes each one that it does
+/// not need to stay broken. Returns the campaign that remains.
 pub(crate) fn fewest_lies(alloc: Global, plot: Plot) -> Result<Plot, ScenarioError>
     requires { IsBroken plot }
     ensures broken { IfOk result IsBroken }

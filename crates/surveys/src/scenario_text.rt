@@ -11,7 +11,8 @@ use crate::seeded_plots::plot_of;
 use combine::Rule;
 use std::alloc::{AllocError, Global};
 
-/// Writes an order, or the register that contains it.
+/// Appends what a statement sends: a number in decimal, or `r6`, the register that contains the parity of the board's
+/// count.
 fn put_said(out: &mut String, said: LieValue) -> Result<(), AllocError>
     ensures { OnOk result (string_bytes out.new ≡ string_bytes out.old ++ said_text said) }
 {
@@ -21,7 +22,7 @@ fn put_said(out: &mut String, said: LieValue) -> Result<(), AllocError>
     }
 }
 
-/// Writes a call of `sway`, with a receiver and an order.
+/// Appends a call of the helper `sway` in assembly, with a receiver and an order as its arguments.
 fn put_sway(out: &mut String, receiver: u8, said: LieValue) -> Result<(), AllocError>
     ensures { OnOk result (string_bytes out.new ≡ string_bytes out.old
         ++ call_text (decimal receiver) (said_text said) (codes "sway")) }
@@ -35,7 +36,8 @@ fn put_sway(out: &mut String, receiver: u8, said: LieValue) -> Result<(), AllocE
     out.push_str("\n")
 }
 
-/// Writes a call of a helper that sends a chain, with an order or index and a set of receivers.
+/// Appends a call of a helper that sends a chain in assembly. Its arguments are `said`, an order or the index of a
+/// chain, and `receivers`, with bit `g` for general `g`.
 fn put_chain(
     out: &mut String,
     said: LieValue,
@@ -54,7 +56,7 @@ fn put_chain(
     out.push_str("\n")
 }
 
-/// Writes a call of `honest`, with a receiver.
+/// Appends a call of the helper `honest` in assembly, with a receiver as its argument.
 fn put_honest(out: &mut String, receiver: u8) -> Result<(), AllocError>
     ensures { OnOk result (string_bytes out.new ≡ string_bytes out.old ++ codes "mov r1, " ++ decimal receiver
         ++ codes "\ncall honest\n") }
@@ -64,7 +66,7 @@ fn put_honest(out: &mut String, receiver: u8) -> Result<(), AllocError>
     out.push_str("\ncall honest\n")
 }
 
-/// Writes a statement.
+/// Appends a statement of a traitor's program in assembly.
 fn put_lie(out: &mut String, lie: Lie) -> Result<(), AllocError>
     ensures { OnOk result (string_bytes out.new ≡ string_bytes out.old ++ lie_text lie) }
 {
@@ -76,7 +78,7 @@ fn put_lie(out: &mut String, lie: Lie) -> Result<(), AllocError>
     }
 }
 
-/// Writes statements.
+/// Appends statements of a traitor's program in assembly.
 fn put_lies(out: &mut String, lies: &[Lie]) -> Result<(), AllocError>
     ensures { OnOk result (string_bytes out.new ≡ string_bytes out.old ++ flat_map lie_text lies.now) }
 {
@@ -86,7 +88,8 @@ fn put_lies(out: &mut String, lies: &[Lie]) -> Result<(), AllocError>
     Ok(())
 }
 
-/// Writes instructions that increment the board's count, if the traitor counts.
+/// Appends instructions that increment the count on the board and store the parity of the old count in r6, if `counts`
+/// is true.
 fn put_counting(out: &mut String, counts: bool) -> Result<(), AllocError>
     ensures { OnOk result (string_bytes out.new ≡ string_bytes out.old ++ counting_text counts) }
 {
@@ -96,7 +99,7 @@ fn put_counting(out: &mut String, counts: bool) -> Result<(), AllocError>
     out.push_str("mov r1, 0\nmov r2, 1\ncall board_add\nmov r6, r0\nand r6, 1\n")
 }
 
-/// Writes a traitor's program.
+/// Appends the program of a traitor in assembly, made of his statements.
 #[tactic(auto, unfolding(crate::specs::Wording::program_text))]
 fn put_program(out: &mut String, traitor: &Traitor) -> Result<(), AllocError>
     ensures { OnOk result (string_bytes out.new ≡ string_bytes out.old ++ program_text traitor.now) }
@@ -107,7 +110,8 @@ fn put_program(out: &mut String, traitor: &Traitor) -> Result<(), AllocError>
     Ok(())
 }
 
-/// Writes the key that gives a traitor's program: `code` with its bytecode, or `asm` with its assembly.
+/// Appends the TOML key with the program of a traitor: `code` with the bytecode `given`, or `asm` with his statements
+/// in assembly.
 #[tactic(auto, unfolding(crate::specs::Wording::source_text))]
 fn put_source(out: &mut String, given: Option<&str>, traitor: &Traitor) -> Result<(), AllocError>
     ensures { OnOk result (string_bytes out.new ≡ string_bytes out.old
@@ -123,7 +127,7 @@ fn put_source(out: &mut String, given: Option<&str>, traitor: &Traitor) -> Resul
     out.push_str("\"\n")
 }
 
-/// Writes a traitor's table.
+/// Appends the TOML table of a traitor, with his number and his program.
 #[tactic(auto, unfolding(crate::specs::Wording::traitor_text))]
 fn put_traitor(out: &mut String, given: Option<&str>, traitor: &Traitor) -> Result<(), AllocError>
     ensures { OnOk result (string_bytes out.new ≡ string_bytes out.old
@@ -134,7 +138,7 @@ fn put_traitor(out: &mut String, given: Option<&str>, traitor: &Traitor) -> Resu
     Ok(())
 }
 
-/// Writes the traitors' tables.
+/// Appends the TOML tables of the traitors.
 fn put_traitors(
     out: &mut String,
     given: Option<&str>,
@@ -149,7 +153,7 @@ fn put_traitors(
     Ok(())
 }
 
-/// Writes the rule by which orders are combined, unless it is the default.
+/// Appends the TOML key `rule`, which names the rule by which orders are combined, unless it is the default.
 fn put_rule(out: &mut String, rule: Rule) -> Result<(), AllocError>
     ensures { OnOk result (string_bytes out.new ≡ string_bytes out.old ++ rule_text rule) }
 {
@@ -161,7 +165,8 @@ fn put_rule(out: &mut String, rule: Rule) -> Result<(), AllocError>
     out.push_str("\"\n")
 }
 
-/// Writes how orders are sent.
+/// Appends the TOML key for how orders are sent: `messages` if they are signed, and otherwise `rule`, unless it is the
+/// default.
 fn put_manner(out: &mut String, manner: Manner) -> Result<(), AllocError>
     ensures { OnOk result (string_bytes out.new ≡ string_bytes out.old ++ manner_text manner) }
 {
@@ -171,7 +176,7 @@ fn put_manner(out: &mut String, manner: Manner) -> Result<(), AllocError>
     }
 }
 
-/// Writes how many steps a traitor may take, if they are limited.
+/// Appends the TOML key `patience`, the number of steps that a traitor may take in a round, if they are limited.
 fn put_patience(out: &mut String, patience: Option<u32>) -> Result<(), AllocError>
     ensures { OnOk result (string_bytes out.new ≡ string_bytes out.old ++ patience_text patience) }
 {
@@ -183,7 +188,7 @@ fn put_patience(out: &mut String, patience: Option<u32>) -> Result<(), AllocErro
     out.push_str("\n")
 }
 
-/// Writes the number of generals, the bound, the commander and his order.
+/// Appends the TOML keys `generals`, `bound`, `commander` and `order`.
 fn put_numbers(out: &mut String, plot: &Plot) -> Result<(), AllocError>
     ensures { OnOk result (string_bytes out.new ≡ string_bytes out.old ++ numbers_text plot.now) }
 {
@@ -195,7 +200,7 @@ fn put_numbers(out: &mut String, plot: &Plot) -> Result<(), AllocError>
     Ok(())
 }
 
-/// Returns the text of a campaign: a scenario in TOML.
+/// Returns a drawn campaign as a scenario in TOML.
 ///
 /// # Errors
 ///
@@ -212,7 +217,7 @@ pub fn plot_text(alloc: Global, plot: &Plot) -> Result<String, AllocError>
     Ok(out)
 }
 
-/// Returns the text of the campaign that a seed draws from a family: a scenario in TOML.
+/// Returns the campaign that `seed` draws from `family` as a scenario in TOML.
 ///
 /// # Errors
 ///

@@ -1,4 +1,4 @@
-//! Plays the campaigns of many seeds in parallel, for their accounts.
+//! Plays the campaigns of many seeds in parallel, and returns their accounts.
 ghost use Rattle.std.specs.Prelude.{◌≢◌, IfErr, IfOk};
 ghost use Rattle.std.specs.List.{AllZip};
 ghost use Rattle.rayon.specs.Numbers.{nat_range};
@@ -14,11 +14,13 @@ use scenario::ScenarioError;
 use std::alloc::{AllocError, Global};
 use std::thread::Threads;
 
-/// The least number of campaigns for which a thread is worth its cost. One campaign takes 8 us to some milliseconds.
+/// The least number of campaigns for which a thread is worth its cost. To play one campaign takes 8 microseconds to
+/// some milliseconds.
 const LEAST_PIECE: usize = 32;
 
-/// Returns the account of the campaign of each seed from `first` up to but not including `end`, or the fault of one
-/// of the campaigns' texts. The outer error says that memory ran out while the results were collected.
+/// Plays the campaigns of the seeds from `first` to `end` - 1 in parallel. The inner result has their accounts in the
+/// order of the seeds, or the fault of one of the campaigns' texts. The outer error says that memory ran out while the
+/// results were collected.
 fn gathered<R: Threads + Sync>(
     rt: &R,
     alloc: Global,
@@ -42,8 +44,8 @@ fn gathered<R: Threads + Sync>(
         .collect(rt, alloc)
 }
 
-/// Plays the family's campaign of each seed from `first` up to but not including `end`, in as many threads as there are
-/// processors, and returns the account of each, in the order of the seeds.
+/// Plays the campaigns that the seeds from `first` to `end` - 1 draw from `family`, in as many threads as there are
+/// processors. Returns their accounts, in the order of the seeds.
 ///
 /// # Errors
 ///

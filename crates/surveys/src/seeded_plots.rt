@@ -12,15 +12,15 @@ use crate::manner::Manner;
 use crate::plot::{Plot, Traitor};
 use std::alloc::{AllocError, Global};
 
-/// Returns the number at an index of those that a seed gives for a general. Each general has 32.
+/// Returns the random number at index `place` of those that a seed has for a general. It has 32 for each general.
 fn drawn_for(seed: u64, general: u8, place: u8) -> u64
     ensures { result ≡ drawn_for seed general place }
 {
     draw(seed, 32 + 32 * u16::from(general) + u16::from(place))
 }
 
-/// Returns the number that selects from a range: `turn` if the seeds go through the ranges in turn, and otherwise the
-/// seed's random number at an index.
+/// Returns the number that selects from one of the family's ranges: `turn` if the seeds go through all combinations,
+/// and otherwise the random number at index `place` of `seed`.
 fn selecting(family: &Family, turn: u64, seed: u64, place: u16) -> u64
     ensures { result ≡ cond family.now.grid turn (draw seed place) }
 {
@@ -31,7 +31,7 @@ fn selecting(family: &Family, turn: u64, seed: u64, place: u16) -> u64
     }
 }
 
-/// Returns how many generals the seed's campaign has.
+/// Returns how many generals the campaign of `seed` has, 2 to 13.
 fn generals_of(family: &Family, seed: u64) -> u8
     ensures number { result ≡ generals_of family.now seed }
     ensures least { 2 ≤ result }
@@ -40,7 +40,7 @@ fn generals_of(family: &Family, seed: u64) -> u8
     within(family.generals(), selecting(family, seed, seed, 0))
 }
 
-/// Returns the bound of the seed's campaign.
+/// Returns the bound of the campaign of `seed`, at most 4 and at most the number of generals less 2.
 fn bound_of(family: &Family, seed: u64) -> u8
     ensures { result ≡ bound_of family.now seed }
 {
@@ -49,15 +49,15 @@ fn bound_of(family: &Family, seed: u64) -> u8
     within(family.bound(), selecting(family, turn, seed, 1)).min(greatest)
 }
 
-/// Returns the commander of a campaign with `generals` generals: that of the family, or the last general if there is no
-/// such general.
+/// Returns the commander of a campaign with `generals` generals: the family's commander, or the last general if there
+/// are not enough generals.
 fn commander_of(family: &Family, generals: u8) -> u8
     ensures { result ≡ commander_of family.now generals }
 {
     family.commander().min(generals.saturating_sub(1))
 }
 
-/// Returns how many traitors the seed's campaign has.
+/// Returns how many traitors the campaign of `seed` has, at most the number of its generals.
 fn count_of(family: &Family, seed: u64) -> u8
     ensures { result ≡ count_of family.now seed }
 {
@@ -65,8 +65,8 @@ fn count_of(family: &Family, seed: u64) -> u8
     within(family.traitors(), selecting(family, turn, seed, 2)).min(generals_of(family, seed))
 }
 
-/// Returns the order or index that a number draws: one from 0 to `most`, or the parity of the count if the traitor
-/// counts.
+/// Returns what a statement sends: the parity of the board's count if `counts` is true, and otherwise the order or
+/// index from 0 to `most` that the random number `drawn` selects.
 fn said_by(counts: bool, most: u8, drawn: u64) -> LieValue
     ensures { result ≡ said_by counts most drawn }
 {
@@ -77,7 +77,8 @@ fn said_by(counts: bool, most: u8, drawn: u64) -> LieValue
     }
 }
 
-/// Appends what a general says to a receiver, if anything. Orders are from 0 to `orders`.
+/// Appends the statement of traitor `general` to `receiver` in an oral campaign, if there is one. The random number
+/// `drawn` selects whether he sends nothing, the order that he took, or some order from 0 to `orders`.
 fn push_oral(
     lies: &mut Vec<Lie>,
     counts: bool,
@@ -99,8 +100,8 @@ fn push_oral(
     Ok(())
 }
 
-/// Appends what a general signs or passes on, if anything. Only the commander signs orders, which are from 0 to
-/// `orders`.
+/// Appends a statement of traitor `general` in a signed campaign, if `drawn`, a random number, selects one. The
+/// commander signs an order from 0 to `orders`, and a lieutenant passes on a chain.
 fn push_signed(
     lies: &mut Vec<Lie>,
     counts: bool,
@@ -123,7 +124,8 @@ fn push_signed(
     Ok(())
 }
 
-/// Returns what a general says in an oral campaign with `generals` generals.
+/// Returns the statements of traitor `general` in an oral campaign with `generals` generals, at most one for each other
+/// general.
 fn oral_of(
     alloc: Global,
     counts: bool,
@@ -149,7 +151,7 @@ fn oral_of(
     Ok(lies)
 }
 
-/// Returns what a general signs and passes on in a signed campaign.
+/// Returns the statements of traitor `general` in a signed campaign, at most four.
 fn signed_of(
     alloc: Global,
     counts: bool,
@@ -175,7 +177,7 @@ fn signed_of(
     Ok(lies)
 }
 
-/// Returns all statements of a general in a campaign with `generals` generals.
+/// Returns the statements of traitor `general` in an oral or signed campaign with `generals` generals.
 fn lies_in(
     alloc: Global,
     manner: Manner,
@@ -194,7 +196,8 @@ fn lies_in(
     }
 }
 
-/// Returns the statements of a traitor of the family.
+/// Returns the statements of traitor `general` in the campaign that `seed` draws from `family`. There are none if the
+/// traitors are silent or have a given program.
 fn lies_by(
     alloc: Global,
     family: &Family,
@@ -219,7 +222,7 @@ fn lies_by(
     }
 }
 
-/// Checks whether the traitors count on the board.
+/// Checks whether the traitors increment a count on the board.
 fn do_count(adversary: &Adversary) -> bool
     ensures { result ≡ do_count adversary.now }
 {
@@ -229,7 +232,7 @@ fn do_count(adversary: &Adversary) -> bool
     }
 }
 
-/// Returns the bytecode of the traitors in hex, if it replaces their statements.
+/// Returns the bytecode of all traitors in hex, or `None` if each traitor's program is made of his statements.
 fn given_in(alloc: Global, adversary: &Adversary) -> Result<Option<String>, AllocError>
     ensures { IfOk result (λ given. option_map string_bytes given ≡ given_in adversary.now) }
 {
@@ -239,7 +242,7 @@ fn given_in(alloc: Global, adversary: &Adversary) -> Result<Option<String>, Allo
     }
 }
 
-/// Returns a traitor of the family, with his statements.
+/// Returns traitor `general` of the campaign that `seed` draws from `family`, with his statements.
 fn traitor_of(
     alloc: Global,
     family: &Family,
@@ -256,8 +259,8 @@ fn traitor_of(
     })
 }
 
-/// Checks whether a general is chosen as a traitor, if `needed` of `left` generals are still to be chosen. He is one of
-/// those left.
+/// Checks whether `general` becomes a traitor. `needed` traitors must still be chosen, at random, from the last `left`
+/// generals. He is the first of these.
 fn is_chosen(seed: u64, general: u8, left: u8, needed: u8) -> bool
     requires { 0 < left }
     ensures { result ≡ nat_lt (draw seed (4 + general) % left) needed }
@@ -265,7 +268,7 @@ fn is_chosen(seed: u64, general: u8, left: u8, needed: u8) -> bool
     draw(seed, 4 + u16::from(general)) % u64::from(left) < u64::from(needed)
 }
 
-/// Returns the traitors of the seed's campaign, ascending.
+/// Returns the `count` traitors of the campaign that `seed` draws from `family`, ascending by number.
 fn traitors_of(
     alloc: Global,
     family: &Family,

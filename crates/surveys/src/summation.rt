@@ -6,7 +6,7 @@ use crate::finding::Finding;
 use crate::sums::{CampaignOutcome, Sums, Tally};
 use world::Verdict;
 
-/// Checks whether a campaign has the outcome.
+/// Checks whether a campaign's result has this outcome.
 pub fn has(outcome: CampaignOutcome, finding: &Finding) -> bool
     ensures { result ≡ has outcome finding.now }
 {
@@ -18,7 +18,7 @@ pub fn has(outcome: CampaignOutcome, finding: &Finding) -> bool
     }
 }
 
-/// Checks whether there is an answer and it is no.
+/// Checks whether the answer is no. It is false if there is no answer.
 fn is_denied(answer: Option<bool>) -> bool
     ensures { result ≡ is_denied answer }
 {
@@ -28,14 +28,14 @@ fn is_denied(answer: Option<bool>) -> bool
     }
 }
 
-/// Checks whether the loyal lieutenants decide alike and obey a loyal commander.
+/// Checks whether a verdict is sound: the loyal lieutenants decide alike and obey a loyal commander.
 pub fn is_sound(verdict: Verdict) -> bool
     ensures { result ≡ is_sound verdict }
 {
     verdict.alike && !is_denied(verdict.obeyed)
 }
 
-/// Returns how many of the campaigns have the outcome.
+/// Returns how many of the campaigns have this outcome.
 fn count(outcome: CampaignOutcome, findings: &[Finding]) -> u64
     ensures { result ≡ count_by (has outcome) findings.now }
 {
@@ -48,7 +48,7 @@ fn count(outcome: CampaignOutcome, findings: &[Finding]) -> u64
     count
 }
 
-/// Returns the lesser of a seed and the least seed so far, if there is one.
+/// Returns the lesser of `seed` and the least seed so far, or `seed` if there is none so far.
 fn lesser(least: Option<u64>, seed: u64) -> u64
     ensures { lesser least (Some seed) ≡ Some result }
 {
@@ -58,7 +58,7 @@ fn lesser(least: Option<u64>, seed: u64) -> u64
     }
 }
 
-/// Returns the least seed of a campaign with the outcome, if there is one.
+/// Returns the least seed of the campaigns with this outcome, or `None` if there are no such campaigns.
 fn least(outcome: CampaignOutcome, findings: &[Finding]) -> Option<u64>
     ensures { result ≡ least outcome findings.now }
 {
@@ -71,7 +71,7 @@ fn least(outcome: CampaignOutcome, findings: &[Finding]) -> Option<u64>
     least
 }
 
-/// Returns how many of the campaigns have the outcome, and the least seed of one.
+/// Returns how many of the campaigns have this outcome, and the least of their seeds, if there are any.
 pub fn tally_of(outcome: CampaignOutcome, findings: &[Finding]) -> Tally
     ensures { result ≡ tally_of outcome findings.now }
 {

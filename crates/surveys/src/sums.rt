@@ -1,4 +1,4 @@
-//! Counts of outcomes: what is counted in a survey.
+//! Counts of the outcomes of campaigns in a survey.
 
 /// An outcome that is counted in a survey.
 #[derive(Clone, Copy, PartialEq, Eq)]
@@ -11,7 +11,7 @@ pub enum CampaignOutcome {
     Disobeyed,
 }
 
-/// How many campaigns have an outcome, and the least seed of one.
+/// How many campaigns have an outcome, and the least of their seeds, if there are any.
 #[derive(Clone, Copy)]
 pub struct Tally {
     pub count: u64,

@@ -1,4 +1,4 @@
-//! Writes the sums of a survey as CSV.
+//! Writes the counts of a survey's outcomes as CSV.
 ghost use Rattle.std.specs.Prelude.{◌≡◌, ◌++◌, IfOk, OnOk, flat_map, string_bytes};
 ghost use Rattle.surveys.specs.Csv.{csv_cell, csv_header, csv_number, csv_row, csv_text, interval_text, share_text};
 ghost use Rattle.surveys.specs.Groups.{groups_of};
@@ -13,7 +13,7 @@ use crate::sums_table::cells_of;
 use crate::wilson::interval;
 use std::alloc::{AllocError, Global};
 
-/// Appends a number in decimal, or nothing if there is none.
+/// Appends a number in decimal, or nothing for `None`.
 fn put_if_any(out: &mut String, number: Option<u64>) -> Result<(), AllocError>
     ensures { OnOk result (string_bytes out.new ≡ string_bytes out.old ++ csv_number number) }
 {
@@ -23,7 +23,7 @@ fn put_if_any(out: &mut String, number: Option<u64>) -> Result<(), AllocError>
     }
 }
 
-/// Appends a cell, without its width, and a comma.
+/// Appends the number of a cell, or nothing if the cell is empty, and a comma. The cell's width is not used.
 fn put_cell(out: &mut String, cell: NumberCell) -> Result<(), AllocError>
     ensures { OnOk result (string_bytes out.new ≡ string_bytes out.old ++ csv_cell cell) }
 {
@@ -31,7 +31,7 @@ fn put_cell(out: &mut String, cell: NumberCell) -> Result<(), AllocError>
     out.push_str(",")
 }
 
-/// Appends cells, each with a comma.
+/// Appends the numbers of the cells, each followed by a comma.
 fn put_cells(out: &mut String, cells: &[NumberCell]) -> Result<(), AllocError>
     ensures { OnOk result (string_bytes out.new ≡ string_bytes out.old ++ flat_map csv_cell cells.now) }
 {
@@ -41,7 +41,7 @@ fn put_cells(out: &mut String, cells: &[NumberCell]) -> Result<(), AllocError>
     Ok(())
 }
 
-/// Appends a share of ten-thousandths as a decimal fraction with four places.
+/// Appends a share in ten-thousandths as a decimal fraction with four places: 625 gives `0.0625`.
 fn put_share(out: &mut String, share: u64) -> Result<(), AllocError>
     ensures { OnOk result (string_bytes out.new ≡ string_bytes out.old ++ share_text share) }
 {
@@ -53,7 +53,8 @@ fn put_share(out: &mut String, share: u64) -> Result<(), AllocError>
     write!(out, "{whole}.{first}{second}{third}{fourth}")
 }
 
-/// Appends the ends of an interval, or two empty cells if there is none.
+/// Appends the ends of an interval as decimal fractions with a comma between them, or only the comma if there is no
+/// interval.
 fn put_interval(out: &mut String, ends: Option<(u64, u64)>) -> Result<(), AllocError>
     ensures { OnOk result (string_bytes out.new ≡ string_bytes out.old ++ interval_text ends) }
 {
@@ -65,7 +66,7 @@ fn put_interval(out: &mut String, ends: Option<(u64, u64)>) -> Result<(), AllocE
     put_share(out, high)
 }
 
-/// Appends the cells of a group's row, each with a comma.
+/// Appends the numbers of a group's row, each followed by a comma.
 fn put_group(out: &mut String, group: &Group) -> Result<(), AllocError>
     ensures { OnOk result (string_bytes out.new ≡ string_bytes out.old ++ flat_map csv_cell (cells_of group.now)) }
 {
@@ -73,7 +74,8 @@ fn put_group(out: &mut String, group: &Group) -> Result<(), AllocError>
     put_cells(out, &cells)
 }
 
-/// Appends the row of a group: the cells of the table, and the interval for the share of its failed campaigns.
+/// Appends the CSV row of a group: its numbers as in the table, and Wilson's interval for the share of its failed
+/// campaigns.
 fn put_row(out: &mut String, group: &Group) -> Result<(), AllocError>
     ensures { OnOk result (string_bytes out.new ≡ string_bytes out.old ++ csv_row group.now) }
 {
@@ -83,7 +85,7 @@ fn put_row(out: &mut String, group: &Group) -> Result<(), AllocError>
     Ok(())
 }
 
-/// Appends the rows of these groups.
+/// Appends a CSV row for each group.
 fn put_rows(out: &mut String, groups: &[Group]) -> Result<(), AllocError>
     ensures { OnOk result (string_bytes out.new ≡ string_bytes out.old ++ flat_map csv_row groups.now) }
 {
@@ -93,7 +95,7 @@ fn put_rows(out: &mut String, groups: &[Group]) -> Result<(), AllocError>
     Ok(())
 }
 
-/// Returns the first line, which names the columns.
+/// Returns the first line of the CSV text, which names the columns.
 #[tactic(auto, unfolding(crate::specs::Csv::csv_header))]
 fn csv_header() -> &'static str
     ensures { result.now ≡ csv_header }
@@ -102,8 +104,9 @@ fn csv_header() -> &'static str
      disobeyed_first,failed,failed_low,failed_high\n"
 }
 
-/// Returns the sums of the campaigns' results as CSV. It has a row for each combination of generals, bound and traitors
-/// that occurs, with the cells of the table and Wilson's interval for the share of the failed campaigns.
+/// Returns the counts of the campaigns' outcomes as CSV. It has a row for each combination of number of generals, bound
+/// and number of traitors that occurs. A row has the numbers of `table` and Wilson's interval for the share of the
+/// failed campaigns.
 ///
 /// # Errors
 ///

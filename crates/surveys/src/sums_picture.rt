@@ -1,4 +1,5 @@
-//! Draws the sums of a survey in SVG: in which share of the campaigns agreement fails, by the number of traitors.
+//! Draws, as a picture in SVG, how often agreement or obedience fails in a survey's campaigns, by the number of
+//! traitors.
 ghost use Rattle.std.specs.Prelude.{◌≡◌, ◌++◌, ◌<◌, IfOk, None, OnOk, string_bytes};
 ghost use Rattle.surveys.specs.Groups.{groups_of};
 ghost use Rattle.surveys.specs.Pictures.{bar, base, begins, cell, cells, column, columns, counts, grounds, head, kept, label, limit, name, percent, picture_text, place, rise, rows_of, share_of, side, size, stand, start, start_of};
@@ -8,7 +9,7 @@ use crate::finding::Finding;
 use crate::group::Group;
 use std::alloc::{AllocError, Global};
 
-/// Returns the start of every picture.
+/// Returns the start of every picture: its SVG tag up to the width.
 #[tactic(auto, unfolding(crate::specs::Pictures::start))]
 fn start() -> &'static str
     ensures { result.now ≡ start }
@@ -39,7 +40,7 @@ fn head() -> &'static str
      <text x=\"10\" y=\"84\">traitors</text>\n"
 }
 
-/// Appends the number above a column.
+/// Appends the number of traitors above its column.
 #[tactic(auto, unfolding(crate::specs::Pictures::column))]
 fn put_column(out: &mut String, traitors: u64) -> Result<(), AllocError>
     requires { traitors < 14 }
@@ -52,7 +53,7 @@ fn put_column(out: &mut String, traitors: u64) -> Result<(), AllocError>
     )
 }
 
-/// Appends the numbers above the columns.
+/// Appends the numbers of traitors, 0 to 13, above the columns.
 fn put_columns(out: &mut String) -> Result<(), AllocError>
     ensures { OnOk result (string_bytes out.new ≡ string_bytes out.old ++ columns) }
 {
@@ -62,8 +63,8 @@ fn put_columns(out: &mut String) -> Result<(), AllocError>
     Ok(())
 }
 
-/// Checks whether a group begins a row. It does if it is the first group, or if the group before it has another number
-/// of generals or another bound.
+/// Checks whether a group begins a row of the picture. It does if it is the first group, or if the group before it has
+/// another number of generals or another bound.
 fn begins(before: Option<Group>, group: &Group) -> bool
     ensures { result ≡ begins before group.now }
 {
@@ -73,7 +74,8 @@ fn begins(before: Option<Group>, group: &Group) -> bool
     }
 }
 
-/// Returns how many rows the groups have.
+/// Returns how many rows the picture of these groups has. Groups in sequence with the same number of generals and the
+/// same bound share a row.
 fn rows_of(groups: &[Group]) -> u64
     ensures { result ≡ rows_of groups.now }
 {
@@ -88,7 +90,7 @@ fn rows_of(groups: &[Group]) -> u64
     rows
 }
 
-/// Appends the size of a picture, and ends its first tag.
+/// Appends the height of a picture, in pixels, to its SVG tag, and ends the tag.
 #[tactic(auto, unfolding(crate::specs::Pictures::size))]
 fn put_size(out: &mut String, height: u128) -> Result<(), AllocError>
     ensures { OnOk result (string_bytes out.new ≡ string_bytes out.old ++ size height) }
@@ -96,7 +98,7 @@ fn put_size(out: &mut String, height: u128) -> Result<(), AllocError>
     write!(out, " height=\"{height}\" viewBox=\"0 0 840 {height}\">\n")
 }
 
-/// Appends the start of a row's label, at the height of the row.
+/// Appends the start of the label of row `row`: an SVG tag with its position. Rows are counted from 1.
 #[tactic(auto, unfolding(crate::specs::Pictures::stand))]
 fn put_stand(out: &mut String, row: u64) -> Result<(), AllocError>
     ensures { OnOk result (string_bytes out.new ≡ string_bytes out.old ++ stand row) }
@@ -105,7 +107,7 @@ fn put_stand(out: &mut String, row: u64) -> Result<(), AllocError>
     write!(out, "<text x=\"10\" y=\"{y}\">")
 }
 
-/// Appends the text of a row's label: the number of generals and the bound.
+/// Appends the text of a row's label, such as `n = 4, m = 1`: the number of generals and the bound.
 #[tactic(auto, unfolding(crate::specs::Pictures::name))]
 fn put_name(out: &mut String, group: &Group) -> Result<(), AllocError>
     ensures { OnOk result (string_bytes out.new ≡ string_bytes out.old ++ name group.now) }
@@ -114,7 +116,7 @@ fn put_name(out: &mut String, group: &Group) -> Result<(), AllocError>
     write!(out, "n = {generals}, m = {bound}</text>")
 }
 
-/// Appends the base line of a row's bars.
+/// Appends the horizontal line below the bars of row `row`.
 #[tactic(auto, unfolding(crate::specs::Pictures::base))]
 fn put_base(out: &mut String, row: u64) -> Result<(), AllocError>
     ensures { OnOk result (string_bytes out.new ≡ string_bytes out.old ++ base row) }
@@ -123,7 +125,8 @@ fn put_base(out: &mut String, row: u64) -> Result<(), AllocError>
     write!(out, "<path class=\"base\" d=\"M120 {y}h700\"/>")
 }
 
-/// Appends the dashed line of a row. The columns left of it have fewer than a third of the generals as traitors.
+/// Appends the dashed vertical line of row `row`. In the columns left of it, fewer than a third of the generals are
+/// traitors.
 #[tactic(auto, unfolding(crate::specs::Pictures::limit))]
 fn put_limit(out: &mut String, row: u64, group: &Group) -> Result<(), AllocError>
     ensures { OnOk result (string_bytes out.new ≡ string_bytes out.old ++ limit row group.now) }
@@ -133,7 +136,7 @@ fn put_limit(out: &mut String, row: u64, group: &Group) -> Result<(), AllocError
     write!(out, "<path class=\"limit\" d=\"M{x} {y}v44\"/>\n")
 }
 
-/// Appends what a row begins with: its label, its base line and its dashed line.
+/// Appends the label, the base line and the dashed line of row `row`.
 fn put_label(out: &mut String, row: u64, group: &Group) -> Result<(), AllocError>
     ensures { OnOk result (string_bytes out.new ≡ string_bytes out.old ++ label row group.now) }
 {
@@ -143,8 +146,8 @@ fn put_label(out: &mut String, row: u64, group: &Group) -> Result<(), AllocError
     put_limit(out, row, group)
 }
 
-/// Returns the share of `whole` that corresponds to the failed campaigns of a group. It is rounded down, and 0 if there
-/// are no campaigns.
+/// Returns the part of `whole` that is as large as the share of the failed campaigns in a group, rounded down. It is 0
+/// if the group has no campaigns.
 fn share_of(whole: u64, group: &Group) -> u128
     ensures { result ≡ share_of whole group.now }
 {
@@ -155,7 +158,7 @@ fn share_of(whole: u64, group: &Group) -> u128
     u128::from(group.failed) * u128::from(whole) / campaigns
 }
 
-/// Appends the background of a cell if the bound holds in some of its campaigns.
+/// Appends the green background of a group's cell, if the bound holds in some of the group's campaigns.
 #[tactic(auto, unfolding(crate::specs::Pictures::kept))]
 fn put_kept(out: &mut String, row: u64, group: &Group) -> Result<(), AllocError>
     ensures { OnOk result (string_bytes out.new ≡ string_bytes out.old ++ kept row group.now) }
@@ -171,7 +174,7 @@ fn put_kept(out: &mut String, row: u64, group: &Group) -> Result<(), AllocError>
     )
 }
 
-/// Appends the title of a cell, which says how many of its campaigns failed.
+/// Appends the title of a group's cell, such as `3 of 20`: how many of the group's campaigns failed.
 #[tactic(auto, unfolding(crate::specs::Pictures::counts))]
 fn put_counts(out: &mut String, group: &Group) -> Result<(), AllocError>
     ensures { OnOk result (string_bytes out.new ≡ string_bytes out.old ++ counts group.now) }
@@ -180,7 +183,7 @@ fn put_counts(out: &mut String, group: &Group) -> Result<(), AllocError>
     write!(out, "<g><title>{failed} of {campaigns}</title>")
 }
 
-/// Appends the beginning of a bar's SVG element, as far as its horizontal position.
+/// Appends the start of the SVG tag of a group's bar, up to its horizontal position.
 #[tactic(auto, unfolding(crate::specs::Pictures::side))]
 fn put_side(out: &mut String, group: &Group) -> Result<(), AllocError>
     ensures { OnOk result (string_bytes out.new ≡ string_bytes out.old ++ side group.now) }
@@ -189,7 +192,7 @@ fn put_side(out: &mut String, group: &Group) -> Result<(), AllocError>
     write!(out, "<rect class=\"bar\" x=\"{x}\"")
 }
 
-/// Appends the rest of a bar's SVG element: its vertical position, width and height, and its end.
+/// Appends the end of a bar's SVG tag: its vertical position in row `row`, its width, and its height in pixels.
 #[tactic(auto, unfolding(crate::specs::Pictures::rise))]
 fn put_rise(out: &mut String, row: u64, height: u128) -> Result<(), AllocError>
     ensures { OnOk result (string_bytes out.new ≡ string_bytes out.old ++ rise row height) }
@@ -198,7 +201,7 @@ fn put_rise(out: &mut String, row: u64, height: u128) -> Result<(), AllocError>
     write!(out, " y=\"{y}\" width=\"40\" height=\"{height}\"/></g>")
 }
 
-/// Appends the bar of a cell.
+/// Appends the bar of a group's cell in row `row`.
 fn put_bar(out: &mut String, row: u64, group: &Group) -> Result<(), AllocError>
     ensures { OnOk result (string_bytes out.new ≡ string_bytes out.old ++ bar row group.now) }
 {
@@ -206,7 +209,8 @@ fn put_bar(out: &mut String, row: u64, group: &Group) -> Result<(), AllocError>
     put_rise(out, row, share_of(28, group))
 }
 
-/// Appends the share of a cell's campaigns that failed, in per cent.
+/// Appends the share of a group's failed campaigns in per cent, rounded down. If only some failed, but less than 1 per
+/// cent, it is `<1%`, escaped for XML.
 #[tactic(auto, unfolding(crate::specs::Pictures::percent))]
 fn put_percent(out: &mut String, group: &Group) -> Result<(), AllocError>
     ensures { OnOk result (string_bytes out.new ≡ string_bytes out.old ++ percent group.now) }
@@ -218,7 +222,7 @@ fn put_percent(out: &mut String, group: &Group) -> Result<(), AllocError>
     write!(out, "{percent}%")
 }
 
-/// Appends the start of a cell's label with its position.
+/// Appends the start of the label below a group's bar: an SVG tag with its position.
 #[tactic(auto, unfolding(crate::specs::Pictures::place))]
 fn put_place(out: &mut String, row: u64, group: &Group) -> Result<(), AllocError>
     ensures { OnOk result (string_bytes out.new ≡ string_bytes out.old ++ place row group.now) }
@@ -228,7 +232,7 @@ fn put_place(out: &mut String, row: u64, group: &Group) -> Result<(), AllocError
     write!(out, "<text class=\"share\" x=\"{x}\" y=\"{y}\">")
 }
 
-/// Appends a cell: its title, its bar and its label.
+/// Appends the cell of a group in row `row`: its title, its bar and its label.
 fn put_cell(out: &mut String, row: u64, group: &Group) -> Result<(), AllocError>
     ensures { OnOk result (string_bytes out.new ≡ string_bytes out.old ++ cell row group.now) }
 {
@@ -239,7 +243,7 @@ fn put_cell(out: &mut String, row: u64, group: &Group) -> Result<(), AllocError>
     out.push_str("</text>\n")
 }
 
-/// Appends the backgrounds of the cells, row by row.
+/// Appends the backgrounds of the groups' cells, row by row.
 fn put_grounds(out: &mut String, groups: &[Group]) -> Result<(), AllocError>
     ensures { OnOk result (string_bytes out.new ≡ string_bytes out.old ++ grounds 0 None groups.now) }
 {
@@ -255,7 +259,7 @@ fn put_grounds(out: &mut String, groups: &[Group]) -> Result<(), AllocError>
     Ok(())
 }
 
-/// Appends what a row begins with, if the group begins a row.
+/// Appends the label and the lines of row `row` if `is_first` is true, so that each row has them once.
 fn put_start(out: &mut String, row: u64, group: &Group, is_first: bool) -> Result<(), AllocError>
     ensures { OnOk result (string_bytes out.new ≡ string_bytes out.old ++ start_of row group.now is_first) }
 {
@@ -266,7 +270,7 @@ fn put_start(out: &mut String, row: u64, group: &Group, is_first: bool) -> Resul
     }
 }
 
-/// Appends the cells of the groups, row by row.
+/// Appends the groups' cells, row by row, with the label and the lines of each row.
 fn put_groups(out: &mut String, groups: &[Group]) -> Result<(), AllocError>
     ensures { OnOk result (string_bytes out.new ≡ string_bytes out.old ++ cells 0 None groups.now) }
 {
@@ -284,7 +288,7 @@ fn put_groups(out: &mut String, groups: &[Group]) -> Result<(), AllocError>
     Ok(())
 }
 
-/// Returns the picture of these groups.
+/// Returns the picture of these groups in SVG.
 #[tactic(auto, unfolding(crate::specs::Pictures::picture_text))]
 fn drawn(alloc: Global, groups: &[Group]) -> Result<String, AllocError>
     ensures { IfOk result (λ text. string_bytes text ≡ picture_text groups.now) }
@@ -299,9 +303,9 @@ fn drawn(alloc: Global, groups: &[Group]) -> Result<String, AllocError>
     Ok(out)
 }
 
-/// Returns a picture of the campaigns' results. It has a row for each number of generals and bound that occur, and a
-/// column for each number of traitors. A bar shows the share of campaigns in which the loyal lieutenants do not decide
-/// alike or do not obey a loyal commander.
+/// Returns a picture of the campaigns' results in SVG. It has a row for each combination of number of generals and
+/// bound that occurs, and a column for each number of traitors. A bar shows the share of campaigns in which the loyal
+/// lieutenants do not decide alike or do not obey a loyal commander.
 ///
 /// # Errors
 ///

@@ -1,4 +1,4 @@
-//! Writes the sums of a survey as a table.
+//! Writes the counts of a survey's outcomes as a table.
 ghost use Rattle.std.specs.Prelude.{◌≡◌, ◌++◌, IfOk, OnOk, flat_map, string_bytes};
 ghost use Rattle.surveys.specs.Groups.{groups_of};
 ghost use Rattle.surveys.specs.Tables.{cells_of, group_text, header, table_text};
@@ -20,14 +20,15 @@ fn of(width: usize, number: u64) -> NumberCell
     }
 }
 
-/// Returns a cell with a number, or an empty cell.
+/// Returns the table cell that shows `number`, or is empty for `None`, `width` characters wide.
 fn if_any(width: usize, number: Option<u64>) -> NumberCell
     ensures { result ≡ record { width = width; number = number } }
 {
     NumberCell { width, number }
 }
 
-/// Returns the cells of a group's row.
+/// Returns the cells of a group's row: generals, bound, traitors and campaigns, the count and the least seed of each
+/// outcome, and the number of failed campaigns.
 pub(crate) fn cells_of(group: &Group) -> [NumberCell; 11]
     ensures { result ≡ cells_of group.now }
 {
@@ -47,7 +48,7 @@ pub(crate) fn cells_of(group: &Group) -> [NumberCell; 11]
     ]
 }
 
-/// Appends the row of a group.
+/// Appends the table row of a group.
 fn put_group(out: &mut String, group: &Group) -> Result<(), AllocError>
     ensures { OnOk result (string_bytes out.new ≡ string_bytes out.old ++ group_text group.now) }
 {
@@ -55,7 +56,7 @@ fn put_group(out: &mut String, group: &Group) -> Result<(), AllocError>
     put_row(out, &cells)
 }
 
-/// Appends the rows of these groups.
+/// Appends a table row for each group.
 fn put_groups(out: &mut String, groups: &[Group]) -> Result<(), AllocError>
     ensures { OnOk result (string_bytes out.new ≡ string_bytes out.old ++ flat_map group_text groups.now) }
 {
@@ -73,8 +74,8 @@ fn header() -> &'static str
     " generals bound traitors campaigns     kept   first   broken   first disobeyed   first   failed\n"
 }
 
-/// Returns a table of the campaigns' results. It has a row for each combination of generals, bound and traitors that
-/// occurs.
+/// Returns the counts of the campaigns' outcomes as a table. It has a row for each combination of number of generals,
+/// bound and number of traitors that occurs.
 ///
 /// # Errors
 ///

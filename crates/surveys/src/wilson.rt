@@ -2,8 +2,8 @@
 ghost use Rattle.std.specs.Prelude.{◌≡◌, ◌≤◌, ◌<◌, ◌^◌, cond};
 ghost use Rattle.surveys.specs.Wilson.{IsLower, interval, is_below, lower, upper};
 
-/// Checks whether a share of `share` ten-thousandths is at most the lower end of the interval, if `failed` of
-/// `campaigns` campaigns failed.
+/// Checks whether a share of `share` ten-thousandths is at most the lower end of Wilson's interval for `failed`
+/// failures in `campaigns` campaigns.
 #[tactic(auto, using(crate::proofs::Intervals::at_zero, crate::proofs::Intervals::not_below, crate::proofs::Intervals::as_below))]
 fn is_below(campaigns: u64, failed: u64, share: u64) -> bool
     requires few { campaigns < 2 ^ 46 }
@@ -24,7 +24,8 @@ fn is_below(campaigns: u64, failed: u64, share: u64) -> bool
     u128::from(2401 * campaigns) * u128::from(spread) <= u128::from(distance) * u128::from(distance)
 }
 
-/// Returns the lower end of the interval, rounded down to ten-thousandths.
+/// Returns the lower end of Wilson's interval for `failed` failures in `campaigns` campaigns, in ten-thousandths,
+/// rounded down.
 fn lower(campaigns: u64, failed: u64) -> u64
     requires few { campaigns < 2 ^ 46 }
     requires part { failed ≤ campaigns }
@@ -39,14 +40,15 @@ fn lower(campaigns: u64, failed: u64) -> u64
     found
 }
 
-/// Returns the second share if it passes, and otherwise the first.
+/// Returns `second` if `passes` is true, and otherwise `first`.
 fn later(first: u64, passes: bool, second: u64) -> u64
     ensures { result ≡ cond passes second first }
 {
     if passes { second } else { first }
 }
 
-/// Returns the upper end of the interval, rounded up to ten-thousandths.
+/// Returns the upper end of Wilson's interval for `failed` failures in `campaigns` campaigns, in ten-thousandths,
+/// rounded up.
 fn upper(campaigns: u64, failed: u64) -> u64
     requires few { campaigns < 2 ^ 46 }
     requires part { failed ≤ campaigns }
@@ -56,8 +58,8 @@ fn upper(campaigns: u64, failed: u64) -> u64
 }
 
 /// Returns Wilson's interval at 95 per cent for the share of failed campaigns, if `failed` of `campaigns` campaigns
-/// failed. Its ends are in ten-thousandths; the lower one is rounded down, the upper one up. Returns `None` if there
-/// are 2^46 campaigns or more, or fewer than failed.
+/// failed. Its ends are in ten-thousandths, the lower one rounded down and the upper one rounded up. Returns `None` if
+/// `campaigns` is 2^46 or more, or less than `failed`.
 pub fn interval(campaigns: u64, failed: u64) -> Option<(u64, u64)>
     ensures { result ≡ interval campaigns failed }
 {

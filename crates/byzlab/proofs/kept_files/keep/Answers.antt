@@ -1,4 +1,4 @@
--- The scenario first, and what a refused write tells.
+-- The scenario is written first. A failed write reports the name of its file.
 use Rattle.std.proofs.Common.{◌∙◌, ◌+◌, arith, length}
 use Rattle.byzlab.specs.Kept.{IsKeptIn, Tells}
 use Rattle.byzlab.proofs.KeptLemmas.{handed_on, scenario_first, scenario_is_kept, schedule_is_kept}

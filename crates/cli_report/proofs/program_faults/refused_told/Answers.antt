@@ -5,7 +5,7 @@ use Rattle.toml.specs.View.{table_view}
 use Rattle.cli_report.specs.Scenarios.{IsRefusedBy}
 use Rattle.cli_report.proofs.program_faults.refused_told.Goals as goal
 
--- seen through a borrow, or not
+-- The view of an option of a reference, and of the option of what it points to.
 seen : {T V : Type 0} (view : T → V) (o : Option (Bor T)) → option_map (λ t. view t.now) o ≡ option_map view (option_copied o)
 seen view None = refl
 seen view (Some t) = refl

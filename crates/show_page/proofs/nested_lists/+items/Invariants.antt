@@ -11,7 +11,7 @@ decreases-put_item g l = 2 * l.relays + 1
 abbrev pub decreases-put_items : goal.decreases-put_items
 decreases-put_items g l = 2 * l.relays
 
--- the items by the generals so far
+-- The items for the generals so far were appended.
 abbrev pub invariant-put_items-loop-other : goal.invariant-put_items-loop-other
 invariant-put_items-loop-other g l =
     string_bytes l.out ≡ string_bytes l.fn.out ++ flat_map (item_by (g.H.Heard.seen l.table) l.traitors l.view (l.relays - 1) l.label l.general) (others l.other (l.general ∷ l.label))

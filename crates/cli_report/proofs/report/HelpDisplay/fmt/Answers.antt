@@ -1,4 +1,4 @@
--- A name of nearly the same letters.
+-- The help message with a similar name.
 use Rattle.cli_report.proofs.report.HelpDisplay.fmt.Goals as goal
 
 pub returns-in-Near-clause-writes : goal.returns-in-Near-clause-writes

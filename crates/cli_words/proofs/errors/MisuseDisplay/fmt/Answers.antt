@@ -2,13 +2,13 @@ use Rattle.std.proofs.Common.{◌≡◌, ◌∙◌, ◌++◌, List, Option, Some
 use Rattle.std.specs.Fmt.{DisplaysOnOk, debug_str, ◌++?◌}
 use Rattle.cli_words.proofs.errors.MisuseDisplay.fmt.Goals as goal
 
--- a text that is put together from the left
+-- A text that is joined from the left.
 parts : (a own b option d wanted behind : List ℕ) → behind ≡ b ++ (option ++ (d ++ wanted)) → a ++ own ++ b ++ option ++ d ++ wanted ≡ a ++ (own ++ behind)
 parts a own b option d wanted behind e =
     append_assoc (a ++ own ++ b ++ option) d wanted ∙ (append_assoc (a ++ own ++ b) option (d ++ wanted) ∙ (append_assoc (a ++ own) b (option ++ (d ++ wanted))
     ∙ (append_assoc a own (b ++ (option ++ (d ++ wanted))) ∙ ap (λ (l : List ℕ). a ++ (own ++ l)) (sym e))))
 
--- what is written of a word, and of what is wanted in its place
+-- The text about a word, and about what is expected in its place.
 quoting : (Writes : Option (List ℕ) → Type 0) (quoted : Option (List ℕ)) (behind option wanted : List ℕ) → behind ≡ codes " for '" ++ (option ++ (codes "': " ++ wanted))
     → Writes (Some (codes "invalid value ") ++? (quoted ++? Some behind))
     → Writes (option_map (λ own. codes "invalid value " ++ own ++ codes " for '" ++ option ++ codes "': " ++ wanted) quoted)
