@@ -1,4 +1,4 @@
-//! The texts of the campaigns in these tests: their keys, and the tables of their traitors.
+//! Defines the texts of the campaigns in these tests: their keys, and the tables of their traitors.
 
 use crate::{campaign, counting, swaying};
 
