@@ -21,8 +21,9 @@ pub fn strokes_are_exact()
 {}
 
 /// States which rows are drawn in the receivers' lists below each band. A row is for one stroke, and it is a lie if a
-/// loyal general would not have done the same. If a lie is left out for lack of room, no honest row is drawn, and each
-/// general who lies has a row. The number of rows left out is exact.
+/// loyal general would not have done the same. Rows are numbered from 0, and the first ones are drawn. Each general who
+/// lies has a row that is drawn. If a lie is left out for lack of room, no honest row is drawn. The counts of rows and
+/// lies left out are exact.
 pub fn rows_are_exact()
     ensures { RowsAreExact }
 {}
