@@ -141,8 +141,8 @@ impl State {
         state
     }
 
-    /// Returns the same state with its world as an open round, so that the states that follow share what stays the
-    /// same.
+    /// Returns the same state, with its world stored as an open round. The states after the next accesses then share
+    /// most of its memory.
     ///
     /// # Errors
     ///

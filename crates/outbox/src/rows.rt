@@ -11,13 +11,13 @@ use std::alloc::{AllocError, Global};
 use std::marker::Model;
 
 /// The rows of an outbox, by rank. At first all are uniform rows of 12 bytes, with one order for all receivers of a
-/// label. Once a single receiver is sent an order, all become mixed rows. The memory for these is allocated at the
+/// label. Once an order is put for a single receiver, all become mixed rows. The memory for these is allocated at the
 /// start.
 #[derive(Drop)]
 pub(crate) struct Rows {
     /// The uniform rows, which are used as long as `apart` is empty.
     alike: Vec<UniformRow>,
-    /// The mixed rows. They are empty until a single receiver is sent an order.
+    /// The mixed rows. They are empty until an order is put for a single receiver.
     apart: Vec<MixedRow>,
 }
 

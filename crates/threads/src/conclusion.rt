@@ -32,9 +32,9 @@ pub(crate) struct Unlike {
     board: Snapshot<Board>,
 }
 
-/// Returns the lieutenants' orders, ascending by lieutenant, if the ledger of `board` accounts for the letters in
-/// `rows`. `board` served the campaign, and `told` is what the lieutenants received from these letters. One thread
-/// compares the letters with the ledger while another makes the decisions.
+/// Returns the order on which each lieutenant decides, ascending by lieutenant, if the ledger of `board` accounts for
+/// the letters in `rows`. `board` served the campaign, and `told` is what the lieutenants received from these letters.
+/// One thread compares the letters with the ledger while another makes the decisions.
 ///
 /// # Errors
 ///

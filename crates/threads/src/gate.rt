@@ -25,8 +25,8 @@ pub trait Gate {
     ghost passed: { Self → ℕ → ℕ → ℕ → Type 0 } = { λ _ _ _ _. Unit {0} };
 
     /// Holds a general before an access until he may go on. `nth` is the number of the access, counted from 0 for this
-    /// general and round. It is called before each access and never while the board's lock is held, but an implementer
-    /// has no contract for that.
+    /// general and round. It is called before each access, and never while the board's lock is held. The contract does
+    /// not promise this to an implementer.
     fn before_access(&self, general: u32, round: u32, nth: u64)
         ensures { passed self.now general round nth };
 }

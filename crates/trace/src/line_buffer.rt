@@ -99,7 +99,7 @@ impl LineBuffer {
     }
 }
 
-/// Writes a piece of text after the first `count` bytes, and returns the number of bytes with it.
+/// Writes a piece of text after the first `count` bytes, and returns the new number of bytes.
 fn with_piece(bytes: &mut [u8], count: usize, piece: &[u8]) -> usize
     requires { count + length piece.now ≤ length bytes.old }
     ensures count { result ≡ count + length piece.now }
@@ -110,7 +110,7 @@ fn with_piece(bytes: &mut [u8], count: usize, piece: &[u8]) -> usize
     end
 }
 
-/// Writes a space and the character `sign` after the first `count` bytes, and returns the number of bytes with them.
+/// Writes a space and the character `sign` after the first `count` bytes, and returns the new number of bytes.
 fn with_sign(bytes: &mut [u8], count: usize, sign: u8) -> usize
     requires { count + 2 ≤ length bytes.old }
     ensures count { result ≡ count + 2 }
@@ -121,8 +121,8 @@ fn with_sign(bytes: &mut [u8], count: usize, sign: u8) -> usize
     count + 2
 }
 
-/// Writes a space and the character `sign`, `times` times, after the first `count` bytes. Returns the number of bytes
-/// with them.
+/// Writes a space and the character `sign`, `times` times, after the first `count` bytes. Returns the new number of
+/// bytes.
 fn with_signs(bytes: &mut [u8], count: usize, sign: u8, times: u32) -> usize
     requires { count + 11 * times ≤ length bytes.old }
     ensures count { result ≤ count + 11 * times }
@@ -135,8 +135,7 @@ fn with_signs(bytes: &mut [u8], count: usize, sign: u8, times: u32) -> usize
     end
 }
 
-/// Writes a piece of at most 11 bytes, `times` times, after the first `count` bytes. Returns the number of bytes with
-/// them.
+/// Writes a piece of at most 11 bytes, `times` times, after the first `count` bytes. Returns the new number of bytes.
 fn with_copies(bytes: &mut [u8], count: usize, piece: &[u8], times: u32) -> usize
     requires room { count + 11 * times ≤ length bytes.old }
     requires short { length piece.now ≤ 11 }
@@ -150,8 +149,8 @@ fn with_copies(bytes: &mut [u8], count: usize, piece: &[u8], times: u32) -> usiz
     end
 }
 
-/// Writes a space and a number in decimal, `times` times, after the first `count` bytes. Returns the number of bytes
-/// with them.
+/// Writes a space and a number in decimal, `times` times, after the first `count` bytes. Returns the new number of
+/// bytes.
 fn with_digits(bytes: &mut [u8], count: usize, number: u32, times: u32) -> usize
     requires { count + 11 * times ≤ length bytes.old }
     ensures count { result ≤ count + 11 * times }
@@ -174,8 +173,7 @@ fn with_digit(bytes: &mut [u8], count: usize, digit: u32) -> usize
     count + 1
 }
 
-/// Writes a space and a number (0 to 99) in decimal after the first `count` bytes. Returns the number of bytes with
-/// them.
+/// Writes a space and a number (0 to 99) in decimal after the first `count` bytes. Returns the new number of bytes.
 fn with_two(bytes: &mut [u8], count: usize, number: u32) -> usize
     requires room { count + 3 ≤ length bytes.old }
     requires number { number < 100 }
@@ -190,7 +188,7 @@ fn with_two(bytes: &mut [u8], count: usize, number: u32) -> usize
     }
 }
 
-/// Writes a space and a number in decimal after the first `count` bytes. Returns the number of bytes with them.
+/// Writes a space and a number in decimal after the first `count` bytes. Returns the new number of bytes.
 fn with_number(bytes: &mut [u8], count: usize, number: u32) -> usize
     requires { count + 11 ≤ length bytes.old }
     ensures count { result ≤ count + 11 }
@@ -206,8 +204,7 @@ fn with_number(bytes: &mut [u8], count: usize, number: u32) -> usize
     }
 }
 
-/// Writes a space and an order, or a dash for no order, after the first `count` bytes. Returns the number of bytes with
-/// them.
+/// Writes a space and an order, or a dash for no order, after the first `count` bytes. Returns the new number of bytes.
 fn with_place(bytes: &mut [u8], count: usize, order: Option<u32>) -> usize
     requires { count + 11 ≤ length bytes.old }
     ensures count { result ≤ count + 11 }
@@ -219,8 +216,8 @@ fn with_place(bytes: &mut [u8], count: usize, order: Option<u32>) -> usize
     }
 }
 
-/// Writes a space and an order, or a dash for no order, `times` times, after the first `count` bytes. Returns the
-/// number of bytes with them.
+/// Writes a space and an order, or a dash for no order, `times` times, after the first `count` bytes. Returns the new
+/// number of bytes.
 fn with_alike(bytes: &mut [u8], count: usize, order: Option<u32>, times: u32) -> usize
     requires { count + 11 * times ≤ length bytes.old }
     ensures count { result ≤ count + 11 * times }

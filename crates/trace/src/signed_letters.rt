@@ -43,7 +43,7 @@ fn put_letter<S: Sink>(sink: &mut S, chronicle: &SignedChronicle, round: usize, 
     put_chains(sink, sent_by(chronicle, round, letter));
 }
 
-/// Writes the lines of these letters of this round, in their order.
+/// Writes the lines of `letters`, which are of this round, in their order.
 fn put_letters<S: Sink>(sink: &mut S, chronicle: &SignedChronicle, round: usize, letters: &[Letter])
     ensures { Wrote (S.contents sink.old) (S.has_failed sink.old)
         (text (flat_map (letter_lines (sent_in chronicle.now.scenario chronicle.now.letters) round) letters.now))
@@ -54,7 +54,7 @@ fn put_letters<S: Sink>(sink: &mut S, chronicle: &SignedChronicle, round: usize,
     }
 }
 
-/// Writes the lines of a round: its first line with its number, its accesses, and these letters.
+/// Writes the lines of a round: its first line with its number, its accesses, and `letters`.
 fn put_one<S: Sink>(sink: &mut S, chronicle: &SignedChronicle, round: usize, letters: &[Letter])
     ensures { Wrote (S.contents sink.old) (S.has_failed sink.old)
         (text (round_told (letter_lines
