@@ -13,8 +13,8 @@ use Rattle.round.specs.Scenario.{Scenario, shape_of}
 use Rattle.round.specs.Letters.{Letter, messages, telling}
 
 -- Returns the order that general `g` took for the label `u`. It is what the label's last general sent him about the
--- shorter label before it, or RETREAT if he sent nothing. For example, for `0.2` it is what 2 reported about `0`. For
--- the empty label, which only the commander relays, it is the scenario's order.
+-- rest of the label, or RETREAT if he sent nothing. For example, for `0.2` it is what 2 reported about `0`. For the
+-- empty label, which only the commander relays, it is the scenario's order.
 abbrev pub took : Scenario → List (List Letter) → ℕ → List ℕ → ℕ
 took s before g u = heard (messages before) s.order u g
 

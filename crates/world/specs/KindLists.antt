@@ -52,7 +52,8 @@ abbrev pub AreMoves : List Event → Type 0
 AreMoves [] = Unit {0}
 AreMoves (e ∷ events) = IsMove e × AreMoves events
 
--- States that the open round may be closed: every loyal general has posted, and every activation has ended.
+-- States that the open round is complete and may be closed: every loyal general has posted, and every activation has
+-- ended.
 pub record IsRipe (w : World) : Type 0 where
   pub posted_all : (g : ℕ) (part : Progress) → slice_get w.parts g ≡ Some part → OwesNoLetter part
   pub ended_all : (g : ℕ) (part : Progress) → slice_get w.parts g ≡ Some part → HasEnded part
