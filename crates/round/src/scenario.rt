@@ -114,7 +114,7 @@ impl Scenario {
         self.bound
     }
 
-    /// Returns the commander's number.
+    /// Returns the number of the general who is the commander.
     pub fn commander(&self) -> u8
         ensures same { result ≡ self.now.commander }
         ensures whole { IsScenario self.now }

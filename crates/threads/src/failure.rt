@@ -11,7 +11,7 @@ use std::alloc::AllocError;
 /// Evidence that a general was given another general's task. Only `is_his` creates one.
 #[derive(Clone, Copy)]
 pub(crate) struct Foreign {
-    /// The general who was given the task.
+    /// The general who was given another general's task.
     general: u32,
 }
 

@@ -47,7 +47,7 @@ impl Phase {
 /// Evidence that a general's inbox was found closed. Only `Inbox::next` creates one.
 #[derive(Drop)]
 pub(crate) struct Closed {
-    /// The general whose inbox it is.
+    /// The general whose inbox was found closed.
     general: u32,
     /// Evidence that no more tasks will come.
     home: Home,

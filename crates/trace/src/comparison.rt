@@ -13,7 +13,7 @@ pub struct ComparingSink<'a> {
     same: usize,
     /// The first received byte that differs from `text` or comes after its end, or `None` if there is no such byte yet.
     other: Option<u8>,
-    /// Whether the sink has rejected bytes because an earlier byte differed.
+    /// Whether the sink has rejected bytes. It does so once a received byte differs from `text`.
     failed: bool,
     ghost within: { same ≤ length text.now },
     ghost differs: { slice_get text.now same ≡ other → other ≡ None },

@@ -33,7 +33,7 @@ fn hold(count: &AtomicU32, wanted: u32, missed: &AtomicU32) {
     missed.fetch_add(1, Ordering::SeqCst);
 }
 
-/// A count for each of three rounds.
+/// A counter for each of the rounds 1 to 3.
 #[derive(Drop)]
 struct Counts {
     first: AtomicU32,

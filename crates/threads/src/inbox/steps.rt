@@ -10,7 +10,7 @@ use crate::task::Task;
 /// Evidence that a task was put into an inbox. Only `Phase::give` creates one.
 #[derive(Drop)]
 pub(crate) struct Given {
-    /// The general whose task it is.
+    /// The general whose task was given.
     general: u32,
 }
 
@@ -26,7 +26,7 @@ impl Given {
 /// Evidence that an inbox was closed. Only `Phase::close` creates one.
 #[derive(Drop)]
 pub(crate) struct Shut {
-    /// The general whose inbox it is.
+    /// The general whose inbox was closed.
     general: u32,
 }
 
