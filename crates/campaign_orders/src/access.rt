@@ -17,9 +17,6 @@ fn instructions_of(running: &Running) -> u32
 
 /// Returns a copy of the general's activation after his next access, to a board with these words, and the board's words
 /// after it. The copy has been run on to its next request or its end. Returns `None` if he makes no further access.
-///
-/// # Errors
-///
 /// Fails with `AllocError` if it runs out of memory.
 pub(crate) fn next_access(
     alloc: Global,

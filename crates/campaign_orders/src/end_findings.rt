@@ -8,11 +8,8 @@ use crate::state::State;
 use std::alloc::{AllocError, Global};
 
 /// Enters a state's outcome into `findings`. If an earlier state had the same outcome, the number of orders that lead
-/// to this state is added to its count. An order is a sequence of accesses.
-///
-/// # Errors
-///
-/// Fails with `AllocError` if it runs out of memory.
+/// to this state is added to its count. An order is a sequence of accesses. Fails with `AllocError` if it runs out of
+/// memory.
 fn find(alloc: Global, findings: &mut Vec<DecisionGroup>, state: &State) -> Result<(), AllocError>
     ensures { OnOk result (IsFound findings.old.items state.now findings.new.items) }
 {
@@ -28,11 +25,7 @@ fn find(alloc: Global, findings: &mut Vec<DecisionGroup>, state: &State) -> Resu
 }
 
 /// Returns the outcomes of all states. With each go the number of orders of accesses that lead to it, and the least of
-/// these orders.
-///
-/// # Errors
-///
-/// Fails with `AllocError` if it runs out of memory.
+/// these orders. Fails with `AllocError` if it runs out of memory.
 pub(crate) fn gather(alloc: Global, states: &[State]) -> Result<Vec<DecisionGroup>, AllocError>
     ensures { IfOk result (λ findings. AreGathered states.now findings.items) }
 {

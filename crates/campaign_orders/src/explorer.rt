@@ -50,11 +50,7 @@ fn is_full(count: u64) -> bool
 }
 
 /// Returns the outcomes of all orders. If there are at most 128, each is played separately, which is faster than
-/// following all of them together.
-///
-/// # Errors
-///
-/// Fails with `AllocError` if it runs out of memory.
+/// following all of them together. Fails with `AllocError` if it runs out of memory.
 fn explore_all(alloc: Global, scenario: &Scenario) -> Result<Exploration, AllocError>
     ensures { IfOk result (λ exploration. IsExploration oral_kind oral_outcome scenario.now (2 ^ 64 - 1) exploration) }
 {
@@ -65,11 +61,8 @@ fn explore_all(alloc: Global, scenario: &Scenario) -> Result<Exploration, AllocE
     }
 }
 
-/// Returns the outcomes of all orders. It follows them together, access by access, and merges equal worlds.
-///
-/// # Errors
-///
-/// Fails with `AllocError` if it runs out of memory.
+/// Returns the outcomes of all orders. It follows them together, access by access, and merges equal worlds. Fails with
+/// `AllocError` if it runs out of memory.
 fn explore_layers(alloc: Global, scenario: &Scenario) -> Result<Exploration, AllocError>
     ensures { IfOk result (λ exploration. IsExploration oral_kind oral_outcome scenario.now (2 ^ 64 - 1) exploration) }
 {
@@ -101,11 +94,7 @@ fn most_counted(findings: &[DecisionGroup]) -> u64
 }
 
 /// Returns the outcomes of the `most` least orders, or of all if there are fewer. It plays each of these orders from
-/// the start.
-///
-/// # Errors
-///
-/// Fails with `AllocError` if it runs out of memory.
+/// the start. Fails with `AllocError` if it runs out of memory.
 fn explore_least(alloc: Global, scenario: &Scenario, most: u64) -> Result<Exploration, AllocError>
     requires { most < 2 ^ 64 - 1 }
     ensures { IfOk result (λ exploration. IsExploration oral_kind oral_outcome scenario.now most exploration) }
@@ -133,11 +122,7 @@ fn explore_least(alloc: Global, scenario: &Scenario, most: u64) -> Result<Explor
 
 /// Plays a campaign, and enters its outcome into `findings`. In each round the generals in `names` make their accesses
 /// first, in the given order, and then the others, ascending. Returns how the next order of accesses begins, or `None`
-/// if this was the last order.
-///
-/// # Errors
-///
-/// Fails with `AllocError` if it runs out of memory.
+/// if this was the last order. Fails with `AllocError` if it runs out of memory.
 fn visit(
     alloc: Global,
     scenario: &Scenario,
@@ -161,11 +146,7 @@ fn visit(
 }
 
 /// Counts one more order of accesses that leads to these decisions. If no other order has led to them, it appends them
-/// to `findings` with this order as their example.
-///
-/// # Errors
-///
-/// Fails with `AllocError` if it runs out of memory.
+/// to `findings` with this order as their example. Fails with `AllocError` if it runs out of memory.
 fn enter(
     alloc: Global,
     findings: &mut Vec<DecisionGroup>,

@@ -28,9 +28,6 @@ impl Model for DecisionGroup {
 
 impl DecisionGroup {
     /// Returns the outcome with these decisions. `order` is the only order of accesses counted so far, and the example.
-    ///
-    /// # Errors
-    ///
     /// Fails with `AllocError` if it runs out of memory.
     pub(crate) fn first(
         alloc: Global,
@@ -50,11 +47,8 @@ impl DecisionGroup {
         })
     }
 
-    /// Returns the outcome with these decisions and this count of orders. `order` is the example.
-    ///
-    /// # Errors
-    ///
-    /// Fails with `AllocError` if it runs out of memory.
+    /// Returns the outcome with these decisions and this count of orders. `order` is the example. Fails with
+    /// `AllocError` if it runs out of memory.
     pub(crate) fn of(
         alloc: Global,
         decisions: &[u32],
@@ -75,11 +69,7 @@ impl DecisionGroup {
     }
 
     /// Adds `ways` to the count of orders, which stops at 2^64 - 1. `order` is the least of the added orders, and
-    /// becomes the example if it is less than the example so far.
-    ///
-    /// # Errors
-    ///
-    /// Fails with `AllocError` if it runs out of memory.
+    /// becomes the example if it is less than the example so far. Fails with `AllocError` if it runs out of memory.
     pub(crate) fn count_more(
         &mut self,
         alloc: Global,

@@ -47,11 +47,7 @@ impl Layer {
     }
 
     /// Adds a state. If the layer has a state whose world is alike, the two states are merged, otherwise the new one is
-    /// appended.
-    ///
-    /// # Errors
-    ///
-    /// Fails with `AllocError` if it runs out of memory.
+    /// appended. Fails with `AllocError` if it runs out of memory.
     pub(crate) fn enter(&mut self, alloc: Global, state: State) -> Result<(), AllocError>
         ensures { OnOk result (IsEntered self.old state self.new) }
     {
@@ -65,9 +61,6 @@ impl Layer {
     }
 
     /// Returns the index of a state in the layer whose world is alike to that of `state`, or `None` if none was found.
-    ///
-    /// # Errors
-    ///
     /// Fails with `AllocError` if it runs out of memory.
     fn place_of(&self, alloc: Global, state: &State) -> Result<Option<usize>, AllocError>
         ensures { IfOk result (λ found. IfSome found (λ place. IsAlikeAt self.now state.now place)) }
@@ -92,11 +85,8 @@ impl Layer {
         Ok(None)
     }
 
-    /// Appends a state to the layer, as the last one entered with its mark.
-    ///
-    /// # Errors
-    ///
-    /// Fails with `AllocError` if it runs out of memory.
+    /// Appends a state to the layer, as the last one entered with its mark. Fails with `AllocError` if it runs out of
+    /// memory.
     fn push(&mut self, state: State) -> Result<(), AllocError>
         ensures { OnOk result (self.new ≡ self.old ++ state ∷ []) }
     {

@@ -15,11 +15,7 @@ use round::Scenario;
 use std::alloc::{AllocError, Global};
 
 /// Enters into `next` the state after this general's next access. Returns whether he makes a further access in the open
-/// round.
-///
-/// # Errors
-///
-/// Fails with `AllocError` if it runs out of memory.
+/// round. Fails with `AllocError` if it runs out of memory.
 fn ask(alloc: Global, state: &State, general: u8, next: &mut Layer) -> Result<bool, AllocError>
     requires { IsRunOn (reached (opening oral_kind state.now.world.scenario) state.now.rows state.now.names)
         state.now.world }
@@ -43,11 +39,7 @@ fn either(one: bool, other: bool) -> bool
 
 /// Enters the states that can follow a state. For each general who makes a further access in the round, the state after
 /// it is entered into `next`. If there is no such general, the state at the start of the next round is entered into
-/// `done`.
-///
-/// # Errors
-///
-/// Fails with `AllocError` if it runs out of memory.
+/// `done`. Fails with `AllocError` if it runs out of memory.
 fn expand(
     alloc: Global,
     scenario: &SharedScenario,
@@ -74,11 +66,8 @@ fn expand(
 }
 
 /// Returns the layer after one more access from each state in `layer`. For a state in which no general makes a further
-/// access in the round, the state at the start of the next round is entered into `done`.
-///
-/// # Errors
-///
-/// Fails with `AllocError` if it runs out of memory.
+/// access in the round, the state at the start of the next round is entered into `done`. Fails with `AllocError` if it
+/// runs out of memory.
 fn step(
     alloc: Global,
     scenario: &SharedScenario,
@@ -98,9 +87,6 @@ fn step(
 }
 
 /// Returns the states after a round that begins in the states `first`. At most `most` accesses can be made in a round.
-///
-/// # Errors
-///
 /// Fails with `AllocError` if it runs out of memory.
 fn whole_round(
     alloc: Global,
@@ -156,11 +142,7 @@ fn instructions_of(scenario: &Scenario, general: u8) -> u32
     }
 }
 
-/// Returns the states in which the scenario's campaign can end.
-///
-/// # Errors
-///
-/// Fails with `AllocError` if it runs out of memory.
+/// Returns the states in which the scenario's campaign can end. Fails with `AllocError` if it runs out of memory.
 pub(crate) fn last_states(alloc: Global, scenario: &Scenario) -> Result<Vec<State>, AllocError>
     ensures { IfOk result (λ states. AreLayers scenario.now (suc scenario.now.bound) states.items) }
 {

@@ -60,11 +60,8 @@ impl MarkedPart {
     }
 
     /// Returns the general's activation after his next access, to a board with these words, and the board's words after
-    /// it. Returns `None` if he makes no further access. This part stays unchanged.
-    ///
-    /// # Errors
-    ///
-    /// Fails with `AllocError` if it runs out of memory.
+    /// it. Returns `None` if he makes no further access. This part stays unchanged. Fails with `AllocError` if it runs
+    /// out of memory.
     pub(crate) fn next_access(
         &self,
         alloc: Global,

@@ -85,11 +85,7 @@ impl OpenRound {
     }
 
     /// Returns a copy of the general's activation after his next access, and the board's words after it. Returns `None`
-    /// if he makes no further access in the round.
-    ///
-    /// # Errors
-    ///
-    /// Fails with `AllocError` if it runs out of memory.
+    /// if he makes no further access in the round. Fails with `AllocError` if it runs out of memory.
     fn next_access(&self, alloc: Global, general: u8) -> Result<Option<Accessed>, AllocError>
         ensures { IfOk result (λ made. IsPartAfter general self.now.words (slice_get self.now.parts general) made) }
     {

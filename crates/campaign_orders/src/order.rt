@@ -24,11 +24,8 @@ pub fn order_in(alloc: Global, accesses: &[Access], rounds: u8) -> Result<Vec<Ve
     Ok(order)
 }
 
-/// Returns the generals who made the accesses of this round, in the ledger's order.
-///
-/// # Errors
-///
-/// Fails with `AllocError` if it runs out of memory.
+/// Returns the generals who made the accesses of this round, in the ledger's order. Fails with `AllocError` if it runs
+/// out of memory.
 fn names_of(alloc: Global, accesses: &[Access], round: u32) -> Result<Vec<u8>, AllocError>
     requires { All (λ a. a.general < 256) accesses.now }
     ensures { IfOk result (λ names. names.items ≡ map (λ a. a.general) (filter (λ a. a.round == round) accesses.now)) }
@@ -50,11 +47,7 @@ pub(crate) fn compared(order: &[Vec<u8>], other: &[Vec<u8>]) -> Ordering
     order.cmp(&other)
 }
 
-/// Returns a copy of an order of accesses.
-///
-/// # Errors
-///
-/// Fails with `AllocError` if it runs out of memory.
+/// Returns a copy of an order of accesses. Fails with `AllocError` if it runs out of memory.
 pub(crate) fn copied(alloc: Global, order: &[Vec<u8>]) -> Result<Vec<Vec<u8>>, AllocError>
     ensures { IfOk result (λ copy. lists_in copy.items ≡ lists_in order.now) }
 {

@@ -22,11 +22,7 @@ use std::alloc::{AllocError, Global};
 use world::judgement::{alike, loyal_decisions, obeyed};
 use world::{Repeat, Schedule, ScheduleLine};
 
-/// Writes a space and a number in decimal.
-///
-/// # Errors
-///
-/// Fails with `AllocError` if it runs out of memory.
+/// Writes a space and a number in decimal. Fails with `AllocError` if it runs out of memory.
 fn put_further(out: &mut String, number: u64) -> Result<(), AllocError>
     ensures { OnOk result (string_bytes out.new ≡ string_bytes out.old ++ further number) }
 {
@@ -36,11 +32,8 @@ fn put_further(out: &mut String, number: u64) -> Result<(), AllocError>
     Ok(())
 }
 
-/// Writes an entry of a schedule, such as `2*14`: general 2, 14 times.
-///
-/// # Errors
-///
-/// Fails with `AllocError` if it runs out of memory.
+/// Writes an entry of a schedule, such as `2*14`: general 2, 14 times. Fails with `AllocError` if it runs out of
+/// memory.
 fn put_repeat(out: &mut String, repeat: Repeat) -> Result<(), AllocError>
     ensures { OnOk result (string_bytes out.new ≡ string_bytes out.old ++ decimal repeat.general ++ codes "*"
         ++ decimal repeat.times) }
@@ -52,11 +45,7 @@ fn put_repeat(out: &mut String, repeat: Repeat) -> Result<(), AllocError>
     Ok(())
 }
 
-/// Writes a space and an entry of a schedule, such as ` 2*14`.
-///
-/// # Errors
-///
-/// Fails with `AllocError` if it runs out of memory.
+/// Writes a space and an entry of a schedule, such as ` 2*14`. Fails with `AllocError` if it runs out of memory.
 fn put_entry(out: &mut String, repeat: Repeat) -> Result<(), AllocError>
     ensures { OnOk result (string_bytes out.new ≡ string_bytes out.old ++ entry_text repeat) }
 {
@@ -64,11 +53,8 @@ fn put_entry(out: &mut String, repeat: Repeat) -> Result<(), AllocError>
     put_repeat(out, repeat)
 }
 
-/// Writes entries of a schedule, each with a space before it, such as ` 2*14 3*9`.
-///
-/// # Errors
-///
-/// Fails with `AllocError` if it runs out of memory.
+/// Writes entries of a schedule, each with a space before it, such as ` 2*14 3*9`. Fails with `AllocError` if it runs
+/// out of memory.
 fn put_entries(out: &mut String, repeats: &[Repeat]) -> Result<(), AllocError>
     ensures { OnOk result (string_bytes out.new ≡ string_bytes out.old ++ flat_map entry_text repeats.now) }
 {
@@ -78,11 +64,7 @@ fn put_entries(out: &mut String, repeats: &[Repeat]) -> Result<(), AllocError>
     Ok(())
 }
 
-/// Writes a line of a schedule's text, such as `2*14 3*9`, and an LF.
-///
-/// # Errors
-///
-/// Fails with `AllocError` if it runs out of memory.
+/// Writes a line of a schedule's text, such as `2*14 3*9`, and an LF. Fails with `AllocError` if it runs out of memory.
 fn put_line(out: &mut String, repeats: &[Repeat]) -> Result<(), AllocError>
     ensures { OnOk result (string_bytes out.new ≡ string_bytes out.old ++ line_text repeats.now) }
 {
@@ -109,11 +91,8 @@ pub fn schedule_text(alloc: Global, schedule: &Schedule) -> Result<String, Alloc
     Ok(out)
 }
 
-/// Writes a line with the number of a round and its schedule entries, such as `round 1 2*14 3*9`.
-///
-/// # Errors
-///
-/// Fails with `AllocError` if it runs out of memory.
+/// Writes a line with the number of a round and its schedule entries, such as `round 1 2*14 3*9`. Fails with
+/// `AllocError` if it runs out of memory.
 fn put_round(out: &mut String, round: u64, repeats: &[Repeat]) -> Result<(), AllocError>
     ensures { OnOk result (string_bytes out.new ≡ string_bytes out.old ++ round_text round repeats.now) }
 {
@@ -124,11 +103,8 @@ fn put_round(out: &mut String, round: u64, repeats: &[Repeat]) -> Result<(), All
     Ok(())
 }
 
-/// Writes the lines of a schedule, each with the number of its round. The first line is for round 1.
-///
-/// # Errors
-///
-/// Fails with `AllocError` if it runs out of memory.
+/// Writes the lines of a schedule, each with the number of its round. The first line is for round 1. Fails with
+/// `AllocError` if it runs out of memory.
 fn put_rounds(out: &mut String, lines: &[ScheduleLine]) -> Result<(), AllocError>
     ensures { OnOk result (string_bytes out.new ≡ string_bytes out.old ++ rounds_text 1 lines.now) }
 {
@@ -138,11 +114,7 @@ fn put_rounds(out: &mut String, lines: &[ScheduleLine]) -> Result<(), AllocError
     Ok(())
 }
 
-/// Writes numbers in decimal, each with a space before it.
-///
-/// # Errors
-///
-/// Fails with `AllocError` if it runs out of memory.
+/// Writes numbers in decimal, each with a space before it. Fails with `AllocError` if it runs out of memory.
 fn put_numbers(out: &mut String, numbers: &[u32]) -> Result<(), AllocError>
     ensures { OnOk result (string_bytes out.new ≡ string_bytes out.old ++ flat_map further numbers.now) }
 {
@@ -152,11 +124,7 @@ fn put_numbers(out: &mut String, numbers: &[u32]) -> Result<(), AllocError>
     Ok(())
 }
 
-/// Writes `yes` or `no`, or `-` if `answer` is `None`.
-///
-/// # Errors
-///
-/// Fails with `AllocError` if it runs out of memory.
+/// Writes `yes` or `no`, or `-` if `answer` is `None`. Fails with `AllocError` if it runs out of memory.
 fn put_answer(out: &mut String, answer: Option<bool>) -> Result<(), AllocError>
     ensures { OnOk result (string_bytes out.new ≡ string_bytes out.old ++ yes_no_none answer) }
 {
@@ -168,12 +136,8 @@ fn put_answer(out: &mut String, answer: Option<bool>) -> Result<(), AllocError>
     Ok(())
 }
 
-/// Writes a space and how many orders of accesses lead to an outcome. For a count of 2^64 - 1 it writes `more than
-/// 18446744073709551614`.
-///
-/// # Errors
-///
-/// Fails with `AllocError` if it runs out of memory.
+/// Writes a space and how many orders of accesses lead to an outcome. For a count of 2^64 - 1 it writes
+/// `more than 18446744073709551614`. Fails with `AllocError` if it runs out of memory.
 #[tactic(auto, unfolding(crate::specs::Text::count_text))]
 fn put_ways(out: &mut String, count: u64) -> Result<(), AllocError>
     ensures { OnOk result (string_bytes out.new ≡ string_bytes out.old ++ count_text count) }
@@ -185,12 +149,8 @@ fn put_ways(out: &mut String, count: u64) -> Result<(), AllocError>
     Ok(())
 }
 
-/// Writes the beginning of an outcome's line: its count of orders, and whether IC1 and IC2 hold, such as `outcome 12
-/// alike yes obeyed -`.
-///
-/// # Errors
-///
-/// Fails with `AllocError` if it runs out of memory.
+/// Writes the beginning of an outcome's line: its count of orders, and whether IC1 and IC2 hold, such as
+/// `outcome 12 alike yes obeyed -`. Fails with `AllocError` if it runs out of memory.
 fn put_verdict(
     out: &mut String,
     count: u64,
@@ -208,11 +168,8 @@ fn put_verdict(
     put_answer(out, obeyed)
 }
 
-/// Writes the line of an outcome: its count of orders, whether IC1 and IC2 hold, and the decisions.
-///
-/// # Errors
-///
-/// Fails with `AllocError` if it runs out of memory.
+/// Writes the line of an outcome: its count of orders, whether IC1 and IC2 hold, and the decisions. Fails with
+/// `AllocError` if it runs out of memory.
 fn put_outcome(
     out: &mut String,
     scenario: &Scenario,
@@ -232,11 +189,8 @@ fn put_outcome(
     Ok(())
 }
 
-/// Writes the line of an outcome, and then the lines of the schedule for its example.
-///
-/// # Errors
-///
-/// Fails with `AllocError` if it runs out of memory.
+/// Writes the line of an outcome, and then the lines of the schedule for its example. Fails with `AllocError` if it
+/// runs out of memory.
 fn put_finding(
     alloc: Global,
     out: &mut String,
@@ -262,11 +216,8 @@ fn counted(findings: &[DecisionGroup]) -> u64
     findings.iter().map(|finding| finding.count()).sum()
 }
 
-/// Writes a space, the sum of the counts of all outcomes, and an LF. The sum must be below 2^64.
-///
-/// # Errors
-///
-/// Fails with `AllocError` if it runs out of memory.
+/// Writes a space, the sum of the counts of all outcomes, and an LF. The sum must be below 2^64. Fails with
+/// `AllocError` if it runs out of memory.
 fn put_count(out: &mut String, findings: &[DecisionGroup]) -> Result<(), AllocError>
     requires { counted_in findings.now < 2 ^ 64 }
     ensures { OnOk result (string_bytes out.new ≡ string_bytes out.old ++ further (counted_in findings.now)
@@ -277,11 +228,8 @@ fn put_count(out: &mut String, findings: &[DecisionGroup]) -> Result<(), AllocEr
     Ok(())
 }
 
-/// Writes the first line of an exploration's text, which says how many orders of accesses there are.
-///
-/// # Errors
-///
-/// Fails with `AllocError` if it runs out of memory.
+/// Writes the first line of an exploration's text, which says how many orders of accesses there are. Fails with
+/// `AllocError` if it runs out of memory.
 fn put_head(out: &mut String, reach: Reach, findings: &[DecisionGroup]) -> Result<(), AllocError>
     requires { reach ≢ Beyond → counted_in findings.now < 2 ^ 64 }
     ensures { OnOk result (string_bytes out.new ≡ string_bytes out.old ++ head_text reach (counted_in findings.now)) }
@@ -302,11 +250,8 @@ fn put_head(out: &mut String, reach: Reach, findings: &[DecisionGroup]) -> Resul
     }
 }
 
-/// Writes for each outcome its line, and the lines of the schedule for its example.
-///
-/// # Errors
-///
-/// Fails with `AllocError` if it runs out of memory.
+/// Writes for each outcome its line, and the lines of the schedule for its example. Fails with `AllocError` if it runs
+/// out of memory.
 fn put_findings(
     alloc: Global,
     out: &mut String,
@@ -323,11 +268,8 @@ fn put_findings(
     Ok(())
 }
 
-/// Returns the text of an exploration: the number of orders, then each outcome with the schedule for its example.
-///
-/// # Errors
-///
-/// Fails with `AllocError` if it runs out of memory.
+/// Returns the text of an exploration: the number of orders, then each outcome with the schedule for its example. Fails
+/// with `AllocError` if it runs out of memory.
 fn exploration_text(
     alloc: Global,
     scenario: &Scenario,
@@ -343,11 +285,8 @@ fn exploration_text(
     Ok(out)
 }
 
-/// Returns the text of a schedule that leads to this outcome, by the order of accesses that is its example.
-///
-/// # Errors
-///
-/// Fails with `AllocError` if it runs out of memory.
+/// Returns the text of a schedule that leads to this outcome, by the order of accesses that is its example. Fails with
+/// `AllocError` if it runs out of memory.
 fn example_text(
     alloc: Global,
     scenario: &Scenario,
@@ -363,9 +302,6 @@ fn example_text(
 }
 
 /// Returns for each outcome the text of a schedule that leads to it, by the order of accesses that is its example.
-///
-/// # Errors
-///
 /// Fails with `AllocError` if it runs out of memory.
 fn example_texts(
     alloc: Global,

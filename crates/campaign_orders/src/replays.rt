@@ -14,11 +14,8 @@ use std::alloc::{AllocError, Global};
 use world::{World, named_round, play_names};
 
 /// Plays a campaign from its start and returns its world after these accesses. `rows` lists for each closed round the
-/// generals who made its accesses, and `names` lists those for the open round.
-///
-/// # Errors
-///
-/// Fails with `AllocError` if it runs out of memory.
+/// generals who made its accesses, and `names` lists those for the open round. Fails with `AllocError` if it runs out
+/// of memory.
 pub(crate) fn played(
     alloc: Global,
     scenario: &Scenario,
@@ -37,11 +34,8 @@ pub(crate) fn played(
 }
 
 /// Plays a campaign from its start and returns the open round after these accesses. `rows` lists for each closed round
-/// the generals who made its accesses, and `names` lists those for the open round.
-///
-/// # Errors
-///
-/// Fails with `AllocError` if it runs out of memory.
+/// the generals who made its accesses, and `names` lists those for the open round. Fails with `AllocError` if it runs
+/// out of memory.
 pub(crate) fn played_round(
     alloc: Global,
     scenario: &Scenario,

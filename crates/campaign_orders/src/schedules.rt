@@ -25,11 +25,7 @@ pub(crate) fn instructions(standing: &[Progress], general: u8) -> Option<u16>
 }
 
 /// Takes ticks of a traitor's activation until he has made one more access, and returns their number. Returns `None` if
-/// he makes no further access in the open round.
-///
-/// # Errors
-///
-/// Fails with `AllocError` if it runs out of memory.
+/// he makes no further access in the open round. Fails with `AllocError` if it runs out of memory.
 pub(crate) fn steps_to_access<W: PlayableWorld>(
     world: &mut W,
     general: u8,
@@ -49,11 +45,8 @@ pub(crate) fn steps_to_access<W: PlayableWorld>(
 }
 
 /// Plays the open round until the generals in `names` have made their accesses in this order. Returns the schedule's
-/// line for this, or the index of the first general in `names` who makes no further access.
-///
-/// # Errors
-///
-/// Fails with `AllocError` if it runs out of memory.
+/// line for this, or the index of the first general in `names` who makes no further access. Fails with `AllocError` if
+/// it runs out of memory.
 fn line_of<W: PlayableWorld>(world: &mut W, alloc: Global, names: &[u8]) -> Result<Line, AllocError>
     ensures { IfOk result (λ line. IsLineOf W.kind (W.seen world.old) names.now (W.seen world.new) line) }
 {

@@ -58,11 +58,7 @@ impl Model for State {
 
 impl State {
     /// Returns the state at the start of a round. `rows` lists for each closed round the generals who made its
-    /// accesses, and `ways` is in how many ways accesses lead here.
-    ///
-    /// # Errors
-    ///
-    /// Fails with `AllocError` if it runs out of memory.
+    /// accesses, and `ways` is in how many ways accesses lead here. Fails with `AllocError` if it runs out of memory.
     fn begun(
         alloc: Global,
         scenario: SharedScenario,
@@ -115,11 +111,7 @@ impl State {
         }
     }
 
-    /// Returns the state before the first access of the campaign.
-    ///
-    /// # Errors
-    ///
-    /// Fails with `AllocError` if it runs out of memory.
+    /// Returns the state before the first access of the campaign. Fails with `AllocError` if it runs out of memory.
     pub(crate) fn opening(alloc: Global, scenario: &SharedScenario) -> Result<State, AllocError>
         ensures { IfOk result (λ state. state ≡ record {
           world = opening oral_kind scenario.now;
@@ -142,11 +134,7 @@ impl State {
     }
 
     /// Returns the same state, with its world stored as an open round. The states after the next accesses then share
-    /// most of its memory.
-    ///
-    /// # Errors
-    ///
-    /// Fails with `AllocError` if it runs out of memory.
+    /// most of its memory. Fails with `AllocError` if it runs out of memory.
     pub(crate) fn opened(self, alloc: Global) -> Result<State, AllocError>
         ensures { IfOk result (λ state. state ≡ self) }
     {
@@ -170,11 +158,7 @@ impl State {
     }
 
     /// Returns the state at the start of the next round, after this one is finished. It is used when no general makes a
-    /// further access in this round.
-    ///
-    /// # Errors
-    ///
-    /// Fails with `AllocError` if it runs out of memory.
+    /// further access in this round. Fails with `AllocError` if it runs out of memory.
     pub(crate) fn closed(
         self,
         alloc: Global,
@@ -200,11 +184,7 @@ impl State {
     }
 
     /// Returns the state after this general's next access. Returns `None` if he makes no further access in the open
-    /// round.
-    ///
-    /// # Errors
-    ///
-    /// Fails with `AllocError` if it runs out of memory.
+    /// round. Fails with `AllocError` if it runs out of memory.
     pub(crate) fn after(&self, alloc: Global, general: u8) -> Result<Option<State>, AllocError>
         requires { IsRunOn (reached (opening oral_kind self.now.world.scenario) self.now.rows self.now.names)
             self.now.world }
@@ -225,11 +205,7 @@ impl State {
     }
 
     /// Returns the state after this general's next access, where `round` is this state's open round. Returns `None` if
-    /// he makes no further access in it.
-    ///
-    /// # Errors
-    ///
-    /// Fails with `AllocError` if it runs out of memory.
+    /// he makes no further access in it. Fails with `AllocError` if it runs out of memory.
     fn after_in(
         &self,
         alloc: Global,
@@ -254,11 +230,7 @@ impl State {
     }
 
     /// Returns the order on which each lieutenant decides from the messages of the closed rounds, ascending by
-    /// lieutenant.
-    ///
-    /// # Errors
-    ///
-    /// Fails with `AllocError` if it runs out of memory.
+    /// lieutenant. Fails with `AllocError` if it runs out of memory.
     pub(crate) fn outcome(&self, alloc: Global) -> Result<ArrayVec<u32, 12>, AllocError>
         ensures { IfOk result (λ decisions. decisions.items ≡ oral_outcome self.now.world) }
     {
@@ -271,11 +243,8 @@ impl State {
         }
     }
 
-    /// Plays the scenario's campaign from its start up to this state, and returns the world.
-    ///
-    /// # Errors
-    ///
-    /// Fails with `AllocError` if it runs out of memory.
+    /// Plays the scenario's campaign from its start up to this state, and returns the world. Fails with `AllocError` if
+    /// it runs out of memory.
     fn replayed(&self, alloc: Global, scenario: &SharedScenario) -> Result<World, AllocError>
         ensures { IfOk result (λ world. world ≡ reached (opening oral_kind scenario.now) self.now.rows self.now.names) }
     {
@@ -312,9 +281,6 @@ fn begins_before(state: &State, other: &State) -> bool
 }
 
 /// Returns whether the worlds of two states are alike. It may return false for alike worlds, but never true for others.
-///
-/// # Errors
-///
 /// Fails with `AllocError` if it runs out of memory.
 pub(crate) fn is_like(alloc: Global, state: &State, other: &State) -> Result<bool, AllocError>
     ensures { IfOk result (λ like. IsTrue like → state.now.world.scenario ≡ other.now.world.scenario →

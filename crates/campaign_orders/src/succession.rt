@@ -51,9 +51,6 @@ fn next_names(mut names: Vec<u8>) -> Option<Vec<u8>>
 }
 
 /// Returns for each round how the next order of accesses after this one begins, or `None` if this is the last order.
-///
-/// # Errors
-///
 /// Fails with `AllocError` if it runs out of memory.
 pub(crate) fn next_order(mut order: Vec<Vec<u8>>) -> Result<Option<Vec<Vec<u8>>>, AllocError>
     ensures { IfOk result (λ next. option_map (λ names. lists_in names.items) next

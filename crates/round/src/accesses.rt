@@ -4,11 +4,7 @@ ghost use Rattle.std.specs.Prelude.{◌≡◌, ◌↔◌, IfOk, IsTrue};
 use board::Access;
 use std::alloc::{AllocError, Global};
 
-/// Returns a copy of these accesses.
-///
-/// # Errors
-///
-/// Fails with `AllocError` if there is no memory for the copy.
+/// Returns a copy of these accesses. Fails with `AllocError` if there is no memory for the copy.
 pub(crate) fn copied(alloc: Global, accesses: &[Access]) -> Result<Vec<Access>, AllocError>
     ensures { IfOk result (λ copy. copy.items ≡ accesses.now) }
 {

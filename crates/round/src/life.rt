@@ -67,11 +67,8 @@ pub fn live<S: Server>(
 }
 
 /// Takes one step of the program, which may be a request, and then further steps until just before its next request or
-/// its end. Appends the access, if one was made, to `transcript`.
-///
-/// # Errors
-///
-/// Fails with `AllocError` if there is no memory for the access or the transcript.
+/// its end. Appends the access, if one was made, to `transcript`. Fails with `AllocError` if there is no memory for the
+/// access or the transcript.
 fn go_on<S: Server>(
     running: &mut Running,
     transcript: &mut Vec<Access>,

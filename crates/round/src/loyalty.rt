@@ -46,11 +46,8 @@ pub fn loyal_letter(
 }
 
 /// Returns the outbox of a loyal general. It sends each receiver of each label the order in `context` that the general
-/// took for this label. `shape` says which labels and receivers these are.
-///
-/// # Errors
-///
-/// Fails with `AllocError` if there is no memory for the outbox.
+/// took for this label. `shape` says which labels and receivers these are. Fails with `AllocError` if there is no
+/// memory for the outbox.
 fn faithful(alloc: Global, shape: Shape, context: &[u8]) -> Result<Outbox, AllocError>
     requires shape { IsShape shape }
     requires context { length context.now ≡ 4096 }

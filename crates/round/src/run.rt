@@ -224,11 +224,7 @@ impl Running {
     }
 }
 
-/// Moves a machine into a box.
-///
-/// # Errors
-///
-/// Fails with `AllocError` if there is no memory for the box.
+/// Moves a machine into a box. Fails with `AllocError` if there is no memory for the box.
 fn boxed(alloc: Global, activation: Machine) -> Result<Box<Machine>, AllocError>
     ensures { IfOk result (λ own. own.value ≡ activation) }
 {

@@ -83,11 +83,8 @@ impl Player {
     }
 }
 
-/// Returns copies of the players. Each shares its program with the original.
-///
-/// # Errors
-///
-/// Fails with `AllocError` if there is no memory for the list, or if a program's reference count cannot be increased.
+/// Returns copies of the players. Each shares its program with the original. Fails with `AllocError` if there is no
+/// memory for the list, or if a program's reference count cannot be increased.
 pub(crate) fn copied(alloc: Global, seats: &[Player]) -> Result<Vec<Player>, AllocError>
     ensures { IfOk result (λ copy. copy.items ≡ seats.now) }
 {

@@ -19,11 +19,7 @@ use show_diagram::words::{kind, outline};
 use std::alloc::AllocError;
 
 /// Appends the bands of the first `rounds` rounds. `plain` are the same strokes without their chains, from which the
-/// heights of the bands are computed.
-///
-/// # Errors
-///
-/// Fails with `AllocError` if memory runs out.
+/// heights of the bands are computed. Fails with `AllocError` if memory runs out.
 pub(crate) fn put_bands(
     out: &mut String,
     generals: u8,
@@ -43,11 +39,7 @@ pub(crate) fn put_bands(
     Ok(())
 }
 
-/// Appends the band of round `before` + 1.
-///
-/// # Errors
-///
-/// Fails with `AllocError` if memory runs out.
+/// Appends the band of round `before` + 1. Fails with `AllocError` if memory runs out.
 fn put_band(
     out: &mut String,
     generals: u8,
@@ -69,11 +61,8 @@ fn put_band(
     Ok(())
 }
 
-/// Appends the contents of a round's band: its number, the generals' lines, the accesses and the strokes.
-///
-/// # Errors
-///
-/// Fails with `AllocError` if memory runs out.
+/// Appends the contents of a round's band: its number, the generals' lines, the accesses and the strokes. Fails with
+/// `AllocError` if memory runs out.
 fn put_inside(
     out: &mut String,
     generals: u8,
@@ -93,11 +82,7 @@ fn put_inside(
     put_strokes(out, generals, strokes, accesses, round)
 }
 
-/// Appends those strokes that belong to this round.
-///
-/// # Errors
-///
-/// Fails with `AllocError` if memory runs out.
+/// Appends those strokes that belong to this round. Fails with `AllocError` if memory runs out.
 fn put_strokes(
     out: &mut String,
     generals: u8,
@@ -117,11 +102,7 @@ fn put_strokes(
 }
 
 /// Appends a stroke if it belongs to this round, with its row in the list of what the receiver received. Strokes begin
-/// at height `top`, and the lists at height `below`.
-///
-/// # Errors
-///
-/// Fails with `AllocError` if memory runs out.
+/// at height `top`, and the lists at height `below`. Fails with `AllocError` if memory runs out.
 fn put_drawn(
     out: &mut String,
     generals: u8,
@@ -142,11 +123,8 @@ fn put_drawn(
     put_row(out, below, stroke)
 }
 
-/// Appends a stroke's line, which begins at height `top` and is as wide as the stroke has chains, but at most 5.
-///
-/// # Errors
-///
-/// Fails with `AllocError` if memory runs out.
+/// Appends a stroke's line, which begins at height `top` and is as wide as the stroke has chains, but at most 5. Fails
+/// with `AllocError` if memory runs out.
 fn put_stroke(
     out: &mut String,
     generals: u8,
@@ -171,9 +149,6 @@ fn put_stroke(
 }
 
 /// Appends the title of a stroke, which a reader sees when pointing at it. It says who sends which chains to whom.
-///
-/// # Errors
-///
 /// Fails with `AllocError` if memory runs out.
 fn put_stroke_title(out: &mut String, stroke: &ChainStroke) -> Result<(), AllocError>
     ensures { OnOk result (string_bytes out.new ≡ string_bytes out.old ++ title (stroke_words stroke.now)) }
@@ -183,11 +158,8 @@ fn put_stroke_title(out: &mut String, stroke: &ChainStroke) -> Result<(), AllocE
     put_title_end(out)
 }
 
-/// Appends the text of a stroke's row in the list of what the receiver received.
-///
-/// # Errors
-///
-/// Fails with `AllocError` if memory runs out.
+/// Appends the text of a stroke's row in the list of what the receiver received. Fails with `AllocError` if memory runs
+/// out.
 fn put_row_text(out: &mut String, stroke: &ChainStroke) -> Result<(), AllocError>
     ensures { OnOk result (string_bytes out.new ≡ string_bytes out.old
         ++ text_at (codes "small") 12 4 (row_words stroke.now)) }
@@ -197,11 +169,8 @@ fn put_row_text(out: &mut String, stroke: &ChainStroke) -> Result<(), AllocError
     put_text_end(out)
 }
 
-/// Appends a stroke's row in the list of what the receiver received. The list begins at height `top`.
-///
-/// # Errors
-///
-/// Fails with `AllocError` if memory runs out.
+/// Appends a stroke's row in the list of what the receiver received. The list begins at height `top`. Fails with
+/// `AllocError` if memory runs out.
 fn put_row(out: &mut String, top: u128, stroke: &ChainStroke) -> Result<(), AllocError>
     requires { top < 2 ^ 100 }
     ensures { OnOk result (string_bytes out.new ≡ string_bytes out.old ++ row top stroke.now) }

@@ -26,11 +26,7 @@ pub(crate) fn unsigned(
     Ok(kept)
 }
 
-/// Returns those signed orders of `chains` that `others` also contains.
-///
-/// # Errors
-///
-/// Fails with `AllocError` if memory runs out.
+/// Returns those signed orders of `chains` that `others` also contains. Fails with `AllocError` if memory runs out.
 pub(crate) fn among(
     alloc: Global,
     chains: &[SignedOrder],
@@ -45,11 +41,7 @@ pub(crate) fn among(
     Ok(kept)
 }
 
-/// Returns those signed orders of `chains` that `others` does not contain.
-///
-/// # Errors
-///
-/// Fails with `AllocError` if memory runs out.
+/// Returns those signed orders of `chains` that `others` does not contain. Fails with `AllocError` if memory runs out.
 pub(crate) fn apart(
     alloc: Global,
     chains: &[SignedOrder],
@@ -64,11 +56,7 @@ pub(crate) fn apart(
     Ok(kept)
 }
 
-/// Returns those signed orders of `chains` whose order is this one.
-///
-/// # Errors
-///
-/// Fails with `AllocError` if memory runs out.
+/// Returns those signed orders of `chains` whose order is this one. Fails with `AllocError` if memory runs out.
 pub(crate) fn of_order(
     alloc: Global,
     chains: &[SignedOrder],
@@ -83,11 +71,7 @@ pub(crate) fn of_order(
     Ok(kept)
 }
 
-/// Appends a copy of the signed order if `is_wanted`.
-///
-/// # Errors
-///
-/// Fails with `AllocError` if memory runs out.
+/// Appends a copy of the signed order if `is_wanted`. Fails with `AllocError` if memory runs out.
 fn push_if(
     alloc: Global,
     kept: &mut Vec<SignedOrder>,

@@ -13,11 +13,7 @@ use std::alloc::AllocError;
 use world::Verdict;
 
 /// Appends the foot of a signed campaign's diagram: the decisions, the verdict, and the legend for those marks that
-/// occur. The foot begins at height `top`.
-///
-/// # Errors
-///
-/// Fails with `AllocError` if memory runs out.
+/// occur. The foot begins at height `top`. Fails with `AllocError` if memory runs out.
 pub(crate) fn put_foot(
     out: &mut String,
     chronicle: &SignedChronicle,
@@ -37,11 +33,8 @@ pub(crate) fn put_foot(
     put_group_end(out)
 }
 
-/// Appends three lines for the verdict on a signed campaign: whether IC1, IC2 and the bound hold.
-///
-/// # Errors
-///
-/// Fails with `AllocError` if memory runs out.
+/// Appends three lines for the verdict on a signed campaign: whether IC1, IC2 and the bound hold. Fails with
+/// `AllocError` if memory runs out.
 fn put_verdict(out: &mut String, verdict: Verdict) -> Result<(), AllocError>
     ensures { OnOk result (string_bytes out.new ≡ string_bytes out.old ++ verdict_lines verdict) }
 {

@@ -6,11 +6,7 @@ use show_diagram::DiagramMarks;
 use show_diagram::legend::put_legend_of;
 use std::alloc::AllocError;
 
-/// Appends the meanings of those marks that occur in the diagram.
-///
-/// # Errors
-///
-/// Fails with `AllocError` if memory runs out.
+/// Appends the meanings of those marks that occur in the diagram. Fails with `AllocError` if memory runs out.
 pub(crate) fn put_legend(out: &mut String, marks: DiagramMarks) -> Result<(), AllocError>
     ensures { OnOk result (string_bytes out.new ≡ string_bytes out.old ++ legend marks) }
 {

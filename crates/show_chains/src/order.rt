@@ -30,11 +30,7 @@ pub(crate) fn arranged(
 }
 
 /// Returns the strokes in a new order: the first lie of each sender, then the other lies, then the honest strokes. A
-/// lie is a stroke that differs from what a loyal general would have done.
-///
-/// # Errors
-///
-/// Fails with `AllocError` if memory runs out.
+/// lie is a stroke that differs from what a loyal general would have done. Fails with `AllocError` if memory runs out.
 #[tactic(auto, unfolding(show_diagram::specs::Order::firsts, show_diagram::specs::Order::repeats))]
 fn lies_first(alloc: Global, list: Vec<ChainStroke>) -> Result<Vec<ChainStroke>, AllocError>
     ensures { IfOk result (λ rows. rows.items ≡ lies_first is_lie sender list.items) }
@@ -52,9 +48,6 @@ fn lies_first(alloc: Global, list: Vec<ChainStroke>) -> Result<Vec<ChainStroke>,
 
 /// Appends a stroke to one of three lists: to `rows` if it is its sender's first lie, to `others` if it is a further
 /// lie, and to `honest` if it is no lie. A lie is a stroke that differs from what a loyal general would have done.
-///
-/// # Errors
-///
 /// Fails with `AllocError` if memory runs out.
 fn push_part(
     rows: &mut Vec<ChainStroke>,
@@ -88,11 +81,8 @@ fn is_by_one_of(strokes: &[ChainStroke], stroke: &ChainStroke) -> bool
     strokes.iter().any(|x| teller == x.stroke().teller)
 }
 
-/// Returns the strokes of a list with their row numbers, which are counted from 0.
-///
-/// # Errors
-///
-/// Fails with `AllocError` if memory runs out.
+/// Returns the strokes of a list with their row numbers, which are counted from 0. Fails with `AllocError` if memory
+/// runs out.
 pub(crate) fn numbered(
     alloc: Global,
     list: Vec<ChainStroke>,
@@ -107,11 +97,8 @@ pub(crate) fn numbered(
     Ok(rows)
 }
 
-/// Returns those strokes whose rows are drawn. A long list has rows for which there is no room.
-///
-/// # Errors
-///
-/// Fails with `AllocError` if memory runs out.
+/// Returns those strokes whose rows are drawn. A long list has rows for which there is no room. Fails with `AllocError`
+/// if memory runs out.
 pub(crate) fn with_rows(
     alloc: Global,
     list: Vec<ChainStroke>,
@@ -125,11 +112,7 @@ pub(crate) fn with_rows(
     Ok(drawn)
 }
 
-/// Appends a stroke if its row is drawn.
-///
-/// # Errors
-///
-/// Fails with `AllocError` if memory runs out.
+/// Appends a stroke if its row is drawn. Fails with `AllocError` if memory runs out.
 fn push_drawn(drawn: &mut Vec<ChainStroke>, stroke: ChainStroke) -> Result<(), AllocError>
     ensures { OnOk result (drawn.new.items ≡ drawn.old.items ++ cond (has_row stroke.stroke) (stroke ∷ []) []) }
 {

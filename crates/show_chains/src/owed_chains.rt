@@ -33,11 +33,7 @@ pub(crate) fn sent_to(
 }
 
 /// Returns those chains that were sent to this receiver. With each chain goes the set of its receivers, in which bit g
-/// means general g.
-///
-/// # Errors
-///
-/// Fails with `AllocError` if memory runs out.
+/// means general g. Fails with `AllocError` if memory runs out.
 fn received(
     alloc: Global,
     sending: &[(Chain, u16)],
@@ -53,11 +49,7 @@ fn received(
     Ok(came)
 }
 
-/// Appends a chain, as a signed order, if `is_wanted`.
-///
-/// # Errors
-///
-/// Fails with `AllocError` if memory runs out.
+/// Appends a chain, as a signed order, if `is_wanted`. Fails with `AllocError` if memory runs out.
 fn push_if(
     alloc: Global,
     came: &mut Vec<SignedOrder>,
@@ -81,11 +73,7 @@ fn has(bits: u16, general: u8) -> bool
 }
 
 /// Returns the chains that a loyal general in the place of `general` would have sent `receiver` in a round, counted
-/// from 1.
-///
-/// # Errors
-///
-/// Fails with `AllocError` if memory runs out.
+/// from 1. Fails with `AllocError` if memory runs out.
 pub(crate) fn owed_to(
     alloc: Global,
     chronicle: &SignedChronicle,
@@ -101,9 +89,6 @@ pub(crate) fn owed_to(
 }
 
 /// Returns the chains that a loyal general in the place of `general` would have signed in a round, counted from 1.
-///
-/// # Errors
-///
 /// Fails with `AllocError` if memory runs out.
 #[tactic(auto, using(crate::proofs::OwedLemmas::owed_none))]
 fn owed(
@@ -125,11 +110,7 @@ fn owed(
 }
 
 /// Returns what a loyal general in the place of `general` would have signed in round 1: his order if he is the
-/// commander, otherwise nothing.
-///
-/// # Errors
-///
-/// Fails with `AllocError` if memory runs out.
+/// commander, otherwise nothing. Fails with `AllocError` if memory runs out.
 fn begun(
     alloc: Global,
     chronicle: &SignedChronicle,
@@ -144,11 +125,8 @@ fn begun(
     alone_if(alloc, scenario.order(), commander, general == commander)
 }
 
-/// Returns the order with only the commander's signature if `is_wanted`, otherwise an empty list.
-///
-/// # Errors
-///
-/// Fails with `AllocError` if memory runs out.
+/// Returns the order with only the commander's signature if `is_wanted`, otherwise an empty list. Fails with
+/// `AllocError` if memory runs out.
 fn alone_if(
     alloc: Global,
     order: u32,
@@ -165,11 +143,8 @@ fn alone_if(
 }
 
 /// Returns the chains that a loyal general in the place of `general` would have signed in round `rounds` + 2. The
-/// commander would have signed none, and nobody would have signed any after the last round.
-///
-/// # Errors
-///
-/// Fails with `AllocError` if memory runs out.
+/// commander would have signed none, and nobody would have signed any after the last round. Fails with `AllocError` if
+/// memory runs out.
 #[tactic(auto, using(crate::proofs::OwedLemmas::later_commander, crate::proofs::OwedLemmas::later_none))]
 fn later(
     alloc: Global,
@@ -196,9 +171,6 @@ fn later(
 }
 
 /// Returns the chains by which `general` accepted new orders in round `rounds` + 1, each with his signature added.
-///
-/// # Errors
-///
 /// Fails with `AllocError` if memory runs out.
 fn prolonged(
     alloc: Global,
@@ -220,11 +192,8 @@ fn prolonged(
     signed_also(alloc, added, general)
 }
 
-/// Returns these chains as signed orders, each with the general's signature added.
-///
-/// # Errors
-///
-/// Fails with `AllocError` if memory runs out.
+/// Returns these chains as signed orders, each with the general's signature added. Fails with `AllocError` if memory
+/// runs out.
 fn signed_also(
     alloc: Global,
     chains: &[&Chain],

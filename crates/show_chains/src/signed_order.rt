@@ -48,11 +48,8 @@ impl SignedOrder {
         })
     }
 
-    /// Returns a chain's order with its signers and `general` as one more signer.
-    ///
-    /// # Errors
-    ///
-    /// Fails with `AllocError` if memory runs out.
+    /// Returns a chain's order with its signers and `general` as one more signer. Fails with `AllocError` if memory
+    /// runs out.
     pub(crate) fn also(alloc: Global, chain: &Chain, general: u8) -> Result<SignedOrder, AllocError>
         ensures { IfOk result (λ signed. signed ≡ signed_also chain.now general) }
     {
@@ -64,11 +61,7 @@ impl SignedOrder {
         })
     }
 
-    /// Returns a copy of the signed order.
-    ///
-    /// # Errors
-    ///
-    /// Fails with `AllocError` if memory runs out.
+    /// Returns a copy of the signed order. Fails with `AllocError` if memory runs out.
     pub(crate) fn copied(&self, alloc: Global) -> Result<SignedOrder, AllocError>
         ensures { IfOk result (λ signed. signed ≡ self.now) }
     {

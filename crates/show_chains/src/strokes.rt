@@ -37,11 +37,7 @@ pub(crate) fn strokes(
     Ok(strokes)
 }
 
-/// Appends the strokes of a round, by receiver.
-///
-/// # Errors
-///
-/// Fails with `AllocError` if memory runs out.
+/// Appends the strokes of a round, by receiver. Fails with `AllocError` if memory runs out.
 fn push_round(
     alloc: Global,
     strokes: &mut Vec<ChainStroke>,
@@ -58,9 +54,6 @@ fn push_round(
 }
 
 /// Returns the strokes to one receiver in a round, in the order of their rows in his list, with their row numbers.
-///
-/// # Errors
-///
 /// Fails with `AllocError` if memory runs out.
 fn list_to(
     alloc: Global,
@@ -76,11 +69,7 @@ fn list_to(
     numbered(alloc, rows)
 }
 
-/// Returns the strokes to one receiver in a round, sorted by sender.
-///
-/// # Errors
-///
-/// Fails with `AllocError` if memory runs out.
+/// Returns the strokes to one receiver in a round, sorted by sender. Fails with `AllocError` if memory runs out.
 fn told_to(
     alloc: Global,
     chronicle: &SignedChronicle,
@@ -97,11 +86,7 @@ fn told_to(
     Ok(list)
 }
 
-/// Appends the strokes from `general` to `receiver` in a round.
-///
-/// # Errors
-///
-/// Fails with `AllocError` if memory runs out.
+/// Appends the strokes from `general` to `receiver` in a round. Fails with `AllocError` if memory runs out.
 fn push_between(
     alloc: Global,
     list: &mut Vec<ChainStroke>,
@@ -130,9 +115,6 @@ fn push_between(
 
 /// Appends the strokes from `general` to `receiver` in a round: for chains in `sent`, and for chains that are only in
 /// `owed`. `sent` are the chains that he sent, and `owed` those that a loyal general in his place would have sent.
-///
-/// # Errors
-///
 /// Fails with `AllocError` if memory runs out.
 fn push_told(
     alloc: Global,
@@ -171,11 +153,7 @@ fn push_told(
 }
 
 /// Appends a stroke for each order of these chains. `way` says what the strokes have in common, such as sender and
-/// receiver.
-///
-/// # Errors
-///
-/// Fails with `AllocError` if memory runs out.
+/// receiver. Fails with `AllocError` if memory runs out.
 fn push_grouped(
     alloc: Global,
     list: &mut Vec<ChainStroke>,
@@ -192,11 +170,8 @@ fn push_grouped(
     Ok(())
 }
 
-/// Returns the orders of these chains, each once, in the order of first occurrence.
-///
-/// # Errors
-///
-/// Fails with `AllocError` if memory runs out.
+/// Returns the orders of these chains, each once, in the order of first occurrence. Fails with `AllocError` if memory
+/// runs out.
 fn orders_of(alloc: Global, chains: &[SignedOrder]) -> Result<Vec<u32>, AllocError>
     ensures { IfOk result (λ found. found.items ≡ orders (firsts [] chains.now)) }
 {
@@ -207,11 +182,7 @@ fn orders_of(alloc: Global, chains: &[SignedOrder]) -> Result<Vec<u32>, AllocErr
     Ok(found)
 }
 
-/// Appends an order, unless the list has it already.
-///
-/// # Errors
-///
-/// Fails with `AllocError` if memory runs out.
+/// Appends an order, unless the list has it already. Fails with `AllocError` if memory runs out.
 fn add_order(found: &mut Vec<u32>, order: u32) -> Result<(), AllocError>
     ensures { OnOk result (found.new.items ≡ added_also found.old.items order) }
 {
@@ -228,11 +199,8 @@ fn is_there(orders: &[u32], order: u32) -> bool
     orders.iter().any(|x| *x == order)
 }
 
-/// Returns the stroke for those chains that have this order. `way` has its round, sender and receiver.
-///
-/// # Errors
-///
-/// Fails with `AllocError` if memory runs out.
+/// Returns the stroke for those chains that have this order. `way` has its round, sender and receiver. Fails with
+/// `AllocError` if memory runs out.
 fn made(
     alloc: Global,
     way: Way,
@@ -271,11 +239,7 @@ fn told_if(is_sent: bool, order: u32) -> Option<u32>
     if is_sent { Some(order) } else { None }
 }
 
-/// Returns the same strokes without their chains.
-///
-/// # Errors
-///
-/// Fails with `AllocError` if memory runs out.
+/// Returns the same strokes without their chains. Fails with `AllocError` if memory runs out.
 pub(crate) fn bare(alloc: Global, strokes: &[ChainStroke]) -> Result<Vec<Stroke>, AllocError>
     ensures { IfOk result (λ plain. plain.items ≡ bare strokes.now) }
 {

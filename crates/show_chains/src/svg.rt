@@ -74,11 +74,7 @@ pub fn signed_campaign_svg(alloc: Global, chronicle: &SignedChronicle) -> Result
 }
 
 /// Appends the beginning of a signed campaign's diagram, up to its columns: the title, the description, the style sheet
-/// and the headline.
-///
-/// # Errors
-///
-/// Fails with `AllocError` if memory runs out.
+/// and the headline. Fails with `AllocError` if memory runs out.
 fn put_head(
     out: &mut String,
     scenario: &Scenario,
@@ -97,11 +93,8 @@ fn put_head(
     Ok(())
 }
 
-/// Appends the title element of a signed campaign's diagram, which describes the campaign.
-///
-/// # Errors
-///
-/// Fails with `AllocError` if memory runs out.
+/// Appends the title element of a signed campaign's diagram, which describes the campaign. Fails with `AllocError` if
+/// memory runs out.
 fn put_title_of(out: &mut String, scenario: &Scenario) -> Result<(), AllocError>
     ensures { OnOk result (string_bytes out.new ≡ string_bytes out.old ++ title (signed_words scenario.now)) }
 {
@@ -111,9 +104,6 @@ fn put_title_of(out: &mut String, scenario: &Scenario) -> Result<(), AllocError>
 }
 
 /// Appends the headline, which describes the campaign, and the words `signed messages` to the left of the columns.
-///
-/// # Errors
-///
 /// Fails with `AllocError` if memory runs out.
 fn put_headline(out: &mut String, scenario: &Scenario) -> Result<(), AllocError>
     ensures { OnOk result (string_bytes out.new ≡ string_bytes out.old ++ headline scenario.now) }
@@ -125,11 +115,8 @@ fn put_headline(out: &mut String, scenario: &Scenario) -> Result<(), AllocError>
     put_words(out, "small", 16, 72, "messages")
 }
 
-/// Appends a description of the campaign: its number of generals, its bound, its commander and his order.
-///
-/// # Errors
-///
-/// Fails with `AllocError` if memory runs out.
+/// Appends a description of the campaign: its number of generals, its bound, its commander and his order. Fails with
+/// `AllocError` if memory runs out.
 fn put_campaign_of(out: &mut String, scenario: &Scenario) -> Result<(), AllocError>
     ensures { OnOk result (string_bytes out.new ≡ string_bytes out.old
         ++ campaign_words scenario.now.generals scenario.now.bound scenario.now.commander scenario.now.order) }
@@ -157,11 +144,7 @@ pub fn put_signed_words(out: &mut String, scenario: &Scenario) -> Result<(), All
 }
 
 /// Appends a description for readers who do not see the diagram. It explains the marks, and has the words of those
-/// strokes and accesses for which the diagram has no room.
-///
-/// # Errors
-///
-/// Fails with `AllocError` if memory runs out.
+/// strokes and accesses for which the diagram has no room. Fails with `AllocError` if memory runs out.
 fn put_description(
     out: &mut String,
     strokes: &[ChainStroke],
@@ -193,11 +176,8 @@ fn key_start() -> &'static str
      sender last."
 }
 
-/// Appends the meanings of those marks on strokes that occur in the diagram, for readers who do not see it.
-///
-/// # Errors
-///
-/// Fails with `AllocError` if memory runs out.
+/// Appends the meanings of those marks on strokes that occur in the diagram, for readers who do not see it. Fails with
+/// `AllocError` if memory runs out.
 fn put_stroke_key(out: &mut String, marks: DiagramMarks) -> Result<(), AllocError>
     ensures { OnOk result (string_bytes out.new ≡ string_bytes out.old ++ stroke_key marks) }
 {

@@ -8,11 +8,7 @@ use crate::signed_order::SignedOrder;
 use crate::stroke::ChainStroke;
 use std::alloc::AllocError;
 
-/// Appends the generals' numbers joined by dots, such as `0.2.5`.
-///
-/// # Errors
-///
-/// Fails with `AllocError` if memory runs out.
+/// Appends the generals' numbers joined by dots, such as `0.2.5`. Fails with `AllocError` if memory runs out.
 fn put_signers(out: &mut String, generals: &[u8]) -> Result<(), AllocError>
     ensures { OnOk result (string_bytes out.new ≡ string_bytes out.old ++ dotted generals.now) }
 {
@@ -25,11 +21,7 @@ fn put_signers(out: &mut String, generals: &[u8]) -> Result<(), AllocError>
     }
 }
 
-/// Appends each general's number with a dot before it, such as `.2.5`.
-///
-/// # Errors
-///
-/// Fails with `AllocError` if memory runs out.
+/// Appends each general's number with a dot before it, such as `.2.5`. Fails with `AllocError` if memory runs out.
 fn put_further_signers(out: &mut String, generals: &[u8]) -> Result<(), AllocError>
     ensures { OnOk result (string_bytes out.new ≡ string_bytes out.old
         ++ flat_map (λ g. codes "." ++ decimal g) generals.now) }
@@ -40,11 +32,7 @@ fn put_further_signers(out: &mut String, generals: &[u8]) -> Result<(), AllocErr
     Ok(())
 }
 
-/// Appends a chain's order and signers, such as `1 signed 0.2`.
-///
-/// # Errors
-///
-/// Fails with `AllocError` if memory runs out.
+/// Appends a chain's order and signers, such as `1 signed 0.2`. Fails with `AllocError` if memory runs out.
 fn put_chain(out: &mut String, chain: &SignedOrder) -> Result<(), AllocError>
     ensures { OnOk result (string_bytes out.new ≡ string_bytes out.old ++ chain_words chain.now) }
 {
@@ -53,11 +41,7 @@ fn put_chain(out: &mut String, chain: &SignedOrder) -> Result<(), AllocError>
     put_signers(out, chain.signers())
 }
 
-/// Appends chains joined by commas, such as `1 signed 0.2, 1 signed 0.3`.
-///
-/// # Errors
-///
-/// Fails with `AllocError` if memory runs out.
+/// Appends chains joined by commas, such as `1 signed 0.2, 1 signed 0.3`. Fails with `AllocError` if memory runs out.
 fn put_chains(out: &mut String, chains: &[SignedOrder]) -> Result<(), AllocError>
     ensures { OnOk result (string_bytes out.new ≡ string_bytes out.old ++ chains_words chains.now) }
 {
@@ -70,11 +54,7 @@ fn put_chains(out: &mut String, chains: &[SignedOrder]) -> Result<(), AllocError
     }
 }
 
-/// Appends each chain with a comma before it, such as `, 1 signed 0.2`.
-///
-/// # Errors
-///
-/// Fails with `AllocError` if memory runs out.
+/// Appends each chain with a comma before it, such as `, 1 signed 0.2`. Fails with `AllocError` if memory runs out.
 fn put_further(out: &mut String, chains: &[SignedOrder]) -> Result<(), AllocError>
     ensures { OnOk result (string_bytes out.new ≡ string_bytes out.old ++ flat_map further_words chains.now) }
 {
@@ -84,11 +64,7 @@ fn put_further(out: &mut String, chains: &[SignedOrder]) -> Result<(), AllocErro
     Ok(())
 }
 
-/// Appends a comma and a chain, such as `, 1 signed 0.2`.
-///
-/// # Errors
-///
-/// Fails with `AllocError` if memory runs out.
+/// Appends a comma and a chain, such as `, 1 signed 0.2`. Fails with `AllocError` if memory runs out.
 fn put_one_further(out: &mut String, chain: &SignedOrder) -> Result<(), AllocError>
     ensures { OnOk result (string_bytes out.new ≡ string_bytes out.old ++ further_words chain.now) }
 {
@@ -96,11 +72,8 @@ fn put_one_further(out: &mut String, chain: &SignedOrder) -> Result<(), AllocErr
     put_chain(out, chain)
 }
 
-/// Appends `general G sends general P: `, after which the chains that were sent follow.
-///
-/// # Errors
-///
-/// Fails with `AllocError` if memory runs out.
+/// Appends `general G sends general P: `, after which the chains that were sent follow. Fails with `AllocError` if
+/// memory runs out.
 #[tactic(auto, unfolding(crate::specs::Words::sends_words))]
 fn put_sends(out: &mut String, general: u8, receiver: u8) -> Result<(), AllocError>
     ensures { OnOk result (string_bytes out.new ≡ string_bytes out.old ++ sends_words general receiver) }
@@ -108,11 +81,8 @@ fn put_sends(out: &mut String, general: u8, receiver: u8) -> Result<(), AllocErr
     write!(out, "general {general} sends general {receiver}: ")
 }
 
-/// Appends `general G does not send general P: `, after which the chains that were withheld follow.
-///
-/// # Errors
-///
-/// Fails with `AllocError` if memory runs out.
+/// Appends `general G does not send general P: `, after which the chains that were withheld follow. Fails with
+/// `AllocError` if memory runs out.
 #[tactic(auto, unfolding(crate::specs::Words::withholds_words))]
 fn put_withholds(out: &mut String, general: u8, receiver: u8) -> Result<(), AllocError>
     ensures { OnOk result (string_bytes out.new ≡ string_bytes out.old ++ withholds_words general receiver) }
@@ -121,11 +91,7 @@ fn put_withholds(out: &mut String, general: u8, receiver: u8) -> Result<(), Allo
 }
 
 /// Appends the beginning of a stroke's sentence, such as `general 1 sends general 2: `. If `told` is `None`, it says
-/// that the general does not send the chains.
-///
-/// # Errors
-///
-/// Fails with `AllocError` if memory runs out.
+/// that the general does not send the chains. Fails with `AllocError` if memory runs out.
 fn put_lead(
     out: &mut String,
     general: u8,
@@ -153,11 +119,7 @@ fn differs_words(differs: bool, told: Option<u32>) -> &'static str
 }
 
 /// Appends a stroke's sentence: who sends or withholds which chains, to whom, and whether a loyal general would do
-/// otherwise.
-///
-/// # Errors
-///
-/// Fails with `AllocError` if memory runs out.
+/// otherwise. Fails with `AllocError` if memory runs out.
 pub(crate) fn put_stroke_words(out: &mut String, stroke: &ChainStroke) -> Result<(), AllocError>
     ensures { OnOk result (string_bytes out.new ≡ string_bytes out.old ++ stroke_words stroke.now) }
 {
@@ -182,11 +144,8 @@ pub(crate) fn put_several(out: &mut String, strokes: &[ChainStroke]) -> Result<(
     Ok(())
 }
 
-/// Appends a sentence with all chains of a stroke if it has more than one chain.
-///
-/// # Errors
-///
-/// Fails with `AllocError` if memory runs out.
+/// Appends a sentence with all chains of a stroke if it has more than one chain. Fails with `AllocError` if memory runs
+/// out.
 fn put_several_of(out: &mut String, stroke: &ChainStroke) -> Result<(), AllocError>
     ensures { OnOk result (string_bytes out.new ≡ string_bytes out.old ++ several_words stroke.now) }
 {
@@ -199,11 +158,7 @@ fn put_several_of(out: &mut String, stroke: &ChainStroke) -> Result<(), AllocErr
     out.push_str(".")
 }
 
-/// Appends a chain in the short form for a column, such as `1 by 0.2`.
-///
-/// # Errors
-///
-/// Fails with `AllocError` if memory runs out.
+/// Appends a chain in the short form for a column, such as `1 by 0.2`. Fails with `AllocError` if memory runs out.
 fn put_short(out: &mut String, chain: &SignedOrder) -> Result<(), AllocError>
     ensures { OnOk result (string_bytes out.new ≡ string_bytes out.old ++ short_words chain.now) }
 {
@@ -213,9 +168,6 @@ fn put_short(out: &mut String, chain: &SignedOrder) -> Result<(), AllocError>
 }
 
 /// Appends the first chain in the short form for a column, such as `1 by 0.2`. Appends nothing if there are no chains.
-///
-/// # Errors
-///
 /// Fails with `AllocError` if memory runs out.
 fn put_first(out: &mut String, chains: &[SignedOrder]) -> Result<(), AllocError>
     ensures { OnOk result (string_bytes out.new ≡ string_bytes out.old ++ first_words chains.now) }
@@ -226,11 +178,8 @@ fn put_first(out: &mut String, chains: &[SignedOrder]) -> Result<(), AllocError>
     }
 }
 
-/// Appends the number of chains in parentheses, such as ` (3)`. Appends nothing if it is 1.
-///
-/// # Errors
-///
-/// Fails with `AllocError` if memory runs out.
+/// Appends the number of chains in parentheses, such as ` (3)`. Appends nothing if it is 1. Fails with `AllocError` if
+/// memory runs out.
 fn put_count(out: &mut String, chains: usize) -> Result<(), AllocError>
     ensures { OnOk result (string_bytes out.new ≡ string_bytes out.old ++ count_words chains) }
 {
@@ -241,11 +190,7 @@ fn put_count(out: &mut String, chains: usize) -> Result<(), AllocError>
 }
 
 /// Appends the text of a stroke's row in the receiver's list: its first chain, and the number of its chains if there
-/// are more, such as `1 by 0.2 (3)`.
-///
-/// # Errors
-///
-/// Fails with `AllocError` if memory runs out.
+/// are more, such as `1 by 0.2 (3)`. Fails with `AllocError` if memory runs out.
 pub(crate) fn put_row_words(out: &mut String, stroke: &ChainStroke) -> Result<(), AllocError>
     ensures { OnOk result (string_bytes out.new ≡ string_bytes out.old ++ row_words stroke.now) }
 {

@@ -27,8 +27,8 @@ bringing n S (suc r) p = bringing n S r p ++ added n S r p
 abbrev pub chains_of : Chronicle → ℕ → List Chain
 chains_of c p = bringing c.scenario.generals (delivered (sent_in c.scenario c.letters)) (suc c.scenario.bound) p
 
--- Returns the line of an accepted order, with the signers of the chain that brought it, such as `accepts 1, signed
--- 0.2`.
+-- Returns the line of an accepted order, with the signers of the chain that brought it, such as
+-- `accepts 1, signed 0.2`.
 abbrev pub accepted_line : Chain → List ℕ
 accepted_line ch = codes "accepts " ++ decimal ch.order ++ codes ", signed " ++ dotted ch.signers ++ codes "\n"
 

@@ -28,11 +28,7 @@ fn bring(chains: &[&Chain], order: u32) -> bool
     false
 }
 
-/// Appends `chain`, unless one of the chains already has its order.
-///
-/// # Errors
-///
-/// Fails with `AllocError` if it runs out of memory.
+/// Appends `chain`, unless one of the chains already has its order. Fails with `AllocError` if it runs out of memory.
 #[tactic(auto, using(crate::proofs::Gathering::also_pushed, crate::proofs::Gathering::also_kept))]
 fn add<'a>(chains: &mut Vec<&'a Chain>, chain: &'a Chain) -> Result<(), AllocError>
     ensures { OnOk result (lent chains.new.items ≡ gathered_also (lent chains.old.items) chain.now) }
@@ -44,11 +40,7 @@ fn add<'a>(chains: &mut Vec<&'a Chain>, chain: &'a Chain) -> Result<(), AllocErr
 }
 
 /// Appends those chains of one sender that this general received in this round and by which he accepts a new order. A
-/// new order is one that no chain in `chains` has.
-///
-/// # Errors
-///
-/// Fails with `AllocError` if it runs out of memory.
+/// new order is one that no chain in `chains` has. Fails with `AllocError` if it runs out of memory.
 fn add_sending<'a>(
     chains: &mut Vec<&'a Chain>,
     sending: &'a [(Chain, u16)],
@@ -68,11 +60,7 @@ fn add_sending<'a>(
 }
 
 /// Appends those chains that this general received in this round and by which he accepts a new order. A new order is
-/// one that no chain in `chains` has.
-///
-/// # Errors
-///
-/// Fails with `AllocError` if it runs out of memory.
+/// one that no chain in `chains` has. Fails with `AllocError` if it runs out of memory.
 fn add_round<'a>(
     chains: &mut Vec<&'a Chain>,
     chronicle: &'a SignedChronicle,
@@ -116,11 +104,7 @@ pub fn bringing_in(
 }
 
 /// Returns the chains by which a general accepts orders in the whole campaign, one for each order, in the order of
-/// acceptance.
-///
-/// # Errors
-///
-/// Fails with `AllocError` if it runs out of memory.
+/// acceptance. Fails with `AllocError` if it runs out of memory.
 pub(crate) fn bringing(
     alloc: Global,
     chronicle: &SignedChronicle,

@@ -13,11 +13,7 @@ use std::alloc::{AllocError, Global};
 const SIGNED: u32 = 1;
 
 /// Returns a general's context at the start of the round after those in `sent`. It contains the chains in `held`, which
-/// he received in these rounds.
-///
-/// # Errors
-///
-/// Fails with `AllocError` if it runs out of memory.
+/// he received in these rounds. Fails with `AllocError` if it runs out of memory.
 pub(crate) fn context(
     alloc: Global,
     scenario: &Scenario,
@@ -48,11 +44,7 @@ pub(crate) fn context(
 }
 
 /// Returns a general's outbox at the start of the round after those in `sent`. It contains no orders, and knows the
-/// signers of the chains in `held`, which he may pass on.
-///
-/// # Errors
-///
-/// Fails with `AllocError` if it runs out of memory.
+/// signers of the chains in `held`, which he may pass on. Fails with `AllocError` if it runs out of memory.
 pub(crate) fn outbox(
     alloc: Global,
     scenario: &Scenario,

@@ -77,11 +77,8 @@ pub fn replay_signed(
     }
 }
 
-/// Returns the finished world of a signed campaign, played by a schedule.
-///
-/// # Errors
-///
-/// Fails with `AllocError` if it runs out of memory.
+/// Returns the finished world of a signed campaign, played by a schedule. Fails with `AllocError` if it runs out of
+/// memory.
 fn played_listed(
     alloc: Global,
     scenario: Scenario,
@@ -97,11 +94,7 @@ fn played_listed(
 }
 
 /// Returns the finished world of a signed campaign, replayed. `names` lists for each round the generals who make
-/// accesses, in the order of these accesses.
-///
-/// # Errors
-///
-/// Fails with `AllocError` if it runs out of memory.
+/// accesses, in the order of these accesses. Fails with `AllocError` if it runs out of memory.
 fn played_named(
     alloc: Global,
     scenario: Scenario,

@@ -14,11 +14,7 @@ use std::alloc::{AllocError, Global};
 
 /// Returns the chains that a general sends, one for each of his outbox's entries that he may sign, with his signature
 /// as the last. A chain goes to those receivers of its entry who have not signed it. `held` are the chains that he
-/// received earlier.
-///
-/// # Errors
-///
-/// Fails with `AllocError` if it runs out of memory.
+/// received earlier. Fails with `AllocError` if it runs out of memory.
 pub(crate) fn dispatched(
     alloc: Global,
     signer: &Signer,
@@ -39,11 +35,7 @@ pub(crate) fn dispatched(
 }
 
 /// Appends the chain that an entry of the outbox sends, with its receivers. Appends nothing if the general may not sign
-/// it or holds no such chain.
-///
-/// # Errors
-///
-/// Fails with `AllocError` if it runs out of memory.
+/// it or holds no such chain. Fails with `AllocError` if it runs out of memory.
 fn send(
     chains: &mut Vec<(Chain, u16)>,
     signer: &Signer,

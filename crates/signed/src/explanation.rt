@@ -19,11 +19,7 @@ use std::alloc::{AllocError, Global};
 use world::Verdict;
 use world::judgement::traitors;
 
-/// Writes each general's number with a dot before it, such as `.2.5`.
-///
-/// # Errors
-///
-/// Fails with `AllocError` if it runs out of memory.
+/// Writes each general's number with a dot before it, such as `.2.5`. Fails with `AllocError` if it runs out of memory.
 fn push_further(lines: &mut String, generals: &[u8]) -> Result<(), AllocError>
     ensures { OnOk result (string_bytes lines.new ≡ string_bytes lines.old
         ++ flat_map (λ g. codes "." ++ decimal g) generals.now) }
@@ -34,11 +30,7 @@ fn push_further(lines: &mut String, generals: &[u8]) -> Result<(), AllocError>
     Ok(())
 }
 
-/// Writes the generals' numbers joined by dots, such as `0.2.5`.
-///
-/// # Errors
-///
-/// Fails with `AllocError` if it runs out of memory.
+/// Writes the generals' numbers joined by dots, such as `0.2.5`. Fails with `AllocError` if it runs out of memory.
 fn push_signers(lines: &mut String, generals: &[u8]) -> Result<(), AllocError>
     ensures { OnOk result (string_bytes lines.new ≡ string_bytes lines.old ++ dotted generals.now) }
 {
@@ -51,12 +43,8 @@ fn push_signers(lines: &mut String, generals: &[u8]) -> Result<(), AllocError>
     }
 }
 
-/// Writes the line of an accepted order, with the signers of the chain that brought it, such as `accepts 1, signed
-/// 0.2`.
-///
-/// # Errors
-///
-/// Fails with `AllocError` if it runs out of memory.
+/// Writes the line of an accepted order, with the signers of the chain that brought it, such as
+/// `accepts 1, signed 0.2`. Fails with `AllocError` if it runs out of memory.
 fn push_accepted(lines: &mut String, chain: &Chain) -> Result<(), AllocError>
     ensures { OnOk result (string_bytes lines.new ≡ string_bytes lines.old ++ accepted_line chain.now) }
 {
@@ -66,11 +54,7 @@ fn push_accepted(lines: &mut String, chain: &Chain) -> Result<(), AllocError>
     lines.push_str("\n")
 }
 
-/// Writes a line for each chain, such as `accepts 1, signed 0.2`.
-///
-/// # Errors
-///
-/// Fails with `AllocError` if it runs out of memory.
+/// Writes a line for each chain, such as `accepts 1, signed 0.2`. Fails with `AllocError` if it runs out of memory.
 fn push_all_accepted(lines: &mut String, chains: &[&Chain]) -> Result<(), AllocError>
     ensures { OnOk result (string_bytes lines.new ≡ string_bytes lines.old
         ++ flat_map accepted_line (lent chains.now)) }
@@ -112,11 +96,7 @@ fn mark(is_traitor: bool) -> &'static str
 }
 
 /// Writes the line of a lieutenant's decision, such as `decision 1 0: no order, so 0`. `chains` are those by which he
-/// accepted orders.
-///
-/// # Errors
-///
-/// Fails with `AllocError` if it runs out of memory.
+/// accepted orders. Fails with `AllocError` if it runs out of memory.
 fn push_choice(
     lines: &mut String,
     general: u8,
@@ -132,11 +112,8 @@ fn push_choice(
     write!(lines, "decision {general}{mark}{order}{words}")
 }
 
-/// Writes the lines about a lieutenant: his number, the orders that he accepts, and his decision.
-///
-/// # Errors
-///
-/// Fails with `AllocError` if it runs out of memory.
+/// Writes the lines about a lieutenant: his number, the orders that he accepts, and his decision. Fails with
+/// `AllocError` if it runs out of memory.
 fn push_lieutenant(
     alloc: Global,
     lines: &mut String,
@@ -175,11 +152,7 @@ fn few_words(is_so: bool) -> &'static str
 }
 
 /// Writes the line that compares the number of traitors with the bound, such as `bound yes: 1 traitors, at most 1`.
-/// `holds` says whether the number is within the bound.
-///
-/// # Errors
-///
-/// Fails with `AllocError` if it runs out of memory.
+/// `holds` says whether the number is within the bound. Fails with `AllocError` if it runs out of memory.
 fn push_traitors(lines: &mut String, scenario: &Scenario, holds: bool) -> Result<(), AllocError>
     ensures { OnOk result (string_bytes lines.new ≡ string_bytes lines.old ++ traitors_line scenario.now holds) }
 {
@@ -202,11 +175,7 @@ fn alike_line(alike: bool) -> &'static str
 }
 
 /// Writes the line about IC2, which says whether the loyal lieutenants obey the commander. `obeyed` is `None` if the
-/// commander is a traitor.
-///
-/// # Errors
-///
-/// Fails with `AllocError` if it runs out of memory.
+/// commander is a traitor. Fails with `AllocError` if it runs out of memory.
 fn push_obedience(lines: &mut String, order: u32, obeyed: Option<bool>) -> Result<(), AllocError>
     ensures { OnOk result (string_bytes lines.new ≡ string_bytes lines.old
         ++ obedience_line (obedience_of order obeyed)) }
@@ -228,11 +197,7 @@ fn push_obedience(lines: &mut String, order: u32, obeyed: Option<bool>) -> Resul
     }
 }
 
-/// Writes the lines about the bound, IC1 and IC2.
-///
-/// # Errors
-///
-/// Fails with `AllocError` if it runs out of memory.
+/// Writes the lines about the bound, IC1 and IC2. Fails with `AllocError` if it runs out of memory.
 #[tactic(auto, unfolding(crate::specs::Explained::verdict_lines))]
 fn push_verdict(lines: &mut String, scenario: &Scenario, verdict: Verdict) -> Result<(), AllocError>
     ensures { OnOk result (string_bytes lines.new ≡ string_bytes lines.old ++ verdict_lines scenario.now verdict) }
@@ -242,11 +207,8 @@ fn push_verdict(lines: &mut String, scenario: &Scenario, verdict: Verdict) -> Re
     push_obedience(lines, scenario.order(), verdict.obeyed)
 }
 
-/// Returns the lines about all lieutenants, ascending: the orders that each accepts, and his decision.
-///
-/// # Errors
-///
-/// Fails with `AllocError` if it runs out of memory.
+/// Returns the lines about all lieutenants, ascending: the orders that each accepts, and his decision. Fails with
+/// `AllocError` if it runs out of memory.
 fn all_lieutenants(alloc: Global, chronicle: &SignedChronicle) -> Result<String, AllocError>
     ensures { IfOk result (λ lines. string_bytes lines
         ≡ flat_map (acceptance_lines chronicle.now)

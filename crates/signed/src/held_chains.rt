@@ -28,11 +28,8 @@ impl<'a> Model for Held<'a> {
 }
 
 impl<'a> Held<'a> {
-    /// Returns the chains that a general received in the rounds of `sent`.
-    ///
-    /// # Errors
-    ///
-    /// Fails with `AllocError` if it runs out of memory.
+    /// Returns the chains that a general received in the rounds of `sent`. Fails with `AllocError` if it runs out of
+    /// memory.
     pub(crate) fn behind(
         alloc: Global,
         sent: &'a [SentRound],
@@ -75,11 +72,8 @@ impl<'a> Held<'a> {
         }
     }
 
-    /// Returns for each chain the generals who signed it, as a set: bit g is set for general g.
-    ///
-    /// # Errors
-    ///
-    /// Fails with `AllocError` if it runs out of memory.
+    /// Returns for each chain the generals who signed it, as a set: bit g is set for general g. Fails with `AllocError`
+    /// if it runs out of memory.
     pub(crate) fn signers(&self, alloc: Global) -> Result<Vec<u16>, AllocError>
         ensures { IfOk result (λ signers. signers.items ≡ map signer_bits self.now.chains) }
     {
@@ -91,9 +85,6 @@ impl<'a> Held<'a> {
     }
 
     /// Returns two numbers for each chain: its order, and the set of its signers, in which bit g is set for general g.
-    ///
-    /// # Errors
-    ///
     /// Fails with `AllocError` if it runs out of memory.
     pub(crate) fn numbers(&self, alloc: Global) -> Result<Vec<u32>, AllocError>
         ensures { IfOk result (λ numbers. numbers.items
@@ -108,11 +99,7 @@ impl<'a> Held<'a> {
     }
 }
 
-/// Appends the chains that this general received in a round.
-///
-/// # Errors
-///
-/// Fails with `AllocError` if it runs out of memory.
+/// Appends the chains that this general received in a round. Fails with `AllocError` if it runs out of memory.
 fn take_round<'a>(
     chains: &mut Vec<&'a Chain>,
     round: &'a SentRound,
@@ -128,11 +115,8 @@ fn take_round<'a>(
     Ok(())
 }
 
-/// Appends the chains that this general received from one sender in a round.
-///
-/// # Errors
-///
-/// Fails with `AllocError` if it runs out of memory.
+/// Appends the chains that this general received from one sender in a round. Fails with `AllocError` if it runs out of
+/// memory.
 fn take<'a>(
     chains: &mut Vec<&'a Chain>,
     sending: &'a Sending,

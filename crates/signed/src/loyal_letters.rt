@@ -10,11 +10,7 @@ use round::{Letter, Player, Scenario};
 use std::alloc::{AllocError, Global};
 
 /// Returns a loyal general's letter in the round after those in `sent`. Its outbox has the chains that SM(m) has him
-/// sign.
-///
-/// # Errors
-///
-/// Fails with `AllocError` if it runs out of memory.
+/// sign. Fails with `AllocError` if it runs out of memory.
 pub(crate) fn loyal_letter(
     alloc: Global,
     scenario: &Scenario,

@@ -16,11 +16,7 @@ use verify::Verified;
 use world::Progress;
 
 /// Returns each general's part at the start of the round after those in `sent`. If there is no further round, returns
-/// an empty list.
-///
-/// # Errors
-///
-/// Fails with `AllocError` if it runs out of memory.
+/// an empty list. Fails with `AllocError` if it runs out of memory.
 pub(crate) fn beginnings(
     alloc: Global,
     scenario: &Scenario,
@@ -40,11 +36,7 @@ pub(crate) fn beginnings(
 }
 
 /// Returns one general's part at the start of the round after those in `sent`: a new activation if he is a traitor,
-/// otherwise that he has not posted.
-///
-/// # Errors
-///
-/// Fails with `AllocError` if it runs out of memory.
+/// otherwise that he has not posted. Fails with `AllocError` if it runs out of memory.
 fn beginning(
     alloc: Global,
     scenario: &Scenario,
@@ -64,11 +56,7 @@ fn beginning(
 }
 
 /// Returns a traitor's activation at the start of the round after those in `sent`, with his context and the chains that
-/// he holds.
-///
-/// # Errors
-///
-/// Fails with `AllocError` if it runs out of memory.
+/// he holds. Fails with `AllocError` if it runs out of memory.
 fn activation(
     alloc: Global,
     scenario: &Scenario,

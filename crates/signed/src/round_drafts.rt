@@ -19,11 +19,7 @@ use world::draft::LetterDraft;
 use world::letters::transcript;
 
 /// Returns the drafts of all generals' letters in the open round, ascending. `parts` has what each general has done in
-/// it so far.
-///
-/// # Errors
-///
-/// Fails with `AllocError` if it runs out of memory.
+/// it so far. Fails with `AllocError` if it runs out of memory.
 pub(crate) fn drafts(
     alloc: Global,
     scenario: &Scenario,
@@ -43,11 +39,7 @@ pub(crate) fn drafts(
 }
 
 /// Returns the draft of one general's letter in the open round: a traitor's accesses, or a loyal general's letter if he
-/// has posted.
-///
-/// # Errors
-///
-/// Fails with `AllocError` if it runs out of memory.
+/// has posted. Fails with `AllocError` if it runs out of memory.
 fn draft(
     alloc: Global,
     scenario: &Scenario,
@@ -77,11 +69,7 @@ fn draft(
 }
 
 /// Returns the chains that each general sends in the round after those in `sent`, ascending by sender. A sender's
-/// signature is the last on his chains.
-///
-/// # Errors
-///
-/// Fails with `AllocError` if it runs out of memory.
+/// signature is the last on his chains. Fails with `AllocError` if it runs out of memory.
 pub(crate) fn sendings(
     alloc: Global,
     scenario: &Scenario,
@@ -102,11 +90,8 @@ pub(crate) fn sendings(
     Ok(SentRound { sendings })
 }
 
-/// Returns the chains that this general sends in the round after those in `sent`, with his signature as the last.
-///
-/// # Errors
-///
-/// Fails with `AllocError` if it runs out of memory.
+/// Returns the chains that this general sends in the round after those in `sent`, with his signature as the last. Fails
+/// with `AllocError` if it runs out of memory.
 fn sending(
     alloc: Global,
     scenario: &Scenario,

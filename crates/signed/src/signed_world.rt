@@ -137,12 +137,8 @@ impl SignedWorld {
     }
 
     /// Takes one tick of a traitor's activation: a step of his program, or a request that the board answers. For any
-    /// other general it does nothing.
-    ///
-    /// # Errors
-    ///
-    /// Fails with `AllocError` if the tick makes a request and there is no memory for the access. Then the world is
-    /// unchanged.
+    /// other general it does nothing. Fails with `AllocError` if the tick makes a request and there is no memory for
+    /// the access. Then the world is unchanged.
     pub(crate) fn turn(&mut self, general: u32) -> Result<(), AllocError>
         ensures done { OnOk result (self.new ≡ happen signed_kind self.old (Tick general)) }
         ensures undone { OnErr result (self.new ≡ self.old) }
@@ -173,12 +169,8 @@ impl SignedWorld {
     /// Closes the open round: sends the chains of its letters, and begins the next round if there is one.
     ///
     /// All memory is allocated before anything changes: for the letters and their drafts, for the chains, and for the
-    /// next round. After that, nothing can fail.
-    ///
-    /// # Errors
-    ///
-    /// Fails with `AllocError` if there is no memory for the letters, the chains or the next round. Then the world is
-    /// unchanged.
+    /// next round. After that, nothing can fail. Fails with `AllocError` if there is no memory for the letters, the
+    /// chains or the next round. Then the world is unchanged.
     pub(crate) fn close(&mut self) -> Result<(), AllocError>
         requires { length self.old.closed ≤ self.old.scenario.bound }
         ensures done { OnOk result (self.new ≡ happen signed_kind self.old Close) }
@@ -219,11 +211,7 @@ impl SignedWorld {
     }
 }
 
-/// Returns the signers of all generals, ascending.
-///
-/// # Errors
-///
-/// Fails with `AllocError` if it runs out of memory.
+/// Returns the signers of all generals, ascending. Fails with `AllocError` if it runs out of memory.
 fn signers(alloc: Global, generals: u8, commander: u8) -> Result<Vec<Signer>, AllocError>
     requires size { generals ≤ 13 }
     requires commander { commander < 13 }

@@ -57,8 +57,8 @@ abbrev pub row_lines : ℕ → List (List (Option ℕ)) → List Line
 row_lines rank [] = []
 row_lines rank (row ∷ rows) = (codes "row" ∷ decimal rank ∷ map place row) ∷ row_lines (suc rank) rows
 
--- The form of a letter's first line, in which N means a number: `letter N loyal` for a loyal general, and `letter N
--- steps N` for a traitor, with the steps that his program took.
+-- The form of a letter's first line, in which N means a number: `letter N loyal` for a loyal general, and
+-- `letter N steps N` for a traitor, with the steps that his program took.
 abbrev pub loyal_shape : List ℕ
 loyal_shape = codes "letter N loyal"
 

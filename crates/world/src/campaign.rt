@@ -76,11 +76,8 @@ pub fn replay(alloc: Global, scenario: Scenario, names: &[Vec<u8>]) -> Result<Ch
     }
 }
 
-/// Returns the finished world of the scenario's campaign, played by a schedule.
-///
-/// # Errors
-///
-/// Fails with `AllocError` if it runs out of memory.
+/// Returns the finished world of the scenario's campaign, played by a schedule. Fails with `AllocError` if it runs out
+/// of memory.
 fn played(alloc: Global, scenario: Scenario, schedule: &Schedule) -> Result<World, AllocError>
     ensures listed { IfOk result (λ world. world ≡ run (opening scenario) (listed scenario (lines_by schedule.now))) }
     ensures finished { IfOk result IsFinished }
@@ -92,11 +89,7 @@ fn played(alloc: Global, scenario: Scenario, schedule: &Schedule) -> Result<Worl
 }
 
 /// Returns the finished world of the scenario's campaign, replayed. `names` lists for each round the generals who make
-/// accesses, in the order of these accesses.
-///
-/// # Errors
-///
-/// Fails with `AllocError` if it runs out of memory.
+/// accesses, in the order of these accesses. Fails with `AllocError` if it runs out of memory.
 fn replayed(alloc: Global, scenario: Scenario, names: &[Vec<u8>]) -> Result<World, AllocError>
     ensures replayed { IfOk result (λ world. world ≡ run (opening scenario) (replayed scenario (lists_in names.now))) }
     ensures finished { IfOk result IsFinished }

@@ -19,11 +19,8 @@ use std::alloc::{AllocError, Global};
 use std::mem::replace;
 
 /// Returns the drafts of all generals' letters in the open round, ascending. `parts` has what each general has done in
-/// it so far. Writing letters from these drafts, into a list with room for them, allocates no memory.
-///
-/// # Errors
-///
-/// Fails with `AllocError` if it runs out of memory.
+/// it so far. Writing letters from these drafts, into a list with room for them, allocates no memory. Fails with
+/// `AllocError` if it runs out of memory.
 pub(crate) fn drafts(
     alloc: Global,
     told: &Received,
@@ -44,11 +41,7 @@ pub(crate) fn drafts(
 }
 
 /// Returns the draft of one general's letter in the open round: a traitor's accesses, or a loyal general's letter if he
-/// has posted.
-///
-/// # Errors
-///
-/// Fails with `AllocError` if it runs out of memory.
+/// has posted. Fails with `AllocError` if it runs out of memory.
 fn draft(
     alloc: Global,
     told: &Received,
@@ -78,11 +71,8 @@ fn draft(
     }
 }
 
-/// Returns a loyal general's letter of the open round, in which he relays what he received in the closed rounds.
-///
-/// # Errors
-///
-/// Fails with `AllocError` if it runs out of memory.
+/// Returns a loyal general's letter of the open round, in which he relays what he received in the closed rounds. Fails
+/// with `AllocError` if it runs out of memory.
 fn loyal(
     alloc: Global,
     told: &Received,

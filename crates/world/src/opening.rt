@@ -20,9 +20,6 @@ use verify::Verified;
 
 /// Returns each general's part in the round after the first `before` rounds. The traitors' activations have empty
 /// contexts, which `brief` will write without allocating memory. If there is no further round, returns an empty list.
-///
-/// # Errors
-///
 /// Fails with `AllocError` if it runs out of memory.
 pub(crate) fn blanks(
     alloc: Global,
@@ -42,11 +39,7 @@ pub(crate) fn blanks(
 }
 
 /// Appends one general's part in the round after the first `before` rounds: a new activation if he is a traitor,
-/// otherwise that he has not posted. `parts` must have room for it.
-///
-/// # Errors
-///
-/// Fails with `AllocError` if it runs out of memory.
+/// otherwise that he has not posted. `parts` must have room for it. Fails with `AllocError` if it runs out of memory.
 fn push_blank(
     parts: &mut Vec<Progress>,
     alloc: Global,
@@ -74,11 +67,7 @@ fn push_blank(
 }
 
 /// Returns a traitor's new activation in the round after the first `before` rounds. Its outbox is empty, and its
-/// context is 4,096 zero bytes until the real one is written.
-///
-/// # Errors
-///
-/// Fails with `AllocError` if it runs out of memory.
+/// context is 4,096 zero bytes until the real one is written. Fails with `AllocError` if it runs out of memory.
 fn blank(
     alloc: Global,
     scenario: &Scenario,
@@ -99,11 +88,7 @@ fn blank(
     Running::start(alloc, program, context, scenario.patience(), outbox)
 }
 
-/// Returns a context of 4,096 zero bytes.
-///
-/// # Errors
-///
-/// Fails with `AllocError` if it runs out of memory.
+/// Returns a context of 4,096 zero bytes. Fails with `AllocError` if it runs out of memory.
 fn zeros(alloc: Global) -> Result<Vec<u8>, AllocError>
     ensures same { IfOk result (λ bytes. bytes.items ≡ zeros) }
     ensures long { IfOk result (λ bytes. length bytes.items ≡ 4096) }
