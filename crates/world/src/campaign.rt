@@ -101,7 +101,7 @@ fn replayed(alloc: Global, scenario: Scenario, names: &[Vec<u8>]) -> Result<Worl
 }
 
 /// Takes `times` ticks of a general's activation, or fewer if it ends. The ticks between two accesses are taken
-/// together. For a general who is not a traitor it does nothing.
+/// together. For a general who is not a traitor it does nothing. Fails with `AllocError` if it runs out of memory.
 fn tick_often<W: PlayableWorld>(world: &mut W, general: u32, times: u32) -> Result<(), AllocError>
     ensures { OnOk result (W.seen world.new ≡ run_of W.kind (W.seen world.old) (replicate times (Tick general))) }
 {
@@ -122,7 +122,7 @@ fn tick_often<W: PlayableWorld>(world: &mut W, general: u32, times: u32) -> Resu
 }
 
 /// Plays an entry of a schedule's line, which names a general and a number of times: a traitor's ticks or a loyal
-/// general's posts. It does nothing if there is no such general.
+/// general's posts. It does nothing if there is no such general. Fails with `AllocError` if it runs out of memory.
 fn play_entry<W: PlayableWorld>(world: &mut W, repeat: Repeat) -> Result<(), AllocError>
     ensures { OnOk result (W.seen world.new
         ≡ run_of W.kind (W.seen world.old)
@@ -137,7 +137,8 @@ fn play_entry<W: PlayableWorld>(world: &mut W, repeat: Repeat) -> Result<(), All
     repeated(world, repeat.general, u32::from(repeat.times))
 }
 
-/// Plays `times` ticks of this general if he is a traitor, or `times` posts of his letter if he is loyal.
+/// Plays `times` ticks of this general if he is a traitor, or `times` posts of his letter if he is loyal. Fails with
+/// `AllocError` if it runs out of memory.
 fn repeated<W: PlayableWorld>(world: &mut W, general: u8, times: u32) -> Result<(), AllocError>
     requires inside { general < (W.seen world.old).scenario.generals }
     requires some { 0 < times }
@@ -161,7 +162,7 @@ fn post_often<W: PlayableWorld>(world: &mut W, general: u32, times: u32)
     world.give_post(general);
 }
 
-/// Plays the entries of a schedule's line in their order.
+/// Plays the entries of a schedule's line in their order. Fails with `AllocError` if it runs out of memory.
 fn play_line<W: PlayableWorld>(world: &mut W, repeats: &[Repeat]) -> Result<(), AllocError>
     ensures { OnOk result (W.seen world.new
         ≡ run_of W.kind (W.seen world.old) (line_events (W.seen world.old).scenario (entries_of repeats.now))) }
@@ -173,7 +174,7 @@ fn play_line<W: PlayableWorld>(world: &mut W, repeats: &[Repeat]) -> Result<(), 
 }
 
 /// Takes ticks of a traitor's activation until it has made one more access or has ended. For any other general it does
-/// nothing.
+/// nothing. Fails with `AllocError` if it runs out of memory.
 fn tick_to_access<W: PlayableWorld>(world: &mut W, general: u32) -> Result<(), AllocError>
     ensures { OnOk result (W.seen world.new
         ≡ run_of W.kind (W.seen world.old) (ticks_named general (slice_get (W.seen world.old).parts general))) }
@@ -216,7 +217,8 @@ fn post_if_loyal<W: PlayableWorld>(world: &mut W, general: u8)
     }
 }
 
-/// Takes ticks of a traitor's activation until it has ended. For a loyal general it does nothing.
+/// Takes ticks of a traitor's activation until it has ended. For a loyal general it does nothing. Fails with
+/// `AllocError` if it runs out of memory.
 fn tick_to_end<W: PlayableWorld>(world: &mut W, general: u8) -> Result<(), AllocError>
     requires { general < (W.seen world.old).scenario.generals }
     ensures { OnOk result (W.seen world.new
@@ -242,7 +244,8 @@ fn all_post<W: PlayableWorld>(world: &mut W)
     }
 }
 
-/// Takes ticks of all traitors' activations until they have ended, one traitor after the other, ascending.
+/// Takes ticks of all traitors' activations until they have ended, one traitor after the other, ascending. Fails with
+/// `AllocError` if it runs out of memory.
 fn all_end<W: PlayableWorld>(world: &mut W) -> Result<(), AllocError>
     ensures { OnOk result (W.seen world.new
         ≡ run_of W.kind (W.seen world.old)
@@ -254,7 +257,7 @@ fn all_end<W: PlayableWorld>(world: &mut W) -> Result<(), AllocError>
     Ok(())
 }
 
-/// Closes the open round. If all rounds are closed, it does nothing.
+/// Closes the open round. If all rounds are closed, it does nothing. Fails with `AllocError` if it runs out of memory.
 fn end_round<W: PlayableWorld>(world: &mut W) -> Result<(), AllocError>
     ensures { OnOk result (W.seen world.new ≡ happen W.kind (W.seen world.old) Close) }
 {
@@ -280,7 +283,7 @@ pub fn wind_up<W: PlayableWorld>(world: &mut W) -> Result<(), AllocError>
 }
 
 /// Plays a round by this line of a schedule, and finishes it: loyal generals post, traitors run to their ends, and the
-/// round is closed.
+/// round is closed. Fails with `AllocError` if it runs out of memory.
 fn listed_round<W: PlayableWorld>(world: &mut W, line: &[Repeat]) -> Result<(), AllocError>
     ensures { OnOk result (W.seen world.new
         ≡ run_of W.kind
